@@ -1,0 +1,40 @@
+# gbkeep: make help lists the targets.
+RT ?= rt
+PREFIX ?= $(HOME)/.local
+PROGRAM := crates/gbkeep_program
+SOURCES := crates.txt $(shell find crates -name out -prune -o -type f \( -name '*.rt' -o -name '*.antt' \) -print)
+
+help:
+	@echo 'make run             runs the program on a small ROM, before any proof (half a minute)'
+	@echo 'make run ARGS="..."  runs it on other words, as ARGS="info data/rom.gb", over files of $(PROGRAM)'
+	@echo 'make build           proves the program and leaves it at bin/gbkeep'
+	@echo 'make install         puts bin/gbkeep into PREFIX/bin (PREFIX=$(PREFIX))'
+	@echo 'make check           while editing: proves what changed (CRATE=name for one crate)'
+	@echo 'make test            the gate: proves everything from nothing, runs the tests and programs'
+
+ARGS ?= step data/rom.gb 2
+
+run:
+	@cd $(PROGRAM) && $(RT) try -- $(ARGS)
+
+bin/gbkeep: $(SOURCES)
+	cd $(PROGRAM) && $(RT) run -- --help > /dev/null
+	mkdir -p bin
+	cp $(PROGRAM)/out/gbkeep_program $@
+
+build: bin/gbkeep
+
+install: bin/gbkeep
+	install -D -m 755 bin/gbkeep $(DESTDIR)$(PREFIX)/bin/gbkeep
+
+check:
+ifdef CRATE
+	cd crates/$(CRATE) && $(RT) check
+else
+	$(RT) all check
+endif
+
+test:
+	$(RT) ci
+
+.PHONY: help run build install check test

@@ -1,0 +1,4 @@
+pub mod Accepted
+pub mod Controllers
+pub mod Header
+pub mod Length

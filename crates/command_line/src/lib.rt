@@ -1,0 +1,65 @@
+//! The words of the program, read by `clap`.
+//!
+//! What `clap` answers to words that it does not understand, and its help, are its own texts.
+#![tactic(auto)]
+
+mod words;
+
+use clap::{ArgMatches, Error};
+use std::alloc::Global;
+use std::convert::AsStr;
+
+/// What the program is asked to do. Paths and addresses are still the words that were given.
+#[derive(Clone, Copy, Debug, PartialEq, Eq)]
+pub enum Request<'a> {
+    /// Prints the header of the cartridge.
+    Info {
+        cart: &'a str,
+    },
+    /// Prints `count` instructions, 1 to 4,096, from `address` on.
+    List {
+        cart: &'a str,
+        address: &'a str,
+        count: u32,
+    },
+    /// Prints the registers after `count` steps, 0 to 1,000,000.
+    Step {
+        cart: &'a str,
+        count: u32,
+    },
+}
+
+/// The request that the words make, of which the first is the program's own name.
+///
+/// `clap`'s error has the text of what is not understood, or of the help that was asked for. The
+/// answer is `None` where the words parse and a value is missing, which `clap` rules out.
+pub fn request_of<'a, S: AsStr>(
+    alloc: Global,
+    words: &'a [S],
+) -> Result<Option<Request<'a>>, Error> {
+    let matches = words::command(alloc)?.try_get_matches_from(words)?;
+    Ok(match matches.subcommand() {
+        Some((name, values)) => named_request(name, values),
+        None => None,
+    })
+}
+
+fn named_request<'a>(name: &str, values: &ArgMatches<'a>) -> Option<Request<'a>> {
+    let cart = values.get_str("CART")?;
+    match name {
+        "info" => Some(Request::Info { cart }),
+        "list" => Some(Request::List {
+            cart,
+            address: values.get_str("ADDR")?,
+            count: values.get_one("COUNT")?,
+        }),
+        "step" => Some(Request::Step {
+            cart,
+            count: values.get_one("COUNT")?,
+        }),
+        _ => None,
+    }
+}
+
+#[cfg(test)]
+mod tests;

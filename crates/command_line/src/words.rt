@@ -1,0 +1,58 @@
+//! The commands and their words.
+use clap::{Arg, Command, value_parser};
+use std::alloc::{AllocError, Global};
+
+/// The name in usage texts, whatever the file of the program is called.
+const NAME: &str = "gbkeep";
+
+pub fn command<'a>(alloc: Global) -> Result<Command<'a>, AllocError> {
+    let info = over_cart(alloc, "info", "Prints the header of a cartridge")?;
+    let list = list(alloc)?;
+    let step = step(alloc)?;
+    Command::new(alloc, NAME)
+        .about("A Game Boy emulator whose every function is proved to meet its contract")
+        .bin_name(NAME)?
+        .subcommand_required(true)
+        .subcommand(info)?
+        .subcommand(list)?
+        .subcommand(step)
+}
+
+fn word<'a>(alloc: Global, name: &'a str, help: &'a str) -> Arg<'a> {
+    Arg::new(alloc, name).required(true).help(help)
+}
+
+fn over_cart<'a>(alloc: Global, name: &'a str, about: &'a str) -> Result<Command<'a>, AllocError> {
+    Command::new(alloc, name)
+        .about(about)
+        .arg(word(alloc, "CART", "The ROM file"))
+}
+
+fn list<'a>(alloc: Global) -> Result<Command<'a>, AllocError> {
+    let count = word(alloc, "COUNT", "How many instructions").value_parser(value_parser!(u32).range(
+        1..=4_096,
+    ));
+    over_cart(
+        alloc,
+        "list",
+        "Prints instructions as the machine has them at power-on",
+    )?
+    .arg(word(
+        alloc,
+        "ADDR",
+        "The first address, in one to four hexadecimal digits",
+    ))?
+    .arg(count)
+}
+
+fn step<'a>(alloc: Global) -> Result<Command<'a>, AllocError> {
+    let count = word(alloc, "COUNT", "How many steps").value_parser(value_parser!(u32).range(
+        0..=1_000_000,
+    ));
+    over_cart(
+        alloc,
+        "step",
+        "Prints the registers after some steps from power-on",
+    )?
+    .arg(count)
+}

@@ -1,0 +1,5 @@
+pub mod Plain
+pub mod Start
+pub mod Line
+pub mod StepLine
+pub mod Listing

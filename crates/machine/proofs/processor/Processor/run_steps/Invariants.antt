@@ -1,0 +1,6 @@
+use Rattle.std.proofs.Common.{◌≡◌}
+use Rattle.machine.specs.Steps.{after_steps}
+use Rattle.machine.proofs.processor.Processor.run_steps.Given as goal
+
+abbrev pub invariant-loop-i : goal.invariant-loop-i
+invariant-loop-i g l = l.self ≡ after_steps g.M.Memory.rules l._i l.fn.self

@@ -1,0 +1,227 @@
+//! One step of the processor.
+
+ghost use Rattle.std.specs.Prelude.{◌≡◌, ◌<◌, ◌≤◌, ◌+◌, ◌*◌};
+ghost use Rattle.machine.specs.RegisterOperations.{is_taken, next_address};
+
+use crate::memory::Memory;
+use crate::processor::Processor;
+use crate::registers::condition_holds;
+use opcode_table::{Decoded, Instr, decode};
+use sm83_alu::Flags;
+
+/// An instruction that ran: where it was, the three bytes that were fetched, and how many of them
+/// it has.
+#[derive(Clone, Copy, Debug, PartialEq, Eq)]
+pub struct Seen {
+    pub pc: u16,
+    pub bytes: [u8; 3],
+    pub length: u8,
+}
+
+/// What a step did.
+#[derive(Clone, Copy, Debug, PartialEq, Eq)]
+pub enum What {
+    /// An interrupt was dispatched to this vector.
+    Dispatch(u16),
+    /// One M-cycle passed while the processor was halted, stopped or locked.
+    Wait,
+    /// An instruction ran.
+    Ran(Seen),
+}
+
+/// What a step did, and how many M-cycles passed in it: 1 to 6.
+#[derive(Clone, Copy, Debug, PartialEq, Eq)]
+pub struct Stepped {
+    pub what: What,
+    pub cycles: u8,
+}
+
+/// The address of the joypad's register P1.
+const JOYPAD: u16 = 0xff00;
+
+fn takes_condition(instr: Instr, flags: Flags) -> bool
+    ensures { result ≡ is_taken instr flags }
+{
+    match instr {
+        Instr::JumpRelativeIf(condition, _) => condition_holds(condition, flags),
+        Instr::JumpIf(condition, _) => condition_holds(condition, flags),
+        Instr::CallIf(condition, _) => condition_holds(condition, flags),
+        Instr::ReturnIf(condition) => condition_holds(condition, flags),
+        _ => true,
+    }
+}
+
+impl<M: Memory> Processor<M> {
+    ghost use Rattle.machine.specs.Steps.{step_of, after_stop, resumed, ran, dispatched, waited, begun, settled, decoded_at, second_address, byte_at, lowest_interrupt};
+    ghost use Rattle.std.specs.Prelude.{[], ◌∷◌};
+
+    fn wait(&mut self) -> Stepped
+        ensures after { self.new ≡ (waited M.rules self.old).after }
+        ensures stepped { result ≡ (waited M.rules self.old).stepped }
+        ensures some_cycles { 0 < result.cycles }
+        ensures few_cycles { result.cycles ≤ 6 }
+    {
+        self.memory.pass(1);
+        Stepped {
+            what: What::Wait,
+            cycles: 1,
+        }
+    }
+
+    fn dispatch(&mut self) -> Stepped
+        ensures after { self.new ≡ (dispatched M.rules self.old).after }
+        ensures stepped { result ≡ (dispatched M.rules self.old).stepped }
+        ensures some_cycles { 0 < result.cycles }
+        ensures few_cycles { result.cycles ≤ 6 }
+    {
+        let bit = lowest_of(self.memory.shared());
+        self.memory.acknowledge(bit);
+        self.state.ime = false;
+        self.state.enable = false;
+        let vector = 64 + 8 * u16::from(bit);
+        self.call(vector);
+        self.memory.pass(5);
+        Stepped {
+            what: What::Dispatch(vector),
+            cycles: 5,
+        }
+    }
+
+    fn second(&self) -> u16
+        ensures { result ≡ second_address self.now }
+    {
+        let pc = self.registers.pc;
+        if self.state.repeat {
+            pc
+        } else {
+            pc.wrapping_add(1)
+        }
+    }
+
+    fn fetch(&self) -> [u8; 3]
+        ensures { result ≡ byte_at M.rules self.now.registers.pc self.now ∷ byte_at M.rules (second_address self.now) self.now ∷ byte_at M.rules (next_address (second_address self.now)) self.now ∷ [] }
+    {
+        let second = self.second();
+        let third = second.wrapping_add(1);
+        [
+            self.memory.read(self.registers.pc),
+            self.memory.read(second),
+            self.memory.read(third),
+        ]
+    }
+
+    fn begin(&mut self, length: u8)
+        requires { 0 < length }
+        ensures { self.new ≡ begun length self.old }
+    {
+        let second = self.second();
+        self.registers.pc = second.wrapping_add(u16::from(length - 1));
+        self.state.repeat = false;
+    }
+
+    fn settle(&mut self, enable: bool, instr: Instr)
+        ensures { self.new ≡ settled enable instr self.old }
+    {
+        match instr {
+            Instr::DisableInterrupts => {}
+            _ => {
+                if enable {
+                    self.state.ime = true;
+                    self.state.enable = false;
+                }
+            }
+        }
+    }
+
+    fn run(&mut self) -> Stepped
+        ensures after { self.new ≡ (ran M.rules self.old).after }
+        ensures stepped { result ≡ (ran M.rules self.old).stepped }
+        ensures some_cycles { 0 < result.cycles }
+        ensures few_cycles { result.cycles ≤ 6 }
+    {
+        let pc = self.registers.pc;
+        let enable = self.state.enable;
+        let bytes = self.fetch();
+        let decoded = decode(bytes);
+        let instr = decoded.instr;
+        let cycles = if takes_condition(instr, self.registers.flags) {
+            decoded.cycles_taken
+        } else {
+            decoded.cycles
+        };
+        self.begin(decoded.length);
+        self.execute(instr);
+        self.settle(enable, instr);
+        self.memory.pass(cycles);
+        Stepped {
+            what: What::Ran(Seen {
+                pc,
+                bytes,
+                length: decoded.length,
+            }),
+            cycles,
+        }
+    }
+
+    fn resume(&mut self) -> Stepped
+        ensures after { self.new ≡ (resumed M.rules self.old).after }
+        ensures stepped { result ≡ (resumed M.rules self.old).stepped }
+        ensures some_cycles { 0 < result.cycles }
+        ensures few_cycles { result.cycles ≤ 6 }
+    {
+        if self.state.ime && self.memory.shared() != 0 {
+            self.dispatch()
+        } else {
+            self.run()
+        }
+    }
+
+    fn leave_halt(&mut self) -> Stepped
+        ensures after { self.new ≡ (after_stop M.rules self.old).after }
+        ensures stepped { result ≡ (after_stop M.rules self.old).stepped }
+        ensures some_cycles { 0 < result.cycles }
+        ensures few_cycles { result.cycles ≤ 6 }
+    {
+        if self.state.halted && self.memory.shared() == 0 {
+            return self.wait();
+        }
+        self.state.halted = false;
+        self.resume()
+    }
+
+    /// One step: a wait, an interrupt or one instruction.
+    #[tactic(auto, unfolding(crate::specs::Steps::step_of))]
+    pub fn step(&mut self) -> Stepped
+        ensures after { self.new ≡ (step_of M.rules self.old).after }
+        ensures stepped { result ≡ (step_of M.rules self.old).stepped }
+        ensures some_cycles { 0 < result.cycles }
+        ensures few_cycles { result.cycles ≤ 6 }
+    {
+        if self.state.locked {
+            return self.wait();
+        }
+        if self.state.stopped && self.memory.read(JOYPAD) % 16 == 15 {
+            return self.wait();
+        }
+        self.state.stopped = false;
+        self.leave_halt()
+    }
+}
+
+ghost use Rattle.machine.specs.Steps.{lowest_interrupt};
+
+fn lowest_of(bits: u8) -> u8
+    ensures { result ≡ lowest_interrupt bits }
+{
+    if bits % 2 == 1 {
+        0
+    } else if bits / 2 % 2 == 1 {
+        1
+    } else if bits / 4 % 2 == 1 {
+        2
+    } else if bits / 8 % 2 == 1 {
+        3
+    } else {
+        4
+    }
+}

@@ -1,0 +1,6 @@
+pub mod Operands
+pub mod Table
+pub mod Timing
+pub mod Undefined
+pub mod Text
+pub mod Listing

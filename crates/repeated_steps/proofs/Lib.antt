@@ -1,0 +1,2 @@
+pub mod Iterates
+pub mod NextEvents

@@ -1,0 +1,2 @@
+pub mod NextEvent
+pub mod Laws

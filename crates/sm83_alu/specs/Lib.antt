@@ -1,0 +1,4 @@
+pub mod Flags
+pub mod Arithmetic
+pub mod Bits
+pub mod Decimal
