@@ -10,6 +10,7 @@ help:
 	@echo 'make build           proves the program and leaves it at bin/gbkeep'
 	@echo 'make install         puts bin/gbkeep into PREFIX/bin (PREFIX=$(PREFIX))'
 	@echo 'make check           while editing: proves what changed (CRATE=name for one crate)'
+	@echo 'make bench           proves the benchmarks and times frames, lines and M-cycles'
 	@echo 'make test            the gate: proves everything from nothing, runs the tests and programs'
 
 ARGS ?= step data/rom.gb 2
@@ -34,7 +35,12 @@ else
 	$(RT) all check
 endif
 
+bench:
+	cd crates/bench_machine && $(RT) run -- time
+	cd crates/bench_picture && $(RT) run -- time
+	cd crates/bench_timer && $(RT) run -- time
+
 test:
 	$(RT) ci
 
-.PHONY: help run build install check test
+.PHONY: help run build install check bench test

@@ -1,5 +1,3 @@
-pub mod Plain
-pub mod Start
 pub mod Line
 pub mod StepLine
 pub mod Listing

@@ -5,7 +5,7 @@ use thiserror::Error;
 /// Why `step_line` or `list_lines` did not write all of its text.
 #[derive(Clone, Copy, Debug, PartialEq, Eq, Error)]
 pub enum StepError {
-    /// The image is no cartridge, or one with a controller.
+    /// The image is no cartridge.
     #[error(transparent)]
     Cart(CartError),
     /// There is no memory for the machine.

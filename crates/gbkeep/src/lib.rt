@@ -2,17 +2,12 @@
 //!
 //! `step_line` and `list_lines` are proved to write exactly the text that the definitions in
 //! `specs/` give; `run` is the whole program over any runtime and any two writers.
-//!
-//! The machine is for now the processor over plain memory (`specs/Plain.antt`), for cartridges
-//! without controller.
 #![tactic(auto)]
 
 pub mod error;
 mod info;
 mod line;
 mod listing;
-mod plain_memory;
-mod power_on;
 pub mod program;
 mod steps;
 

@@ -2,20 +2,22 @@
 
 ghost use Rattle.std.specs.Prelude.{IfErr, OnOk};
 ghost use Rattle.std.specs.Io.KnownBytes.{Appends};
-ghost use Rattle.gbkeep.specs.StepLine.{IsRunnable, Refuses, line_after};
+ghost use Rattle.cartridge.specs.Accepted.{IsAccepted};
+ghost use Rattle.gbkeep.specs.StepLine.{Refuses, line_after};
 
 use crate::error::StepError;
 use crate::line::register_line;
-use crate::power_on::{cartridge_without_controller, power_on};
+use cartridge::Cartridge;
 use exact_text::write_whole;
+use machine::Machine;
 use std::alloc::Global;
 use std::io::Write;
 
 /// Writes the line of registers after `count` steps from power-on.
 ///
 /// Refusals, in this order: what is wrong with the image (its length, its type, its RAM code, its
-/// number of banks, then a controller, as `CartError::Kind`), no memory, output failed. Nothing is
-/// written but at the last, where a proper prefix of the line is.
+/// number of banks), no memory, output failed. Nothing is written but at the last, where a proper
+/// prefix of the line is.
 #[tactic(auto, unfolding(crate::specs::StepLine::line_after))]
 pub fn step_line<W: Write>(
     alloc: Global,
@@ -23,20 +25,20 @@ pub fn step_line<W: Write>(
     count: u32,
     out: &mut W,
 ) -> Result<(), StepError>
-    ensures runnable { OnOk result (IsRunnable rom.items) }
+    ensures accepted { OnOk result (IsAccepted rom.items) }
     ensures line { OnOk result (Appends (W.contents out.old) (W.contents out.new) (line_after rom.items count)) }
     ensures refused { IfErr result (Refuses rom.items (line_after rom.items count) (W.contents out.old) (W.contents out.new)) }
 {
-    let cartridge = match cartridge_without_controller(rom) {
+    let cartridge = match Cartridge::read(rom) {
         Ok(cartridge) => cartridge,
         Err(fault) => return Err(StepError::Cart(fault)),
     };
-    let mut machine = match power_on(alloc, &cartridge) {
+    let mut machine = match Machine::power_on(alloc, &cartridge) {
         Ok(machine) => machine,
         Err(_) => return Err(StepError::Memory),
     };
     machine.run_steps(count);
-    let line = register_line(&machine);
+    let line = register_line(machine.processor());
     match write_whole(out, line.as_bytes()) {
         Ok(()) => Ok(()),
         Err(_) => Err(StepError::Output),

@@ -45,6 +45,14 @@ sum_wraps : let r = registers_after 1 (quiet 0x3A 0 0xFFFE (0xC6 ∷ 0xC6 ∷ []
 unfolding after_steps step_of instruction_of loads_and_steps jumps_and_stack bit_instruction
 sum_wraps = (refl, refl)
 
+sum_of_digits : let r = registers_after 1 (quiet 0x45 0 0xFFFE (0xC6 ∷ 0x38 ∷ []) 0) in (r.a ≡ 0x7D) × (flags_byte r.flags ≡ 0)
+unfolding after_steps step_of instruction_of loads_and_steps jumps_and_stack bit_instruction
+sum_of_digits = (refl, refl)
+
+difference_of_digits : let r = registers_after 1 (quiet 0x83 0 0xFFFE (0xD6 ∷ 0x38 ∷ []) 0) in (r.a ≡ 0x4B) × (flags_byte r.flags ≡ 0x60)
+unfolding after_steps step_of instruction_of loads_and_steps jumps_and_stack bit_instruction
+difference_of_digits = (refl, refl)
+
 decimal_sum : let r = registers_after 2 (quiet 0x45 0 0xFFFE (0xC6 ∷ 0x38 ∷ 0x27 ∷ []) 0) in (r.a ≡ 0x83) × (flags_byte r.flags ≡ 0)
 unfolding after_steps step_of instruction_of loads_and_steps jumps_and_stack bit_instruction
 decimal_sum = (refl, refl)
@@ -60,6 +68,10 @@ offset_below_zero = (refl, refl)
 offset_to_zero : let r = registers_after 1 (quiet 1 0 1 (0xE8 ∷ 0xFF ∷ []) 0) in (r.sp ≡ 0) × (flags_byte r.flags ≡ 0x30)
 unfolding after_steps step_of instruction_of loads_and_steps jumps_and_stack bit_instruction
 offset_to_zero = (refl, refl)
+
+offset_out_of_the_low_byte : let r = registers_after 1 (quiet 1 0 0xFF (0xE8 ∷ 0x01 ∷ []) 0) in (r.sp ≡ 0x100) × (flags_byte r.flags ≡ 0x30)
+unfolding after_steps step_of instruction_of loads_and_steps jumps_and_stack bit_instruction
+offset_out_of_the_low_byte = (refl, refl)
 
 halt_not_entered_repeats_a_byte : let r = registers_after 3 (quiet 0x10 0 0xFFFE (0x76 ∷ 0x3C ∷ []) 1) in (r.a ≡ 0x12) × (r.pc ≡ 0xC002)
 unfolding after_steps step_of instruction_of loads_and_steps jumps_and_stack bit_instruction

@@ -1,3 +1,4 @@
 pub mod Examples
+pub mod Frames
 pub mod Lowest
 pub mod Runs

@@ -1,9 +1,19 @@
-//! Laws of the definitions.
+//! Laws of the definitions. The calls do nothing: the contract of each is a law.
 
 ghost use Rattle.machine.specs.Steps.{DispatchesLowest};
+ghost use Rattle.machine.specs.MachineLaws.{FrameIsLeast, InputsAddUp};
 
-/// Of the interrupts that IE and IF share, the one that is dispatched is the lowest. The call does
-/// nothing: its contract is the law.
+/// Of the interrupts that IE and IF share, the one that is dispatched is the lowest.
 pub fn dispatch_takes_the_lowest_bit()
     ensures { DispatchesLowest }
+{}
+
+/// A frame ends with the first step that completes its 17,556 M-cycles, over every memory.
+pub fn frame_ends_with_the_first_step_that_completes_it<M>()
+    ensures { FrameIsLeast M }
+{}
+
+/// Inputs one after another are the whole list.
+pub fn inputs_add_up()
+    ensures { InputsAddUp }
 {}

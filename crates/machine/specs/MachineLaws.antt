@@ -1,0 +1,14 @@
+-- Laws of frames and inputs, which public functions state.
+use Rattle.std.specs.Prelude.{◌≡◌, ℕ, ◌<◌, List, ◌++◌}
+use Rattle.machine.specs.declared.processor.Processor.{Processor}
+use Rattle.machine.specs.declared.input.Input.{Input}
+use Rattle.machine.specs.Rules.{Rules}
+use Rattle.machine.specs.Machine.{MachineState, IsFrame, frame_of, after}
+
+-- a frame ends with the first step that completes 17,556 M-cycles, over every memory
+abbrev pub FrameIsLeast : (M : Type 0) → Type 0
+FrameIsLeast M = (rules : Rules M) (overrun : ℕ) (p : Processor M) → overrun < 6 → IsFrame rules overrun p (frame_of rules overrun p)
+
+-- inputs one after another are the whole list
+abbrev pub InputsAddUp : Type 0
+InputsAddUp = (m : MachineState) (first second : List Input) → after (after m first) second ≡ after m (first ++ second)

@@ -1,0 +1,25 @@
+-- What a snapshot holds of the machine beside its stores of bytes and the rows of the picture.
+use Rattle.std.specs.Prelude.{◌<◌}
+use Rattle.bank_controllers.specs.CartridgeState.{CartridgeState}
+use Rattle.memory_map.specs.Stores as bus
+use Rattle.machine.specs.declared.machine_registers.MachineRegisters.{MachineRegisters}
+use Rattle.machine.specs.Machine.{MachineState}
+
+abbrev pub registers_of : MachineState → MachineRegisters
+registers_of m = record {
+  registers = m.processor.registers;
+  state = m.processor.state;
+  overrun = m.overrun;
+  bus = bus.registers_of m.processor.memory;
+}
+
+abbrev pub with_registers : MachineRegisters → MachineState → MachineState
+with_registers r m = record {
+  processor = record { registers = r.registers; state = r.state; memory = bus.with_registers r.bus m.processor.memory };
+  overrun = r.overrun;
+}
+
+-- which fields are legal for this cartridge
+pub record AreLegalFor (cartridge : CartridgeState) (r : MachineRegisters) : Type 0 where
+  pub overrun : r.overrun < 6
+  pub bus : bus.AreLegalFor cartridge r.bus

@@ -1,0 +1,30 @@
+//! The bus as the memory of the processor.
+
+use crate::memory::Memory;
+use memory_map::Bus;
+
+impl Memory for Bus {
+    ghost use Rattle.machine.specs.Bus.{bus_rules};
+
+    ghost rules = { bus_rules };
+
+    fn read(&self, address: u16) -> u8 {
+        Bus::read(self, address)
+    }
+
+    fn write(&mut self, address: u16, value: u8) {
+        Bus::write(self, address, value);
+    }
+
+    fn shared(&self) -> u8 {
+        Bus::shared(self)
+    }
+
+    fn acknowledge(&mut self, bit: u8) {
+        Bus::acknowledge(self, bit);
+    }
+
+    fn pass(&mut self, cycles: u8) {
+        Bus::pass(self, u32::from(cycles));
+    }
+}

@@ -1,0 +1,206 @@
+//! The whole machine.
+
+ghost use Rattle.std.specs.Prelude.{◌≡◌, ◌<◌, ◌≤◌, IfOk, length, All, slice_set};
+
+use crate::input::Input;
+use crate::machine_registers::MachineRegisters;
+use crate::processor::{Processor, ProcessorState};
+use crate::step::Stepped;
+use cartridge::Cartridge;
+use memory_map::{Bus, Region};
+use picture_unit::Picture;
+use sm83_alu::{Flags, Registers};
+use std::alloc::{AllocError, Global};
+use std::marker::Model;
+
+/// The Game Boy with a cartridge: the processor, the bus and all units on it.
+///
+/// `power_on` makes all its room. Every other call takes no memory and always succeeds.
+#[derive(Drop)]
+pub struct Machine {
+    processor: Processor<Bus>,
+    overrun: u8,
+}
+
+impl Model for Machine {
+    ghost use Rattle.std.specs.Prelude.{◌<◌};
+    ghost use Rattle.machine.specs.Machine.{MachineState};
+
+    ghost Value = { MachineState };
+
+    ghost view = { λ m. record { processor = m.processor; overrun = m.overrun } };
+
+    ghost invariant = { λ m. m.overrun < 6 };
+}
+
+fn registers_at_power_on(checksum: u8) -> Registers
+    ensures { result ≡ registers_at_power_on checksum }
+{
+    let some = checksum != 0;
+    Registers {
+        a: 0x01,
+        flags: Flags {
+            zero: true,
+            subtract: false,
+            half_carry: some,
+            carry: some,
+        },
+        b: 0x00,
+        c: 0x13,
+        d: 0x00,
+        e: 0xd8,
+        h: 0x01,
+        l: 0x4d,
+        sp: 0xfffe,
+        pc: 0x0100,
+    }
+}
+
+fn state_at_power_on() -> ProcessorState
+    ensures { result ≡ state_at_power_on }
+{
+    ProcessorState {
+        ime: false,
+        enable: false,
+        halted: false,
+        stopped: false,
+        locked: false,
+        repeat: false,
+    }
+}
+
+ghost use Rattle.machine.specs.Machine.{registers_at_power_on, state_at_power_on};
+
+impl Machine {
+    ghost use Rattle.memory_map.specs.Bus.{peeked};
+    ghost use Rattle.memory_map.specs.Stores.{region_of, region_filled, FitsRegion};
+    ghost use Rattle.machine.specs.Bus.{bus_rules};
+    ghost use Rattle.machine.specs.Steps.{step_of, after_steps};
+    ghost use Rattle.machine.specs.Machine.{start, frame_played, applied};
+    ghost use Rattle.machine.specs.MachineStores.{registers_of, with_registers, AreLegalFor};
+
+    /// The machine at power-on with this cartridge. Refused where there is no memory.
+    pub fn power_on(alloc: Global, cartridge: &Cartridge) -> Result<Machine, AllocError>
+        ensures { IfOk result (λ m. m ≡ start cartridge.now) }
+    {
+        let memory = Bus::new(alloc, cartridge)?;
+        Ok(Machine {
+            processor: Processor {
+                registers: registers_at_power_on(cartridge.checksum_stored()),
+                state: state_at_power_on(),
+                memory,
+            },
+            overrun: 0,
+        })
+    }
+
+    /// One step: a wait, the dispatch of an interrupt, or one instruction.
+    pub fn step(&mut self) -> Stepped
+        ensures machine { self.new ≡ record self.old { processor = (step_of bus_rules self.old.processor).after } }
+        ensures stepped { result ≡ (step_of bus_rules self.old.processor).stepped }
+    {
+        self.processor.step()
+    }
+
+    /// That many steps.
+    pub fn run_steps(&mut self, count: u32)
+        ensures { self.new ≡ record self.old { processor = after_steps bus_rules count self.old.processor } }
+    {
+        self.processor.run_steps(count);
+    }
+
+    /// A frame with these buttons: Right, Left, Up, Down, A, B, Select, Start as bits 0 to 7, 1 for pressed.
+    pub fn frame(&mut self, buttons: u8)
+        ensures { self.new ≡ frame_played buttons self.old }
+    {
+        self.processor.memory.set_buttons(buttons);
+        self.overrun = self.processor.run_frame(self.overrun);
+    }
+
+    /// One input.
+    pub fn apply(&mut self, input: Input)
+        ensures { self.new ≡ applied input self.old }
+    {
+        match input {
+            Input::Frame(buttons) => self.frame(buttons),
+            Input::Seconds(seconds) => self.processor.memory.pass_seconds(seconds),
+        }
+    }
+
+    /// The processor's registers.
+    pub fn registers(&self) -> Registers
+        ensures { result ≡ self.now.processor.registers }
+    {
+        self.processor.registers
+    }
+
+    /// The processor, to look at.
+    pub fn processor(&self) -> &Processor<Bus>
+        ensures { result.now ≡ self.now.processor }
+    {
+        &self.processor
+    }
+
+    /// The picture unit, to look at.
+    pub fn picture(&self) -> &Picture
+        ensures { result.now ≡ self.now.processor.memory.picture.screen }
+    {
+        self.processor.memory.picture()
+    }
+
+    /// What reading an address gives where neither a mode nor a copy closes anything.
+    pub fn peek(&self, address: u16) -> u8
+        ensures { result ≡ peeked self.now.processor.memory address }
+    {
+        self.processor.memory.peek(address)
+    }
+
+    /// The M-cycles by which the last frame was longer than a frame, 0 to 5.
+    pub fn overrun(&self) -> u8
+        ensures overrun { result ≡ self.now.overrun }
+        ensures few { result < 6 }
+    {
+        self.overrun
+    }
+
+    /// What a snapshot holds beside the stores of bytes and the rows of the picture: each field legal for this
+    /// cartridge.
+    pub fn state(&self) -> MachineRegisters
+        ensures state { result ≡ registers_of self.now }
+        ensures legal { AreLegalFor self.now.processor.memory.banks result }
+    {
+        MachineRegisters {
+            registers: self.processor.registers,
+            state: self.processor.state,
+            overrun: self.overrun,
+            bus: self.processor.memory.state(),
+        }
+    }
+
+    /// Sets these fields. Condition: they are legal for this cartridge.
+    pub fn restore(&mut self, state: &MachineRegisters)
+        requires { AreLegalFor self.old.processor.memory.banks state.now }
+        ensures { self.new ≡ with_registers state.now self.old }
+    {
+        self.processor.registers = state.registers;
+        self.processor.state = state.state;
+        self.overrun = state.overrun;
+        self.processor.memory.restore(&state.bus);
+    }
+
+    /// The bytes of a region.
+    pub fn store(&self, region: Region) -> &[u8]
+        ensures bytes { result.now ≡ region_of self.now.processor.memory region }
+        ensures fit { FitsRegion self.now.processor.memory region result.now }
+    {
+        self.processor.memory.store(region)
+    }
+
+    /// Sets all bytes of a region. Condition: there are as many, and for the RAM of MBC2 each is below 16.
+    pub fn fill(&mut self, region: Region, bytes: &[u8])
+        requires { FitsRegion self.old.processor.memory region bytes.now }
+        ensures { self.new ≡ record self.old { processor = record self.old.processor { memory = region_filled region bytes.now self.old.processor.memory } } }
+    {
+        self.processor.memory.fill(region, bytes);
+    }
+}

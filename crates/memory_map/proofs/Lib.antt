@@ -1,0 +1,5 @@
+pub mod UnitRuns
+pub mod Together
+pub mod NextBusEvent
+pub mod JoypadLines
+pub mod PictureWrites

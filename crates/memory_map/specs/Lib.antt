@@ -1,0 +1,7 @@
+pub mod Map
+pub mod Joypad
+pub mod State
+pub mod Bus
+pub mod Ticks
+pub mod Stores
+pub mod Laws

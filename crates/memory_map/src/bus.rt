@@ -1,0 +1,251 @@
+ghost use Rattle.std.specs.Prelude.{◌≡◌, IfOk, vec_len, slice_index, if◌then◌else◌};
+
+mod clock;
+mod registers;
+mod snapshot;
+
+use crate::control::Control;
+use crate::place::Place;
+use bank_controllers::Banks;
+use cartridge::Cartridge;
+use picture_unit::Picture;
+use std::alloc::{AllocError, Global};
+use std::marker::Model;
+use timer_unit::{Serial, Timer};
+
+/// All that the processor reaches by addresses, and the units that time passes in.
+///
+/// Contracts see it as a `BusState`: each unit with the interrupts that it has requested, the cartridge, WRAM, HRAM,
+/// the sound bytes, and the registers that belong to no unit. `new` makes all its room, and no other call takes memory
+/// or refuses.
+#[derive(Drop)]
+pub struct Bus {
+    timer: Timer,
+    timer_requested: bool,
+    serial: Serial,
+    serial_requested: bool,
+    picture: Picture,
+    vblank_requested: bool,
+    stat_requested: bool,
+    banks: Banks,
+    wram: Vec<u8>,
+    hram: [u8; 127],
+    sound: [u8; 48],
+    control: Control,
+}
+
+impl Model for Bus {
+    ghost use Rattle.std.specs.Prelude.{◌≡◌, length};
+    ghost use Rattle.memory_map.specs.State.{BusState, IsLegalControl};
+
+    ghost Value = { BusState };
+
+    ghost view = { λ b. record {
+      timer = record { timer = b.timer; requested = b.timer_requested };
+      serial = record { serial = b.serial; requested = b.serial_requested };
+      picture = record { screen = b.picture; vblank = b.vblank_requested; stat = b.stat_requested };
+      banks = b.banks;
+      wram = b.wram.items;
+      hram = b.hram;
+      sound = b.sound;
+      control = b.control;
+    } };
+
+    ghost invariant = { λ b. (length b.wram.items ≡ 8192) × IsLegalControl b.control };
+}
+
+#[tactic(auto, unfolding(crate::specs::State::zeros))]
+fn zeros(alloc: Global, count: usize) -> Result<Vec<u8>, AllocError>
+    ensures items { IfOk result (λ v. v.items ≡ zeros count) }
+    ensures len { IfOk result (λ v. vec_len v ≡ count) }
+{
+    Vec::from_elem(alloc, 0u8, count)
+}
+
+#[tactic(auto, unfolding(crate::specs::State::zeros))]
+fn hram_at_power_on() -> [u8; 127]
+    ensures { result ≡ zeros 127 }
+{
+    [0; 127]
+}
+
+#[tactic(auto, unfolding(crate::specs::State::zeros))]
+fn sound_at_power_on() -> [u8; 48]
+    ensures { result ≡ zeros 48 }
+{
+    [0; 48]
+}
+
+ghost use Rattle.memory_map.specs.State.{zeros};
+
+impl Bus {
+    ghost use Rattle.memory_map.specs.State.{bus_at_power_on};
+    ghost use Rattle.memory_map.specs.Map.{place};
+    ghost use Rattle.memory_map.specs.Bus.{value_at, is_closed, stored_at, peeked, read_at, written, buttons_set};
+
+    /// The bus at power-on, with this cartridge. Refused where there is no memory.
+    pub fn new(alloc: Global, cartridge: &Cartridge) -> Result<Bus, AllocError>
+        ensures { IfOk result (λ b. b ≡ bus_at_power_on cartridge.now) }
+    {
+        let picture = Picture::new(alloc)?;
+        let banks = Banks::new(alloc, cartridge)?;
+        let wram = zeros(alloc, 8192)?;
+        Ok(Bus {
+            timer: Timer::new(),
+            timer_requested: false,
+            serial: Serial::new(),
+            serial_requested: false,
+            picture,
+            vblank_requested: true,
+            stat_requested: false,
+            banks,
+            wram,
+            hram: hram_at_power_on(),
+            sound: sound_at_power_on(),
+            control: Control::at_power_on(),
+        })
+    }
+
+    /// Reads an address. VRAM in mode 3, and OAM in modes 2 and 3 and while a copy runs, read FF. No read changes
+    /// anything.
+    #[tactic(auto, unfolding(crate::specs::Bus::read_at, picture_unit::specs::Stores::byte_read))]
+    pub fn read(&self, address: u16) -> u8
+        ensures { result ≡ read_at self.now address }
+    {
+        match Place::of(address) {
+            Place::Cartridge(address) => self.banks.read(address),
+            Place::Vram(offset) => self.picture.read_vram(offset),
+            Place::Wram(offset) => self.wram_byte(offset),
+            Place::Oam(offset) => self.oam_byte(offset),
+            Place::Unused => 0,
+            Place::Sound(offset) => self.sound_byte(offset),
+            Place::Register(address) => self.register(address),
+            Place::Hram(offset) => self.hram_byte(offset),
+            Place::InterruptEnable => self.control.ie,
+        }
+    }
+
+    /// What `read` gives where neither a mode nor a copy closes anything.
+    #[tactic(auto, unfolding(crate::specs::Bus::peeked, picture_unit::specs::Stores::byte_read))]
+    pub fn peek(&self, address: u16) -> u8
+        ensures { result ≡ peeked self.now address }
+    {
+        self.value(Place::of(address))
+    }
+
+    /// Writes to an address. A write to what is closed is ignored.
+    #[tactic(auto, unfolding(crate::specs::Bus::written, picture_unit::specs::Stores::vram_written))]
+    pub fn write(&mut self, address: u16, value: u8)
+        ensures { self.new ≡ written address value self.old }
+    {
+        match Place::of(address) {
+            Place::Cartridge(address) => self.banks.write(address, value),
+            Place::Vram(offset) => self.picture.write_vram(offset, value),
+            Place::Wram(offset) => self.write_wram(offset, value),
+            Place::Oam(offset) => self.write_oam(offset, value),
+            Place::Unused => {}
+            Place::Sound(offset) => self.write_sound(offset, value),
+            Place::Register(address) => self.write_register(address, value),
+            Place::Hram(offset) => self.write_hram(offset, value),
+            Place::InterruptEnable => self.control.ie = value,
+        }
+    }
+
+    /// The pressed buttons become these: Right, Left, Up, Down, A, B, Select, Start as bits 0 to 7. A line of P1 that
+    /// falls by it requests the joypad interrupt.
+    pub fn set_buttons(&mut self, buttons: u8)
+        ensures { self.new ≡ buttons_set buttons self.old }
+    {
+        let select = self.control.p1_select;
+        self.control.set_joypad(select, buttons);
+    }
+
+    #[tactic(auto, unfolding(picture_unit::specs::Stores::byte_read))]
+    fn value(&self, place: Place) -> u8
+        ensures { result ≡ value_at self.now place }
+    {
+        match place {
+            Place::Cartridge(address) => self.banks.read(address),
+            Place::Vram(offset) => self.picture.peek_vram(offset),
+            Place::Wram(offset) => self.wram_byte(offset),
+            Place::Oam(offset) => self.picture.peek_oam(offset),
+            Place::Unused => 0,
+            Place::Sound(offset) => self.sound_byte(offset),
+            Place::Register(address) => self.register(address),
+            Place::Hram(offset) => self.hram_byte(offset),
+            Place::InterruptEnable => self.control.ie,
+        }
+    }
+
+    fn wram_byte(&self, offset: u16) -> u8
+        ensures { result ≡ slice_index self.now.wram offset }
+    {
+        match self.wram.get(usize::from(offset)) {
+            Some(byte) => *byte,
+            None => 0,
+        }
+    }
+
+    fn hram_byte(&self, offset: u8) -> u8
+        ensures { result ≡ slice_index self.now.hram offset }
+    {
+        match self.hram.get(usize::from(offset)) {
+            Some(byte) => *byte,
+            None => 0,
+        }
+    }
+
+    fn sound_byte(&self, offset: u8) -> u8
+        ensures { result ≡ slice_index self.now.sound offset }
+    {
+        match self.sound.get(usize::from(offset)) {
+            Some(byte) => *byte,
+            None => 0,
+        }
+    }
+
+    fn write_wram(&mut self, offset: u16, value: u8)
+        ensures { self.new ≡ stored_at (Place.Wram offset) value self.old }
+    {
+        let place = usize::from(offset);
+        if place < self.wram.len() {
+            self.wram[place] = value;
+        }
+    }
+
+    fn write_hram(&mut self, offset: u8, value: u8)
+        ensures { self.new ≡ stored_at (Place.Hram offset) value self.old }
+    {
+        if offset < 127 {
+            self.hram[usize::from(offset)] = value;
+        }
+    }
+
+    fn write_sound(&mut self, offset: u8, value: u8)
+        ensures { self.new ≡ stored_at (Place.Sound offset) value self.old }
+    {
+        if offset < 48 {
+            self.sound[usize::from(offset)] = value;
+        }
+    }
+
+    #[tactic(auto, unfolding(picture_unit::specs::Stores::byte_read))]
+    fn oam_byte(&self, offset: u8) -> u8
+        ensures { result ≡ (if is_closed self.now (Place.Oam offset) then 255 else value_at self.now (Place.Oam offset)) }
+    {
+        if self.control.dma_copied < 160 {
+            return 0xff;
+        }
+        self.picture.read_oam(offset)
+    }
+
+    #[tactic(auto, unfolding(picture_unit::specs::Stores::oam_written, picture_unit::specs::Stores::oam_copied))]
+    fn write_oam(&mut self, offset: u8, value: u8)
+        ensures { self.new ≡ (if is_closed self.old (Place.Oam offset) then self.old else stored_at (Place.Oam offset) value self.old) }
+    {
+        if self.control.dma_copied < 160 {
+            return;
+        }
+        self.picture.write_oam(offset, value);
+    }
+}

@@ -1,0 +1,91 @@
+ghost use Rattle.std.specs.Prelude.{◌≡◌, ◌<◌};
+ghost use Rattle.std.specs.Fn.{iterate};
+ghost use Rattle.repeated_steps.specs.NextEvent.{IsNextEvent, earlier};
+ghost use Rattle.memory_map.specs.Ticks.{tick, tick_timer, tick_serial, tick_dma_and_picture, tick_picture, copied_byte, happens};
+
+use super::Bus;
+
+impl Bus {
+    /// That many M-cycles pass for all units, in each of them in the order timer, serial, object DMA, picture.
+    pub fn pass(&mut self, cycles: u32)
+        ensures { self.new ≡ iterate tick cycles self.old }
+    {
+        self.pass_timer(cycles);
+        self.pass_serial(cycles);
+        self.pass_dma_and_picture(cycles);
+    }
+
+    /// After how many M-cycles the next event comes: a byte of a copy, a fall of the timer's signal, the end of a
+    /// transfer, the entry to a line, to mode 3 or to mode 0. None where none comes.
+    pub fn due(&self) -> Option<u32>
+        ensures { IsNextEvent tick happens self.now result }
+    {
+        if self.control.dma_copied < 160 {
+            Some(1)
+        } else {
+            earlier(
+                self.timer.due(),
+                earlier(self.serial.due(), self.picture.due()),
+            )
+        }
+    }
+
+    fn pass_timer(&mut self, cycles: u32)
+        ensures ticks { self.new ≡ iterate tick_timer cycles self.old }
+        ensures dma_page { self.old.control.dma < 256 }
+    {
+        let requests = self.timer.pass(cycles);
+        self.timer_requested |= requests.bits != 0;
+    }
+
+    fn pass_serial(&mut self, cycles: u32)
+        ensures { self.new ≡ iterate tick_serial cycles self.old }
+    {
+        let requests = self.serial.pass(cycles);
+        self.serial_requested |= requests.bits != 0;
+    }
+
+    /// The copy and the picture, of which the picture sees what is copied.
+    fn pass_dma_and_picture(&mut self, cycles: u32)
+        ensures { self.new ≡ iterate tick_dma_and_picture cycles self.old }
+    {
+        let mut left = cycles;
+        while left > 0 && self.control.dma_copied < 160 {
+            self.copy_byte();
+            self.pass_picture(1);
+            left -= 1;
+        }
+        self.pass_picture(left);
+    }
+
+    fn pass_picture(&mut self, cycles: u32)
+        ensures { self.new ≡ iterate tick_picture cycles self.old }
+    {
+        let requests = self.picture.pass(cycles);
+        self.vblank_requested |= requests.vblank;
+        self.stat_requested |= requests.stat;
+    }
+
+    #[tactic(auto, unfolding(picture_unit::specs::Stores::oam_copied))]
+    fn copy_byte(&mut self)
+        requires { self.old.control.dma_copied < 160 }
+        ensures { self.new ≡ copied_byte self.old }
+    {
+        let page = self.control.dma;
+        let page = if page < 0xe0 { page } else { page - 0x20 };
+        let source = 256 * u16::from(page) + u16::from(self.control.dma_copied);
+        let byte = self.peek(source);
+        self.picture.copy_to_oam(self.control.dma_copied, byte);
+        self.control.dma_copied += 1;
+    }
+}
+
+fn earlier(a: Option<u32>, b: Option<u32>) -> Option<u32>
+    ensures { result ≡ earlier a b }
+{
+    match (a, b) {
+        (None, b) => b,
+        (a, None) => a,
+        (Some(a), Some(b)) => Some(a.min(b)),
+    }
+}

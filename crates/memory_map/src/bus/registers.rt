@@ -1,0 +1,120 @@
+ghost use Rattle.std.specs.Prelude.{◌≡◌};
+ghost use Rattle.std.specs.Prelude.{◌%◌};
+ghost use Rattle.timer_unit.specs.Timer.{with_counter_and_tac};
+ghost use Rattle.picture_unit.specs.Registers.{register_written as picture_register_written};
+ghost use Rattle.memory_map.specs.Joypad.{joypad_set, select_bits};
+ghost use Rattle.memory_map.specs.Bus.{register_value, register_written, interrupt_flag, with_interrupt_flag, shared, acknowledged};
+
+use super::Bus;
+use crate::control::select_bits;
+
+impl Bus {
+    /// The bits that IE and IF share, of the low five: VBlank 0, STAT 1, timer 2, serial 3, joypad 4.
+    pub fn shared(&self) -> u8
+        ensures { result ≡ shared self.now }
+    {
+        self.control.ie & self.interrupt_flag()
+    }
+
+    /// Clears a bit of IF. A bit above 4 changes nothing.
+    pub fn acknowledge(&mut self, bit: u8)
+        ensures { self.new ≡ acknowledged bit self.old }
+    {
+        match bit {
+            0 => self.vblank_requested = false,
+            1 => self.stat_requested = false,
+            2 => self.timer_requested = false,
+            3 => self.serial_requested = false,
+            4 => self.control.joypad = false,
+            _ => {}
+        }
+    }
+
+    /// The low five bits of IF.
+    pub(super) fn interrupt_flag(&self) -> u8
+        ensures { result ≡ interrupt_flag self.now }
+    {
+        u8::from(self.vblank_requested)
+            + 2 * u8::from(self.stat_requested)
+            + 4 * u8::from(self.timer_requested)
+            + 8 * u8::from(self.serial_requested)
+            + 16 * u8::from(self.control.joypad)
+    }
+
+    /// The low five bits of IF become those of the value.
+    pub(super) fn set_interrupt_flag(&mut self, value: u8)
+        ensures { self.new ≡ with_interrupt_flag value self.old }
+    {
+        self.vblank_requested = value / 1 % 2 == 1;
+        self.stat_requested = value / 2 % 2 == 1;
+        self.timer_requested = value / 4 % 2 == 1;
+        self.serial_requested = value / 8 % 2 == 1;
+        self.control.joypad = value / 16 % 2 == 1;
+    }
+
+    #[tactic(auto, unfolding(crate::specs::Bus::register_value))]
+    pub(super) fn register(&self, address: u16) -> u8
+        ensures { result ≡ register_value self.now address }
+    {
+        match address {
+            0xff00 => self.control.p1(),
+            0xff01 => self.serial.sb(),
+            0xff02 => self.serial.sc(),
+            0xff04 => self.timer.div(),
+            0xff05 => self.timer.tima(),
+            0xff06 => self.timer.tma(),
+            0xff07 => self.timer.tac(),
+            0xff0f => 0xe0 + self.interrupt_flag() % 32,
+            0xff46 => self.control.dma,
+            _ => self.picture.read_register(address),
+        }
+    }
+
+    #[tactic(auto, unfolding(crate::specs::Bus::register_written))]
+    pub(super) fn write_register(&mut self, address: u16, value: u8)
+        ensures { self.new ≡ register_written address value self.old }
+    {
+        match address {
+            0xff00 => self.write_p1(value),
+            0xff01 => self.serial.write_sb(value),
+            0xff02 => self.serial.write_sc(value),
+            0xff04 => self.write_div(),
+            0xff05 => self.timer.write_tima(value),
+            0xff06 => self.timer.write_tma(value),
+            0xff07 => self.write_tac(value),
+            0xff0f => self.set_interrupt_flag(value),
+            0xff46 => {
+                self.control.dma = value;
+                self.control.dma_copied = 0;
+            }
+            _ => self.write_picture(address, value),
+        }
+    }
+
+    fn write_p1(&mut self, value: u8)
+        ensures { self.new ≡ record self.old { control = joypad_set (select_bits value) self.old.control.buttons self.old.control } }
+    {
+        let buttons = self.control.buttons;
+        self.control.set_joypad(select_bits(value), buttons);
+    }
+
+    fn write_div(&mut self)
+        ensures { self.new ≡ record self.old { timer = with_counter_and_tac 0 self.old.timer.timer.tac self.old.timer } }
+    {
+        let requests = self.timer.write_div();
+        self.timer_requested |= requests.bits != 0;
+    }
+
+    fn write_tac(&mut self, value: u8)
+        ensures { self.new ≡ record self.old { timer = with_counter_and_tac self.old.timer.timer.counter (value % 8) self.old.timer } }
+    {
+        let requests = self.timer.write_tac(value);
+        self.timer_requested |= requests.bits != 0;
+    }
+
+    fn write_picture(&mut self, address: u16, value: u8)
+        ensures { self.new ≡ record self.old { picture = picture_register_written address value self.old.picture } }
+    {
+        self.stat_requested |= self.picture.write_register(address, value);
+    }
+}

@@ -1,0 +1,102 @@
+ghost use Rattle.std.specs.Prelude.{◌≡◌, ◌<◌, length, All, Some, slice_get, slice_set};
+ghost use Rattle.std.specs.Fn.{iterate};
+ghost use Rattle.bank_controllers.specs.CartridgeState.{second};
+ghost use Rattle.memory_map.specs.Stores.{registers_of, with_registers, AreLegalFor, region_of, region_filled, FitsRegion};
+
+use super::Bus;
+use crate::bus_registers::BusRegisters;
+use crate::region::Region;
+use picture_unit::{Picture, PictureRegion};
+
+impl Bus {
+    /// What a snapshot holds of the registers: each field legal for this cartridge.
+    pub fn state(&self) -> BusRegisters
+        ensures state { result ≡ registers_of self.now }
+        ensures legal { AreLegalFor self.now.banks result }
+    {
+        BusRegisters {
+            ie: self.control.ie,
+            interrupt_flag: self.interrupt_flag(),
+            buttons: self.control.buttons,
+            p1_select: self.control.p1_select,
+            timer: self.timer.state(),
+            serial: self.serial.state(),
+            dma: self.control.dma,
+            dma_copied: self.control.dma_copied,
+            picture: self.picture.state(),
+            banks: self.banks.state(),
+        }
+    }
+
+    /// Sets the registers. Condition: they are legal for this cartridge.
+    pub fn restore(&mut self, state: &BusRegisters)
+        requires { AreLegalFor self.old.banks state.now }
+        ensures { self.new ≡ with_registers state.now self.old }
+    {
+        self.timer.restore(&state.timer);
+        self.serial.restore(&state.serial);
+        self.picture.restore(&state.picture);
+        self.banks.restore(&state.banks);
+        self.control.ie = state.ie;
+        self.control.buttons = state.buttons;
+        self.control.p1_select = state.p1_select;
+        self.control.dma = state.dma;
+        self.control.dma_copied = state.dma_copied;
+        self.set_interrupt_flag(state.interrupt_flag);
+    }
+
+    /// The bytes of a region.
+    #[tactic(auto, unfolding(picture_unit::specs::Stores::region_of, picture_unit::specs::Stores::region_length))]
+    pub fn store(&self, region: Region) -> &[u8]
+        ensures bytes { result.now ≡ region_of self.now region }
+        ensures fit { FitsRegion self.now region result.now }
+    {
+        match region {
+            Region::Vram => self.picture.store(PictureRegion::Vram),
+            Region::Wram => &self.wram,
+            Region::Oam => self.picture.store(PictureRegion::Oam),
+            Region::Hram => &self.hram,
+            Region::Sound => &self.sound,
+            Region::CartRam => self.banks.store(),
+        }
+    }
+
+    /// Sets all bytes of a region. Condition: there are as many, and for the RAM of MBC2 each is below 16.
+    #[tactic(auto, unfolding(picture_unit::specs::Stores::region_filled, picture_unit::specs::Stores::region_length))]
+    pub fn fill(&mut self, region: Region, bytes: &[u8])
+        requires { FitsRegion self.old region bytes.now }
+        ensures { self.new ≡ region_filled region bytes.now self.old }
+    {
+        match region {
+            Region::Vram => self.picture.fill(PictureRegion::Vram, bytes),
+            Region::Wram => self.wram.as_mut_slice().copy_from_slice(bytes),
+            Region::Oam => self.picture.fill(PictureRegion::Oam, bytes),
+            Region::Hram => self.hram.copy_from_slice(bytes),
+            Region::Sound => self.sound.copy_from_slice(bytes),
+            Region::CartRam => self.banks.fill(bytes),
+        }
+    }
+
+    /// The picture unit, to look at.
+    pub fn picture(&self) -> &Picture
+        ensures { result.now ≡ self.now.picture.screen }
+    {
+        &self.picture
+    }
+
+    /// Sets the shades of a row of the picture. Condition: the row is below 144 and each shade at most 3.
+    pub fn set_row(&mut self, y: usize, row: &[u8; 160])
+        requires y_in { y < 144 }
+        requires shades { All (λ shade. shade < 4) row.now }
+        ensures { self.new ≡ record self.old { picture = record self.old.picture { screen = record self.old.picture.screen { rows = slice_set self.old.picture.screen.rows y row.now } } } }
+    {
+        self.picture.set_row(y, row);
+    }
+
+    /// That many seconds pass for the clock of an MBC3; without a clock nothing changes.
+    pub fn pass_seconds(&mut self, seconds: u32)
+        ensures { self.new ≡ record self.old { banks = iterate second seconds self.old.banks } }
+    {
+        self.banks.pass_seconds(seconds);
+    }
+}

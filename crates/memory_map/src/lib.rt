@@ -1,0 +1,21 @@
+//! The memory map of the Game Boy: all that the processor reaches by addresses, and time passing in it.
+//!
+//! `Bus` holds the units, the cartridge and the stores. Reads and writes are one equation each on the place that an
+//! address names (`specs/Bus.antt`), and n M-cycles are n times one M-cycle of all units (`specs/Ticks.antt`).
+#![tactic(auto)]
+
+mod bus;
+mod bus_registers;
+mod control;
+mod laws;
+mod place;
+mod region;
+#[cfg(test)]
+mod tests;
+
+pub use bus::Bus;
+pub use bus_registers::BusRegisters;
+pub use control::Control;
+pub use laws::each_row_of_the_map_is_mapped;
+pub use place::Place;
+pub use region::Region;

@@ -1,0 +1,9 @@
+pub mod Objects
+pub mod Rows
+pub mod Lanes
+pub mod TileCache
+pub mod Composing
+pub mod Layering
+pub mod Backgrounds
+pub mod Shades
+pub mod Winners

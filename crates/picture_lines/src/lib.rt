@@ -1,0 +1,19 @@
+//! The lines of the picture unit: one pixel by the rules of Pan Docs, and a whole line by cached
+//! tile rows.
+#![tactic(auto)]
+
+mod bits;
+mod kernels;
+mod line;
+mod object_entry;
+mod plain;
+mod registers;
+#[cfg(test)]
+mod tests;
+mod tiles;
+
+pub use kernels::{map_shades, tile_colours};
+pub use object_entry::Object;
+pub use plain::winner_is_least;
+pub use registers::LineRegisters;
+pub use tiles::TileMemory;

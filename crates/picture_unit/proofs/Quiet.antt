@@ -1,0 +1,175 @@
+-- M-cycles in which no line begins and the mode stays.
+use Rattle.std.proofs.Common.{◌≡◌, ℕ, zero, suc, ◌+◌, ◌-◌, ◌<◌, ◌≤◌, Bool, true, false, cond, min, refl, sym, ap, subst, ◌∙◌, arith}
+use Rattle.std.specs.Prelude.{not, ◌&&◌, ◌||◌, ◌==◌, Some, None}
+use Rattle.std.specs.Fn.{iterate}
+use Rattle.std.proofs.lemmas.Bool.Decides.{nat_tests}
+use Rattle.picture_unit.specs.declared.state.PictureState.{PictureState}
+use Rattle.picture_unit.specs.Picture.{Screen, PictureAndRequests, unrequested, ticks, is_on, mode, stat_signal, is_source, advanced, entered, draws, drawn, begins_vblank, line_drawn, moved, taken, tick, is_entry}
+use Rattle.picture_unit.specs.PictureJump.{next_entry, later, skipped}
+use Rattle.repeated_steps.specs.NextEvent.{IsNextEvent}
+use Rattle.repeated_steps.proofs.Iterates.{iterate-add}
+
+quiet_advance : (p : PictureState) → 1 < next_entry p → entered (advanced p) ≡ record p { m_cycle = p.m_cycle + 1 }
+unfolding advanced entered next_entry
+quiet_advance p h =
+    let a : (p.m_cycle == 113) ≡ false = grind (arith, nat_tests) in
+    let b : (p.m_cycle + 1 == 0) ≡ false = grind (arith, nat_tests) in
+    rw (a, b) refl
+
+quiet_draws : (p : PictureState) → 1 < next_entry p → draws (record p { m_cycle = p.m_cycle + 1 }) ≡ false
+unfolding draws next_entry
+quiet_draws p h = grind (arith, nat_tests)
+
+quiet_vblank : (p : PictureState) → begins_vblank (record p { m_cycle = p.m_cycle + 1 }) ≡ false
+unfolding begins_vblank
+quiet_vblank p = grind (arith, nat_tests)
+
+or_false : (b : Bool) → (b || false) ≡ b
+or_false true = refl
+or_false false = refl
+
+quiet_tick : (d : PictureAndRequests) → is_on d.screen.state ≡ true → 1 < next_entry d.screen.state → tick d ≡ taken (later 1 d)
+unfolding tick moved later drawn taken
+quiet_tick d on h =
+    let p = d.screen.state in
+    let run : tick d ≡ taken (moved d) = ap (λ b. cond b (taken (moved d)) d) on in
+    let same : moved d ≡ later 1 d = rw (quiet_advance p h, quiet_draws p h, quiet_vblank p, or_false d.vblank) refl in
+    run ∙ ap taken same
+
+-- the mode stays, and so does the STAT signal
+same_mode : (p : PictureState) (n : ℕ) → 0 < n → n < next_entry p → mode (record p { m_cycle = p.m_cycle + 1 }) ≡ mode (record p { m_cycle = p.m_cycle + n })
+unfolding mode next_entry is_on
+same_mode p n pos h = grind (arith, nat_tests)
+
+same_signal : (p : PictureState) (n : ℕ) → 0 < n → n < next_entry p → stat_signal (record p { m_cycle = p.m_cycle + 1 }) ≡ stat_signal (record p { m_cycle = p.m_cycle + n })
+unfolding stat_signal is_on
+same_signal p n pos h = ap (λ (m : ℕ). is_on p && is_source p.stat m (p.ly == p.lyc)) (same_mode p n pos h)
+
+settled : (r l s : Bool) → ((r || (l && not s)) || (l && not l)) ≡ (r || (l && not s))
+settled true l s = refl
+settled false true true = refl
+settled false true false = refl
+settled false false s = refl
+
+skip_more : (n : ℕ) (d : PictureAndRequests) → suc n < next_entry d.screen.state → skipped n (taken (later 1 d)) ≡ taken (later (suc n) d)
+unfolding skipped later taken is_on stat_signal is_source mode
+skip_more zero d h = refl
+skip_more (suc n) d h =
+    let p = d.screen.state in
+    let further : p.m_cycle + 1 + suc n ≡ p.m_cycle + suc (suc n) = omega arith in
+    let stays : stat_signal (record p { m_cycle = p.m_cycle + 1 }) ≡ stat_signal (record p { m_cycle = p.m_cycle + suc (suc n) }) = same_signal p (suc (suc n)) (omega arith) h in
+    rw (further, stays, settled d.stat (stat_signal (record p { m_cycle = p.m_cycle + suc (suc n) })) p.signal) refl
+
+-- one M-cycle on, the entry is one M-cycle nearer
+nearer : (p : PictureState) (n : ℕ) → suc n < next_entry p → n < next_entry (record p { m_cycle = p.m_cycle + 1 })
+unfolding next_entry
+nearer p n h = grind (arith, nat_tests)
+
+pub skips : (n : ℕ) (d : PictureAndRequests) → is_on d.screen.state ≡ true → n < next_entry d.screen.state → iterate tick n d ≡ skipped n d
+unfolding skipped later taken is_on stat_signal next_entry
+skips zero d on h = refl
+skips (suc n) d on h =
+    ap (iterate tick n) (quiet_tick d on (omega arith))
+    ∙ skips n (taken (later 1 d)) on (nearer d.screen.state n h)
+    ∙ skip_more n d h
+
+off_tick : (d : PictureAndRequests) → is_on d.screen.state ≡ false → tick d ≡ d
+unfolding tick
+off_tick d off = ap (λ b. cond b (taken (moved d)) d) off
+
+pub stands_still : (n : ℕ) (d : PictureAndRequests) → is_on d.screen.state ≡ false → iterate tick n d ≡ d
+stands_still zero d off = refl
+stands_still (suc n) d off = ap (iterate tick n) (off_tick d off) ∙ stands_still n d off
+
+-- the next entry
+
+no_entry : (n : ℕ) (d : PictureAndRequests) → n + 1 < next_entry d.screen.state → is_entry (later n d) ≡ false
+unfolding next_entry is_entry advanced later
+no_entry n d h = grind (arith, nat_tests)
+
+an_entry : (n : ℕ) (d : PictureAndRequests) → is_on d.screen.state ≡ true → d.screen.state.m_cycle < 114 → n + 1 ≡ next_entry d.screen.state → is_entry (later n d) ≡ true
+unfolding next_entry is_entry advanced later is_on
+an_entry n d on legal h = grind (arith, nat_tests)
+
+-- whether the next M-cycle is an entry does not depend on the signal
+entry_taken : (d : PictureAndRequests) → is_entry (taken d) ≡ is_entry d
+unfolding taken is_entry advanced is_on
+entry_taken d = grind (arith, nat_tests)
+
+entry_later : (n : ℕ) (d : PictureAndRequests) → is_entry (skipped n d) ≡ is_entry (later n d)
+unfolding skipped later
+entry_later zero d = let e : d.screen.state.m_cycle ≡ d.screen.state.m_cycle + 0 = omega arith in ap (λ (k : ℕ). is_entry (record d { screen = record d.screen { state = record d.screen.state { m_cycle = k } } })) e
+entry_later (suc n) d = entry_taken (later (suc n) d)
+
+pub never_due : (d : PictureAndRequests) → is_on d.screen.state ≡ false → IsNextEvent tick is_entry d None
+unfolding is_entry
+never_due d off k = ap is_entry (stands_still k d off) ∙ grind arith
+
+pub is_due : (d : PictureAndRequests) → is_on d.screen.state ≡ true → d.screen.state.m_cycle < 114 → IsNextEvent tick is_entry d (Some (next_entry d.screen.state))
+unfolding next_entry
+is_due d on legal =
+    let p = d.screen.state in
+    let pos : 0 < next_entry p = grind (arith, nat_tests) in (
+      pos,
+      ap is_entry (skips (next_entry p - 1) d on (omega arith)) ∙ entry_later (next_entry p - 1) d ∙ an_entry (next_entry p - 1) d on legal (omega arith),
+      λ k lt. ap is_entry (skips k d on (omega arith)) ∙ entry_later k d ∙ no_entry k d lt,
+    )
+
+-- a picture unit stays on
+
+on_entered : (p : PictureState) → is_on (entered (advanced p)) ≡ is_on p
+unfolding is_on advanced entered
+on_entered p = grind (arith, nat_tests)
+
+on_drawn : (s : Screen) → is_on (drawn s).state ≡ is_on s.state
+unfolding is_on drawn line_drawn
+on_drawn s = grind (arith, nat_tests)
+
+on_tick : (d : PictureAndRequests) → is_on d.screen.state ≡ true → is_on (tick d).screen.state ≡ true
+unfolding tick taken moved is_on
+on_tick d on =
+    let run : tick d ≡ taken (moved d) = ap (λ b. cond b (taken (moved d)) d) on in
+    ap (λ (e : PictureAndRequests). is_on e.screen.state) run ∙ on_drawn (record d.screen { state = entered (advanced d.screen.state) }) ∙ on_entered d.screen.state ∙ on
+
+on_skipped : (n : ℕ) (d : PictureAndRequests) → is_on (skipped n d).screen.state ≡ is_on d.screen.state
+unfolding skipped taken later is_on
+on_skipped zero d = refl
+on_skipped (suc n) d = refl
+
+pub stays_on : (d e : PictureAndRequests) → is_on d.screen.state ≡ true → e ≡ tick d → is_on e.screen.state ≡ true
+stays_on d e on h = ap (λ (e : PictureAndRequests). is_on e.screen.state) h ∙ on_tick d on
+
+pub stays_on_skipped : (n : ℕ) (d e : PictureAndRequests) → is_on d.screen.state ≡ true → e ≡ skipped n d → is_on e.screen.state ≡ true
+stays_on_skipped n d e on h = ap (λ (e : PictureAndRequests). is_on e.screen.state) h ∙ on_skipped n d ∙ on
+
+-- quiet M-cycles, and then the others
+pub after_quiet : (n q : ℕ) (d e : PictureAndRequests) → q ≤ n → is_on d.screen.state ≡ true → q < next_entry d.screen.state → e ≡ skipped q d → iterate tick (n - q) e ≡ iterate tick n d
+after_quiet n q d e le on lt h =
+    let whole : q + (n - q) ≡ n = omega arith in
+    ap (iterate tick (n - q)) (h ∙ sym (skips q d on lt)) ∙ sym (iterate-add tick q (n - q) d) ∙ ap (λ (k : ℕ). iterate tick k d) whole
+
+pub after_tick : (n : ℕ) (d e : PictureAndRequests) → 0 < n → e ≡ tick d → iterate tick (n - 1) e ≡ iterate tick n d
+after_tick n d e pos h =
+    let whole : n ≡ suc (n - 1) = omega arith in
+    ap (iterate tick (n - 1)) h ∙ sym (ap (λ (k : ℕ). iterate tick k d) whole)
+
+-- the same, where the state is known by another name and the number by an equation
+pub is_due_at : (p : PictureState) (n : ℕ) (d : PictureAndRequests) → p ≡ d.screen.state → is_on p ≡ true → p.m_cycle < 114 → n ≡ next_entry p → IsNextEvent tick is_entry d (Some n)
+is_due_at p n d same on legal e =
+    let on' : is_on d.screen.state ≡ true = ap is_on (sym same) ∙ on in
+    let legal' : d.screen.state.m_cycle < 114 = subst (λ (p : PictureState). p.m_cycle < 114) same legal in
+    subst (λ (n : ℕ). IsNextEvent tick is_entry d (Some n)) (sym (e ∙ ap next_entry same)) (is_due d on' legal')
+
+pub quiet_part : (p : PictureState) (s : Screen) (q n t : ℕ) → p ≡ s.state → t ≡ next_entry p → 0 < t → q ≡ min n (t - 1) → (q ≤ n) × (q < next_entry s.state)
+quiet_part p s q n t same e pos m = let e' : t ≡ next_entry s.state = e ∙ ap next_entry same in (omega arith, omega (arith, e'))
+
+-- what is known of `pass`, of the state by another name
+pub ticks_when_off : (n : ℕ) (p : PictureState) (s : Screen) → p ≡ s.state → is_on p ≡ false → ticks n s ≡ unrequested s
+unfolding unrequested
+ticks_when_off n p s same off = stands_still n (unrequested s) (ap is_on (sym same) ∙ off)
+
+pub ticks_when_quiet : (n t : ℕ) (p : PictureState) (s : Screen) (e : PictureAndRequests) → p ≡ s.state → is_on p ≡ true → t ≡ next_entry p → n < t → e ≡ skipped n (record { screen = s; vblank = false; stat = false }) → e ≡ ticks n s
+unfolding unrequested
+ticks_when_quiet n t p s e same on entry lt h =
+    let lt' : n < next_entry s.state = rw (← same, ← entry) lt in
+    h ∙ sym (skips n (unrequested s) (ap is_on (sym same) ∙ on) lt')

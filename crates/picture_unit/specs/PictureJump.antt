@@ -1,0 +1,26 @@
+-- The picture unit between two entries, an entry being that to a line, to mode 3 or to mode 0.
+use Rattle.std.specs.Prelude.{ℕ, zero, suc, ◌+◌, ◌-◌, ◌||◌, nat_le, nat_lt, if◌then◌else◌}
+use Rattle.picture_unit.specs.declared.state.PictureState.{PictureState}
+use Rattle.picture_unit.specs.declared.state.PictureRequests.{PictureRequests}
+use Rattle.picture_unit.specs.Picture.{Screen, PictureAndRequests, taken}
+
+-- how many M-cycles the next entry is away
+unfoldable pub next_entry : PictureState → ℕ
+next_entry p =
+    if nat_le 144 p.ly || nat_le 63 p.m_cycle then 114 - p.m_cycle
+    else if nat_lt p.m_cycle 20 then 20 - p.m_cycle
+    else 63 - p.m_cycle
+
+unfoldable pub later : ℕ → PictureAndRequests → PictureAndRequests
+later n d = record d {
+  screen = record d.screen { state = record d.screen.state { m_cycle = d.screen.state.m_cycle + n } };
+}
+
+-- n M-cycles without an entry
+unfoldable pub skipped : ℕ → PictureAndRequests → PictureAndRequests
+skipped zero d = d
+skipped (suc n) d = taken (later (suc n) d)
+
+-- a picture unit that has requested these interrupts
+abbrev pub with_requests : PictureRequests → Screen → PictureAndRequests
+with_requests requests s = record { screen = s; vblank = requests.vblank; stat = requests.stat }

@@ -1,0 +1,293 @@
+ghost use Rattle.std.specs.Prelude.{◌≡◌, length, false, not, ◌&&◌, IfOk, OnOk, OnErr, replicate};
+
+mod clock;
+mod snapshot;
+
+use crate::pgm::write_rows;
+use crate::state::PictureState;
+use exact_text::OutputFailed;
+use picture_lines::TileMemory;
+use std::alloc::{AllocError, Global};
+use std::io::Write;
+use std::marker::Model;
+
+/// The picture unit: registers and counters, VRAM, OAM and the rows of shades (Pan Docs,
+/// "Rendering").
+///
+/// Contracts see it as a `Screen`: the state that a snapshot holds, the bytes of VRAM and OAM, and
+/// 144 rows of 160 shades from 0 to 3. Time is counted in M-cycles, 114 a line and 154 lines a
+/// frame. `new` makes all its room, and no other call takes memory.
+#[derive(Drop)]
+pub struct Picture {
+    state: PictureState,
+    tiles: TileMemory,
+    oam: Vec<u8>,
+    rows: Vec<[u8; 160]>,
+}
+
+impl Model for Picture {
+    ghost use Rattle.picture_unit.specs.Picture.{Screen, IsWhole};
+
+    ghost Value = { Screen };
+
+    ghost view = { λ p. record {
+      state = p.state;
+      vram = p.tiles;
+      oam = p.oam.items;
+      rows = p.rows.items;
+    } };
+
+    ghost invariant = { λ p. IsWhole p.state p.oam.items p.rows.items };
+}
+
+impl Picture {
+    ghost use Rattle.std.specs.Io.KnownBytes.{Appends};
+    ghost use Rattle.exact_text.specs.Written.{AppendsProperPrefix};
+    ghost use Rattle.picture_unit.specs.Picture.{unrequested, stat_signal, taken, screen_at_power_on};
+    ghost use Rattle.picture_unit.specs.Registers.{register_value, register_written, lcdc_written, stat_written, lyc_written, switched_off, switched_on};
+    ghost use Rattle.picture_unit.specs.Stores.{is_vram_closed, is_oam_closed, byte_read, vram_written, oam_written, oam_copied};
+    ghost use Rattle.picture_unit.specs.Pgm.{picture_text};
+
+    /// The picture unit when the machine is switched on: LCDC 91, BGP FC, OBP0 and OBP1 FF, the
+    /// other registers, VRAM, OAM and all shades 0, at the beginning of line 0. Refused where there
+    /// is no memory.
+    pub fn new(alloc: Global) -> Result<Picture, AllocError>
+        ensures { IfOk result (λ p. p ≡ screen_at_power_on) }
+    {
+        let tiles = TileMemory::new(alloc)?;
+        let oam = Vec::from_elem(alloc, 0u8, 160)?;
+        let rows = Vec::from_elem(alloc, [0u8; 160], 144)?;
+        Ok(Picture {
+            state: PictureState::at_power_on(),
+            tiles,
+            oam,
+            rows,
+        })
+    }
+
+    /// A byte of VRAM, by its offset from 8000. Mode 3 closes VRAM: it reads FF. Beyond VRAM it
+    /// reads 00.
+    #[tactic(auto, unfolding(crate::specs::Stores::byte_read))]
+    pub fn read_vram(&self, offset: u16) -> u8
+        ensures { result ≡ byte_read (is_vram_closed self.now.state) self.now.vram offset }
+    {
+        if self.is_vram_closed() {
+            return 0xff;
+        }
+        self.peek_vram(offset)
+    }
+
+    /// A byte of VRAM, in every mode.
+    #[tactic(auto, unfolding(crate::specs::Stores::byte_read))]
+    pub fn peek_vram(&self, offset: u16) -> u8
+        ensures { result ≡ byte_read false self.now.vram offset }
+    {
+        let bytes = self.tiles.bytes();
+        if offset as usize >= bytes.len() {
+            return 0;
+        }
+        bytes[offset as usize]
+    }
+
+    /// Writes a byte of VRAM, by its offset from 8000. The write is ignored in mode 3, and beyond
+    /// VRAM.
+    #[tactic(auto, unfolding(crate::specs::Stores::vram_written))]
+    pub fn write_vram(&mut self, offset: u16, value: u8)
+        ensures { self.new ≡ vram_written offset value self.old }
+    {
+        if self.is_vram_closed() {
+            return;
+        }
+        if offset as usize >= self.tiles.bytes().len() {
+            return;
+        }
+        self.tiles.write(offset as usize, value);
+    }
+
+    /// A byte of OAM, by its offset from FE00. Modes 2 and 3 close OAM: it reads FF. Beyond OAM it
+    /// reads 00.
+    #[tactic(auto, unfolding(crate::specs::Stores::byte_read))]
+    pub fn read_oam(&self, offset: u8) -> u8
+        ensures { result ≡ byte_read (is_oam_closed self.now.state) self.now.oam offset }
+    {
+        if self.is_oam_closed() {
+            return 0xff;
+        }
+        self.peek_oam(offset)
+    }
+
+    /// A byte of OAM, in every mode.
+    #[tactic(auto, unfolding(crate::specs::Stores::byte_read))]
+    pub fn peek_oam(&self, offset: u8) -> u8
+        ensures { result ≡ byte_read false self.now.oam offset }
+    {
+        if offset as usize >= self.oam.len() {
+            return 0;
+        }
+        self.oam[offset as usize]
+    }
+
+    /// Writes a byte of OAM, by its offset from FE00. The write is ignored in modes 2 and 3, and
+    /// beyond OAM.
+    #[tactic(auto, unfolding(crate::specs::Stores::oam_written, crate::specs::Stores::oam_copied))]
+    pub fn write_oam(&mut self, offset: u8, value: u8)
+        ensures { self.new ≡ oam_written offset value self.old }
+    {
+        if self.is_oam_closed() {
+            return;
+        }
+        self.copy_to_oam(offset, value);
+    }
+
+    /// Writes a byte of OAM in every mode, as the object DMA does. Beyond OAM the write is ignored.
+    #[tactic(auto, unfolding(crate::specs::Stores::oam_copied))]
+    pub fn copy_to_oam(&mut self, offset: u8, value: u8)
+        ensures { self.new ≡ oam_copied offset value self.old }
+    {
+        if offset as usize >= self.oam.len() {
+            return;
+        }
+        self.oam[offset as usize] = value;
+    }
+
+    /// What a register reads: FF40 LCDC, FF41 STAT, FF42 SCY, FF43 SCX, FF44 LY, FF45 LYC, FF47
+    /// BGP, FF48 OBP0, FF49 OBP1, FF4A WY, FF4B WX. Every other address reads FF.
+    pub fn read_register(&self, address: u16) -> u8
+        ensures { result ≡ register_value self.now.state address }
+    {
+        self.state.register(address)
+    }
+
+    /// Writes a register, and answers whether that requests the STAT interrupt. LY and every other
+    /// address ignore it.
+    #[tactic(auto, unfolding(crate::specs::Registers::register_written, crate::specs::Picture::unrequested))]
+    pub fn write_register(&mut self, address: u16, value: u8) -> bool
+        ensures picture { self.new
+            ≡ (register_written address value (unrequested self.old)).screen }
+        ensures stat { result ≡ (register_written address value (unrequested self.old)).stat }
+    {
+        match address {
+            0xff40 => self.write_lcdc(value),
+            0xff41 => self.write_stat(value),
+            0xff45 => self.write_lyc(value),
+            _ => {
+                self.state.store_register(address, value);
+                false
+            }
+        }
+    }
+
+    /// Writes the picture as plain PGM: `P2`, `160 144`, `3`, then each row as five lines of 32
+    /// values, 3 less the shade. Refused where a write fails or takes no byte: a proper prefix of
+    /// the text went out.
+    pub fn write_pgm<W: Write>(&self, out: &mut W) -> Result<(), OutputFailed>
+        ensures ok { OnOk result
+            (Appends (W.contents out.old) (W.contents out.new) (picture_text self.now.rows)) }
+        ensures err { OnErr result (AppendsProperPrefix
+            (W.contents out.old) (W.contents out.new) (picture_text self.now.rows)) }
+    {
+        write_rows(&self.rows, out)
+    }
+
+    #[tactic(auto, unfolding(crate::specs::Stores::is_vram_closed))]
+    fn is_vram_closed(&self) -> bool
+        ensures { result ≡ is_vram_closed self.now.state }
+    {
+        self.state.mode() == 3
+    }
+
+    #[tactic(auto, unfolding(crate::specs::Stores::is_oam_closed))]
+    fn is_oam_closed(&self) -> bool
+        ensures { result ≡ is_oam_closed self.now.state }
+    {
+        let mode = self.state.mode();
+        mode == 2 || mode == 3
+    }
+
+    #[tactic(auto, unfolding(crate::specs::Picture::unrequested, crate::specs::Picture::taken))]
+    fn write_lcdc(&mut self, value: u8) -> bool
+        ensures picture { self.new ≡ (taken (unrequested (lcdc_written value self.old))).screen }
+        ensures stat { result ≡ (taken (unrequested (lcdc_written value self.old))).stat }
+    {
+        self.store_lcdc(value);
+        self.take_signal()
+    }
+
+    #[tactic(auto, unfolding(crate::specs::Registers::lcdc_written))]
+    fn store_lcdc(&mut self, value: u8)
+        ensures { self.new ≡ lcdc_written value self.old }
+    {
+        let was_on = self.state.is_on();
+        if was_on && value < 128 {
+            return self.switch_off(value);
+        }
+        if !was_on && value >= 128 {
+            return self.switch_on(value);
+        }
+        self.state.lcdc = value;
+    }
+
+    #[tactic(auto, unfolding(crate::specs::Registers::switched_off, crate::specs::Picture::blank_rows))]
+    fn switch_off(&mut self, lcdc: u8)
+        ensures { self.new ≡ switched_off lcdc self.old }
+    {
+        self.state.lcdc = lcdc;
+        self.state.ly = 0;
+        self.state.m_cycle = 0;
+        self.state.window_line = 0;
+        self.state.seen = false;
+        self.state.signal = false;
+        blank(&mut self.rows);
+    }
+
+    #[tactic(auto, unfolding(crate::specs::Registers::switched_on))]
+    fn switch_on(&mut self, lcdc: u8)
+        ensures { self.new ≡ switched_on lcdc self.old }
+    {
+        self.state.lcdc = lcdc;
+        self.state.ly = 0;
+        self.state.m_cycle = 0;
+        self.state.window_line = 0;
+        self.state.seen = self.state.wy == 0;
+    }
+
+    #[tactic(auto, unfolding(crate::specs::Picture::unrequested, crate::specs::Picture::taken, crate::specs::Registers::stat_written))]
+    fn write_stat(&mut self, value: u8) -> bool
+        ensures picture { self.new ≡ (taken (unrequested (stat_written value self.old))).screen }
+        ensures stat { result ≡ (taken (unrequested (stat_written value self.old))).stat }
+    {
+        self.state.stat = value / 8 % 16 * 8;
+        self.take_signal()
+    }
+
+    #[tactic(auto, unfolding(crate::specs::Picture::unrequested, crate::specs::Picture::taken, crate::specs::Registers::lyc_written))]
+    fn write_lyc(&mut self, value: u8) -> bool
+        ensures picture { self.new ≡ (taken (unrequested (lyc_written value self.old))).screen }
+        ensures stat { result ≡ (taken (unrequested (lyc_written value self.old))).stat }
+    {
+        self.state.lyc = value;
+        self.take_signal()
+    }
+
+    // Takes the STAT signal. Answers whether it rises.
+    fn take_signal(&mut self) -> bool
+        ensures rises { result ≡ (stat_signal self.old.state && not self.old.state.signal) }
+        ensures taken { self.new ≡ record self.old {
+          state = record self.old.state { signal = stat_signal self.old.state };
+        } }
+    {
+        let signal = self.state.stat_signal();
+        let rises = signal && !self.state.signal;
+        self.state.signal = signal;
+        rises
+    }
+}
+
+// Sets all shades to 0.
+fn blank(rows: &mut [[u8; 160]])
+    ensures { rows.new ≡ replicate (length rows.old) (replicate 160 0) }
+{
+    for row in rows.iter_mut() {
+        *row = [0; 160];
+    }
+}

@@ -1,0 +1,152 @@
+ghost use Rattle.std.specs.Prelude.{◌≡◌, ◌<◌, true};
+ghost use Rattle.std.specs.Fn.{iterate};
+ghost use Rattle.repeated_steps.specs.NextEvent.{IsNextEvent};
+ghost use Rattle.picture_unit.specs.Picture.{unrequested, is_on, tick, ticks, is_entry, line_drawn, drawn};
+ghost use Rattle.picture_unit.specs.PictureJump.{next_entry, skipped, with_requests};
+
+use super::Picture;
+use crate::state::PictureRequests;
+
+impl Picture {
+    /// That many M-cycles pass: lines are entered and drawn, and interrupts requested.
+    #[tactic(auto, unfolding(crate::specs::Picture::unrequested))]
+    pub fn pass(&mut self, cycles: u32) -> PictureRequests
+        ensures picture { self.new ≡ (ticks cycles self.old).screen }
+        ensures vblank { result.vblank ≡ (ticks cycles self.old).vblank }
+        ensures stat { result.stat ≡ (ticks cycles self.old).stat }
+    {
+        let none = PictureRequests {
+            vblank: false,
+            stat: false,
+        };
+        if !self.state.is_on() {
+            return none;
+        }
+        if cycles < u32::from(self.state.next_entry()) {
+            return self.skip(cycles, none);
+        }
+        self.advance(cycles, none)
+    }
+
+    /// The same, M-cycle by M-cycle: what `pass` is compared with.
+    #[tactic(auto, unfolding(crate::specs::Picture::unrequested))]
+    pub fn pass_plainly(&mut self, cycles: u32) -> PictureRequests
+        ensures picture { self.new ≡ (ticks cycles self.old).screen }
+        ensures vblank { result.vblank ≡ (ticks cycles self.old).vblank }
+        ensures stat { result.stat ≡ (ticks cycles self.old).stat }
+    {
+        let mut requests = PictureRequests {
+            vblank: false,
+            stat: false,
+        };
+        for _cycle in 0..cycles {
+            requests = self.tick(requests);
+        }
+        requests
+    }
+
+    /// After how many M-cycles a line, mode 3 or mode 0 is entered: the least number, or None with
+    /// LCDC bit 7 clear.
+    pub fn due(&self) -> Option<u32>
+        ensures { IsNextEvent tick is_entry (unrequested self.now) result }
+    {
+        if self.state.is_on() {
+            Some(u32::from(self.state.next_entry()))
+        } else {
+            None
+        }
+    }
+
+    // M-cycles of a picture unit that is on, from entry to entry.
+    fn advance(&mut self, cycles: u32, requests: PictureRequests) -> PictureRequests
+        requires { is_on self.old.state ≡ true }
+        ensures { with_requests result self.new
+            ≡ iterate tick cycles (with_requests requests self.old) }
+    {
+        let mut left = cycles;
+        let mut requests = requests;
+        while left > 0 {
+            let (so_far, rest) = self.to_next_entry(left, requests);
+            requests = so_far;
+            left = rest;
+        }
+        requests
+    }
+
+    // M-cycles up to and with the next entry, of at most that many. Answers how many are left.
+    fn to_next_entry(&mut self, cycles: u32, requests: PictureRequests) -> (PictureRequests, u32)
+        requires on { is_on self.old.state ≡ true }
+        requires some { 0 < cycles }
+        ensures on { is_on self.new.state ≡ true }
+        ensures fewer { result.1 < cycles }
+        ensures ticks { iterate tick result.1 (with_requests result.0 self.new)
+            ≡ iterate tick cycles (with_requests requests self.old) }
+    {
+        let quiet = cycles.min(u32::from(self.state.next_entry()) - 1);
+        let requests = self.skip(quiet, requests);
+        let left = cycles - quiet;
+        if left == 0 {
+            return (requests, 0);
+        }
+        (self.tick(requests), left - 1)
+    }
+
+    // M-cycles without an entry.
+    #[tactic(auto, unfolding(crate::specs::PictureJump::skipped, crate::specs::PictureJump::later, crate::specs::Picture::taken, crate::specs::PictureJump::next_entry))]
+    fn skip(&mut self, cycles: u32, requests: PictureRequests) -> PictureRequests
+        requires on { is_on self.old.state ≡ true }
+        requires quiet { cycles < next_entry self.old.state }
+        ensures { with_requests result self.new ≡ skipped cycles (with_requests requests self.old) }
+    {
+        if cycles == 0 {
+            return requests;
+        }
+        self.state.m_cycle += cycles as u8;
+        let stat = self.take_signal();
+        PictureRequests {
+            vblank: requests.vblank,
+            stat: requests.stat | stat,
+        }
+    }
+
+    // One M-cycle. Answers the requests so far and those of this M-cycle.
+    #[tactic(auto, unfolding(crate::specs::Picture::tick, crate::specs::Picture::taken, crate::specs::Picture::moved))]
+    fn tick(&mut self, requests: PictureRequests) -> PictureRequests
+        ensures { with_requests result self.new ≡ tick (with_requests requests self.old) }
+    {
+        if !self.state.is_on() {
+            return requests;
+        }
+        self.state.advance();
+        let vblank = self.state.begins_vblank();
+        self.draw_when_due();
+        let stat = self.take_signal();
+        PictureRequests {
+            vblank: requests.vblank | vblank,
+            stat: requests.stat | stat,
+        }
+    }
+
+    #[tactic(auto, unfolding(crate::specs::Picture::drawn, crate::specs::Picture::draws))]
+    fn draw_when_due(&mut self)
+        ensures { self.new ≡ drawn self.old }
+    {
+        if self.state.draws() {
+            self.draw_line();
+        }
+    }
+
+    // Draws the current line.
+    #[tactic(auto, unfolding(crate::specs::Picture::line_drawn, crate::specs::Picture::line_registers, crate::specs::Picture::window_line_after))]
+    fn draw_line(&mut self)
+        requires { self.old.state.ly < 144 }
+        ensures { self.new ≡ line_drawn self.old }
+    {
+        let registers = self.state.line_registers();
+        let y = registers.ly as usize;
+        registers.draw(&mut self.tiles, &self.oam, &mut self.rows[y]);
+        if registers.is_window_drawn() {
+            self.state.window_line = self.state.window_line.wrapping_add(1);
+        }
+    }
+}

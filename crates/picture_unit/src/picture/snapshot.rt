@@ -1,0 +1,69 @@
+ghost use Rattle.std.specs.Prelude.{◌≡◌, ◌<◌, length, All, Some, slice_get, slice_set};
+ghost use Rattle.picture_unit.specs.Picture.{IsLegalPicture};
+ghost use Rattle.picture_unit.specs.Stores.{region_of, region_length, region_filled};
+
+use super::Picture;
+use crate::region::PictureRegion;
+use crate::state::PictureState;
+
+impl Picture {
+    /// What a snapshot holds of the registers and counters.
+    pub fn state(&self) -> PictureState
+        ensures state { result ≡ self.now.state }
+        ensures legal { IsLegalPicture result }
+    {
+        self.state
+    }
+
+    /// Sets the registers and counters. Condition: they are legal.
+    pub fn restore(&mut self, state: &PictureState)
+        requires { IsLegalPicture state.now }
+        ensures { self.new ≡ record self.old { state = state.now } }
+    {
+        self.state = *state;
+        self.tiles.mark_stale();
+    }
+
+    /// The bytes of VRAM or OAM.
+    #[tactic(auto, unfolding(crate::specs::Stores::region_of, crate::specs::Stores::region_length))]
+    pub fn store(&self, region: PictureRegion) -> &[u8]
+        ensures bytes { result.now ≡ region_of self.now region }
+        ensures whole { length result.now ≡ region_length region }
+    {
+        match region {
+            PictureRegion::Vram => self.tiles.bytes(),
+            PictureRegion::Oam => &self.oam,
+        }
+    }
+
+    /// Sets all bytes of VRAM or OAM. Condition: there are as many.
+    #[tactic(auto, unfolding(crate::specs::Stores::region_filled, crate::specs::Stores::region_length))]
+    pub fn fill(&mut self, region: PictureRegion, bytes: &[u8])
+        requires { length bytes.now ≡ region_length region }
+        ensures { self.new ≡ region_filled self.old region bytes.now }
+    {
+        match region {
+            PictureRegion::Vram => self.tiles.fill(bytes),
+            PictureRegion::Oam => self.oam.copy_from_slice(bytes),
+        }
+    }
+
+    /// The 160 shades of a row, 0 to 3, the leftmost first. Condition: the row is below 144.
+    pub fn row(&self, y: usize) -> &[u8]
+        requires { y < 144 }
+        ensures row { slice_get self.now.rows y ≡ Some result.now }
+        ensures columns { length result.now ≡ 160 }
+        ensures shades { All (λ shade. shade < 4) result.now }
+    {
+        &self.rows[y]
+    }
+
+    /// Sets the shades of a row. Condition: the row is below 144 and each shade at most 3.
+    pub fn set_row(&mut self, y: usize, row: &[u8; 160])
+        requires y_in { y < 144 }
+        requires shades { All (λ shade. shade < 4) row.now }
+        ensures { self.new ≡ record self.old { rows = slice_set self.old.rows y row.now } }
+    {
+        self.rows[y] = *row;
+    }
+}

@@ -1,0 +1,262 @@
+ghost use Rattle.std.specs.Prelude.{◌≡◌, ◌<◌, ◌≤◌};
+
+use picture_lines::LineRegisters;
+
+/// The registers and counters of the picture unit: what a snapshot holds of it beside VRAM, OAM and
+/// the rows of shades. It is legal if STAT has no bits but 6 to 3, LY is below 154 and the M-cycle
+/// below 114.
+#[derive(Clone, Copy, Debug, PartialEq, Eq)]
+pub struct PictureState {
+    /// FF40: bit 7 on, 6 window map 9C00, 5 window, 4 tile data from 8000, 3 background map 9C00, 2
+    /// objects 8x16, 1 objects, 0 background and window.
+    pub lcdc: u8,
+    /// The bits of FF41 that are written: 6 LY = LYC, 5 mode 2, 4 mode 1, 3 mode 0, the sources of
+    /// the STAT signal.
+    pub stat: u8,
+    /// FF42, the row of the background map at the top of the screen.
+    pub scy: u8,
+    /// FF43, the column of the background map at the left of the screen.
+    pub scx: u8,
+    /// FF45, the line that LY is compared with.
+    pub lyc: u8,
+    /// FF47, the shades of the background's four colours, two bits each, colour 0 lowest.
+    pub bgp: u8,
+    /// FF48, the same for objects.
+    pub obp0: u8,
+    /// FF49, the same for objects with bit 4 of their attributes.
+    pub obp1: u8,
+    /// FF4A, the line at which the window is seen.
+    pub wy: u8,
+    /// FF4B, 7 more than the left column of the window.
+    pub wx: u8,
+    /// FF44, the line, 0 to 153.
+    pub ly: u8,
+    /// The M-cycle of the line, 0 to 113.
+    pub m_cycle: u8,
+    /// The window counter: the row of the window that is drawn next.
+    pub window_line: u8,
+    /// Whether LY has equalled WY on entry to a line of this frame.
+    pub seen: bool,
+    /// The STAT signal, as it was last taken.
+    pub signal: bool,
+}
+
+/// The interrupts that the picture unit requests.
+#[derive(Clone, Copy, Debug, PartialEq, Eq)]
+pub struct PictureRequests {
+    /// VBlank, bit 0 of IF.
+    pub vblank: bool,
+    /// STAT, bit 1 of IF.
+    pub stat: bool,
+}
+
+impl PictureState {
+    ghost use Rattle.picture_unit.specs.Picture.{IsLegalPicture, is_on, mode, stat_signal, advanced, entered, begins_vblank, draws, line_registers, state_at_power_on};
+    ghost use Rattle.picture_unit.specs.PictureJump.{next_entry};
+    ghost use Rattle.picture_unit.specs.Registers.{stat_value, register_value, register_stored};
+
+    #[tactic(auto, unfolding(crate::specs::Picture::state_at_power_on))]
+    pub(crate) fn at_power_on() -> Self
+        ensures { result ≡ state_at_power_on }
+    {
+        PictureState {
+            lcdc: 0x91,
+            stat: 0,
+            scy: 0,
+            scx: 0,
+            lyc: 0,
+            bgp: 0xfc,
+            obp0: 0xff,
+            obp1: 0xff,
+            wy: 0,
+            wx: 0,
+            ly: 0,
+            m_cycle: 0,
+            window_line: 0,
+            seen: true,
+            signal: false,
+        }
+    }
+
+    #[tactic(auto, unfolding(crate::specs::Picture::is_on))]
+    pub(crate) fn is_on(&self) -> bool
+        ensures { result ≡ is_on self.now }
+    {
+        self.lcdc >= 128
+    }
+
+    #[tactic(auto, unfolding(crate::specs::Picture::mode))]
+    pub(crate) fn mode(&self) -> u8
+        ensures value { result ≡ mode self.now }
+        ensures small { result ≤ 3 }
+    {
+        if !self.is_on() {
+            0
+        } else if self.ly >= 144 {
+            1
+        } else if self.m_cycle < 20 {
+            2
+        } else if self.m_cycle < 63 {
+            3
+        } else {
+            0
+        }
+    }
+
+    /// The STAT signal.
+    #[tactic(auto, unfolding(crate::specs::Picture::stat_signal))]
+    pub(crate) fn stat_signal(&self) -> bool
+        ensures { result ≡ stat_signal self.now }
+    {
+        if !self.is_on() {
+            return false;
+        }
+        is_source(self.stat, self.mode(), self.ly == self.lyc)
+    }
+
+    /// The next M-cycle of the line, and of the frame.
+    #[tactic(auto, unfolding(crate::specs::Picture::advanced, crate::specs::Picture::entered))]
+    pub(crate) fn advance(&mut self)
+        requires { IsLegalPicture self.old }
+        ensures moved { self.new ≡ entered (advanced self.old) }
+        ensures legal { IsLegalPicture self.new }
+    {
+        if self.m_cycle == 113 {
+            self.m_cycle = 0;
+            self.ly = if self.ly == 153 { 0 } else { self.ly + 1 };
+            self.enter_line();
+        } else {
+            self.m_cycle += 1;
+        }
+    }
+
+    #[tactic(auto, unfolding(crate::specs::Picture::entered))]
+    fn enter_line(&mut self)
+        requires { self.old.m_cycle ≡ 0 }
+        ensures { self.new ≡ entered self.old }
+    {
+        if self.ly == 0 {
+            self.window_line = 0;
+            self.seen = false;
+        }
+        if self.ly < 144 && self.wy == self.ly {
+            self.seen = true;
+        }
+    }
+
+    #[tactic(auto, unfolding(crate::specs::Picture::begins_vblank))]
+    pub(crate) fn begins_vblank(&self) -> bool
+        ensures { result ≡ begins_vblank self.now }
+    {
+        self.m_cycle == 0 && self.ly == 144
+    }
+
+    #[tactic(auto, unfolding(crate::specs::Picture::draws))]
+    pub(crate) fn draws(&self) -> bool
+        ensures { result ≡ draws self.now }
+    {
+        self.m_cycle == 20 && self.ly < 144
+    }
+
+    /// How many M-cycles the next line, mode 3 or mode 0 is away.
+    #[tactic(auto, unfolding(crate::specs::PictureJump::next_entry))]
+    pub(crate) fn next_entry(&self) -> u8
+        requires { self.now.m_cycle < 114 }
+        ensures entry { result ≡ next_entry self.now }
+        ensures ahead { 0 < result }
+    {
+        if self.ly >= 144 || self.m_cycle >= 63 {
+            114 - self.m_cycle
+        } else if self.m_cycle < 20 {
+            20 - self.m_cycle
+        } else {
+            63 - self.m_cycle
+        }
+    }
+
+    #[tactic(auto, unfolding(crate::specs::Picture::line_registers))]
+    pub(crate) fn line_registers(&self) -> LineRegisters
+        ensures { result ≡ line_registers self.now }
+    {
+        LineRegisters {
+            lcdc: self.lcdc,
+            scy: self.scy,
+            scx: self.scx,
+            bgp: self.bgp,
+            obp0: self.obp0,
+            obp1: self.obp1,
+            wx: self.wx,
+            ly: self.ly,
+            window_counter: self.window_line,
+            seen: self.seen,
+        }
+    }
+
+    #[tactic(auto, unfolding(crate::specs::Registers::stat_value))]
+    fn stat_value(&self) -> u8
+        requires { IsLegalPicture self.now }
+        ensures { result ≡ stat_value self.now }
+    {
+        let same_line = if self.ly == self.lyc { 4 } else { 0 };
+        128 + self.stat + same_line + self.mode()
+    }
+
+    /// What a register reads.
+    #[tactic(auto, unfolding(crate::specs::Registers::register_value))]
+    pub(crate) fn register(&self, address: u16) -> u8
+        requires { IsLegalPicture self.now }
+        ensures { result ≡ register_value self.now address }
+    {
+        match address {
+            0xff40 => self.lcdc,
+            0xff41 => self.stat_value(),
+            0xff42 => self.scy,
+            0xff43 => self.scx,
+            0xff44 => self.ly,
+            0xff45 => self.lyc,
+            0xff47 => self.bgp,
+            0xff48 => self.obp0,
+            0xff49 => self.obp1,
+            0xff4a => self.wy,
+            0xff4b => self.wx,
+            _ => 0xff,
+        }
+    }
+
+    /// A write to a register that only holds what was written.
+    #[tactic(auto, unfolding(crate::specs::Registers::register_stored))]
+    pub(crate) fn store_register(&mut self, address: u16, value: u8)
+        requires { IsLegalPicture self.old }
+        ensures stored { self.new ≡ register_stored address value self.old }
+        ensures legal { IsLegalPicture self.new }
+    {
+        match address {
+            0xff42 => self.scy = value,
+            0xff43 => self.scx = value,
+            0xff47 => self.bgp = value,
+            0xff48 => self.obp0 = value,
+            0xff49 => self.obp1 = value,
+            0xff4a => self.wy = value,
+            0xff4b => self.wx = value,
+            _ => {}
+        }
+    }
+}
+
+ghost use Rattle.picture_unit.specs.Picture.{is_source as is_source_of};
+
+// Whether one of the sources that STAT enables is there.
+#[tactic(auto, unfolding(crate::specs::Picture::is_source, picture_lines::specs::Bits::has_bit))]
+fn is_source(stat: u8, mode: u8, is_line: bool) -> bool
+    ensures { result ≡ is_source_of stat mode is_line }
+{
+    if is_line && stat / 64 % 2 == 1 {
+        return true;
+    }
+    match mode {
+        0 => stat / 8 % 2 == 1,
+        1 => stat / 16 % 2 == 1,
+        2 => stat / 32 % 2 == 1,
+        _ => false,
+    }
+}

@@ -1,0 +1,87 @@
+-- The calls of a device in memory keep the promises of `SectorDevice`.
+use Rattle.std.proofs.Common.{◌≡◌, ◌<◌, ℕ, zero, suc, List, length, Bool, true, false, nat_eq, refl, sym, ap, ◌∙◌, Result, Ok, Err, OnOk, ltb-true}
+use Rattle.std.proofs.lemmas.Bool.{and_parts}
+use Rattle.std.specs.Prelude.{◌&&◌, IsTrue, replicate, is_ok, if◌then◌else◌, ◌++◌, ◌∷◌, [], not, ◌||◌}
+use Rattle.sector_device.specs.DiskState.{HasRead, HasWritten, HasSynced, sector_at}
+use Rattle.sector_device.specs.Records.{replayed, is_sector, are_sectors, is_recordable, are_recordable}
+use Rattle.sector_device.specs.RecordLaws.{sound}
+use Rattle.sector_device.specs.Memory.{MemoryState, memory_disk, fuse_fails, passes, has_room, counted, failed, with_record, done_or_failed, read_called, write_called, sync_called}
+use Rattle.sector_device.specs.declared.recorded.Recorded.{Recorded}
+use Rattle.sector_device.specs.declared.recorded.Recorded.TheVariants.{Write, Sync}
+use Rattle.sector_device.proofs.Record.{wrote, lost_write, synced, lost_sync, read, no_write, no_sync}
+
+true_is_false : true ≡ false → ⊥
+true_is_false e = cc
+
+no_room : (p : Bool) → true ≡ (p && false) → ⊥
+no_room true e = true_is_false e
+no_room false e = true_is_false e
+
+module _ {E : Type 0} (m : MemoryState) where
+  -- a read
+  pub read_meets : (at : ℕ) (bytes : List ℕ) (r : Result Unit E) → is_ok r ≡ passes m → OnOk r (bytes ≡ sector_at (memory_disk m).sectors at)
+      → HasRead at bytes (memory_disk m) (memory_disk (read_called m)) r
+  read_meets at bytes r e is = go (passes m)
+    where
+      go : (p : Bool) → HasRead at bytes (memory_disk m) (memory_disk (if p then counted m else failed (counted m))) r
+      go true = read (Unit {0}) tt m.at_start m.recorded m.faults m.faults at bytes r is
+      go false = read (Unit {0}) tt m.at_start m.recorded m.faults (failed m).faults at bytes r is
+
+  -- a write
+  pub write_meets : (at : ℕ) (bytes : List ℕ) (r : Result Unit E) → is_ok r ≡ (passes m && has_room m)
+      → HasWritten at bytes (memory_disk m) (memory_disk (write_called at bytes m)) r
+  write_meets at bytes r e = go (fuse_fails m.fuse) (nat_eq m.fails_in 1) m.keeps (has_room m) r e
+    where
+      go : (fused fails keeps room : Bool) (r : Result Unit E) → is_ok r ≡ ((not fused && not fails) && room)
+          → HasWritten at bytes (memory_disk m) (memory_disk (
+          if room
+          then (if not fused && not fails then with_record (Write at bytes (not fused && (not fails || keeps))) (counted m) else failed (with_record (Write at bytes (not fused && (not fails || keeps))) (counted m)))
+          else failed (counted m))) r
+      go fused fails keeps false (Ok u) e = absurd (no_room (not fused && not fails) e)
+      go fused fails keeps false (Err x) e = no_write (Unit {0}) tt m.at_start m.recorded m.faults (failed m).faults at bytes x
+      go true fails keeps true (Ok u) e = absurd (true_is_false e)
+      go true fails keeps true (Err x) e = lost_write (Unit {0}) tt m.at_start m.recorded m.faults (failed m).faults at bytes x
+      go false false keeps true r e = wrote (Unit {0}) tt m.at_start m.recorded m.faults m.faults at bytes r
+      go false true true true r e = wrote (Unit {0}) tt m.at_start m.recorded m.faults (failed m).faults at bytes r
+      go false true false true (Ok u) e = absurd (true_is_false e)
+      go false true false true (Err x) e = lost_write (Unit {0}) tt m.at_start m.recorded m.faults (failed m).faults at bytes x
+
+  -- a sync
+  pub sync_meets : (r : Result Unit E) → is_ok r ≡ (passes m && has_room m) → HasSynced (memory_disk m) (memory_disk (sync_called m)) r
+  sync_meets r e = go (passes m) (has_room m) r e
+    where
+      go : (p room : Bool) (r : Result Unit E) → is_ok r ≡ (p && room)
+          → HasSynced (memory_disk m) (memory_disk (
+          if room then (if p then with_record (Sync p) (counted m) else failed (with_record (Sync p) (counted m))) else failed (counted m))) r
+      go p false (Ok u) e = absurd (no_room p e)
+      go p false (Err x) e = no_sync (Unit {0}) tt m.at_start m.recorded m.faults (failed m).faults x
+      go true true (Ok u) e = synced (Unit {0}) tt m.at_start m.recorded m.faults m.faults (Ok u) tt
+      go true true (Err x) e = absurd (true_is_false (sym e))
+      go false true (Ok u) e = absurd (true_is_false e)
+      go false true (Err x) e = lost_sync (Unit {0}) tt m.at_start m.recorded m.faults (failed m).faults x
+
+-- what stood at the start stays
+pub start_of_done : (p : Bool) (call : Recorded) (m : MemoryState) → (done_or_failed p call m).at_start ≡ m.at_start
+start_of_done p call m = go (has_room m) p
+  where
+    go : (room p : Bool) → (if room then (if p then with_record call m else failed (with_record call m)) else failed m).at_start ≡ m.at_start
+    go true true = refl
+    go true false = refl
+    go false p = refl
+
+pub same_count : (a a' : List (List ℕ)) (r r' : List Recorded) → IsTrue (are_sectors a) → IsTrue (are_sectors a') → IsTrue (are_recordable (length a) r) → IsTrue (are_recordable (length a') r')
+    → a' ≡ a → length (replayed a' r').reads ≡ length (replayed a r).reads
+same_count a a' r r' s s' w w' e = (sound a' r' s' w').reads_count ∙ ap (λ (l : List (List ℕ)). length l) e ∙ sym (sound a r s w).reads_count
+
+pub recordable_push : (n : ℕ) (calls : List Recorded) (call : Recorded) → IsTrue (are_recordable n calls) → IsTrue (is_recordable n call) → IsTrue (are_recordable n (calls ++ call ∷ []))
+recordable_push n [] call all one = ap (λ (b : Bool). b && true) one
+recordable_push n (c ∷ calls) call all one =
+    let p = and_parts _ _ all in
+    ap (λ (b : Bool). b && are_recordable n (calls ++ call ∷ [])) p.0 ∙ recordable_push n calls call p.1 one
+
+pub writes_within : (n at : ℕ) (bytes : List ℕ) (kept : Bool) → IsTrue (is_recordable n (Write at bytes kept)) → at < n
+writes_within n at bytes kept one = ltb-true at n (and_parts _ _ one).0
+
+pub zero_sectors : (n : ℕ) (s : List ℕ) → IsTrue (is_sector s) → IsTrue (are_sectors (replicate n s))
+zero_sectors zero s one = refl
+zero_sectors (suc n) s one = ap (λ (b : Bool). b && are_sectors (replicate n s)) one ∙ zero_sectors n s one

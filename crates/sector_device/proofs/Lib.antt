@@ -1,0 +1,6 @@
+mod Cut
+mod Record
+mod Calls
+mod Images
+mod Files
+pub mod Runs

@@ -1,0 +1,111 @@
+-- How a run of device calls goes on, one lemma for each call.
+use Rattle.std.proofs.Common.{◌≡◌, inl, inr, ⊎_elim, ℕ, ◌≤◌, ◌<◌, ◌+◌, List, [], length, set, refl, sym, ap, ◌∙◌, subst, arith, length-set, Result, Ok, Err, ◌-◌, ◌^◌}
+use Rattle.std.proofs.lemmas.Bool.{cases_eq, cases_lt}
+use Rattle.std.proofs.lemmas.List.{get_or-set_same, get_or-set_other, ext_get_or}
+use Rattle.std.specs.Prelude.{IsErr}
+use Rattle.sector_device.specs.DiskState.{DiskState, Throughout, KeepsHonesty, HasRead, HasWritten, HasSynced, sector_at, CountsFaults, HasCause}
+use Rattle.sector_device.specs.Runs.{HoldsThroughout, Mixed, WrittenUpTo}
+
+abbrev Images : Type 1
+Images = List (List ℕ) → Type 0
+
+-- before the first call
+pub begun : (s : DiskState) (P Q : List (List ℕ) → Type 0) → s.honest → ((c : List (List ℕ)) → s.image c → Q c) → ((c : List (List ℕ)) → Q c → P c) → HoldsThroughout s s P Q
+begun s P Q honest here entails = record {
+  honest = honest;
+  throughout = record { later = omega arith; each = λ t c le since. inl since };
+  images = here;
+  entails = entails;
+}
+
+-- any call, after which each image has Q'
+pub goes_on : {start old new : DiskState} {P Q Q' : List (List ℕ) → Type 0} → HoldsThroughout start old P Q → KeepsHonesty old new → ((c : List (List ℕ)) → new.image c → Q' c) → ((c : List (List ℕ)) → Q' c → P c) → HoldsThroughout start new P Q'
+goes_on held goes here entails = record {
+  honest = goes.honest;
+  throughout = record {
+    later = omega (arith, held.throughout.later, goes.time.later);
+    each = λ t c le since. ⊎_elim (held.throughout.each t c le) (λ now. inr (entails c (here c now))) (goes.time.each t c (omega (arith, held.throughout.later, le)) since);
+  };
+  images = here;
+  entails = entails;
+}
+
+-- what is known of the images now may be forgotten in part
+pub weaker : {start now : DiskState} {P Q Q' : List (List ℕ) → Type 0} → HoldsThroughout start now P Q → ((c : List (List ℕ)) → Q c → Q' c) → ((c : List (List ℕ)) → Q' c → P c) → HoldsThroughout start now P Q'
+weaker held to entails = record { honest = held.honest; throughout = held.throughout; images = λ c now. to c (held.images c now); entails = entails }
+
+module _ {E : Type 0} where
+  pub has_read : {start old new : DiskState} {P Q : List (List ℕ) → Type 0} {at : ℕ} {bytes : List ℕ} {r : Result Unit E} → HoldsThroughout start old P Q → HasRead at bytes old new r → HoldsThroughout start new P Q
+  has_read held read = goes_on held read.goes (λ c now. held.images c (read.images c now)) held.entails
+
+  pub has_synced : {start old new : DiskState} {P Q : List (List ℕ) → Type 0} {r : Result Unit E} → HoldsThroughout start old P Q → HasSynced old new r → HoldsThroughout start new P Q
+  has_synced held synced = goes_on held synced.goes (λ c now. held.images c (synced.images c now)) held.entails
+
+  -- a write at which Q is kept
+  pub has_written : {start old new : DiskState} {P Q : List (List ℕ) → Type 0} {at : ℕ} {bytes : List ℕ} {r : Result Unit E} → HoldsThroughout start old P Q → HasWritten at bytes old new r → ((d : List (List ℕ)) → Q d → Q (set d at bytes)) → HoldsThroughout start new P Q
+  has_written {start} {old} {new} {P} {Q} {at} {bytes} held written keeps =
+      goes_on held written.goes (λ c now. let from = written.images c now in ⊎_elim (λ same. subst Q (sym same) (held.images from.0 from.1)) (λ put. subst Q (sym put) (keeps from.0 (held.images from.0 from.1))) from.2) held.entails
+
+-- a write of what the new image has there
+pub mixed_set : (old new c : List (List ℕ)) (at : ℕ) (bytes : List ℕ) → at < length old → bytes ≡ sector_at new at → Mixed old new c → Mixed old new (set c at bytes)
+mixed_set old new c at bytes within is mixed = record {
+  size = length-set c at bytes ∙ mixed.size;
+  each = λ k. elim (cases_eq k at) [
+    | inl here ↦ inr (ap (sector_at (set c at bytes)) here ∙ get_or-set_same c at bytes [] (omega (arith, mixed.size)) ∙ is ∙ ap (sector_at new) (sym here))
+    | inr other ↦ ⊎_elim (λ o. inl (get_or-set_other c at k bytes [] other ∙ o)) (λ n. inr (get_or-set_other c at k bytes [] other ∙ n)) (mixed.each k)
+  ];
+}
+
+pub mixed_old : (old new : List (List ℕ)) → Mixed old new old
+mixed_old old new = record { size = refl; each = λ k. inl refl }
+
+pub throughout_weaker : {old new : DiskState} {P Q : List (List ℕ) → Type 0} → Throughout old new P → ((c : List (List ℕ)) → P c → Q c) → Throughout old new Q
+throughout_weaker t to = record { later = t.later; each = λ m c le since. ⊎_elim (λ before. inl before) (λ p. inr (to c p)) (t.each m c le since) }
+
+-- one sector more is written
+pub written_more : (old new image : List (List ℕ)) (n : ℕ) (bytes : List ℕ) → n < length old → bytes ≡ sector_at new n → WrittenUpTo old new n image → WrittenUpTo old new (n + 1) (set image n bytes)
+written_more old new image n bytes within is w = record {
+  size = length-set image n bytes ∙ w.size;
+  done = λ k le. elim (cases_eq k n) [
+    | inl here ↦ ap (sector_at (set image n bytes)) here ∙ get_or-set_same image n bytes [] (omega (arith, w.size)) ∙ is ∙ ap (sector_at new) (sym here)
+    | inr other ↦ get_or-set_other image n k bytes [] other ∙ w.done k (omega arith)
+  ];
+  left = λ k le. get_or-set_other image n k bytes [] (λ same. omega arith) ∙ w.left k (omega arith);
+}
+
+-- the rest is as it is to be
+pub written_all : (old new image : List (List ℕ)) (n : ℕ) → length new ≡ length old → ((k : ℕ) → n ≤ k → sector_at new k ≡ sector_at old k) → WrittenUpTo old new n image → image ≡ new
+written_all old new image n size same w =
+    ext_get_or [] image new (w.size ∙ sym size) (λ k le. elim (cases_lt k n) [ inl below ↦ w.done k below | inr above ↦ w.left k above ∙ sym (same k above) ])
+
+-- two runs, one after the other
+pub throughout_then : {first mid last : DiskState} {P : List (List ℕ) → Type 0} → Throughout first mid P → Throughout mid last P → Throughout first last P
+throughout_then a b = record {
+  later = omega (arith, a.later, b.later);
+  each = λ t c le since. ⊎_elim (a.each t c le) (λ p. inr p) (b.each t c (omega (arith, a.later, le)) since);
+}
+
+-- so each image since the start has P, if each had it there
+pub each_since : {old new : DiskState} {P : List (List ℕ) → Type 0} → ((c : List (List ℕ)) → old.since old.moment c → old.image c) → Throughout old new P → ((c : List (List ℕ)) → old.image c → P c) → (c : List (List ℕ)) → new.since old.moment c → P c
+each_since {old} only t here c since = ⊎_elim (λ was. here c (only c was)) (λ p. p) (t.each old.moment c (omega arith) since)
+
+-- ---- the cause of an error
+
+module _ {T E : Type 0} where
+  -- a failed call is one
+  pub cause_of_call : (old new : ℕ) (r : Result T E) → old < 2 ^ 64 → CountsFaults old new r → HasCause old new r
+  cause_of_call old new (Ok x) fits c = record { grows = omega (arith, c.ok); cause = λ e. absurd (no_error e) }
+    where
+      no_error : IsErr {T = T} {E = E} (Ok x) → ⊥
+      no_error e = cc
+  cause_of_call old new (Err x) fits c = record {
+    grows = omega (arith, c.err);
+    cause = λ e. elim (cases_lt old (2 ^ 64 - 1)) [ inl lt ↦ inl (omega (arith, c.err)) | inr le ↦ inr (omega (arith, c.err)) ];
+  }
+
+  -- after a part of the run that forgot no fault
+  pub cause_later : (first mid last : ℕ) (r : Result T E) → first ≤ mid → HasCause mid last r → HasCause first last r
+  cause_later first mid last r le c = record {
+    grows = omega (arith, c.grows);
+    cause = λ e. ⊎_elim (λ more. inl (omega arith)) (λ top. inr top) (c.cause e);
+  }

@@ -1,0 +1,276 @@
+//! Sectors in a file.
+ghost use Rattle.std.specs.Prelude.{◌≡◌, ◌+◌, ◌*◌, ◌^◌, ◌<◌, ◌↔◌, [], List, ℕ, IsTrue, length, replicate, slice_index, IfOk, IfErr, IfSome, OnOk};
+ghost use Rattle.sector_device.specs.DiskState.{CountsFaults, HasRead, HasWritten, HasSynced, sector_at, next_count};
+ghost use Rattle.sector_device.specs.Records.{replayed, are_sectors, are_recordable};
+ghost use Rattle.sector_device.specs.RecordLaws.{only_last, counts_last, reads_image, images_sized, reads_fit};
+
+use crate::device::{DeviceFault, SectorDevice};
+use crate::file_record::FileRecord;
+use crate::replay::zero_sectors;
+use std::alloc::Global;
+use std::fs::{self, File, OpenOptions};
+use std::io;
+use std::os::unix::fs::FileExt;
+use std::path::{AsPath, Path};
+use std::rt::Files;
+
+/// Sectors in a file. It keeps a copy of them in memory, with which each read is compared, so that a file that lost or
+/// changed what was written gives a fault and no wrong answer. It takes every fault of the file, and want of memory, as
+/// `Device`.
+///
+/// What is left of the file after a stop is no fact that a program can know. The device is honest by a premise: that the
+/// file held, as it was opened, what the stop before had left of it, one of the images of that time.
+#[derive(Drop)]
+pub struct FileDevice {
+    file: File,
+    /// What reads give.
+    sectors: Vec<[u8; 512]>,
+    /// A sync has failed. What was written may then be lost although a later sync succeeds, so that none does.
+    unsure: bool,
+    faults: u64,
+    history: FileRecord,
+    ghost replays: { sectors.items ≡ (replayed history.found history.calls).reads },
+    ghost same_count: { length sectors.items ≡ length history.found },
+    ghost few: { length history.found < 2 ^ 64 },
+    ghost fits: { 512 * length history.found < 2 ^ 64 },
+    ghost found_sized: { IsTrue (are_sectors history.found) },
+    ghost faults_fit: { faults < 2 ^ 64 },
+    ghost recordable: { IsTrue (are_recordable (length history.found) history.calls) },
+}
+
+impl FileDevice {
+    ghost use Rattle.sector_device.specs.FileDevice.{file_disk, held_by, IsOpened, IsAttachFault};
+    ghost use Rattle.sector_device.specs.FileRecord.{unasked, with_call};
+    ghost use Rattle.sector_device.specs.declared.recorded.Recorded.TheVariants.{Write, Sync};
+
+    /// Makes a file of so many zero sectors, where nothing stands at the path, and makes it and its folder's entry durable.
+    /// Any fault is `Device`, and then no file is left behind where that can be helped. No clause says what the file then
+    /// holds, so that the device's honesty stays a premise.
+    pub fn create<R: Files<File = File> + AllocGlobal, P: AsPath>(
+        rt: &R,
+        path: P,
+        sectors: u64,
+    ) -> Result<FileDevice, DeviceFault>
+        ensures opened { IfOk result (λ d. IsOpened (held_by d) d) }
+        ensures zero { IfOk result (λ d. (file_disk d).sectors ≡ replicate sectors (replicate 512 0)) }
+        ensures fault { IfErr result (λ fault. fault ≡ DeviceFault.Device) }
+    {
+        FileDevice::create_with(rt, path, sectors, FileRecord::of_unknown())
+    }
+
+    /// The same, for a file of which `history` says what it holds, whatever that is.
+    pub fn create_with<R: Files<File = File> + AllocGlobal, P: AsPath>(
+        rt: &R,
+        path: P,
+        sectors: u64,
+        history: FileRecord,
+    ) -> Result<FileDevice, DeviceFault>
+        requires { history ≡ unasked history.held }
+        ensures opened { IfOk result (IsOpened history.held) }
+        ensures zero { IfOk result (λ d. (file_disk d).sectors ≡ replicate sectors (replicate 512 0)) }
+        ensures fault { IfErr result (λ fault. fault ≡ DeviceFault.Device) }
+    {
+        let Ok(zero) = zero_sectors(rt.alloc(), sectors as usize) else {
+            return Err(DeviceFault::Device);
+        };
+        let Ok(file) = new_file(rt, path.path_text(), sectors.saturating_mul(512)) else {
+            return Err(DeviceFault::Device);
+        };
+        Ok(FileDevice::opened(file, zero, history))
+    }
+
+    /// Opens a file of whole sectors, syncs it and reads it. No clause says what it held, so that the device's honesty stays
+    /// a premise.
+    pub fn attach<R: Files<File = File> + AllocGlobal, P: AsPath>(
+        rt: &R,
+        path: P,
+    ) -> Result<FileDevice, DeviceFault>
+        ensures opened { IfOk result (λ d. IsOpened (held_by d) d) }
+        ensures fault { IfErr result IsAttachFault }
+    {
+        FileDevice::attach_with(rt, path, FileRecord::of_unknown())
+    }
+
+    /// The same, for a file of which `history` says what it holds, whatever that is.
+    pub fn attach_with<R: Files<File = File> + AllocGlobal, P: AsPath>(
+        rt: &R,
+        path: P,
+        history: FileRecord,
+    ) -> Result<FileDevice, DeviceFault>
+        requires { history ≡ unasked history.held }
+        ensures opened { IfOk result (IsOpened history.held) }
+        ensures fault { IfErr result IsAttachFault }
+    {
+        let Ok((file, size)) = old_file(rt, path.path_text()) else {
+            return Err(DeviceFault::Device);
+        };
+        if size % 512 != 0 {
+            return Err(DeviceFault::SizeNotSectors(size));
+        }
+        match read_sectors(rt.alloc(), &file, (size / 512) as usize) {
+            Some(sectors) => Ok(FileDevice::opened(file, sectors, history)),
+            None => Err(DeviceFault::Device),
+        }
+    }
+
+    /// A device over a file that holds these sectors as far as can be seen.
+    fn opened(file: File, sectors: Vec<[u8; 512]>, history: FileRecord) -> FileDevice
+        requires unasked { history ≡ unasked history.held }
+        requires sized { IsTrue (are_sectors sectors.items) }
+        requires fits { 512 * length sectors.items < 2 ^ 64 }
+        ensures opened { IsOpened history.held result }
+        ensures sectors { (file_disk result).sectors ≡ sectors.items }
+    {
+        let history = history.with_sectors(&sectors);
+        FileDevice {
+            file,
+            sectors,
+            unsure: false,
+            faults: 0,
+            history,
+        }
+    }
+
+    /// The sector as the file gives it, if that is what was found or written there.
+    fn read_sector(&self, at: u64, buffer: &mut [u8; 512]) -> bool
+        requires { at < length self.now.history.found }
+        ensures { IsTrue result → buffer.new ≡ sector_at (replayed self.now.history.found self.now.history.calls).reads at }
+    {
+        if self.file.read_exact_at(buffer, 512 * at).is_err() {
+            return false;
+        }
+        *buffer == self.sectors[at as usize]
+    }
+
+    /// Writes the sector and notes it; answers whether the file took it whole.
+    fn write_sector(&mut self, at: u64, bytes: &[u8; 512]) -> bool
+        requires { at < length self.old.history.found }
+        ensures history { self.new.history ≡ with_call (Write at bytes.now result) self.old.history }
+        ensures faults { self.new.faults ≡ self.old.faults }
+    {
+        let kept = self.file.write_all_at(bytes, 512 * at).is_ok();
+        self.history.note_write(at, bytes, kept);
+        if kept {
+            self.sectors[at as usize] = *bytes;
+        }
+        kept
+    }
+
+    /// Syncs the file and notes it; answers whether what was written is durable.
+    fn sync_file(&mut self) -> bool
+        ensures history { self.new.history ≡ with_call (Sync result) self.old.history }
+        ensures faults { self.new.faults ≡ self.old.faults }
+    {
+        let done = !self.unsure && self.file.sync_all().is_ok();
+        self.unsure = !done;
+        self.history.note_sync(done);
+        done
+    }
+
+    /// Counts a failed call.
+    fn fail(&mut self)
+        ensures history { self.new.history ≡ self.old.history }
+        ensures faults { self.new.faults ≡ next_count self.old.faults }
+    {
+        self.faults = self.faults.saturating_add(1);
+    }
+}
+
+/// A new file of this size, durable and with a durable entry in its folder.
+fn new_file<R: Files<File = File>>(rt: &R, path: &str, size: u64) -> io::Result<File>
+    ensures { OnOk result (size < 2 ^ 63) }
+{
+    let file = File::create_new(rt, path)?;
+    if let Err(fault) = make_durable(rt, &file, path, size) {
+        let _ = fs::remove_file(rt, path);
+        return Err(fault);
+    }
+    Ok(file)
+}
+
+fn make_durable<R: Files<File = File>>(rt: &R, file: &File, path: &str, size: u64) -> io::Result<()>
+    ensures { OnOk result (size < 2 ^ 63) }
+{
+    file.set_len(size)?;
+    file.sync_all()?;
+    sync_folder(rt, path)
+}
+
+fn sync_folder<R: Files<File = File>>(rt: &R, path: &str) -> io::Result<()> {
+    let folder = match Path::new(path).parent() {
+        Some(folder) if !folder.as_str().is_empty() => folder,
+        _ => Path::new("."),
+    };
+    File::open(rt, folder)?.sync_all()
+}
+
+/// The file, synced, and its size.
+fn old_file<R: Files<File = File>>(rt: &R, path: &str) -> io::Result<(File, u64)> {
+    let file = OpenOptions::new().read(true).write(true).open(rt, path)?;
+    file.sync_all()?;
+    let size = file.metadata()?.len();
+    Ok((file, size))
+}
+
+/// The first sectors of a file, so many; None where it can't be read or there is no memory.
+fn read_sectors(alloc: Global, file: &File, count: usize) -> Option<Vec<[u8; 512]>>
+    requires { 512 * count < 2 ^ 64 }
+    ensures { IfSome result (λ v. (length v.items ≡ count) × IsTrue (are_sectors v.items)) }
+{
+    let mut sectors = Vec::with_capacity(alloc, count).ok()?;
+    for at in 0..count {
+        let mut sector = [0; 512];
+        file.read_exact_at(&mut sector, 512 * at as u64).ok()?;
+        sectors.push_reserved(sector);
+    }
+    Some(sectors)
+}
+
+impl SectorDevice for FileDevice {
+    ghost use Rattle.sector_device.specs.FileDevice.{file_disk};
+
+    ghost disk = { λ d. file_disk d };
+
+    ghost reads_are_an_image = { λ d _. reads_image d.history.found d.history.calls };
+
+    ghost images_are_sized = { λ d c _. images_sized d.history.found d.history.calls c d.found_sized d.recordable };
+
+    ghost counts_now = { λ d. counts_last d.history.found d.history.calls };
+
+    ghost only_now = { λ d. only_last d.history.found d.history.calls };
+
+    ghost count_fits = { λ d. reads_fit d.history.found d.history.calls d.found_sized d.recordable d.few };
+
+    ghost faults_fit = { λ d. d.faults_fit };
+
+    fn count(&self) -> u64 {
+        self.sectors.len() as u64
+    }
+
+    fn read(&mut self, at: u64, buffer: &mut [u8; 512]) -> Result<(), DeviceFault> {
+        if self.read_sector(at, buffer) {
+            Ok(())
+        } else {
+            self.fail();
+            Err(DeviceFault::Device)
+        }
+    }
+
+    fn write(&mut self, at: u64, bytes: &[u8; 512]) -> Result<(), DeviceFault> {
+        if self.write_sector(at, bytes) {
+            Ok(())
+        } else {
+            self.fail();
+            Err(DeviceFault::Device)
+        }
+    }
+
+    fn sync(&mut self) -> Result<(), DeviceFault> {
+        if self.sync_file() {
+            Ok(())
+        } else {
+            self.fail();
+            Err(DeviceFault::Device)
+        }
+    }
+}

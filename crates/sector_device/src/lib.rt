@@ -1,0 +1,18 @@
+//! Devices of sectors of 512 bytes, and what a stop of the host at any moment leaves of them.
+#![tactic(auto)]
+
+mod device;
+mod file;
+mod file_record;
+mod laws;
+mod memory;
+mod recorded;
+mod replay;
+#[cfg(test)]
+mod tests;
+
+pub use device::{DeviceFault, SectorDevice};
+pub use file::FileDevice;
+pub use file_record::FileRecord;
+pub use laws::memory_keeps_the_disk_model;
+pub use memory::MemoryDevice;

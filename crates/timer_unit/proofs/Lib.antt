@@ -1,0 +1,4 @@
+pub mod SerialJump
+pub mod TimerJump
+pub mod Requested
+pub mod Tables

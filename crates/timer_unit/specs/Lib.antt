@@ -1,0 +1,4 @@
+pub mod Timer
+pub mod Serial
+pub mod TimerJump
+pub mod Laws
