@@ -10,7 +10,7 @@ help:
 	@echo 'make build           proves the program and leaves it at bin/gbkeep'
 	@echo 'make install         puts bin/gbkeep into PREFIX/bin (PREFIX=$(PREFIX))'
 	@echo 'make check           while editing: proves what changed (CRATE=name for one crate)'
-	@echo 'make bench           proves the benchmarks and times frames, lines and M-cycles'
+	@echo 'make bench           proves the benchmarks: times, instructions a frame, device calls'
 	@echo 'make test            the gate: proves everything from nothing, runs the tests and programs'
 
 ARGS ?= step data/rom.gb 2
@@ -37,10 +37,14 @@ endif
 
 bench:
 	cd crates/bench_machine && $(RT) run -- time
+	sh scripts/instructions_a_frame.sh crates/bench_machine/out/bench_machine
 	cd crates/bench_picture && $(RT) run -- time
 	cd crates/bench_timer && $(RT) run -- time
+	cd crates/bench_snapshot && $(RT) run -- time
+	cd crates/bench_storage && $(RT) run
 
 test:
+	RT=$(RT) sh scripts/opened_has_no_append.sh
 	$(RT) ci
 
 .PHONY: help run build install check bench test

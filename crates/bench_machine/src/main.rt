@@ -1,6 +1,7 @@
 //! Times whole frames of the machine on three small ROMs that it makes itself.
 //!
-//! Run with any word. Without one it prints how it is run, so that a run as a test takes no time.
+//! Run with one word, it times them. Run with two, the name of a ROM and a number of frames, it plays these once, for a
+//! tool that counts instructions. Without a word it prints how it is run, so that a run as a test takes no time.
 #![tactic(auto)]
 
 use cartridge::Cartridge;
@@ -80,8 +81,32 @@ fn time(rt: &HostRuntime, what: &str, parts: &[(usize, &[u8])]) -> io::Result<()
     println!(rt; "{what}: {frames} frames a second (PC {pc:04X} at the end)")
 }
 
+/// Plays that many frames, once.
+fn play(rt: &HostRuntime, parts: &[(usize, &[u8])], frames: u32) -> io::Result<()> {
+    let Ok(cartridge) = Cartridge::read(rom(rt.alloc(), parts)?) else {
+        return println!(rt; "no cartridge");
+    };
+    let mut machine = Machine::power_on(rt.alloc(), &cartridge)?;
+    for _frame in 0..frames {
+        machine.frame(0);
+    }
+    let pc = machine.registers().pc;
+    println!(rt; "{frames} frames (PC {pc:04X} at the end)")
+}
+
 fn main(rt: HostRuntime) -> io::Result<()> {
-    if env::args(&rt)?.count() < 2 {
+    let mut words = env::args(&rt)?.skip(1);
+    let first = words.next();
+    let second = words.next();
+    if let (Some(name), Some(frames)) = (first.as_deref(), second.as_deref()) {
+        let frames = frames.parse().unwrap_or(1);
+        return match name {
+            "busy" => play(&rt, &BUSY, frames),
+            "scrolling" => play(&rt, &SCROLLING, frames),
+            _ => play(&rt, &HALTING, frames),
+        };
+    }
+    if first.is_none() {
         return println!(rt; "bench_machine WORD: times frames on three small ROMs");
     }
     time(&rt, "busy loop", &BUSY)?;

@@ -3,6 +3,9 @@
 //! What `clap` answers to words that it does not understand, and its help, are its own texts.
 #![tactic(auto)]
 
+ghost use Rattle.std.specs.Prelude.{◌≤◌, IfOk, IfSome};
+ghost use Rattle.command_line.specs.Words.{IsInRange, IsAnswer};
+
 mod words;
 
 use clap::{ArgMatches, Error};
@@ -32,11 +35,11 @@ pub enum Request<'a> {
 /// The request that the words make, of which the first is the program's own name.
 ///
 /// `clap`'s error has the text of what is not understood, or of the help that was asked for. The
-/// answer is `None` where the words parse and a value is missing, which `clap` rules out.
-pub fn request_of<'a, S: AsStr>(
-    alloc: Global,
-    words: &'a [S],
-) -> Result<Option<Request<'a>>, Error> {
+/// answer is `None` where the words parse and a value is missing or out of its range, which `clap`
+/// rules out: the ranges are looked at again, since `clap`'s own answers are not proved.
+pub fn request_of<'a, S: AsStr>(alloc: Global, words: &'a [S]) -> Result<Option<Request<'a>>, Error>
+    ensures ranges { IfOk result IsAnswer }
+{
     let matches = words::command(alloc)?.try_get_matches_from(words)?;
     Ok(match matches.subcommand() {
         Some((name, values)) => named_request(name, values),
@@ -44,20 +47,33 @@ pub fn request_of<'a, S: AsStr>(
     })
 }
 
-fn named_request<'a>(name: &str, values: &ArgMatches<'a>) -> Option<Request<'a>> {
+fn named_request<'a>(name: &str, values: &ArgMatches<'a>) -> Option<Request<'a>>
+    ensures { IfSome result IsInRange }
+{
     let cart = values.get_str("CART")?;
     match name {
         "info" => Some(Request::Info { cart }),
         "list" => Some(Request::List {
             cart,
             address: values.get_str("ADDR")?,
-            count: values.get_one("COUNT")?,
+            count: between(1, 4_096, values.get_one("COUNT")?)?,
         }),
         "step" => Some(Request::Step {
             cart,
-            count: values.get_one("COUNT")?,
+            count: between(0, 1_000_000, values.get_one("COUNT")?)?,
         }),
         _ => None,
+    }
+}
+
+fn between(least: u32, most: u32, count: u32) -> Option<u32>
+    ensures least { IfSome result (λ n. least ≤ n) }
+    ensures most { IfSome result (λ n. n ≤ most) }
+{
+    if least <= count && count <= most {
+        Some(count)
+    } else {
+        None
     }
 }
 

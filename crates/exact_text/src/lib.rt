@@ -51,24 +51,26 @@ fn digit(value: u8) -> char
     }
 }
 
-/// Adds a byte as two upper-case hexadecimal digits.
-pub fn push_byte<const N: usize>(text: &mut ArrayString<N>, value: u8)
-    requires { array_string_len text.old + 2 ≤ N }
-    ensures digits { text.new.bytes ≡ text.old.bytes ++ byte_text value }
-    ensures len { array_string_len text.new ≡ array_string_len text.old + 2 }
+/// A byte as two upper-case hexadecimal digits.
+pub fn byte_digits(value: u8) -> ArrayString<2>
+    ensures digits { result.bytes ≡ byte_text value }
+    ensures len { array_string_len result ≡ 2 }
 {
+    let mut text = ArrayString::new();
     text.push(digit(value / 16));
     text.push(digit(value % 16));
+    text
 }
 
-/// Adds a word as four upper-case hexadecimal digits, those of the high byte first.
-pub fn push_word<const N: usize>(text: &mut ArrayString<N>, value: u16)
-    requires { array_string_len text.old + 4 ≤ N }
-    ensures digits { text.new.bytes ≡ text.old.bytes ++ word_text value }
-    ensures len { array_string_len text.new ≡ array_string_len text.old + 4 }
+/// A word as four upper-case hexadecimal digits, those of the high byte first.
+pub fn word_digits(value: u16) -> ArrayString<4>
+    ensures digits { result.bytes ≡ word_text value }
+    ensures len { array_string_len result ≡ 4 }
 {
-    push_byte(text, (value / 256) as u8);
-    push_byte(text, (value % 256) as u8);
+    let mut text = ArrayString::new();
+    text.push_str(byte_digits((value / 256) as u8).as_str());
+    text.push_str(byte_digits((value % 256) as u8).as_str());
+    text
 }
 
 #[cfg(test)]

@@ -109,13 +109,11 @@ fn writes_into_a_slice(rt: HostRuntime) {
 }
 
 #[test]
-fn pushes_digits(rt: HostRuntime) {
-    let mut text = ArrayString::<16>::new();
-    push_byte(&mut text, 0x09);
-    push_byte(&mut text, 0xAF);
-    push_word(&mut text, 0xC0F9);
-    push_word(&mut text, 0);
-    assert_eq!(rt; text.as_str(), "09AFC0F90000");
+fn gives_digits(rt: HostRuntime) {
+    assert_eq!(rt; byte_digits(0x09).as_str(), "09");
+    assert_eq!(rt; byte_digits(0xAF).as_str(), "AF");
+    assert_eq!(rt; word_digits(0xC0F9).as_str(), "C0F9");
+    assert_eq!(rt; word_digits(0).as_str(), "0000");
 }
 
 #[test]

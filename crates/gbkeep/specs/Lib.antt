@@ -1,3 +1,4 @@
 pub mod Line
 pub mod StepLine
 pub mod Listing
+pub mod Program

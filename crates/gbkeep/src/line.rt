@@ -1,15 +1,36 @@
 //! The line of registers.
 
-ghost use Rattle.std.specs.Prelude.{◌≡◌};
+ghost use Rattle.std.specs.Prelude.{◌≡◌, ◌+◌, ◌≤◌, ◌++◌};
+ghost use Rattle.arrayvec.specs.ArrayString.{array_string_len};
+ghost use Rattle.exact_text.specs.Hex.{byte_text, word_text};
 ghost use Rattle.gbkeep.specs.Line.{register_line};
 
 use arrayvec::ArrayString;
-use exact_text::{push_byte, push_word};
+use exact_text::{byte_digits, word_digits};
 use machine::Processor;
+
+/// Room for the line.
+type Line = ArrayString<80>;
+
+fn push_byte(line: &mut Line, value: u8)
+    requires { array_string_len line.old + 2 ≤ 80 }
+    ensures digits { line.new.bytes ≡ line.old.bytes ++ byte_text value }
+    ensures len { array_string_len line.new ≡ array_string_len line.old + 2 }
+{
+    line.push_str(byte_digits(value).as_str());
+}
+
+fn push_word(line: &mut Line, value: u16)
+    requires { array_string_len line.old + 4 ≤ 80 }
+    ensures digits { line.new.bytes ≡ line.old.bytes ++ word_text value }
+    ensures len { array_string_len line.new ≡ array_string_len line.old + 4 }
+{
+    line.push_str(word_digits(value).as_str());
+}
 
 /// The line of a processor's registers, with its newline.
 #[tactic(auto, unfolding(crate::specs::Line::register_line))]
-pub(crate) fn register_line<M>(processor: &Processor<M>) -> ArrayString<80>
+pub(crate) fn register_line<M>(processor: &Processor<M>) -> Line
     ensures { result.bytes ≡ register_line processor.now }
 {
     let registers = &processor.registers;

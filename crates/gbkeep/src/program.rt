@@ -1,4 +1,8 @@
 //! The program: words in, files and lines out.
+
+ghost use Rattle.std.specs.Prelude.{◌≡◌, ◌≤◌, IfOk, IfErr};
+ghost use Rattle.gbkeep.specs.Program.{status_of, KeepsAtMisuse};
+
 use crate::error::StepError;
 use crate::info::write_info;
 use crate::listing::list_lines;
@@ -29,7 +33,7 @@ enum Fault {
     #[error(transparent)]
     Cart(#[from] CartError),
     #[error(transparent)]
-    Step(#[from] StepError),
+    Step(StepError),
     #[error("no memory")]
     Memory,
     #[error("file failed")]
@@ -43,7 +47,9 @@ enum Fault {
 }
 
 impl Fault {
-    fn status(self) -> u8 {
+    fn status(self) -> u8
+        ensures { result ≡ status_of self }
+    {
         match self {
             Fault::Address | Fault::Word => NOT_UNDERSTOOD,
             _ => REFUSED,
@@ -56,7 +62,10 @@ pub fn run_program<R: Env + Files + AllocGlobal, O: Write, E: Write>(
     rt: &R,
     out: &mut O,
     err: &mut E,
-) -> u8 {
+) -> u8
+    ensures status { result ≤ 2 }
+    ensures misuse { KeepsAtMisuse (O.contents out.old) (O.contents out.new) result }
+{
     match words(rt) {
         Ok(words) => run(rt, words.as_slice(), out, err),
         Err(fault) => report(fault, err),
@@ -72,7 +81,9 @@ fn words<R: Env + AllocGlobal>(rt: &R) -> Result<Vec<String>, Fault> {
 }
 
 /// Writes the line of a fault and answers its status.
-fn report<E: Write>(fault: Fault, err: &mut E) -> u8 {
+fn report<E: Write>(fault: Fault, err: &mut E) -> u8
+    ensures { result ≡ status_of fault }
+{
     let _ = writeln!(err, "gbkeep: {fault}");
     fault.status()
 }
@@ -80,14 +91,17 @@ fn report<E: Write>(fault: Fault, err: &mut E) -> u8 {
 /// Runs the program on its words, the first of which is its own name, and answers its status:
 /// 0 done, 1 refused, 2 words not understood.
 ///
-/// What is asked for goes to `out`. A fault is one line on `err`, `gbkeep: ` and its text; of words
+/// What is asked for goes to `out`, which gets nothing where the status is 2. A fault is one line on `err`, `gbkeep: ` and its text; of words
 /// that are not understood `err` gets `clap`'s text.
 pub fn run<R: Files + AllocGlobal, S: AsStr, O: Write, E: Write>(
     rt: &R,
     words: &[S],
     out: &mut O,
     err: &mut E,
-) -> u8 {
+) -> u8
+    ensures status { result ≤ 2 }
+    ensures misuse { KeepsAtMisuse (O.contents out.old) (O.contents out.new) result }
+{
     match served(rt, words, out, err) {
         Ok(status) => status,
         Err(fault) => report(fault, err),
@@ -99,7 +113,11 @@ fn served<R: Files + AllocGlobal, S: AsStr, O: Write, E: Write>(
     words: &[S],
     out: &mut O,
     err: &mut E,
-) -> Result<u8, Fault> {
+) -> Result<u8, Fault>
+    ensures status { IfOk result (λ status. status ≤ 2) }
+    ensures misuse { IfOk result (KeepsAtMisuse (O.contents out.old) (O.contents out.new)) }
+    ensures refused { IfErr result (λ fault. KeepsAtMisuse (O.contents out.old) (O.contents out.new) (status_of fault)) }
+{
     match request_of(rt.alloc(), words) {
         Ok(Some(request)) => {
             serve(rt, request, out)?;
@@ -124,7 +142,9 @@ fn serve<R: Files + AllocGlobal, O: Write>(
     rt: &R,
     request: Request<'_>,
     out: &mut O,
-) -> Result<(), Fault> {
+) -> Result<(), Fault>
+    ensures refused { IfErr result (λ fault. KeepsAtMisuse (O.contents out.old) (O.contents out.new) (status_of fault)) }
+{
     match request {
         Request::Info { cart } => {
             let cartridge = Cartridge::read(file_bytes(rt, cart, MOST_ROM)?)?;
@@ -137,13 +157,17 @@ fn serve<R: Files + AllocGlobal, O: Write>(
         } => {
             let address = address_of(address).ok_or(Fault::Address)?;
             let rom = file_bytes(rt, cart, MOST_ROM)?;
-            list_lines(rt.alloc(), rom, address, count, out)?;
-            Ok(())
+            match list_lines(rt.alloc(), rom, address, count, out) {
+                Ok(()) => Ok(()),
+                Err(fault) => Err(Fault::Step(fault)),
+            }
         }
         Request::Step { cart, count } => {
             let rom = file_bytes(rt, cart, MOST_ROM)?;
-            step_line(rt.alloc(), rom, count, out)?;
-            Ok(())
+            match step_line(rt.alloc(), rom, count, out) {
+                Ok(()) => Ok(()),
+                Err(fault) => Err(Fault::Step(fault)),
+            }
         }
     }
 }

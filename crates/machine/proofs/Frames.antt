@@ -97,7 +97,7 @@ chosen_step : {M : Type 0} (b : Bool) (s t : Step M) → AreCycles s.stepped.cyc
 chosen_step true s t first second = first
 chosen_step false s t first second = second
 
-ran-bounds : {M : Type 0} (r : Rules M) (p : Processor M) → AreCycles (ran r p).stepped.cycles
+pub ran-bounds : {M : Type 0} (r : Rules M) (p : Processor M) → AreCycles (ran r p).stepped.cycles
 ran-bounds r p = chosen _ _ _ (cycles_taken-bounds _) (cycles-bounds _)
 
 resumed-bounds : {M : Type 0} (r : Rules M) (p : Processor M) → AreCycles (resumed r p).stepped.cycles

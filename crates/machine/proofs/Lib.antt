@@ -1,4 +1,6 @@
 pub mod Examples
 pub mod Frames
+pub mod KeptByInputs
 pub mod Lowest
 pub mod Runs
+pub mod Waiting

@@ -7,3 +7,4 @@ pub mod Bus
 pub mod Machine
 pub mod MachineStores
 pub mod MachineLaws
+pub mod Waiting

@@ -1,5 +1,6 @@
 -- Laws of frames and inputs, which public functions state.
 use Rattle.std.specs.Prelude.{◌≡◌, ℕ, ◌<◌, List, ◌++◌}
+use Rattle.bank_controllers.specs.CartridgeState.{IsSameCartridge}
 use Rattle.machine.specs.declared.processor.Processor.{Processor}
 use Rattle.machine.specs.declared.input.Input.{Input}
 use Rattle.machine.specs.Rules.{Rules}
@@ -12,3 +13,7 @@ FrameIsLeast M = (rules : Rules M) (overrun : ℕ) (p : Processor M) → overrun
 -- inputs one after another are the whole list
 abbrev pub InputsAddUp : Type 0
 InputsAddUp = (m : MachineState) (first second : List Input) → after (after m first) second ≡ after m (first ++ second)
+
+-- no input changes which cartridge is in the machine: its ROM, kind, motor and length of RAM stay
+abbrev pub CartridgeStays : Type 0
+CartridgeStays = (m : MachineState) (inputs : List Input) → IsSameCartridge m.processor.memory.banks (after m inputs).processor.memory.banks

@@ -1,7 +1,9 @@
 -- What a snapshot holds of the machine beside its stores of bytes and the rows of the picture.
-use Rattle.std.specs.Prelude.{◌<◌}
+use Rattle.std.specs.Prelude.{ℕ, ◌<◌, List, slice_set}
 use Rattle.bank_controllers.specs.CartridgeState.{CartridgeState}
 use Rattle.memory_map.specs.Stores as bus
+use Rattle.memory_map.specs.State.{BusState}
+use Rattle.picture_unit.specs.Picture.{Screen}
 use Rattle.machine.specs.declared.machine_registers.MachineRegisters.{MachineRegisters}
 use Rattle.machine.specs.Machine.{MachineState}
 
@@ -23,3 +25,14 @@ with_registers r m = record {
 pub record AreLegalFor (cartridge : CartridgeState) (r : MachineRegisters) : Type 0 where
   pub overrun : r.overrun < 6
   pub bus : bus.AreLegalFor cartridge r.bus
+
+-- row y of the picture becomes this row
+abbrev pub row_set : (y : ℕ) → List ℕ → MachineState → MachineState
+row_set y row m =
+    let memory : BusState = m.processor.memory in
+    let screen : Screen = memory.picture.screen in
+    record m {
+      processor = record m.processor {
+        memory = record memory { picture = record memory.picture { screen = record screen { rows = slice_set screen.rows y row } } };
+      };
+    }

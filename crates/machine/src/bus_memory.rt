@@ -8,6 +8,7 @@ impl Memory for Bus {
 
     ghost rules = { bus_rules };
 
+    #[inline]
     fn read(&self, address: u16) -> u8 {
         Bus::read(self, address)
     }
@@ -16,6 +17,7 @@ impl Memory for Bus {
         Bus::write(self, address, value);
     }
 
+    #[inline]
     fn shared(&self) -> u8 {
         Bus::shared(self)
     }
@@ -24,6 +26,7 @@ impl Memory for Bus {
         Bus::acknowledge(self, bit);
     }
 
+    #[inline]
     fn pass(&mut self, cycles: u8) {
         Bus::pass(self, u32::from(cycles));
     }

@@ -1,30 +1,90 @@
-//! Frames of the processor over any memory.
+//! Frames of the processor over the bus.
 
-ghost use Rattle.std.specs.Prelude.{◌≡◌, ◌<◌};
+ghost use Rattle.std.specs.Prelude.{◌≡◌, ◌<◌, ◌≤◌};
+ghost use Rattle.machine.specs.Waiting.{within};
 
-use crate::memory::Memory;
 use crate::processor::Processor;
+use crate::step::What;
+use memory_map::Bus;
 
 /// The M-cycles of a frame.
 const FRAME: u32 = 17_556;
 
-impl<M: Memory> Processor<M> {
-    ghost use Rattle.machine.specs.Machine.{frame_of};
+/// The address of the joypad's register P1.
+const JOYPAD: u16 = 0xff00;
+
+impl Processor<Bus> {
+    ghost use Rattle.picture_unit.specs.PictureJump.{IsSettled};
+    ghost use Rattle.machine.specs.Bus.{bus_rules};
+    ghost use Rattle.machine.specs.Machine.{frame_of, steps_until};
+    ghost use Rattle.machine.specs.Waiting.{Waits};
 
     /// Steps until a frame's M-cycles have passed, `overrun` of them before, and says how many more did.
     pub(crate) fn run_frame(&mut self, overrun: u8) -> u8
         requires { overrun < 6 }
-        ensures after { self.new ≡ (frame_of M.rules overrun self.old).after }
-        ensures overrun { result ≡ (frame_of M.rules overrun self.old).overrun }
+        ensures after { self.new ≡ (frame_of bus_rules overrun self.old).after }
+        ensures overrun { result ≡ (frame_of bus_rules overrun self.old).overrun }
         ensures few { result < 6 }
     {
         let mut passed = u32::from(overrun);
-        for _i in 0..FRAME {
-            if passed >= FRAME {
-                break;
-            }
-            passed += u32::from(self.step().cycles);
+        while passed < FRAME {
+            passed = self.go_on(passed);
         }
         (passed - FRAME) as u8
+    }
+
+    /// A step in a frame of which so many M-cycles have passed, and behind a wait those that surely follow it. Says how
+    /// many M-cycles have passed then.
+    #[inline]
+    fn go_on(&mut self, passed: u32) -> u32
+        requires { passed < 17556 }
+        ensures run { steps_until bus_rules 17556 result self.new ≡ steps_until bus_rules 17556 passed self.old }
+        ensures more { passed < result }
+        ensures few { result < 17562 }
+    {
+        let stepped = self.step();
+        let now = passed + u32::from(stepped.cycles);
+        match stepped.what {
+            What::Wait => {}
+            _ => return now,
+        }
+        if now >= FRAME {
+            return now;
+        }
+        let waits = self.waits(FRAME - now);
+        Bus::pass(&mut self.memory, waits);
+        now + waits
+    }
+
+    /// For how many M-cycles the processor surely waits, of those that are left, if the STAT signal was taken as it is now.
+    fn waits(&self, left: u32) -> u32
+        ensures few { result ≤ left }
+        ensures waits { IsSettled self.now.memory.picture → Waits result self.now }
+    {
+        if self.state.locked {
+            return left;
+        }
+        if self.state.stopped {
+            if Bus::read(&self.memory, JOYPAD) % 16 == 15 {
+                return left;
+            }
+            return 0;
+        }
+        if !self.state.halted {
+            return 0;
+        }
+        if Bus::shared(&self.memory) != 0 {
+            return 0;
+        }
+        soonest(self.memory.due(), left)
+    }
+}
+
+fn soonest(due: Option<u32>, left: u32) -> u32
+    ensures { result ≡ within due left }
+{
+    match due {
+        None => left,
+        Some(due) => due.min(left),
     }
 }

@@ -1,7 +1,7 @@
 //! Laws of the definitions. The calls do nothing: the contract of each is a law.
 
 ghost use Rattle.machine.specs.Steps.{DispatchesLowest};
-ghost use Rattle.machine.specs.MachineLaws.{FrameIsLeast, InputsAddUp};
+ghost use Rattle.machine.specs.MachineLaws.{FrameIsLeast, InputsAddUp, CartridgeStays};
 
 /// Of the interrupts that IE and IF share, the one that is dispatched is the lowest.
 pub fn dispatch_takes_the_lowest_bit()
@@ -16,4 +16,9 @@ pub fn frame_ends_with_the_first_step_that_completes_it<M>()
 /// Inputs one after another are the whole list.
 pub fn inputs_add_up()
     ensures { InputsAddUp }
+{}
+
+/// No input changes which cartridge is in the machine: its ROM, kind, motor and length of RAM stay.
+pub fn inputs_keep_the_cartridge()
+    ensures { CartridgeStays }
 {}

@@ -77,7 +77,7 @@ impl Machine {
     ghost use Rattle.machine.specs.Bus.{bus_rules};
     ghost use Rattle.machine.specs.Steps.{step_of, after_steps};
     ghost use Rattle.machine.specs.Machine.{start, frame_played, applied};
-    ghost use Rattle.machine.specs.MachineStores.{registers_of, with_registers, AreLegalFor};
+    ghost use Rattle.machine.specs.MachineStores.{registers_of, with_registers, row_set, AreLegalFor};
 
     /// The machine at power-on with this cartridge. Refused where there is no memory.
     pub fn power_on(alloc: Global, cartridge: &Cartridge) -> Result<Machine, AllocError>
@@ -168,6 +168,7 @@ impl Machine {
     pub fn state(&self) -> MachineRegisters
         ensures state { result ≡ registers_of self.now }
         ensures legal { AreLegalFor self.now.processor.memory.banks result }
+        ensures rows { length self.now.processor.memory.picture.screen.rows ≡ 144 }
     {
         MachineRegisters {
             registers: self.processor.registers,
@@ -202,5 +203,14 @@ impl Machine {
         ensures { self.new ≡ record self.old { processor = record self.old.processor { memory = region_filled region bytes.now self.old.processor.memory } } }
     {
         self.processor.memory.fill(region, bytes);
+    }
+
+    /// Sets the shades of a row of the picture. Condition: the row is below 144 and each shade at most 3.
+    pub fn set_row(&mut self, y: usize, row: &[u8; 160])
+        requires y_in { y < 144 }
+        requires shades { All (λ shade. shade < 4) row.now }
+        ensures { self.new ≡ row_set y row.now self.old }
+    {
+        self.processor.memory.set_row(y, row);
     }
 }

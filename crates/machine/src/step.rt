@@ -1,6 +1,6 @@
 //! One step of the processor.
 
-ghost use Rattle.std.specs.Prelude.{◌≡◌, ◌<◌, ◌≤◌, ◌+◌, ◌*◌};
+ghost use Rattle.std.specs.Prelude.{◌≡◌, ◌<◌, ◌≤◌, ◌+◌, ◌*◌, if◌then◌else◌};
 ghost use Rattle.machine.specs.RegisterOperations.{is_taken, next_address};
 
 use crate::memory::Memory;
@@ -48,6 +48,20 @@ fn takes_condition(instr: Instr, flags: Flags) -> bool
         Instr::CallIf(condition, _) => condition_holds(condition, flags),
         Instr::ReturnIf(condition) => condition_holds(condition, flags),
         _ => true,
+    }
+}
+
+/// The M-cycles of an instruction with these flags.
+fn cycles_by_flags(decoded: Decoded, flags: Flags) -> u8
+    ensures { result ≡ (if is_taken decoded.instr flags then decoded.cycles_taken else decoded.cycles) }
+{
+    if decoded.cycles_taken == decoded.cycles {
+        return decoded.cycles;
+    }
+    if takes_condition(decoded.instr, flags) {
+        decoded.cycles_taken
+    } else {
+        decoded.cycles
     }
 }
 
@@ -144,11 +158,7 @@ impl<M: Memory> Processor<M> {
         let bytes = self.fetch();
         let decoded = decode(bytes);
         let instr = decoded.instr;
-        let cycles = if takes_condition(instr, self.registers.flags) {
-            decoded.cycles_taken
-        } else {
-            decoded.cycles
-        };
+        let cycles = cycles_by_flags(decoded, self.registers.flags);
         self.begin(decoded.length);
         self.execute(instr);
         self.settle(enable, instr);

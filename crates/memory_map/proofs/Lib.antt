@@ -3,3 +3,5 @@ pub mod Together
 pub mod NextBusEvent
 pub mod JoypadLines
 pub mod PictureWrites
+pub mod QuietTicks
+pub mod SameCartridge

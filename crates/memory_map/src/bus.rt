@@ -108,8 +108,20 @@ impl Bus {
 
     /// Reads an address. VRAM in mode 3, and OAM in modes 2 and 3 and while a copy runs, read FF. No read changes
     /// anything.
-    #[tactic(auto, unfolding(crate::specs::Bus::read_at, picture_unit::specs::Stores::byte_read))]
+    #[inline]
+    #[tactic(auto, unfolding(crate::specs::Bus::read_at))]
     pub fn read(&self, address: u16) -> u8
+        ensures { result ≡ read_at self.now address }
+    {
+        if address < 0x8000 {
+            return self.banks.read(address);
+        }
+        self.read_place(address)
+    }
+
+    #[inline(never)]
+    #[tactic(auto, unfolding(crate::specs::Bus::read_at, picture_unit::specs::Stores::byte_read))]
+    fn read_place(&self, address: u16) -> u8
         ensures { result ≡ read_at self.now address }
     {
         match Place::of(address) {

@@ -121,6 +121,10 @@ cycles_taken_of (CallIf c w) = 6
 cycles_taken_of (ReturnIf c) = 5
 cycles_taken_of i = cycles_of i
 
+-- what is to know of an instruction, for private functions alone
+abbrev pub row_of : Instr → Decoded
+row_of i = record { instr = i; length = length_of i; cycles = cycles_of i; cycles_taken = cycles_taken_of i }
+
 -- what is to know of the instruction that begins with three bytes
 abbrev pub decoded_of : ℕ → ℕ → ℕ → Decoded
 decoded_of o b c = let i = instruction_of o b c in

@@ -133,6 +133,7 @@ fn shift(number: u8) -> Shift
     }
 }
 
+#[inline(always)]
 #[tactic(auto, unfolding(crate::specs::Table::bit_instruction))]
 fn bit_opcode(x: u8, z: u8, y: u8) -> Instr
     requires z_fits { z < 8 }
@@ -148,6 +149,7 @@ fn bit_opcode(x: u8, z: u8, y: u8) -> Instr
     }
 }
 
+#[inline(always)]
 #[tactic(auto, unfolding(crate::specs::Table::loads_and_steps))]
 fn load_or_step(z: u8, y: u8, byte: u8, word: u16) -> Instr
     requires { y < 8 }
@@ -176,6 +178,7 @@ fn load_or_step(z: u8, y: u8, byte: u8, word: u16) -> Instr
     }
 }
 
+#[inline(always)]
 #[tactic(auto, unfolding(crate::specs::Table::jumps_and_stack))]
 fn jump_or_stack(opcode: u8, z: u8, y: u8, byte: u8, word: u16) -> Instr
     requires { y < 8 }
@@ -221,6 +224,7 @@ fn jump_or_stack(opcode: u8, z: u8, y: u8, byte: u8, word: u16) -> Instr
     }
 }
 
+#[inline(always)]
 #[tactic(auto, unfolding(crate::specs::Table::instruction_of))]
 fn instruction(opcode: u8, low: u8, high: u8) -> Instr
     ensures { result ≡ instruction_of opcode low high }
@@ -239,22 +243,77 @@ fn instruction(opcode: u8, low: u8, high: u8) -> Instr
 }
 
 ghost use Rattle.std.specs.Prelude.{IsTrue, Contains, ◌↔◌};
-ghost use Rattle.opcode_table.specs.Timing.{decoded_of};
+ghost use Rattle.opcode_table.specs.Timing.{row_of, decoded_of};
 ghost use Rattle.opcode_table.specs.Undefined.{undefined_opcodes, is_undefined};
+
+#[inline(always)]
+fn by_instruction(instr: Instr) -> Decoded
+    ensures { result ≡ row_of instr }
+{
+    let otherwise = cycles(instr);
+    Decoded {
+        instr,
+        length: length(instr),
+        cycles: otherwise,
+        cycles_taken: cycles_taken(instr, otherwise),
+    }
+}
+
+/// How many bytes the instruction of each opcode has.
+static LENGTHS: [u8; 256] = [
+    1, 3, 1, 1, 1, 1, 2, 1, 3, 1, 1, 1, 1, 1, 2, 1, 2, 3, 1, 1, 1, 1, 2, 1, 2, 1, 1, 1, 1, 1, 2, 1,
+    2, 3, 1, 1, 1, 1, 2, 1, 2, 1, 1, 1, 1, 1, 2, 1, 2, 3, 1, 1, 1, 1, 2, 1, 2, 1, 1, 1, 1, 1, 2, 1,
+    1, 1, 1, 1, 1, 1, 1, 1, 1, 1, 1, 1, 1, 1, 1, 1, 1, 1, 1, 1, 1, 1, 1, 1, 1, 1, 1, 1, 1, 1, 1, 1,
+    1, 1, 1, 1, 1, 1, 1, 1, 1, 1, 1, 1, 1, 1, 1, 1, 1, 1, 1, 1, 1, 1, 1, 1, 1, 1, 1, 1, 1, 1, 1, 1,
+    1, 1, 1, 1, 1, 1, 1, 1, 1, 1, 1, 1, 1, 1, 1, 1, 1, 1, 1, 1, 1, 1, 1, 1, 1, 1, 1, 1, 1, 1, 1, 1,
+    1, 1, 1, 1, 1, 1, 1, 1, 1, 1, 1, 1, 1, 1, 1, 1, 1, 1, 1, 1, 1, 1, 1, 1, 1, 1, 1, 1, 1, 1, 1, 1,
+    1, 1, 3, 3, 3, 1, 2, 1, 1, 1, 3, 2, 3, 3, 2, 1, 1, 1, 3, 1, 3, 1, 2, 1, 1, 1, 3, 1, 3, 1, 2, 1,
+    2, 1, 1, 1, 1, 1, 2, 1, 2, 1, 3, 1, 1, 1, 2, 1, 2, 1, 1, 1, 1, 1, 2, 1, 2, 1, 3, 1, 1, 1, 2, 1,
+];
+
+/// The M-cycles of the instruction of each opcode, where its condition does not hold; that of CB depends on the next byte.
+static CYCLES: [u8; 256] = [
+    1, 3, 2, 2, 1, 1, 2, 1, 5, 2, 2, 2, 1, 1, 2, 1, 1, 3, 2, 2, 1, 1, 2, 1, 3, 2, 2, 2, 1, 1, 2, 1,
+    2, 3, 2, 2, 1, 1, 2, 1, 2, 2, 2, 2, 1, 1, 2, 1, 2, 3, 2, 2, 3, 3, 3, 1, 2, 2, 2, 2, 1, 1, 2, 1,
+    1, 1, 1, 1, 1, 1, 2, 1, 1, 1, 1, 1, 1, 1, 2, 1, 1, 1, 1, 1, 1, 1, 2, 1, 1, 1, 1, 1, 1, 1, 2, 1,
+    1, 1, 1, 1, 1, 1, 2, 1, 1, 1, 1, 1, 1, 1, 2, 1, 2, 2, 2, 2, 2, 2, 1, 2, 1, 1, 1, 1, 1, 1, 2, 1,
+    1, 1, 1, 1, 1, 1, 2, 1, 1, 1, 1, 1, 1, 1, 2, 1, 1, 1, 1, 1, 1, 1, 2, 1, 1, 1, 1, 1, 1, 1, 2, 1,
+    1, 1, 1, 1, 1, 1, 2, 1, 1, 1, 1, 1, 1, 1, 2, 1, 1, 1, 1, 1, 1, 1, 2, 1, 1, 1, 1, 1, 1, 1, 2, 1,
+    2, 3, 3, 4, 3, 4, 2, 4, 2, 4, 3, 2, 3, 6, 2, 4, 2, 3, 3, 1, 3, 4, 2, 4, 2, 4, 3, 1, 3, 1, 2, 4,
+    3, 3, 2, 1, 1, 4, 2, 4, 4, 1, 4, 1, 1, 1, 2, 4, 3, 3, 2, 1, 1, 4, 2, 4, 3, 2, 4, 1, 1, 1, 2, 4,
+];
+
+/// The same, where its condition holds or it has none.
+static CYCLES_TAKEN: [u8; 256] = [
+    1, 3, 2, 2, 1, 1, 2, 1, 5, 2, 2, 2, 1, 1, 2, 1, 1, 3, 2, 2, 1, 1, 2, 1, 3, 2, 2, 2, 1, 1, 2, 1,
+    3, 3, 2, 2, 1, 1, 2, 1, 3, 2, 2, 2, 1, 1, 2, 1, 3, 3, 2, 2, 3, 3, 3, 1, 3, 2, 2, 2, 1, 1, 2, 1,
+    1, 1, 1, 1, 1, 1, 2, 1, 1, 1, 1, 1, 1, 1, 2, 1, 1, 1, 1, 1, 1, 1, 2, 1, 1, 1, 1, 1, 1, 1, 2, 1,
+    1, 1, 1, 1, 1, 1, 2, 1, 1, 1, 1, 1, 1, 1, 2, 1, 2, 2, 2, 2, 2, 2, 1, 2, 1, 1, 1, 1, 1, 1, 2, 1,
+    1, 1, 1, 1, 1, 1, 2, 1, 1, 1, 1, 1, 1, 1, 2, 1, 1, 1, 1, 1, 1, 1, 2, 1, 1, 1, 1, 1, 1, 1, 2, 1,
+    1, 1, 1, 1, 1, 1, 2, 1, 1, 1, 1, 1, 1, 1, 2, 1, 1, 1, 1, 1, 1, 1, 2, 1, 1, 1, 1, 1, 1, 1, 2, 1,
+    5, 3, 4, 4, 6, 4, 2, 4, 5, 4, 4, 2, 6, 6, 2, 4, 5, 3, 4, 1, 6, 4, 2, 4, 5, 4, 4, 1, 6, 1, 2, 4,
+    3, 3, 2, 1, 1, 4, 2, 4, 4, 1, 4, 1, 1, 1, 2, 4, 3, 3, 2, 1, 1, 4, 2, 4, 3, 2, 4, 1, 1, 1, 2, 4,
+];
 
 /// The instruction that begins with these bytes, of which it may have fewer than three.
 ///
 /// Every list of three bytes has an answer; the eleven opcodes that no instruction has give
 /// `Instr::Undefined`.
+#[inline]
 pub fn decode(bytes: [u8; 3]) -> Decoded
     ensures table { result ≡ decoded_of (slice_index bytes 0) (slice_index bytes 1) (slice_index bytes 2) }
     ensures undefined { IsTrue (is_undefined result.instr) ↔ Contains undefined_opcodes (slice_index bytes 0) }
 {
-    let instr = instruction(bytes[0], bytes[1], bytes[2]);
+    let opcode = bytes[0];
+    let instr = instruction(opcode, bytes[1], bytes[2]);
+    if opcode == 0xcb {
+        return by_instruction(instr);
+    }
+    let place = usize::from(opcode);
     Decoded {
         instr,
-        length: length(instr),
-        cycles: cycles(instr),
-        cycles_taken: cycles_taken(instr),
+        length: LENGTHS[place],
+        cycles: CYCLES[place],
+        cycles_taken: CYCLES_TAKEN[place],
     }
 }

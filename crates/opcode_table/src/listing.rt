@@ -7,7 +7,7 @@ ghost use Rattle.opcode_table.specs.Listing.{bytes_column, list_line};
 use crate::decoding::decode;
 use crate::text::write_text;
 use arrayvec::ArrayString;
-use exact_text::{push_byte, push_word};
+use exact_text::{byte_digits, word_digits};
 
 /// Room for a line of a listing, with its newline.
 pub type Line = ArrayString<32>;
@@ -18,17 +18,17 @@ fn push_bytes(line: &mut Line, length: u8, bytes: [u8; 3])
     ensures column { line.new.bytes ≡ line.old.bytes ++ bytes_column length (slice_index bytes 0) (slice_index bytes 1) (slice_index bytes 2) }
     ensures len { array_string_len line.new ≡ array_string_len line.old + 6 }
 {
-    push_byte(line, bytes[0]);
+    line.push_str(byte_digits(bytes[0]).as_str());
     if length == 1 {
         line.push_str("    ");
         return;
     }
-    push_byte(line, bytes[1]);
+    line.push_str(byte_digits(bytes[1]).as_str());
     if length == 2 {
         line.push_str("  ");
         return;
     }
-    push_byte(line, bytes[2]);
+    line.push_str(byte_digits(bytes[2]).as_str());
 }
 
 /// The line of the instruction that begins with these bytes at this address: the address in four
@@ -41,7 +41,7 @@ pub fn list_line(address: u16, bytes: [u8; 3]) -> Line
     let decoded = decode(bytes);
     let text = write_text(&decoded.instr);
     let mut line = Line::new();
-    push_word(&mut line, address);
+    line.push_str(word_digits(address).as_str());
     line.push_str(" ");
     push_bytes(&mut line, decoded.length, bytes);
     line.push_str(" ");

@@ -10,7 +10,7 @@ use crate::instruction::{
     StackRegister16,
 };
 use arrayvec::ArrayString;
-use exact_text::{push_byte, push_word};
+use exact_text::{byte_digits, word_digits};
 
 /// Room for the text of any instruction.
 pub type Text = ArrayString<16>;
@@ -22,10 +22,10 @@ fn push_offset(text: &mut Text, offset: u8)
 {
     if offset < 128 {
         text.push_str("+");
-        push_byte(text, offset);
+        text.push_str(byte_digits(offset).as_str());
     } else {
         text.push_str("-");
-        push_byte(text, 255 - offset + 1);
+        text.push_str(byte_digits(255 - offset + 1).as_str());
     }
 }
 
@@ -185,7 +185,7 @@ fn with_byte(name: &str, byte: u8) -> Text
 {
     let mut text = Text::new();
     text.push_str(name);
-    push_byte(&mut text, byte);
+    text.push_str(byte_digits(byte).as_str());
     text
 }
 
@@ -195,7 +195,7 @@ fn with_word(name: &str, word: u16) -> Text
 {
     let mut text = Text::new();
     text.push_str(name);
-    push_word(&mut text, word);
+    text.push_str(word_digits(word).as_str());
     text
 }
 
@@ -215,7 +215,7 @@ fn around_byte(start: &str, byte: u8, end: &str) -> Text
 {
     let mut text = Text::new();
     text.push_str(start);
-    push_byte(&mut text, byte);
+    text.push_str(byte_digits(byte).as_str());
     text.push_str(end);
     text
 }
@@ -226,7 +226,7 @@ fn around_word(start: &str, word: u16, end: &str) -> Text
 {
     let mut text = Text::new();
     text.push_str(start);
-    push_word(&mut text, word);
+    text.push_str(word_digits(word).as_str());
     text.push_str(end);
     text
 }
@@ -237,7 +237,7 @@ fn with_operand_and_byte(name: &str, operand: &str, byte: u8) -> Text
 {
     let mut text = with_operand(name, operand);
     text.push_str(",");
-    push_byte(&mut text, byte);
+    text.push_str(byte_digits(byte).as_str());
     text
 }
 
@@ -247,7 +247,7 @@ fn with_operand_and_word(name: &str, operand: &str, word: u16) -> Text
 {
     let mut text = with_operand(name, operand);
     text.push_str(",");
-    push_word(&mut text, word);
+    text.push_str(word_digits(word).as_str());
     text
 }
 

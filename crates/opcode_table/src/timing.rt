@@ -15,6 +15,7 @@ impl Operand8 {
 }
 
 /// How many bytes an instruction has.
+#[inline(always)]
 pub(crate) fn length(instr: Instr) -> u8
     ensures { result ≡ length_of instr }
 {
@@ -69,6 +70,7 @@ pub(crate) fn length(instr: Instr) -> u8
 }
 
 /// The M-cycles where the condition, if there is one, does not hold.
+#[inline(always)]
 pub(crate) fn cycles(instr: Instr) -> u8
     ensures { result ≡ cycles_of instr }
 {
@@ -133,8 +135,10 @@ fn by_operand(operand: Operand8, in_memory: u8, in_register: u8) -> u8
     }
 }
 
-/// The M-cycles where the condition holds, or there is none.
-pub(crate) fn cycles_taken(instr: Instr) -> u8
+/// The M-cycles where the condition holds, or there is none; `otherwise` are those where it does not.
+#[inline(always)]
+pub(crate) fn cycles_taken(instr: Instr, otherwise: u8) -> u8
+    requires { otherwise ≡ cycles_of instr }
     ensures { result ≡ cycles_taken_of instr }
 {
     match instr {
@@ -142,6 +146,6 @@ pub(crate) fn cycles_taken(instr: Instr) -> u8
         Instr::JumpIf(_, _) => 4,
         Instr::CallIf(_, _) => 6,
         Instr::ReturnIf(_) => 5,
-        other => cycles(other),
+        _ => otherwise,
     }
 }

@@ -1,3 +1,4 @@
 pub mod Quiet
 pub mod Writing
 pub mod PictureLaws
+pub mod Settled

@@ -1,8 +1,8 @@
 -- The picture unit between two entries, an entry being that to a line, to mode 3 or to mode 0.
-use Rattle.std.specs.Prelude.{ℕ, zero, suc, ◌+◌, ◌-◌, ◌||◌, nat_le, nat_lt, if◌then◌else◌}
+use Rattle.std.specs.Prelude.{◌≡◌, ℕ, zero, suc, ◌+◌, ◌-◌, true, ◌||◌, nat_le, nat_lt, if◌then◌else◌}
 use Rattle.picture_unit.specs.declared.state.PictureState.{PictureState}
 use Rattle.picture_unit.specs.declared.state.PictureRequests.{PictureRequests}
-use Rattle.picture_unit.specs.Picture.{Screen, PictureAndRequests, taken}
+use Rattle.picture_unit.specs.Picture.{Screen, PictureAndRequests, is_on, stat_signal, taken}
 
 -- how many M-cycles the next entry is away
 unfoldable pub next_entry : PictureState → ℕ
@@ -24,3 +24,7 @@ skipped (suc n) d = taken (later (suc n) d)
 -- a picture unit that has requested these interrupts
 abbrev pub with_requests : PictureRequests → Screen → PictureAndRequests
 with_requests requests s = record { screen = s; vblank = requests.vblank; stat = requests.stat }
+
+-- The STAT signal was taken as it is now, so that it does not rise before the next entry.
+abbrev pub IsSettled : PictureAndRequests → Type 0
+IsSettled d = is_on d.screen.state ≡ true → stat_signal d.screen.state ≡ d.screen.state.signal

@@ -104,10 +104,14 @@ impl PictureState {
     }
 
     /// The STAT signal.
-    #[tactic(auto, unfolding(crate::specs::Picture::stat_signal))]
+    #[inline]
+    #[tactic(auto, unfolding(crate::specs::Picture::stat_signal, crate::specs::Picture::is_source, picture_lines::specs::Bits::has_bit))]
     pub(crate) fn stat_signal(&self) -> bool
         ensures { result ≡ stat_signal self.now }
     {
+        if self.stat == 0 {
+            return false;
+        }
         if !self.is_on() {
             return false;
         }

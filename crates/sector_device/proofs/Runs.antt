@@ -3,8 +3,8 @@ use Rattle.std.proofs.Common.{◌≡◌, inl, inr, ⊎_elim, ℕ, ◌≤◌, ◌
 use Rattle.std.proofs.lemmas.Bool.{cases_eq, cases_lt}
 use Rattle.std.proofs.lemmas.List.{get_or-set_same, get_or-set_other, ext_get_or}
 use Rattle.std.specs.Prelude.{IsErr}
-use Rattle.sector_device.specs.DiskState.{DiskState, Throughout, KeepsHonesty, HasRead, HasWritten, HasSynced, sector_at, CountsFaults, HasCause}
-use Rattle.sector_device.specs.Runs.{HoldsThroughout, Mixed, WrittenUpTo}
+use Rattle.sector_device.specs.DiskState.{DiskState, Throughout, Remembers, KeepsHonesty, HasRead, HasWritten, HasSynced, sector_at, CountsFaults, HasCause}
+use Rattle.sector_device.specs.Runs.{HoldsThroughout, HoldsSince, Mixed, WrittenUpTo}
 
 abbrev Images : Type 1
 Images = List (List ℕ) → Type 0
@@ -16,11 +16,15 @@ begun s P Q honest here entails = record {
   throughout = record { later = omega arith; each = λ t c le since. inl since };
   images = here;
   entails = entails;
+  past = λ t c le since. since;
 }
+
+pub remembers_then : (first mid last : DiskState) {P : List (List ℕ) → Type 0} → Throughout first mid P → Remembers first mid → Remembers mid last → Remembers first last
+remembers_then first mid last a early late = λ t c le since. late t c (omega (arith, a.later, le)) (early t c le since)
 
 -- any call, after which each image has Q'
 pub goes_on : {start old new : DiskState} {P Q Q' : List (List ℕ) → Type 0} → HoldsThroughout start old P Q → KeepsHonesty old new → ((c : List (List ℕ)) → new.image c → Q' c) → ((c : List (List ℕ)) → Q' c → P c) → HoldsThroughout start new P Q'
-goes_on held goes here entails = record {
+goes_on {start} {old} {new} held goes here entails = record {
   honest = goes.honest;
   throughout = record {
     later = omega (arith, held.throughout.later, goes.time.later);
@@ -28,11 +32,12 @@ goes_on held goes here entails = record {
   };
   images = here;
   entails = entails;
+  past = remembers_then start old new held.throughout held.past goes.past;
 }
 
 -- what is known of the images now may be forgotten in part
 pub weaker : {start now : DiskState} {P Q Q' : List (List ℕ) → Type 0} → HoldsThroughout start now P Q → ((c : List (List ℕ)) → Q c → Q' c) → ((c : List (List ℕ)) → Q' c → P c) → HoldsThroughout start now P Q'
-weaker held to entails = record { honest = held.honest; throughout = held.throughout; images = λ c now. to c (held.images c now); entails = entails }
+weaker held to entails = record { honest = held.honest; throughout = held.throughout; images = λ c now. to c (held.images c now); entails = entails; past = held.past }
 
 module _ {E : Type 0} where
   pub has_read : {start old new : DiskState} {P Q : List (List ℕ) → Type 0} {at : ℕ} {bytes : List ℕ} {r : Result Unit E} → HoldsThroughout start old P Q → HasRead at bytes old new r → HoldsThroughout start new P Q
@@ -88,6 +93,10 @@ throughout_then a b = record {
 -- so each image since the start has P, if each had it there
 pub each_since : {old new : DiskState} {P : List (List ℕ) → Type 0} → ((c : List (List ℕ)) → old.since old.moment c → old.image c) → Throughout old new P → ((c : List (List ℕ)) → old.image c → P c) → (c : List (List ℕ)) → new.since old.moment c → P c
 each_since {old} only t here c since = ⊎_elim (λ was. here c (only c was)) (λ p. p) (t.each old.moment c (omega arith) since)
+
+-- and so of a run that is known in full
+pub holds_since : {old new : DiskState} {P : List (List ℕ) → Type 0} → ((c : List (List ℕ)) → old.since old.moment c → old.image c) → Throughout old new P → Remembers old new → ((c : List (List ℕ)) → old.image c → P c) → HoldsSince old new P
+holds_since only t past here = record { each = each_since only t here; moments = t; past = past }
 
 -- ---- the cause of an error
 

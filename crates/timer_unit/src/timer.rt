@@ -84,6 +84,9 @@ impl Timer {
         let falls = self.falls_in(cycles);
         let counter = u64::from(self.state.counter) + 4 * u64::from(cycles);
         self.state.counter = (counter % 65536) as u16;
+        if falls == 0 {
+            return false;
+        }
         self.count_falls(falls)
     }
 

@@ -7,6 +7,7 @@ use super::Bus;
 
 impl Bus {
     /// That many M-cycles pass for all units, in each of them in the order timer, serial, object DMA, picture.
+    #[inline]
     pub fn pass(&mut self, cycles: u32)
         ensures { self.new ≡ iterate tick cycles self.old }
     {
@@ -30,6 +31,7 @@ impl Bus {
         }
     }
 
+    #[inline]
     fn pass_timer(&mut self, cycles: u32)
         ensures ticks { self.new ≡ iterate tick_timer cycles self.old }
         ensures dma_page { self.old.control.dma < 256 }
@@ -38,6 +40,7 @@ impl Bus {
         self.timer_requested |= requests.bits != 0;
     }
 
+    #[inline]
     fn pass_serial(&mut self, cycles: u32)
         ensures { self.new ≡ iterate tick_serial cycles self.old }
     {
@@ -46,7 +49,19 @@ impl Bus {
     }
 
     /// The copy and the picture, of which the picture sees what is copied.
+    #[inline]
     fn pass_dma_and_picture(&mut self, cycles: u32)
+        ensures { self.new ≡ iterate tick_dma_and_picture cycles self.old }
+    {
+        if self.control.dma_copied < 160 {
+            self.pass_copying(cycles);
+            return;
+        }
+        self.pass_picture(cycles);
+    }
+
+    #[inline(never)]
+    fn pass_copying(&mut self, cycles: u32)
         ensures { self.new ≡ iterate tick_dma_and_picture cycles self.old }
     {
         let mut left = cycles;
@@ -58,6 +73,7 @@ impl Bus {
         self.pass_picture(left);
     }
 
+    #[inline(always)]
     fn pass_picture(&mut self, cycles: u32)
         ensures { self.new ≡ iterate tick_picture cycles self.old }
     {
@@ -66,6 +82,7 @@ impl Bus {
         self.stat_requested |= requests.stat;
     }
 
+    #[inline(never)]
     #[tactic(auto, unfolding(picture_unit::specs::Stores::oam_copied))]
     fn copy_byte(&mut self)
         requires { self.old.control.dma_copied < 160 }

@@ -13,6 +13,7 @@ impl Bus {
     pub fn state(&self) -> BusRegisters
         ensures state { result ≡ registers_of self.now }
         ensures legal { AreLegalFor self.now.banks result }
+        ensures rows { length self.now.picture.screen.rows ≡ 144 }
     {
         BusRegisters {
             ie: self.control.ie,

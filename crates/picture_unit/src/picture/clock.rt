@@ -9,6 +9,7 @@ use crate::state::PictureRequests;
 
 impl Picture {
     /// That many M-cycles pass: lines are entered and drawn, and interrupts requested.
+    #[inline]
     #[tactic(auto, unfolding(crate::specs::Picture::unrequested))]
     pub fn pass(&mut self, cycles: u32) -> PictureRequests
         ensures picture { self.new ≡ (ticks cycles self.old).screen }
@@ -58,6 +59,7 @@ impl Picture {
     }
 
     // M-cycles of a picture unit that is on, from entry to entry.
+    #[inline(never)]
     fn advance(&mut self, cycles: u32, requests: PictureRequests) -> PictureRequests
         requires { is_on self.old.state ≡ true }
         ensures { with_requests result self.new
@@ -92,6 +94,7 @@ impl Picture {
     }
 
     // M-cycles without an entry.
+    #[inline]
     #[tactic(auto, unfolding(crate::specs::PictureJump::skipped, crate::specs::PictureJump::later, crate::specs::Picture::taken, crate::specs::PictureJump::next_entry))]
     fn skip(&mut self, cycles: u32, requests: PictureRequests) -> PictureRequests
         requires on { is_on self.old.state ≡ true }

@@ -11,6 +11,7 @@ impl Picture {
     pub fn state(&self) -> PictureState
         ensures state { result ≡ self.now.state }
         ensures legal { IsLegalPicture result }
+        ensures rows { length self.now.rows ≡ 144 }
     {
         self.state
     }

@@ -1,0 +1,13 @@
+-- The ranges of the numbers in a request: `list` prints 1 to 4,096 instructions, `step` does at most 1,000,000 steps.
+use Rattle.std.specs.Prelude.{◌≤◌, Option, Some, None}
+use Rattle.command_line.specs.declared.Request.{Request}
+use Rattle.command_line.specs.declared.Request.TheVariants.{Info, List, Step}
+
+abbrev pub IsInRange : Request → Type 0
+IsInRange (Info cart) = Unit {0}
+IsInRange (List cart address count) = (1 ≤ count) × (count ≤ 4096)
+IsInRange (Step cart count) = count ≤ 1000000
+
+abbrev pub IsAnswer : Option Request → Type 0
+IsAnswer None = Unit {0}
+IsAnswer (Some request) = IsInRange request

@@ -1,0 +1,179 @@
+-- Waits of the processor over the bus, many at once, within a frame.
+use Rattle.std.proofs.Common.{◌≡◌, ℕ, zero, suc, ◌+◌, ◌%◌, ◌<◌, ◌≤◌, Bool, Option, Some, None, true, false, cond, refl, sym, ap, subst, ◌∙◌, arith, inl, inr}
+use Rattle.std.specs.Prelude.{◌&&◌, ◌==◌, not, min, if◌then◌else◌}
+use Rattle.std.specs.Fn.{iterate}
+use Rattle.std.proofs.lemmas.Bool.{cases_lt}
+use Rattle.repeated_steps.specs.NextEvent.{IsNextEvent}
+use Rattle.repeated_steps.proofs.Iterates.{iterate-suc}
+use Rattle.picture_unit.specs.PictureJump.{IsSettled}
+use Rattle.memory_map.specs.State.{BusState}
+use Rattle.memory_map.specs.Joypad.{p1_value}
+use Rattle.memory_map.specs.Bus.{shared, acknowledged, read_at, register_value}
+use Rattle.memory_map.specs.Ticks.{tick, happens}
+use Rattle.memory_map.proofs.QuietTicks.{ComesAfter, bus_settles, shared_before, ticks_keep_p1}
+use Rattle.machine.specs.Rules.{Rules}
+use Rattle.machine.specs.Bus.{bus_rules}
+use Rattle.machine.specs.Execution.{at_pc, pushed, executed}
+use Rattle.machine.specs.Steps.{Step, step_of, passing, waited, lowest_interrupt, vector_of, dispatched, decoded_at, begun, settled, ran, resumed, after_stop}
+use Rattle.machine.specs.Machine.{Ahead, steps_until}
+use Rattle.machine.specs.Waiting.{Waits, within}
+use Rattle.machine.specs.declared.processor.Processor.{Processor}
+use Rattle.machine.specs.declared.processor.ProcessorState.{ProcessorState}
+use Rattle.machine.proofs.Frames.{AreCycles, step-bounds, ran-bounds, steps_until-step, steps_until-end}
+
+-- ---- any number of steps that is enough gives the same frame
+
+fuel : {M : Type 0} (r : Rules M) (k j n : ℕ) (p : Processor M) → 17556 ≤ n + k → 17556 ≤ n + j → steps_until r k n p ≡ steps_until r j n p
+fuel r zero j n p enough also = steps_until-end r zero n p (omega (arith, enough)) ∙ sym (steps_until-end r j n p (omega (arith, enough)))
+fuel r (suc k) zero n p enough also = steps_until-end r (suc k) n p (omega (arith, also)) ∙ sym (steps_until-end r zero n p (omega (arith, also)))
+fuel r (suc k) (suc j) n p enough also =
+    elim (cases_lt n 17556) [
+      | inl below ↦
+          let some = (step-bounds r p).some in
+          steps_until-step r (suc k) k n p (omega arith) below
+          ∙ fuel r k j (n + (step_of r p).stepped.cycles) (step_of r p).after (omega (arith, enough, some)) (omega (arith, also, some))
+          ∙ sym (steps_until-step r (suc j) j n p (omega arith) below)
+      | inr above ↦ steps_until-end r (suc k) n p above ∙ sym (steps_until-end r (suc j) n p above)
+    ]
+
+pub until_step : {M : Type 0} (r : Rules M) (n : ℕ) (p : Processor M) → n < 17556 →
+    steps_until r 17556 n p ≡ steps_until r 17556 (n + (step_of r p).stepped.cycles) (step_of r p).after
+until_step r n p below =
+    let some = (step-bounds r p).some in
+    steps_until-step r 17556 17555 n p (omega arith) below
+    ∙ fuel r 17555 17556 (n + (step_of r p).stepped.cycles) (step_of r p).after (omega (arith, some)) (omega (arith, some))
+
+-- ---- waits are as many steps
+
+pub until_waits : (n passed : ℕ) (p : Processor BusState) → passed + n ≤ 17556 → Waits n p →
+    steps_until bus_rules 17556 (passed + n) (passing bus_rules n p) ≡ steps_until bus_rules 17556 passed p
+until_waits zero passed p le waits = let e : passed + zero ≡ passed = omega arith in ap (λ (m : ℕ). steps_until bus_rules 17556 m p) e
+until_waits (suc n) passed p le waits =
+    let first : step_of bus_rules p ≡ waited bus_rules p = waits zero (omega arith) in
+    let whole : passed + suc n ≡ passed + 1 + n = omega arith in
+    let rest = until_waits n (passed + 1) (passing bus_rules 1 p) (omega (arith, le)) (λ k lt. waits (suc k) (omega (arith, lt))) in
+    ap (λ (m : ℕ). steps_until bus_rules 17556 m (passing bus_rules (suc n) p)) whole
+    ∙ rest
+    ∙ ap (λ (s : Step BusState). steps_until bus_rules 17556 (passed + s.stepped.cycles) s.after) (sym first)
+    ∙ sym (until_step bus_rules passed p (omega (arith, le)))
+
+-- ---- a step leaves the STAT signal taken
+
+ticks_settle : (n : ℕ) (b : BusState) → 0 < n → IsSettled (iterate tick n b).picture
+ticks_settle zero b pos = absurd (omega (arith, pos))
+ticks_settle (suc n) b pos = subst (λ (c : BusState). IsSettled c.picture) (sym (iterate-suc tick n b)) (bus_settles (iterate tick n b))
+
+abbrev Settles : Step BusState → Type 0
+Settles s = IsSettled s.after.memory.picture
+
+either_settles : (b : Bool) (s t : Step BusState) → Settles s → Settles t → Settles (if b then s else t)
+either_settles true s t first second = first
+either_settles false s t first second = second
+
+passing_settles : (n : ℕ) (p : Processor BusState) → 0 < n → IsSettled (passing bus_rules n p).memory.picture
+passing_settles n p pos = ticks_settle n p.memory pos
+
+ran_settles : (p : Processor BusState) → Settles (ran bus_rules p)
+ran_settles p =
+    let d = decoded_at bus_rules p in
+    let done = settled p.state.enable d.instr (executed bus_rules d.instr (begun d.length p)) in
+    passing_settles (ran bus_rules p).stepped.cycles done (ran-bounds bus_rules p).some
+
+dispatched_settles : (p : Processor BusState) → Settles (dispatched bus_rules p)
+dispatched_settles p =
+    let bit = lowest_interrupt (shared p.memory) in
+    let quiet : Processor BusState = record p { state = record p.state { ime = false; enable = false }; memory = acknowledged bit p.memory } in
+    passing_settles 5 (at_pc (vector_of bit) (pushed bus_rules p.registers.pc quiet)) (omega arith)
+
+resumed_settles : (p : Processor BusState) → Settles (resumed bus_rules p)
+resumed_settles p = either_settles _ (dispatched bus_rules p) (ran bus_rules p) (dispatched_settles p) (ran_settles p)
+
+waited_settles : (p : Processor BusState) → Settles (waited bus_rules p)
+waited_settles p = passing_settles 1 p (omega arith)
+
+abbrev going_of : Processor BusState → Processor BusState
+going_of p = record p { state = record p.state { halted = false } }
+
+after_stop_settles : (p : Processor BusState) → Settles (after_stop bus_rules p)
+after_stop_settles p = either_settles _ (waited bus_rules p) (resumed bus_rules (going_of p)) (waited_settles p) (resumed_settles (going_of p))
+
+pub step_settles : (p : Processor BusState) → IsSettled (step_of bus_rules p).after.memory.picture
+unfolding step_of
+step_settles p =
+    let on : Processor BusState = record p { state = record p.state { stopped = false } } in
+    let waits = p.state.stopped && read_at p.memory 0xFF00 % 16 == 15 in
+    either_settles p.state.locked (waited bus_rules p) (if waits then waited bus_rules p else after_stop bus_rules on) (waited_settles p)
+    (either_settles waits (waited bus_rules p) (after_stop bus_rules on) (waited_settles p) (after_stop_settles on))
+
+-- ---- which processors wait
+
+abbrev on_of : Processor BusState → Processor BusState
+on_of p = record p { state = record p.state { stopped = false } }
+
+abbrev stop_test : Processor BusState → Step BusState
+stop_test p = if p.state.stopped && read_at p.memory 0xFF00 % 16 == 15 then waited bus_rules p else after_stop bus_rules (on_of p)
+
+locked_step : (p : Processor BusState) → p.state.locked ≡ true → step_of bus_rules p ≡ waited bus_rules p
+unfolding step_of
+locked_step p locked = ap (λ b. cond b (waited bus_rules p) (stop_test p)) locked
+
+unlocked_step : (p : Processor BusState) → p.state.locked ≡ false → step_of bus_rules p ≡ stop_test p
+unfolding step_of
+unlocked_step p locked = ap (λ b. cond b (waited bus_rules p) (stop_test p)) locked
+
+stopped_step : (p : Processor BusState) → p.state.stopped ≡ true → read_at p.memory 0xFF00 % 16 ≡ 15 → stop_test p ≡ waited bus_rules p
+stopped_step p stopped low =
+    ap (λ b. cond (b && read_at p.memory 0xFF00 % 16 == 15) (waited bus_rules p) (after_stop bus_rules (on_of p))) stopped
+    ∙ ap (λ (n : ℕ). cond (n == 15) (waited bus_rules p) (after_stop bus_rules (on_of p))) low
+
+halted_step : (p : Processor BusState) → p.state.stopped ≡ false → p.state.halted ≡ true → shared p.memory ≡ 0 → stop_test p ≡ waited bus_rules p
+halted_step p stopped halted none =
+    let same : on_of p ≡ p = ap (λ (b : Bool). record p { state = record p.state { stopped = b } }) (sym stopped) in
+    ap (λ b. cond (b && read_at p.memory 0xFF00 % 16 == 15) (waited bus_rules p) (after_stop bus_rules (on_of p))) stopped
+    ∙ ap (λ (q : Processor BusState). after_stop bus_rules q) same
+    ∙ ap (λ b. cond (b && shared p.memory == 0) (waited bus_rules p) (resumed bus_rules (going_of p))) halted
+    ∙ ap (λ (n : ℕ). cond (n == 0) (waited bus_rules p) (resumed bus_rules (going_of p))) none
+
+pub locked_waits : (n : ℕ) (p : Processor BusState) → p.state.locked ≡ true → Waits n p
+locked_waits n p locked k lt = locked_step (passing bus_rules k p) locked
+
+p1_read : (b : BusState) → read_at b 0xFF00 ≡ p1_value b.control
+unfolding read_at register_value
+p1_read b = refl
+
+pub stopped_waits : (n : ℕ) (p : Processor BusState) → p.state.locked ≡ false → p.state.stopped ≡ true → read_at p.memory 0xFF00 % 16 ≡ 15 → Waits n p
+stopped_waits n p locked stopped low k lt =
+    let same : read_at (iterate tick k p.memory) 0xFF00 ≡ read_at p.memory 0xFF00 = p1_read (iterate tick k p.memory) ∙ ticks_keep_p1 k p.memory ∙ sym (p1_read p.memory) in
+    unlocked_step (passing bus_rules k p) locked ∙ stopped_step (passing bus_rules k p) stopped (ap (λ (n : ℕ). n % 16) same ∙ low)
+
+later_than : (due : Option ℕ) (left k : ℕ) → k < within due left → ComesAfter due k
+later_than None left k lt = tt
+later_than (Some d) left k lt = omega (arith, lt)
+
+pub halted_waits : (due : Option ℕ) (left : ℕ) (p : Processor BusState) → p.state.locked ≡ false → p.state.stopped ≡ false → p.state.halted ≡ true
+    → shared p.memory ≡ 0 → IsNextEvent tick happens p.memory due → IsSettled p.memory.picture → Waits (within due left) p
+halted_waits due left p locked stopped halted none next settled k lt =
+    let still : shared (iterate tick k p.memory) ≡ 0 = shared_before p.memory due k settled next (later_than due left k lt) ∙ none in
+    unlocked_step (passing bus_rules k p) locked ∙ halted_step (passing bus_rules k p) stopped halted still
+
+pub none_waits : (p : Processor BusState) → Waits 0 p
+none_waits p k lt = absurd (omega (arith, lt))
+
+pub within_few : (due : Option ℕ) (left : ℕ) → within due left ≤ left
+within_few None left = omega arith
+within_few (Some d) left = omega arith
+
+-- ---- what a frame's loop does
+
+pub stepped_on : (passed cycles : ℕ) (p q : Processor BusState) → passed < 17556 → q ≡ (step_of bus_rules p).after → cycles ≡ (step_of bus_rules p).stepped.cycles →
+    steps_until bus_rules 17556 (passed + cycles) q ≡ steps_until bus_rules 17556 passed p
+stepped_on passed cycles p q below e f =
+    ap (λ (q : Processor BusState). steps_until bus_rules 17556 (passed + cycles) q) e
+    ∙ ap (λ (n : ℕ). steps_until bus_rules 17556 (passed + n) (step_of bus_rules p).after) f
+    ∙ sym (until_step bus_rules passed p below)
+
+pub waited_on : (now n : ℕ) (p q : Processor BusState) (b : BusState) → now + n ≤ 17556 → q ≡ (step_of bus_rules p).after → b ≡ iterate tick n q.memory →
+    (IsSettled q.memory.picture → Waits n q) → steps_until bus_rules 17556 (now + n) (record q { memory = b }) ≡ steps_until bus_rules 17556 now q
+waited_on now n p q b le e f waits =
+    let settled = subst (λ (q : Processor BusState). IsSettled q.memory.picture) (sym e) (step_settles p) in
+    ap (λ (b : BusState). steps_until bus_rules 17556 (now + n) (record q { memory = b })) f ∙ until_waits n now q le (waits settled)

@@ -1,0 +1,25 @@
+use Rattle.std.proofs.Common.{◌+◌, ap, ◌∙◌, arith}
+use Rattle.machine.specs.declared.step.Stepped.{Stepped}
+use Rattle.machine.proofs.Waiting.{stepped_on, waited_on}
+use Rattle.machine.proofs.frame.Processor+Bus.go_on.Goals as goal
+
+pub returns-in_default : goal.returns-in_default
+returns-in_default c =
+    let s = c.step-stepped.ensures in
+    record {
+      run = stepped_on c.args.passed c.from.result c.args.self.now c.step-stepped.new.self c.requires s.after (c.from.ensures ∙ ap (λ (s : Stepped). s.cycles) s.stepped);
+      more = omega (arith, s.some_cycles, c.from.ensures);
+      few = omega (arith, s.few_cycles, c.from.ensures, c.requires);
+    }
+
+pub returns-then-now-ge-FRAME-clause-run : goal.returns-then-now-ge-FRAME-clause-run
+returns-then-now-ge-FRAME-clause-run c =
+    let s = c.step-stepped.ensures in
+    stepped_on c.args.passed c.from.result c.args.self.now c.step-stepped.new.self c.requires s.after (c.from.ensures ∙ ap (λ (s : Stepped). s.cycles) s.stepped)
+
+pub returns-clause-run : goal.returns-clause-run
+returns-clause-run c =
+    let s = c.step-stepped.ensures in
+    waited_on (c.args.passed + c.from.result) c.waits-waits.result c.args.self.now c.step-stepped.new.self c.pass.new.self
+    (omega (arith, c.waits-waits.ensures.few, c.if-now-ge-FRAME.false)) s.after c.pass.ensures c.waits-waits.ensures.waits
+    ∙ stepped_on c.args.passed c.from.result c.args.self.now c.step-stepped.new.self c.requires s.after (c.from.ensures ∙ ap (λ (s : Stepped). s.cycles) s.stepped)

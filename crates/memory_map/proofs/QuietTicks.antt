@@ -1,0 +1,88 @@
+-- M-cycles without an event request nothing.
+use Rattle.std.proofs.Common.{◌≡◌, ℕ, zero, suc, ◌+◌, ◌-◌, ◌*◌, ◌%◌, ◌<◌, ◌≤◌, Bool, Option, Some, None, true, false, cond, refl, sym, ap, ◌∙◌, arith}
+use Rattle.std.specs.Prelude.{◌||◌, ◌==◌, not, ◌&&◌, bit_and}
+use Rattle.std.specs.Fn.{iterate}
+use Rattle.repeated_steps.specs.NextEvent.{IsNextEvent}
+use Rattle.repeated_steps.proofs.Iterates.{iterate-keeps}
+use Rattle.timer_unit.specs.Timer as timer
+use Rattle.timer_unit.specs.Serial as serial
+use Rattle.picture_unit.specs.Picture as picture
+use Rattle.picture_unit.specs.PictureJump.{IsSettled}
+use Rattle.picture_unit.proofs.Settled.{quiet_requests, tick_settles}
+use Rattle.memory_map.specs.declared.control.Control.{Control}
+use Rattle.memory_map.specs.Joypad.{p1_value}
+use Rattle.memory_map.specs.State.{BusState}
+use Rattle.memory_map.specs.Bus.{digit, shared}
+use Rattle.memory_map.specs.Ticks.{tick_timer, tick_serial, tick_picture, tick_dma, tick, copied_byte, copies, happens}
+
+left_none : (p q : Bool) → (p || q) ≡ false → p ≡ false
+left_none false q e = refl
+left_none true q e = e
+
+right_none : (p q : Bool) → (p || q) ≡ false → q ≡ false
+right_none false q e = e
+right_none true q e = cc
+
+timer_quiet : (t : timer.TimerAndRequest) → timer.signal_falls t ≡ false → (timer.tick t).requested ≡ t.requested
+timer_quiet t e =
+    let changed : timer.TimerAndRequest = record { timer = record t.timer { counter = (t.timer.counter + 4) % 65536; tac = t.timer.tac }; requested = t.requested } in
+    ap (λ b. (cond b (timer.increment_tima changed) changed).requested) e
+
+serial_quiet : (s : serial.SerialAndRequest) → serial.transfer_ends s ≡ false → (serial.tick s).requested ≡ s.requested
+serial_quiet s e =
+    let goes : serial.SerialAndRequest = record { serial = record s.serial { cycles_left = s.serial.cycles_left - 1 }; requested = s.requested } in
+    let ends : serial.SerialAndRequest = record { serial = record { sb = 255; sc = s.serial.sc % 128; cycles_left = 0 }; requested = true } in
+    ap (λ b. (cond (s.serial.cycles_left == 0) s (cond b ends goes)).requested) e
+    ∙ elim (s.serial.cycles_left == 0) as (λ b. (cond b s goes).requested ≡ s.requested) [ true ↦ refl | false ↦ refl ]
+
+-- the bits of IE and IF by the requests
+abbrev bits_of : ℕ → Bool → Bool → Bool → Bool → Bool → ℕ
+bits_of ie v l t s j = bit_and ie (digit v + 2 * digit l + 4 * digit t + 8 * digit s + 16 * digit j)
+
+abbrev each : BusState → BusState
+each b = record b { timer = timer.tick b.timer; serial = serial.tick b.serial; picture = picture.tick b.picture }
+
+quiet_tick : (b : BusState) → copies b ≡ false → tick b ≡ each b
+quiet_tick b e = ap (λ t. tick_picture (cond t (copied_byte (tick_serial (tick_timer b))) (tick_serial (tick_timer b)))) e
+
+pub bus_settles : (b : BusState) → IsSettled (tick b).picture
+bus_settles b = tick_settles (tick_dma (tick_serial (tick_timer b))).picture
+
+quiet_shared : (b : BusState) → happens b ≡ false → IsSettled b.picture → shared (tick b) ≡ shared b
+quiet_shared b e settled =
+    let copy = left_none (copies b) (timer.signal_falls b.timer || (serial.transfer_ends b.serial || picture.is_entry b.picture)) e in
+    let units = right_none (copies b) (timer.signal_falls b.timer || (serial.transfer_ends b.serial || picture.is_entry b.picture)) e in
+    let t = timer_quiet b.timer (left_none (timer.signal_falls b.timer) (serial.transfer_ends b.serial || picture.is_entry b.picture) units) in
+    let others = right_none (timer.signal_falls b.timer) (serial.transfer_ends b.serial || picture.is_entry b.picture) units in
+    let s = serial_quiet b.serial (left_none (serial.transfer_ends b.serial) (picture.is_entry b.picture) others) in
+    let p = quiet_requests b.picture (right_none (serial.transfer_ends b.serial) (picture.is_entry b.picture) others) settled in
+    let c = b.control in
+    let v' = (picture.tick b.picture).vblank in
+    let l' = (picture.tick b.picture).stat in
+    let t' = (timer.tick b.timer).requested in
+    ap shared (quiet_tick b copy)
+    ∙ ap (λ (r : Bool). bits_of c.ie v' l' t' r c.joypad) s
+    ∙ ap (λ (r : Bool). bits_of c.ie v' l' r b.serial.requested c.joypad) t
+    ∙ ap (λ (r : Bool). bits_of c.ie v' r b.timer.requested b.serial.requested c.joypad) p.1
+    ∙ ap (λ (r : Bool). bits_of c.ie r b.picture.stat b.timer.requested b.serial.requested c.joypad) p.0
+
+quiet_run : (n : ℕ) (b : BusState) → IsSettled b.picture → ((k : ℕ) → k < n → happens (iterate tick k b) ≡ false) → shared (iterate tick n b) ≡ shared b
+quiet_run zero b settled quiet = refl
+quiet_run (suc n) b settled quiet =
+    quiet_run n (tick b) (bus_settles b) (λ k lt. quiet (suc k) (omega arith)) ∙ quiet_shared b (quiet zero (omega arith)) settled
+
+abbrev pub ComesAfter : Option ℕ → ℕ → Type 0
+ComesAfter None n = Unit {0}
+ComesAfter (Some d) n = n < d
+
+-- The requests stay as they are before the next event.
+pub shared_before : (b : BusState) (due : Option ℕ) (n : ℕ) → IsSettled b.picture → IsNextEvent tick happens b due → ComesAfter due n → shared (iterate tick n b) ≡ shared b
+shared_before b None n settled next later = quiet_run n b settled (λ k lt. next k)
+shared_before b (Some d) n settled next later = quiet_run n b settled (λ k less. next.2 k (omega (arith, later)))
+
+tick_keeps_p1 : (b : BusState) → p1_value (tick b).control ≡ p1_value b.control
+tick_keeps_p1 b = elim (copies b) as (λ t. p1_value (tick_picture (cond t (copied_byte (tick_serial (tick_timer b))) (tick_serial (tick_timer b)))).control ≡ p1_value b.control) [ true ↦ refl | false ↦ refl ]
+
+-- No M-cycle changes P1.
+pub ticks_keep_p1 : (n : ℕ) (b : BusState) → p1_value (iterate tick n b).control ≡ p1_value b.control
+ticks_keep_p1 n b = iterate-keeps (λ (c : BusState). p1_value c.control ≡ p1_value b.control) tick (λ c e. tick_keeps_p1 c ∙ e) n b refl

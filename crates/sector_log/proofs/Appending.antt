@@ -1,0 +1,142 @@
+-- The steps of one append, over the disk of the device.
+use Rattle.std.proofs.Common.{◌≡◌, inl, ℕ, zero, suc, ◌+◌, ◌/◌, ◌<◌, ◌≤◌, List, [], ◌∷◌, ◌++◌, length, refl, sym, ap, ◌∙◌, subst, arith, true, false, nat_le, take, drop, Some, length-append}
+use Rattle.std.proofs.lemmas.List.{append-nil, take-append-drop}
+use Rattle.std.proofs.lemmas.Bool.Decides.{nat_tests}
+use Rattle.std.specs.List.{flat_map}
+use Rattle.sector_log.specs.Content.{area, header_of, content}
+use Rattle.sector_log.specs.declared.found.Content.{Content}
+use Rattle.sector_device.specs.DiskState.{DiskState, Settled, Throughout, sector_at}
+use Rattle.sector_device.specs.Runs.{HoldsThroughout, HoldsSince, Mixed, WrittenUpTo}
+use Rattle.sector_device.proofs.Runs.{throughout_weaker, written_all, holds_since}
+use Rattle.sector_log.specs.Log.{log_area}
+use Rattle.sector_log.specs.Inputs.{inputs, all_input, all_entries, AllFive, AreInputs, sealed, grown, fits}
+use Rattle.sector_log.specs.Layout.{replaced}
+use Rattle.sector_log.specs.Calls.{HoldsPrefix, IsAppended, Adds}
+use Rattle.sector_log.specs.Store.{IsStored, HaveSix, StandForInputs, Kept}
+use Rattle.sector_log.specs.declared.Entry.{Entry}
+use Rattle.sector_log.specs.declared.Stored.{Stored}
+use Rattle.sector_log.specs.declared.root.Root.{Root}
+use Rattle.sector_log.proofs.Codec.{AreCodes}
+use Rattle.sector_log.proofs.AppendContent.{holds_more, same_front, same_back, rests_after, length-target, added_after, content_base}
+use Rattle.sector_log.proofs.Grown.{whole_grown, codes_grown}
+
+pub codes_of_six : (es : List Stored) → HaveSix es → AreCodes es
+codes_of_six [] six = tt
+codes_of_six (e ∷ es) six = (six 0 (omega arith), codes_of_six es (λ k le. six (suc k) (omega arith)))
+
+pub six_of_codes : (es : List Stored) → AreCodes es → HaveSix es
+six_of_codes [] codes k le = absurd (omega arith)
+six_of_codes (e ∷ es) codes zero le = codes.0
+six_of_codes (e ∷ es) codes (suc k) le = six_of_codes es codes.1 k (omega arith)
+
+pub entries_of_each : (es : List Stored) → StandForInputs es → all_entries es
+entries_of_each [] each = tt
+entries_of_each (e ∷ es) each = (each 0 (omega arith), entries_of_each es (λ k le. each (suc k) (omega arith)))
+
+pub each_of_entries : (es : List Stored) → all_entries es → StandForInputs es
+each_of_entries [] are k le = absurd (omega arith)
+each_of_entries (e ∷ es) are zero le = are.0
+each_of_entries (e ∷ es) are (suc k) le = each_of_entries es are.1 k (omega arith)
+
+pub are_inputs : (log : List Stored) → Kept log → AreInputs log
+are_inputs log kept = record { each = entries_of_each log kept.entries; few = kept.few }
+
+pub fits_means : (log : List Stored) (new : List Entry) → fits log new ≡ true → (length (grown log new) ≤ 2688) × (length (inputs log) + length new ≤ 216000)
+unfolding fits
+fits_means log new is =
+    let entries : length (grown log new) ≤ 2688 = grind (arith, nat_tests) in
+    let counts : length (inputs log) + length new ≤ 216000 = grind (arith, nat_tests) in
+    (entries, counts)
+
+-- what the store keeps of the longer log
+module _ (log all : List Stored) (new : List Entry) (kept : Kept log) (fives : AllFive new) (input : all_input new) (few : length (inputs log) + length new ≤ 216000) (room : length (grown log new) ≤ 2688) (is_all : all ≡ grown log new) where
+  whole_all : inputs (grown log new) ≡ inputs log ++ new
+  whole_all = (whole_grown log new (codes_of_six log kept.six) fives (are_inputs log kept) input few).stand
+
+  pub count_after : length (inputs log) + length new ≡ length (inputs all)
+  count_after = omega (arith, ap length whole_all, length-append (inputs log) new, ap (λ l. length (inputs l)) is_all)
+
+  pub kept_after : Kept all
+  kept_after = subst Kept (sym is_all) (record {
+    six = six_of_codes (grown log new) (codes_grown log new (codes_of_six log kept.six) fives (are_inputs log kept) input few);
+    entries = each_of_entries (grown log new) (whole_grown log new (codes_of_six log kept.six) fives (are_inputs log kept) input few).each;
+    few = omega (arith, ap length whole_all, length-append (inputs log) new, few);
+    small = room;
+  })
+
+pub nothing_grown : (log : List Stored) (new : List Entry) → length new ≡ 0 → log ≡ grown log new
+unfolding grown
+nothing_grown log [] none = sym (take-append-drop (sealed log) log)
+nothing_grown log (e ∷ new) none = absurd (omega arith)
+
+nothing_in : (header : Content) (blob : List ℕ) (log : List Stored) (image : List (List ℕ)) → content image ≡ Some (record { header = header; body = Some (record { blob = blob; log = log }) }) → AreInputs log → (new : List Entry) → length new ≡ 0 → Adds new (content image) (content image)
+nothing_in header blob log image is are [] none = record { header = header; blob = blob; before = log; after = log; old_is = is; new_is = is; are = are; adds = sym (append-nil (inputs log)) }
+nothing_in header blob log image is are (e ∷ new) none = absurd (omega arith)
+
+pub nothing_added : (now : DiskState) (start : ℕ) (root : Root) (log : List Stored) (new : List Entry) → IsStored now start root log → Kept log → length new ≡ 0 → IsAppended now now new
+nothing_added now start root log new rests kept none = record {
+  settled = rests.settled;
+  generation_is = refl;
+  adds = nothing_in (header_of root) (take root.blob_length (flat_map (λ (s : List ℕ). s) (drop 32 (area root.generation now.sectors)))) log now.sectors
+      (content_base now.sectors start log root rests.version_is rests.chosen_is rests.start_is rests.within rests.fits rests.log_is [] (codes_of_six log kept.six) tt (are_inputs log kept) tt (omega (arith, kept.few)) kept.small
+      (omega (arith, ap length (nothing_grown log [] refl), kept.small)))
+      (are_inputs log kept) new none;
+}
+
+-- before the first write
+old_holds : (now : DiskState) (start : ℕ) (root : Root) (log : List Stored) (new : List Entry) → IsStored now start root log → Kept log → (c : List (List ℕ)) → now.image c → HoldsPrefix now.sectors new c
+old_holds now start root log new rests kept c is_image =
+    let none = nothing_added now start root log [] rests kept refl in
+    subst (HoldsPrefix now.sectors new) (sym (rests.settled c is_image)) (record { count = 0; within = omega arith; adds = none.adds; generation_is = refl })
+
+pub since_nothing_appended : (now : DiskState) (start : ℕ) (root : Root) (log : List Stored) (new : List Entry) → IsStored now start root log → Kept log → ((c : List (List ℕ)) → now.since now.moment c → now.image c) → HoldsSince now now (HoldsPrefix now.sectors new)
+since_nothing_appended now start root log new rests kept only =
+    holds_since only (record { later = omega arith; each = λ t c le since. inl since }) (λ t c le since. since) (old_holds now start root log new rests kept)
+
+module _ (old : DiskState) (start : ℕ) (root : Root) (log all : List Stored) (new : List Entry) (rests : IsStored old start root log) (kept : Kept log) (fives : AllFive new) (input : all_input new)
+    (few : length (inputs log) + length new ≤ 216000) (room : length (grown log new) ≤ 2688) (is_all : all ≡ grown log new) where
+  abbrev target_of : List Stored → List (List ℕ)
+  target_of entries = replaced start (log_area entries) old.sectors
+
+  b : AreCodes log
+  b = codes_of_six log kept.six
+
+  are : AreInputs log
+  are = are_inputs log kept
+
+  pub held_more : (now : DiskState) → HoldsThroughout old now (Mixed old.sectors (target_of all)) (Mixed old.sectors (target_of all)) → Throughout old now (HoldsPrefix old.sectors new)
+  held_more now held =
+      throughout_weaker held.throughout (λ c mixed.
+      holds_more old.sectors start log root rests.version_is rests.chosen_is rests.start_is rests.within rests.fits rests.log_is new b fives are input few kept.small room c
+      (subst (λ (l : List Stored). Mixed old.sectors (target_of l) c) is_all mixed))
+
+  pub since_prefix : ((c : List (List ℕ)) → old.since old.moment c → old.image c) → (now : DiskState) → HoldsThroughout old now (Mixed old.sectors (target_of all)) (Mixed old.sectors (target_of all)) → HoldsSince old now (HoldsPrefix old.sectors new)
+  since_prefix only now held = holds_since only (held_more now held) held.past (old_holds old start root log new rests kept)
+
+  pub front : (first : ℕ) → first ≡ length log / 84 → (k : ℕ) → k < start + first → sector_at old.sectors k ≡ sector_at (target_of all) k
+  front first is k le = same_front old.sectors start log root rests.version_is rests.chosen_is rests.start_is rests.within rests.fits rests.log_is new b fives are input few kept.small room first is k le
+      ∙ ap (λ (l : List Stored). sector_at (target_of l) k) (sym is_all)
+
+  whole : (end : ℕ) → end ≡ (length (grown log new) + 83) / 84 → (mid : DiskState) → WrittenUpTo old.sectors (target_of all) (start + end) mid.sectors → mid.sectors ≡ target_of (grown log new)
+  whole end is mid written =
+      written_all old.sectors (target_of (grown log new)) mid.sectors (start + end)
+      (length-target old.sectors start log root rests.version_is rests.chosen_is rests.start_is rests.within rests.fits rests.log_is new b fives are input few kept.small room)
+      (λ k le. same_back old.sectors start log root rests.version_is rests.chosen_is rests.start_is rests.within rests.fits rests.log_is new b fives are input few kept.small room end is k le)
+      (subst (λ (l : List Stored). WrittenUpTo old.sectors (target_of l) (start + end) mid.sectors) is_all written)
+
+  pub rests_again : (end : ℕ) → end ≡ (length (grown log new) + 83) / 84 → (mid now : DiskState) → Settled now → now.sectors ≡ mid.sectors → WrittenUpTo old.sectors (target_of all) (start + end) mid.sectors → IsStored now start root all
+  rests_again end is mid now settled same written =
+      subst (IsStored now start root) (sym is_all)
+      (rests_after old.sectors start log root rests.version_is rests.chosen_is rests.start_is rests.within rests.fits rests.log_is new b fives are input few kept.small room now settled (same ∙ whole end is mid written))
+
+  pub added : (end : ℕ) → end ≡ (length (grown log new) + 83) / 84 → (mid now : DiskState) → Settled now → now.sectors ≡ mid.sectors → WrittenUpTo old.sectors (target_of all) (start + end) mid.sectors → IsAppended old now new
+  added end is mid now settled same written =
+      added_after old.sectors start log root rests.version_is rests.chosen_is rests.start_is rests.within rests.fits rests.log_is new b fives are input few kept.small room old now refl settled (same ∙ whole end is mid written)
+
+pub too_many : (log : List Stored) (new : List Entry) → 216000 < length (inputs log) + length new → false ≡ fits log new
+unfolding fits
+too_many log new many = grind (arith, nat_tests)
+
+pub fits_by_entries : (log : List Stored) (new : List Entry) → length (inputs log) + length new ≤ 216000 → nat_le (length (grown log new)) 2688 ≡ fits log new
+unfolding fits
+fits_by_entries log new few = grind (arith, nat_tests)

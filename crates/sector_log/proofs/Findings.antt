@@ -1,0 +1,47 @@
+-- What was found, by what the definitions say of the image.
+use Rattle.std.proofs.Common.{◌≡◌, ◌+◌, ◌-◌, ◌^◌, ◌<◌, ◌≤◌, List, Bool, true, false, if◌then◌else◌, nat_lt, Option, Some, None, refl, sym, ap, ◌∙◌, arith}
+use Rattle.std.proofs.lemmas.Bool.Decides.{nat_tests}
+use Rattle.sector_device.specs.DiskState.{DiskState}
+use Rattle.sector_log.specs.Content.{Body, header_of, need, area, content, content_by, content_in}
+use Rattle.sector_log.specs.Inputs.{counted}
+use Rattle.sector_log.specs.Reading.{IsFound}
+use Rattle.sector_log.specs.Found.{found_by, found_in, is_short, no_body, log_of, log_in}
+use Rattle.sector_log.specs.declared.Stored.{Stored}
+use Rattle.sector_log.specs.declared.root.Root.{Root}
+use Rattle.sector_log.specs.declared.found.Found.TheVariants.{Nothing, Content as Sound, Damaged}
+use Rattle.sector_log.specs.declared.found.Part.TheVariants.{Length, Count}
+
+by_short : (root : Root) (body : Option Body) → no_body body ≡ true → Damaged (header_of root) (Length (need root.blob_length)) ≡ found_by (header_of root) body
+by_short root None short = refl
+by_short root (Some body) short = absurd (cc)
+
+by_log : (root : Root) (body : Option Body) (log : List Stored) → no_body body ≡ false → log_in body ≡ log
+    → found_by (header_of root) body ≡ (if nat_lt (2 ^ 64 - 1) (root.base + counted 0 log) then Damaged (header_of root) Count else Sound (header_of root))
+by_log root None log short is = absurd (cc)
+by_log root (Some body) log short is = ap (λ (l : List Stored). if nat_lt (2 ^ 64 - 1) (root.base + counted 0 l) then Damaged (header_of root) Count else Sound (header_of root)) is
+
+module _ (now : DiskState) (root : Root) (short : Bool) (log : List Stored) (found : IsFound now (Some root) short log) where
+  here : content now.sectors ≡ content_by (Some root) now.sectors
+  here = ap (λ (r : Option Root). content_by r now.sectors) found.chosen_is
+
+  abbrev body : Option Body
+  body = (content_in root (area root.generation now.sectors)).body
+
+  pub found_damaged : short ≡ true → Damaged (header_of root) (Length (need root.blob_length)) ≡ found_in (content now.sectors)
+  found_damaged is = by_short root body (sym (ap is_short here) ∙ found.short_is ∙ is) ∙ sym (ap found_in here)
+
+  whole : short ≡ false → found_in (content now.sectors) ≡ (if nat_lt (2 ^ 64 - 1) (root.base + counted 0 log) then Damaged (header_of root) Count else Sound (header_of root))
+  whole is = ap found_in here ∙ by_log root body log (sym (ap is_short here) ∙ found.short_is ∙ is) (sym (ap log_of here) ∙ found.log_is)
+
+  pub found_too_many : short ≡ false → 2 ^ 64 - 1 < root.base + counted 0 log → Damaged (header_of root) Count ≡ found_in (content now.sectors)
+  found_too_many is many =
+      let holds : nat_lt (2 ^ 64 - 1) (root.base + counted 0 log) ≡ true = grind (arith, nat_tests) in
+      sym (whole is ∙ ap (λ (t : Bool). if t then Damaged (header_of root) Count else Sound (header_of root)) holds)
+
+  pub found_sound : short ≡ false → root.base + counted 0 log ≤ 2 ^ 64 - 1 → Sound (header_of root) ≡ found_in (content now.sectors)
+  found_sound is few =
+      let fails : nat_lt (2 ^ 64 - 1) (root.base + counted 0 log) ≡ false = grind (arith, nat_tests) in
+      sym (whole is ∙ ap (λ (t : Bool). if t then Damaged (header_of root) Count else Sound (header_of root)) fails)
+
+pub found_nothing : (now : DiskState) (short : Bool) (log : List Stored) → IsFound now None short log → Nothing ≡ found_in (content now.sectors)
+found_nothing now short log found = sym (ap (λ (r : Option Root). found_in (content_by r now.sectors)) found.chosen_is)

@@ -1,0 +1,45 @@
+-- Laws of what is found.
+use Rattle.std.proofs.Common.{◌≡◌, ◌&&◌, inl, inr, ℕ, ◌+◌, ◌≤◌, List, [], ◌∷◌, length, take, drop, Bool, true, if◌then◌else◌, nat_le, Option, Some, None, sym, ap, ◌∙◌, arith, length-append, length-take}
+use Rattle.std.specs.List.{flat_map}
+use Rattle.std.proofs.lemmas.Bool.{cases_Bool}
+use Rattle.std.proofs.lemmas.Bool.Decides.{nat_tests}
+use Rattle.sector_log.specs.Log.{log_from}
+use Rattle.sector_log.specs.Content.{ImageContent, Body, chosen, area, area_length, area_start, blob_sectors, content_by, content_in, need}
+use Rattle.sector_log.specs.Inputs.{inputs, inputs_in, all_entries, counted}
+use Rattle.sector_log.specs.Laws.{AFoundBlobFits, ALogOfInputsCountsThem}
+use Rattle.sector_log.specs.declared.Stored.{Stored}
+use Rattle.sector_log.specs.declared.root.Root.{Root}
+
+fits_by : (image : List (List ℕ)) (r : Option Root) (held : ImageContent) (body : Body) → content_by r image ≡ Some held → held.body ≡ Some body → need held.header.blob_length ≤ length image
+fits_by image None held body is some = absurd (cc)
+fits_by image (Some root) held body is some =
+    let all = area root.generation image in
+    let same : content_in root all ≡ held = cc in
+    let size : root.blob_length ≡ held.header.blob_length = ap (λ (x : ImageContent). x.header.blob_length) same in
+    let whole : (content_in root all).body ≡ Some body = ap (λ (x : ImageContent). x.body) same ∙ some in
+    elim (cases_Bool (nat_le (32 + blob_sectors root.blob_length) (length all))) [
+      | inl holds ↦
+          let enough : 32 + blob_sectors root.blob_length ≤ length all = grind (arith, nat_tests) in
+          let same_sectors : blob_sectors root.blob_length ≡ blob_sectors held.header.blob_length = ap blob_sectors size in
+          omega (arith, enough, same_sectors, length-take (area_length image) (drop (area_start root.generation image) image))
+      | inr fails ↦
+          let none : None ≡ Some body = sym (ap (λ (t : Bool). if t then Some (record { blob = take root.blob_length (flat_map (λ (s : List ℕ). s) (drop 32 all)); log = log_from root.version 0 (take 32 all) }) else None) fails) ∙ whole in
+          absurd (cc)
+    ]
+
+pub found_fits : AFoundBlobFits
+found_fits image held body is some = fits_by image (chosen image) held body is some
+
+counted_from : (log : List Stored) (before : ℕ) → all_entries log → before + length (inputs log) ≤ 216000 → counted before log ≡ before + length (inputs log)
+counted_from [] before are few = omega arith
+counted_from (s ∷ log) before are few =
+    let m = length (inputs_in s) in
+    let size : length (inputs (s ∷ log)) ≡ m + length (inputs log) = length-append (inputs_in s) (inputs log) in
+    let holds : nat_le (before + m) 216000 ≡ true = let e = size in grind (arith, nat_tests) in
+    ap (λ (t : Bool). counted (before + (if t && nat_le (before + m) 216000 then m else 1)) log) are.0
+    ∙ ap (λ (t : Bool). counted (before + (if t then m else 1)) log) holds
+    ∙ counted_from log (before + m) are.1 (omega (arith, size, few))
+    ∙ omega (arith, size)
+
+pub counts_inputs : ALogOfInputsCountsThem
+counts_inputs log are = counted_from log 0 are.each (omega (arith, are.few)) ∙ omega arith

@@ -1,0 +1,240 @@
+-- Calls that only look, and what they find.
+use Rattle.std.proofs.Common.{◌≡◌, ◌⊎◌, inl, inr, ⊎_elim, ℕ, zero, suc, ◌+◌, ◌-◌, ◌*◌, ◌%◌, ◌<◌, ◌≤◌, ◌==◌, ◌++◌, List, [], ◌∷◌, length, take, drop, get_or, min, Bool, true, false, if◌then◌else◌, nat_le, Option, Some, None, Result, Ok, Err, refl, sym, ap, ◌∙◌, arith, append_assoc, length-take, length-drop}
+use Rattle.std.proofs.lemmas.List.{take-take, get_or-take, get_or-drop, drop_all, append-nil, length-take-le, take-append-le, take_all, drop-drop}
+use Rattle.sector_log.proofs.AppendLaw.{take-past}
+use Rattle.std.proofs.Math.Seq.{drop-cons}
+use Rattle.std.proofs.lemmas.Bool.{cases_Bool, cases_lt}
+use Rattle.std.proofs.lemmas.Bool.Decides.{nat_tests}
+use Rattle.std.specs.List.{flat_map}
+use Rattle.sector_device.specs.DiskState.{DiskState, Settled, NoLostImage, HasRead, HasSynced, sector_at}
+use Rattle.sector_device.proofs.Runs.{throughout_weaker, throughout_then, remembers_then, holds_since}
+use Rattle.sector_log.specs.Calls.{HasLooked}
+use Rattle.sector_log.specs.Log.{most, entries_at, log_from}
+use Rattle.sector_log.specs.Content.{Body, root_at, newer, chosen, area_length, area_start, area, blob_sectors, content, content_by, content_in}
+use Rattle.sector_log.specs.Found.{log_of, log_in, is_short, no_body, blob_by, blob_in}
+use Rattle.sector_log.specs.Reading.{LooksOnly, IsFound}
+use Rattle.sector_log.specs.declared.Stored.{Stored}
+use Rattle.sector_log.specs.declared.root.Root.{Root}
+use Rattle.sector_log.specs.declared.root.Version.{Version}
+
+pub looked_read : {E : Type 0} {at : ℕ} {bytes : List ℕ} {old now : DiskState} {r : Result Unit E} → HasRead at bytes old now r → LooksOnly old now
+looked_read h = record {
+  honest = h.goes.honest;
+  sectors = h.sectors;
+  images = h.images;
+  kept = inl h.kept;
+  time = throughout_weaker h.goes.time (λ c i. h.images c i);
+  past = h.goes.past;
+}
+
+synced_kept : {E : Type 0} (old now : DiskState) (r : Result Unit E) → HasSynced old now r → NoLostImage old now ⊎ Settled now
+synced_kept old now (Ok u) h = inr h.settled
+synced_kept old now (Err e) h = inl h.kept
+
+pub looked_synced : {E : Type 0} {old now : DiskState} {r : Result Unit E} → HasSynced old now r → LooksOnly old now
+looked_synced {E} {old} {now} {r} h = record {
+  honest = h.goes.honest;
+  sectors = h.sectors;
+  images = h.images;
+  kept = synced_kept old now r h;
+  time = throughout_weaker h.goes.time (λ c i. h.images c i);
+  past = h.goes.past;
+}
+
+pub settled_looked : {a b : DiskState} → Settled a → LooksOnly a b → Settled b
+settled_looked s x = λ c i. s c (x.images c i) ∙ sym x.sectors
+
+pub looked_then : {a b c : DiskState} → LooksOnly a b → LooksOnly b c → LooksOnly a c
+looked_then {a} {b} {c} x y = record {
+  honest = y.honest;
+  sectors = y.sectors ∙ x.sectors;
+  images = λ d i. x.images d (y.images d i);
+  kept = ⊎_elim (λ later. ⊎_elim (λ early. inl (λ d i. later d (early d i))) (λ alone. inr (settled_looked alone y)) x.kept) (λ alone. inr alone) y.kept;
+  time = throughout_then x.time (throughout_weaker y.time (λ d i. x.images d i));
+  past = remembers_then a b c x.time x.past y.past;
+}
+
+pub looked_self : (a : DiskState) → a.honest → LooksOnly a a
+looked_self a honest = record {
+  honest = honest;
+  sectors = refl;
+  images = λ c i. i;
+  kept = inl (λ c i. i);
+  time = record { later = omega arith; each = λ t c le s. inl s };
+  past = λ t c le since. since;
+}
+
+-- and so of the images since
+pub has_looked : {old now : DiskState} → ((c : List (List ℕ)) → old.since old.moment c → old.image c) → LooksOnly old now → HasLooked old now
+has_looked only l = record { honest = l.honest; sectors = l.sectors; images = l.images; since = holds_since only l.time l.past (λ c i. i); kept = l.kept }
+
+-- the next sector of an area
+pub area_next : (sectors : List (List ℕ)) (start index : ℕ) → index < 32 → start + 32 ≤ length sectors
+    → drop index (take 32 (drop start sectors)) ≡ sector_at sectors (start + index) ∷ drop (suc index) (take 32 (drop start sectors))
+area_next sectors start index less room =
+    let all = take 32 (drop start sectors) in
+    let size : length all ≡ 32 = length-take-le 32 (drop start sectors) (omega (arith, length-drop start sectors)) in
+    let here : get_or all index [] ≡ sector_at sectors (start + index) = get_or-take 32 (drop start sectors) index [] less ∙ get_or-drop start sectors index [] in
+    drop-cons all index [] (omega (arith, size)) ∙ ap (λ s. s ∷ drop (suc index) all) here
+
+pub area_end : (sectors : List (List ℕ)) (start index : ℕ) → 32 ≤ index → drop index (take 32 (drop start sectors)) ≡ []
+area_end sectors start index past = drop_all index (take 32 (drop start sectors)) (omega (arith, length-take 32 (drop start sectors)))
+
+pub log_next : (v : Version) (sectors : List (List ℕ)) (start index : ℕ) (s : List ℕ) → index < 32 → start + 32 ≤ length sectors → s ≡ sector_at sectors (start + index)
+    → log_from v index (drop index (take 32 (drop start sectors))) ≡ entries_at v index s ++ (if length (entries_at v index s) == most v then log_from v (suc index) (drop (suc index) (take 32 (drop start sectors))) else [])
+log_next v sectors start index s less room is = ap (log_from v index) (area_next sectors start index less room ∙ ap (λ x. x ∷ drop (suc index) (take 32 (drop start sectors))) (sym is))
+
+-- no root
+pub nothing_chosen : (now : DiskState) → Settled now → chosen now.sectors ≡ None → IsFound now None false []
+nothing_chosen now settled none = record {
+  settled = settled;
+  chosen_is = none;
+  short_is = ap (λ (r : Option Root). is_short (content_by r now.sectors)) none;
+  log_is = ap (λ (r : Option Root). log_of (content_by r now.sectors)) none;
+}
+
+pub few_sectors : (image : List (List ℕ)) → length image < 2 → chosen image ≡ None
+few_sectors image few = let fails : nat_le 2 (length image) ≡ false = grind (arith, nat_tests) in ap (λ (t : Bool). if t then newer (root_at 0 image) (root_at 1 image) else None) fails
+
+pub enough_sectors : (image : List (List ℕ)) → 2 ≤ length image → chosen image ≡ newer (root_at 0 image) (root_at 1 image)
+enough_sectors image many = let holds : nat_le 2 (length image) ≡ true = grind (arith, nat_tests) in ap (λ (t : Bool). if t then newer (root_at 0 image) (root_at 1 image) else None) holds
+
+pub area_size : (image : List (List ℕ)) (g : ℕ) → 2 ≤ length image → length (area g image) ≡ area_length image
+area_size image g many = elim (parity g) [
+  | inl even ↦
+      let start : area_start g image ≡ 2 = omega (arith, ap (λ n. 2 + n * area_length image) even) in
+      omega (arith, length-take (area_length image) (drop (area_start g image) image), length-drop (area_start g image) image, start)
+  | inr odd ↦
+      let start : area_start g image ≡ 2 + area_length image = omega (arith, ap (λ n. 2 + n * area_length image) odd) in
+      omega (arith, length-take (area_length image) (drop (area_start g image) image), length-drop (area_start g image) image, start)
+]
+  where
+    parity : (n : ℕ) → (n % 2 ≡ 0) ⊎ (n % 2 ≡ 1)
+    parity n = elim (cases_Bool (n % 2 == 0)) [
+      | inl holds ↦ let e : n % 2 ≡ 0 = grind (arith, nat_tests) in inl e
+      | inr fails ↦ let e : n % 2 ≡ 1 = grind (arith, nat_tests) in inr e
+    ]
+
+-- the blob does not fit
+pub found_short : (now : DiskState) (root : Root) → Settled now → 2 ≤ length now.sectors → chosen now.sectors ≡ Some root → area_length now.sectors < 32 + blob_sectors root.blob_length → IsFound now (Some root) true []
+found_short now root settled many is few =
+    let all = area root.generation now.sectors in
+    let fails : nat_le (32 + blob_sectors root.blob_length) (length all) ≡ false = let e = area_size now.sectors root.generation many in grind (arith, nat_tests) in
+    let none : (content_in root all).body ≡ None = ap (λ (t : Bool). if t then Some (record { blob = take root.blob_length (flat_map (λ (s : List ℕ). s) (drop 32 all)); log = log_from root.version 0 (take 32 all) }) else None) fails in
+    record {
+      settled = settled;
+      chosen_is = is;
+      short_is = ap (λ (r : Option Root). is_short (content_by r now.sectors)) is ∙ ap no_body none;
+      log_is = ap (λ (r : Option Root). log_of (content_by r now.sectors)) is ∙ ap log_in none;
+    }
+
+-- the blob fits, and this is the log
+pub found_log : (now : DiskState) (root : Root) (start : ℕ) (log : List Stored) → Settled now → 2 ≤ length now.sectors → chosen now.sectors ≡ Some root → 32 + blob_sectors root.blob_length ≤ area_length now.sectors
+    → start ≡ area_start root.generation now.sectors → log_from root.version 0 (take 32 (drop start now.sectors)) ≡ log → IsFound now (Some root) false log
+found_log now root start log settled many is enough at log_is =
+    let all = area root.generation now.sectors in
+    let holds : nat_le (32 + blob_sectors root.blob_length) (length all) ≡ true = let e = area_size now.sectors root.generation many in grind (arith, nat_tests) in
+    let some : (content_in root all).body ≡ Some (record { blob = take root.blob_length (flat_map (λ (s : List ℕ). s) (drop 32 all)); log = log_from root.version 0 (take 32 all) }) =
+    ap (λ (t : Bool). if t then Some (record { blob = take root.blob_length (flat_map (λ (s : List ℕ). s) (drop 32 all)); log = log_from root.version 0 (take 32 all) }) else None) holds in
+    let front : take 32 all ≡ take 32 (drop start now.sectors) = take-take 32 (area_length now.sectors) (drop (area_start root.generation now.sectors) now.sectors) (omega (arith, enough)) ∙ ap (λ n. take 32 (drop n now.sectors)) (sym at) in
+    record {
+      settled = settled;
+      chosen_is = is;
+      short_is = ap (λ (r : Option Root). is_short (content_by r now.sectors)) is ∙ ap no_body some;
+      log_is = ap (λ (r : Option Root). log_of (content_by r now.sectors)) is ∙ ap log_in some ∙ ap (log_from root.version 0) front ∙ log_is;
+    }
+
+module _ (v : Version) (sectors : List (List ℕ)) (start index : ℕ) (s : List ℕ) (less : index < 32) (room : start + 32 ≤ length sectors) (is : s ≡ sector_at sectors (start + index))
+    (whole items new : List Stored) (so_far : whole ≡ items ++ log_from v index (drop index (take 32 (drop start sectors)))) (read : new ≡ items ++ entries_at v index s) where
+  later : List Stored
+  later = log_from v (suc index) (drop (suc index) (take 32 (drop start sectors)))
+
+  pub log_stops : (length (entries_at v index s) == most v) ≡ false → whole ≡ new
+  unfolding later
+  log_stops fails =
+      so_far ∙ ap (λ (l : List Stored). items ++ l) (log_next v sectors start index s less room is ∙ ap (λ (t : Bool). entries_at v index s ++ (if t then later else [])) fails ∙ append-nil (entries_at v index s)) ∙ sym read
+
+  pub log_goes : (length (entries_at v index s) == most v) ≡ true → whole ≡ new ++ log_from v (index + 1) (drop (index + 1) (take 32 (drop start sectors)))
+  unfolding later
+  log_goes holds =
+      let next : suc index ≡ index + 1 = omega arith in
+      so_far ∙ ap (λ (l : List Stored). items ++ l) (log_next v sectors start index s less room is ∙ ap (λ (t : Bool). entries_at v index s ++ (if t then later else [])) holds)
+      ∙ sym (append_assoc items (entries_at v index s) later) ∙ ap (λ (l : List Stored). l ++ later) (sym read)
+      ∙ ap (λ n. new ++ log_from v n (drop n (take 32 (drop start sectors)))) next
+
+pub log_ends : (v : Version) (sectors : List (List ℕ)) (start index : ℕ) (whole items : List Stored) → 32 ≤ index → whole ≡ items ++ log_from v index (drop index (take 32 (drop start sectors))) → whole ≡ items
+log_ends v sectors start index whole items past so_far = so_far ∙ ap (λ l. items ++ log_from v index l) (area_end sectors start index past) ∙ append-nil items
+
+take_split : (m : ℕ) (s r : List ℕ) → length s ≡ 512 → take m (s ++ r) ≡ take (min m 512) s ++ take (m - 512) r
+take_split m s r size = elim (cases_lt m 512) [
+  | inl short ↦
+      let part : min m 512 ≡ m = omega arith in
+      let none : m - 512 ≡ 0 = omega arith in
+      take-append-le m s r (omega arith) ∙ sym (append-nil (take m s)) ∙ (λ i. take (sym part i) s ++ take (sym none i) r)
+  | inr long ↦
+      let part : min m 512 ≡ 512 = omega arith in
+      take-past s r m (m - 512) (omega arith) ∙ ap (λ (l : List ℕ). l ++ take (m - 512) r) (sym (take_all 512 s (omega arith)) ∙ ap (λ n. take n s) (sym part))
+]
+
+pub blob_next : (sectors : List (List ℕ)) (start room index size part : ℕ) (s : List ℕ) → index < room → start + room ≤ length sectors → s ≡ sector_at sectors (start + index) → length s ≡ 512 → part ≡ min (size - 512 * index) 512
+    → take (size - 512 * index) (flat_map (λ (x : List ℕ). x) (drop index (take room (drop start sectors)))) ≡ take part s ++ take (size - 512 * (index + 1)) (flat_map (λ (x : List ℕ). x) (drop (index + 1) (take room (drop start sectors))))
+blob_next sectors start room index size part s less fits is long part_is =
+    let all = take room (drop start sectors) in
+    let whole : length all ≡ room = length-take-le room (drop start sectors) (omega (arith, length-drop start sectors)) in
+    let here : get_or all index [] ≡ s = get_or-take room (drop start sectors) index [] less ∙ get_or-drop start sectors index [] ∙ sym is in
+    let next : suc index ≡ index + 1 = omega arith in
+    let left : size - 512 * index - 512 ≡ size - 512 * (index + 1) = omega arith in
+    ap (λ l. take (size - 512 * index) (flat_map (λ (x : List ℕ). x) l)) (drop-cons all index [] (omega (arith, whole)) ∙ (λ i. here i ∷ drop (next i) all))
+    ∙ take_split (size - 512 * index) s (flat_map (λ (x : List ℕ). x) (drop (index + 1) all)) long
+    ∙ (λ i. take (sym part_is i) s ++ take (left i) (flat_map (λ (x : List ℕ). x) (drop (index + 1) all)))
+
+pub drop_take : {X : Type 0} → (a n : ℕ) (xs : List X) → drop a (take (a + n) xs) ≡ take n (drop a xs)
+drop_take zero n xs = let e : 0 + n ≡ n = omega arith in ap (λ k. take k xs) e
+drop_take (suc a) n [] = let e : suc a + n ≡ suc (a + n) = omega arith in ap (λ k. drop (suc a) (take k [])) e ∙ sym (empty n)
+  where
+    empty : {X : Type 0} → (n : ℕ) → take {A = X} n [] ≡ []
+    empty zero = refl
+    empty (suc n) = refl
+drop_take (suc a) n (x ∷ xs) = let e : suc a + n ≡ suc (a + n) = omega arith in ap (λ k. drop (suc a) (take k (x ∷ xs))) e ∙ drop_take a n xs
+
+-- the blob of the chosen root
+module _ (now : List (List ℕ)) (root : Root) (most : ℕ) (is : chosen now ≡ Some root) where
+  here : content now ≡ content_by (Some root) now
+  here = ap (λ (r : Option Root). content_by r now) is
+
+  pub blob_long : most < root.blob_length → blob_in most (content now) ≡ None
+  blob_long long =
+      let fails : nat_le root.blob_length most ≡ false = grind (arith, nat_tests) in
+      ap (blob_in most) here ∙ at (content_in root (area root.generation now)).body fails
+    where
+      at : (b : Option Body) → nat_le root.blob_length most ≡ false → blob_by most root.blob_length b ≡ None
+      at None fails = refl
+      at (Some b) fails = ap (λ (t : Bool). if t then Some b.blob else None) fails
+
+  pub blob_short : 2 ≤ length now → area_length now < 32 + blob_sectors root.blob_length → blob_in most (content now) ≡ None
+  blob_short many few =
+      let all = area root.generation now in
+      let fails : nat_le (32 + blob_sectors root.blob_length) (length all) ≡ false = let e = area_size now root.generation many in grind (arith, nat_tests) in
+      ap (blob_in most) here ∙ ap (λ (t : Bool). blob_by most root.blob_length (if t then Some (record { blob = take root.blob_length (flat_map (λ (s : List ℕ). s) (drop 32 all)); log = log_from root.version 0 (take 32 all) }) else None)) fails
+
+  pub blob_read : (start room : ℕ) (blob : List ℕ) → 2 ≤ length now → root.blob_length ≤ most → area_length now ≡ 32 + room → 32 + blob_sectors root.blob_length ≤ area_length now → start ≡ area_start root.generation now + 32
+      → take root.blob_length (flat_map (λ (s : List ℕ). s) (take room (drop start now))) ≡ blob → blob_in most (content now) ≡ Some blob
+  blob_read start room blob many short size enough at blob_is =
+      let all = area root.generation now in
+      let holds : nat_le (32 + blob_sectors root.blob_length) (length all) ≡ true = let e = area_size now root.generation many in grind (arith, nat_tests) in
+      let few : nat_le root.blob_length most ≡ true = grind (arith, nat_tests) in
+      let part : drop 32 all ≡ take room (drop start now) =
+      ap (λ n. drop 32 (take n (drop (area_start root.generation now) now))) size ∙ drop_take 32 room (drop (area_start root.generation now) now)
+      ∙ ap (take room) (drop-drop 32 (area_start root.generation now) now ∙ ap (λ n. drop n now) (sym at)) in
+      ap (blob_in most) here
+      ∙ ap (λ (t : Bool). blob_by most root.blob_length (if t then Some (record { blob = take root.blob_length (flat_map (λ (s : List ℕ). s) (drop 32 all)); log = log_from root.version 0 (take 32 all) }) else None)) holds
+      ∙ ap (λ (t : Bool). if t then Some (take root.blob_length (flat_map (λ (s : List ℕ). s) (drop 32 all))) else None) few
+      ∙ ap (λ (l : List (List ℕ)). Some (take root.blob_length (flat_map (λ (s : List ℕ). s) l))) part ∙ ap Some blob_is
+
+pub found_looked : {a b : DiskState} (root : Option Root) (short : Bool) (log : List Stored) → IsFound a root short log → LooksOnly a b → IsFound b root short log
+found_looked root short log f l = record {
+  settled = settled_looked f.settled l;
+  chosen_is = ap chosen l.sectors ∙ f.chosen_is;
+  short_is = ap (λ s. is_short (content s)) l.sectors ∙ f.short_is;
+  log_is = ap (λ s. log_of (content s)) l.sectors ∙ f.log_is;
+}

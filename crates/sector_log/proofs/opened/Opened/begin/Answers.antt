@@ -1,0 +1,38 @@
+use Rattle.std.proofs.Common.{sym, ap, ◌∙◌, subst}
+use Rattle.sector_device.specs.Runs.{HoldsSince}
+use Rattle.sector_log.specs.Content.{last_generation}
+use Rattle.sector_log.specs.Calls.{HasOldOrNewContent, HasBegun}
+use Rattle.sector_log.proofs.NewGeneration.{since_old_or_new, since_nothing}
+use Rattle.sector_log.proofs.opened.Opened.begin.Goals as goal
+
+pub returns-in-Ok-clause-images : goal.returns-in-Ok-clause-images
+returns-in-Ok-clause-images g c = λ honest.
+    let found = c.args.self.found honest in
+    let was = c.last_generation-last.ensures ∙ ap last_generation (sym found.chosen_is) in
+    subst (λ d. HoldsSince (g.D.SectorDevice.disk c.args.self.device) (g.D.SectorDevice.disk d) (HasOldOrNewContent (g.D.SectorDevice.disk c.args.self.device).sectors c.args.id c.args.base c.args.blob.now)) (sym c.at.ensures.device)
+    (since_old_or_new (g.D.SectorDevice.disk c.args.self.device) c.args.id c.args.base c.args.blob.now (g.met.D.SectorDevice.only_now c.args.self.device) found.settled (g.D.SectorDevice.disk c.follow.new.device) (c.follow.ensures.moments honest found.settled was) (c.follow.ensures.past honest found.settled))
+
+pub returns-clause-images : goal.returns-clause-images
+returns-clause-images g c = λ honest.
+    let found = c.args.self.found honest in
+    let was = c.last_generation-last.ensures ∙ ap last_generation (sym found.chosen_is) in
+    since_old_or_new (g.D.SectorDevice.disk c.args.self.device) c.args.id c.args.base c.args.blob.now (g.met.D.SectorDevice.only_now c.args.self.device) found.settled (g.D.SectorDevice.disk c.follow.new.device) (c.follow.ensures.moments honest found.settled was) (c.follow.ensures.past honest found.settled)
+
+pub returns-in-Some-clause-images : goal.returns-in-Some-clause-images
+returns-in-Some-clause-images g c = λ honest.
+    let found = c.args.self.found honest in
+    since_nothing (g.D.SectorDevice.disk c.args.self.device) c.args.id c.args.base c.args.blob.now (g.met.D.SectorDevice.only_now c.args.self.device) found.settled
+
+pub returns-in-Ok-clause-begun : goal.returns-in-Ok-clause-begun
+returns-in-Ok-clause-begun g c = λ honest.
+    let found = c.args.self.found honest in
+    let was = c.last_generation-last.ensures ∙ ap last_generation (sym found.chosen_is) in
+    subst (λ d. HasBegun (g.D.SectorDevice.disk c.args.self.device) (g.D.SectorDevice.disk d) c.args.id c.args.base c.args.blob.now) (sym c.at.ensures.device)
+    (c.in-Ok.ensures.begun honest found.settled was)
+
+pub at-requires-clause-stored : goal.at-requires-clause-stored
+at-requires-clause-stored g c = λ honest_now.
+    let honest = c.follow.ensures.honest.0 honest_now in
+    let found = c.args.self.found honest in
+    let was = c.last_generation-last.ensures ∙ ap last_generation (sym found.chosen_is) in
+    c.in-Ok.ensures.stored honest found.settled was

@@ -1,0 +1,33 @@
+use Rattle.std.proofs.Common.{sym, ap, ◌∙◌}
+use Rattle.sector_log.specs.Content.{chosen, last_generation, content}
+use Rattle.sector_log.specs.Found.{blob_in}
+use Rattle.sector_log.proofs.Looking.{looked_then, found_looked, settled_looked, has_looked}
+use Rattle.sector_log.proofs.opening.open_log.Goals as goal
+
+pub invariant_of-result-clause-found : goal.invariant_of-result-clause-found
+invariant_of-result-clause-found g c = λ honest_now.
+    let honest = c.look.ensures.honest.0 (c.look_blob.ensures.honest.0 honest_now) in
+    let looked = c.look.ensures.looked honest in
+    found_looked c.in-Ok-look.found.root c.in-Ok-look.found.short c.look.new.log.items (c.in-Ok-look.ensures.found honest) (c.look_blob.ensures.looked looked.honest)
+
+pub invariant_of-result-clause-blob_is : goal.invariant_of-result-clause-blob_is
+invariant_of-result-clause-blob_is g c = λ honest_now.
+    let honest = c.look.ensures.honest.0 (c.look_blob.ensures.honest.0 honest_now) in
+    let looked = c.look.ensures.looked honest in
+    let first = c.in-Ok-look.ensures.found honest in
+    ap (λ s. blob_in c.args.most (content s)) (c.look_blob.ensures.looked looked.honest).sectors ∙ c.in-Ok-look_blob.ensures.blob looked.honest first.chosen_is
+
+pub returns-clause-looked : goal.returns-clause-looked
+returns-clause-looked g c = λ honest.
+    let looked = c.look.ensures.looked honest in
+    has_looked (g.met.D.SectorDevice.only_now c.args.device) (looked_then looked (c.look_blob.ensures.looked looked.honest))
+
+pub returns-clause-settled : goal.returns-clause-settled
+returns-clause-settled g c = λ honest.
+    let looked = c.look.ensures.looked honest in
+    settled_looked (c.in-Ok-look.ensures.found honest).settled (c.look_blob.ensures.looked looked.honest)
+
+pub returns-clause-generation : goal.returns-clause-generation
+returns-clause-generation g c = λ honest.
+    let looked = c.look.ensures.looked honest in
+    ap last_generation (sym (c.in-Ok-look.ensures.found honest).chosen_is ∙ ap chosen looked.sectors)

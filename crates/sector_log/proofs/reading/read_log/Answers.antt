@@ -1,0 +1,50 @@
+use Rattle.std.proofs.Common.{◌≡◌, ◌+◌, take, drop, sym, ap, ◌∙◌, arith}
+use Rattle.sector_log.proofs.Both.{both_then}
+use Rattle.sector_device.specs.DiskState.{sector_at}
+use Rattle.sector_log.specs.Log.{log_from}
+use Rattle.sector_log.proofs.Looking.{looked_read, looked_then, log_stops, log_goes, log_ends}
+use Rattle.sector_log.proofs.reading.read_log.Goals as goal
+
+pub returns-then-not-read_entries-clause-log : goal.returns-then-not-read_entries-clause-log
+returns-then-not-read_entries-clause-log g c = λ honest.
+    let old = g.D.SectorDevice.disk c.args.device.now in
+    let looked = c.loop-index.invariant.looked honest in
+    let is : c.read.new.buffer ≡ sector_at old.sectors (c.args.start + c.loop-index.index) =
+    (c.in_ok-read.ensures.read looked.honest).bytes_are ∙ ap (λ l. sector_at l (c.args.start + c.loop-index.index)) looked.sectors in
+    log_stops c.args.version old.sectors c.args.start c.loop-index.index c.read.new.buffer c.loop-index-test.true c.requires.room is
+    (log_from c.args.version 0 (take 32 (drop c.args.start old.sectors))) c.loop-index.log.items c.read_entries.new.log.items (c.loop-index.invariant.log honest) c.read_entries.ensures.items
+    (sym c.read_entries.ensures.full ∙ c.if-not-read_entries.true)
+
+pub loop-index-preserved : goal.loop-index-preserved
+loop-index-preserved g c =
+    let old = g.D.SectorDevice.disk c.args.device.now in
+    record {
+      count = c.read.ensures.count ∙ c.loop-index.invariant.count;
+      faults = c.in_ok-read.ensures.faults.ok ∙ c.loop-index.invariant.faults;
+      honest = both_then c.read.ensures.honest c.loop-index.invariant.honest;
+      capacity = omega (arith, c.loop-index.invariant.capacity, c.read_entries.ensures.capacity);
+      few = omega (arith, c.loop-index.invariant.few, c.read_entries.ensures.few);
+      looked = λ honest. let looked = c.loop-index.invariant.looked honest in looked_then looked (looked_read (c.read.ensures.read looked.honest));
+      log = λ honest.
+          let looked = c.loop-index.invariant.looked honest in
+          let is : c.read.new.buffer ≡ sector_at old.sectors (c.args.start + c.loop-index.index) =
+          (c.in_ok-read.ensures.read looked.honest).bytes_are ∙ ap (λ l. sector_at l (c.args.start + c.loop-index.index)) looked.sectors in
+          log_goes c.args.version old.sectors c.args.start c.loop-index.index c.read.new.buffer c.loop-index-test.true c.requires.room is
+          (log_from c.args.version 0 (take 32 (drop c.args.start old.sectors))) c.loop-index.log.items c.read_entries.new.log.items (c.loop-index.invariant.log honest) c.read_entries.ensures.items
+          (sym c.read_entries.ensures.full ∙ c.if-not-read_entries.false);
+    }
+
+pub returns-clause-log : goal.returns-clause-log
+returns-clause-log g c = λ honest.
+    let old = g.D.SectorDevice.disk c.args.device.now in
+    log_ends c.args.version old.sectors c.args.start c.loop-index.index (log_from c.args.version 0 (take 32 (drop c.args.start old.sectors))) c.loop-index.log.items c.loop-index-test.false (c.loop-index.invariant.log honest)
+
+pub returns-in_err-read-clause-looked : goal.returns-in_err-read-clause-looked
+returns-in_err-read-clause-looked g c = λ honest.
+    let looked = c.loop-index.invariant.looked honest in
+    looked_then looked (looked_read (c.read.ensures.read looked.honest))
+
+pub returns-then-not-read_entries-clause-looked : goal.returns-then-not-read_entries-clause-looked
+returns-then-not-read_entries-clause-looked g c = λ honest.
+    let looked = c.loop-index.invariant.looked honest in
+    looked_then looked (looked_read (c.read.ensures.read looked.honest))

@@ -1,0 +1,24 @@
+use Rattle.std.proofs.Common.{sym, ap}
+use Rattle.sector_log.specs.Content.{last_generation}
+use Rattle.sector_log.proofs.NewGeneration.{since_old_or_new, since_nothing}
+use Rattle.sector_log.proofs.store.Store.replace.Goals as goal
+
+pub returns-clause-images : goal.returns-clause-images
+returns-clause-images g c = λ open_before honest.
+    let self = c.args.self.now in
+    let stored = self.stored open_before honest in
+    let was = ap last_generation (sym stored.chosen_is) in
+    since_old_or_new (g.D.SectorDevice.disk self.device) self.root.id c.args.base c.args.blob.now (g.met.D.SectorDevice.only_now self.device) stored.settled (g.D.SectorDevice.disk c.follow.new.device) (c.follow.ensures.moments honest stored.settled was) (c.follow.ensures.past honest stored.settled)
+
+pub returns-in_err-begun-clause-images : goal.returns-in_err-begun-clause-images
+returns-in_err-begun-clause-images g c = λ open_before honest.
+    let self = c.args.self.now in
+    let stored = self.stored open_before honest in
+    let was = ap last_generation (sym stored.chosen_is) in
+    since_old_or_new (g.D.SectorDevice.disk self.device) self.root.id c.args.base c.args.blob.now (g.met.D.SectorDevice.only_now self.device) stored.settled (g.D.SectorDevice.disk c.follow.new.device) (c.follow.ensures.moments honest stored.settled was) (c.follow.ensures.past honest stored.settled)
+
+pub returns-in-Some-clause-images : goal.returns-in-Some-clause-images
+returns-in-Some-clause-images g c = λ open_before honest.
+    let self = c.args.self.now in
+    let stored = self.stored open_before honest in
+    since_nothing (g.D.SectorDevice.disk self.device) self.root.id c.args.base c.args.blob.now (g.met.D.SectorDevice.only_now self.device) stored.settled

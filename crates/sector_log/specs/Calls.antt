@@ -1,0 +1,99 @@
+-- What the calls of a log make of a device, by the content of its images.
+use Rattle.std.specs.Prelude.{◌≡◌, ◌⊎◌, ◌++◌, ◌^◌, ◌+◌, ◌-◌, ◌≤◌, ◌<◌, ℕ, List, length, take, Option, Some, Bool, true, false}
+use Rattle.sector_device.specs.DiskState.{DiskState, Settled, NoNewImage, NoLostImage, next_count}
+use Rattle.sector_device.specs.Runs.{HoldsSince}
+use Rattle.sector_log.specs.Content.{ImageContent, content, generation_in, new_generation, need, Holds}
+use Rattle.sector_log.specs.Inputs.{inputs, AreInputs}
+use Rattle.sector_log.specs.declared.Entry.{Entry}
+use Rattle.sector_log.specs.declared.Stored.{Stored}
+use Rattle.sector_log.specs.declared.found.Content.{Content}
+use Rattle.sector_log.specs.declared.fault.LogFault.{LogFault}
+use Rattle.sector_log.specs.declared.fault.LogFault.TheVariants.{Memory, Device, TooSmall, Worn, LogFull, Broken}
+
+-- ---- looking
+
+-- Nothing was written: reads give what they gave, and no image came that did not stand before. The sync may have left one
+-- image alone; else none was lost.
+pub record HasLooked (old now : DiskState) : Type 0 where
+  pub honest : now.honest
+  pub sectors : now.sectors ≡ old.sectors
+  pub images : NoNewImage old now
+  pub since : HoldsSince old now old.image
+  pub kept : NoLostImage old now ⊎ Settled now
+
+-- ---- a new generation
+
+-- the image has the old content, or the new one in the next generation
+abbrev pub HasOldOrNewContent : List (List ℕ) → List ℕ → ℕ → List ℕ → List (List ℕ) → Type 0
+HasOldOrNewContent old id base blob image =
+    Holds (generation_in old) (content old) image ⊎ Holds (generation_in old + 1) (Some (new_generation id base blob)) image
+
+-- one image is left, with the new content in the next generation
+pub record HasBegun (old now : DiskState) (id : List ℕ) (base : ℕ) (blob : List ℕ) : Type 0 where
+  pub settled : Settled now
+  pub holds : Holds (generation_in old.sectors + 1) (Some (new_generation id base blob)) now.sectors
+
+-- a device of so many sectors, whose generation is this one, can take a new one with a blob of this length
+pub record CanBegin (blob_length count last : ℕ) : Type 0 where
+  pub enough : need blob_length ≤ count
+  pub unworn : last < 2 ^ 64 - 1
+
+-- why no generation is begun: too few sectors, else the generations are used up, else a failed call
+abbrev pub IsBeginCause : LogFault → ℕ → ℕ → ℕ → Type 0
+IsBeginCause (TooSmall needed) blob_length count last = (needed ≡ need blob_length) × (count < need blob_length)
+IsBeginCause Worn blob_length count last = (need blob_length ≤ count) × (last ≡ 2 ^ 64 - 1)
+IsBeginCause Device blob_length count last = CanBegin blob_length count last
+IsBeginCause Memory blob_length count last = ⊥
+IsBeginCause LogFull blob_length count last = ⊥
+IsBeginCause Broken blob_length count last = ⊥
+
+-- the same for a store that a failed call may have broken
+abbrev pub IsReplaceCause : LogFault → Bool → ℕ → ℕ → ℕ → Type 0
+IsReplaceCause Broken broken blob_length count last = broken ≡ true
+IsReplaceCause why broken blob_length count last = (broken ≡ false) × IsBeginCause why blob_length count last
+
+-- ---- an append
+
+-- the second content is the first with these inputs behind its log
+pub record Adds (more : List Entry) (old new : Option ImageContent) : Type 0 where
+  pub header : Content
+  pub blob : List ℕ
+  pub before : List Stored
+  pub after : List Stored
+  pub old_is : old ≡ Some (record { header = header; body = Some (record { blob = blob; log = before }) })
+  pub new_is : new ≡ Some (record { header = header; body = Some (record { blob = blob; log = after }) })
+  pub are : AreInputs after
+  pub adds : inputs after ≡ inputs before ++ more
+
+-- the image has the content of the old one with a prefix of these inputs behind its log
+pub record HoldsPrefix (old : List (List ℕ)) (more : List Entry) (image : List (List ℕ)) : Type 0 where
+  pub count : ℕ
+  pub within : count ≤ length more
+  pub adds : Adds (take count more) (content old) (content image)
+  pub generation_is : generation_in image ≡ generation_in old
+
+-- one image is left, with all these inputs behind the log of what reads gave
+pub record IsAppended (old now : DiskState) (more : List Entry) : Type 0 where
+  pub settled : Settled now
+  pub adds : Adds more (content old.sectors) (content now.sectors)
+  pub generation_is : generation_in now.sectors ≡ generation_in old.sectors
+
+-- why nothing, or not everything, is appended: a call failed before, else the inputs don't fit, else a call fails now
+abbrev pub IsAppendCause : LogFault → Bool → Bool → Type 0
+IsAppendCause Broken broken fits = broken ≡ true
+IsAppendCause LogFull broken fits = (broken ≡ false) × (fits ≡ false)
+IsAppendCause Device broken fits = (broken ≡ false) × (fits ≡ true)
+IsAppendCause Memory broken fits = ⊥
+IsAppendCause (TooSmall needed) broken fits = ⊥
+IsAppendCause Worn broken fits = ⊥
+
+-- ---- faults
+
+-- the count of failed calls after an answer: one more after `Device`, and after no other
+abbrev pub faults_after : LogFault → ℕ → ℕ
+faults_after Device faults = next_count faults
+faults_after Memory faults = faults
+faults_after (TooSmall needed) faults = faults
+faults_after Worn faults = faults
+faults_after LogFull faults = faults
+faults_after Broken faults = faults

@@ -1,0 +1,45 @@
+-- What is found on an image, as `found`, `entries` and `blob` answer it.
+use Rattle.std.specs.Prelude.{◌+◌, ◌-◌, ◌^◌, ℕ, List, [], Option, Some, None, Bool, true, false, if◌then◌else◌, nat_lt, nat_le}
+use Rattle.sector_log.specs.Content.{ImageContent, Body, need}
+use Rattle.sector_log.specs.Inputs.{counted}
+use Rattle.sector_log.specs.declared.Stored.{Stored}
+use Rattle.sector_log.specs.declared.found.Content.{Content}
+use Rattle.sector_log.specs.declared.found.Found.{Found}
+use Rattle.sector_log.specs.declared.found.Found.TheVariants.{Nothing, Content as Sound, Damaged}
+use Rattle.sector_log.specs.declared.found.Part.TheVariants.{Length, Count}
+
+-- damaged in length where the blob does not fit its area, in count where base and log are above the greatest `u64`
+abbrev pub found_by : Content → Option Body → Found
+found_by header None = Damaged header (Length (need header.blob_length))
+found_by header (Some body) = if nat_lt (2 ^ 64 - 1) (header.base + counted 0 body.log) then Damaged header Count else Sound header
+
+abbrev pub found_in : Option ImageContent → Found
+found_in None = Nothing
+found_in (Some content) = found_by content.header content.body
+
+abbrev pub log_in : Option Body → List Stored
+log_in None = []
+log_in (Some body) = body.log
+
+-- the log's entries, none where there is no content or the blob does not fit
+abbrev pub log_of : Option ImageContent → List Stored
+log_of None = []
+log_of (Some found) = log_in found.body
+
+abbrev pub no_body : Option Body → Bool
+no_body None = true
+no_body (Some body) = false
+
+-- the blob does not fit the area
+abbrev pub is_short : Option ImageContent → Bool
+is_short None = false
+is_short (Some found) = no_body found.body
+
+abbrev pub blob_by : ℕ → ℕ → Option Body → Option (List ℕ)
+blob_by most size None = None
+blob_by most size (Some body) = if nat_le size most then Some body.blob else None
+
+-- the blob, where it fits the area and is no longer than `most`
+abbrev pub blob_in : ℕ → Option ImageContent → Option (List ℕ)
+blob_in most None = None
+blob_in most (Some found) = blob_by most found.header.blob_length found.body

@@ -1,0 +1,98 @@
+-- The inputs that the entries of a log stand for: an entry is a run of equal frames, or seconds.
+use Rattle.std.specs.Prelude.{◌≡◌, ◌==◌, ◌&&◌, ◌||◌, ◌++◌, ◌+◌, ◌*◌, ◌/◌, ◌≤◌, ℕ, List, [], ◌∷◌, length, take, drop, Bool, true, false, if◌then◌else◌, nat_le, Option, Some, None}
+use Rattle.std.specs.Int.{w32, to_le_bytes, from_le_bytes}
+use lib.ListN.{replicate}
+use Rattle.sector_log.specs.Log.{byte, zeros}
+use Rattle.sector_log.specs.declared.Entry.{Entry}
+use Rattle.sector_log.specs.declared.Stored.{Stored}
+
+-- a frame with these buttons
+abbrev pub frame : ℕ → Entry
+frame buttons = record { code = 0 ∷ buttons ∷ 0 ∷ 0 ∷ 0 ∷ [] }
+
+-- each input has its five bytes
+abbrev pub AllFive : List Entry → Type 0
+AllFive [] = Unit {0}
+AllFive (e ∷ es) = (length e.code ≡ 5) × AllFive es
+
+-- a frame or seconds
+unfoldable pub is_input : Entry → Bool
+is_input e = byte 0 e.code == 1 || (byte 0 e.code == 0 && zeros (drop 2 e.code))
+
+abbrev pub all_input : List Entry → Type 0
+all_input [] = Unit {0}
+all_input (e ∷ es) = (is_input e ≡ true) × all_input es
+
+abbrev pub run_length : Stored → ℕ
+run_length s = from_le_bytes w32 (drop 2 s.code)
+
+abbrev pub is_run : Stored → Bool
+is_run s = byte 0 s.code == 0 && nat_le 1 (run_length s) && nat_le (run_length s) 216000
+
+abbrev pub is_seconds : Stored → Bool
+is_seconds s = byte 0 s.code == 1 && byte 5 s.code == 0
+
+-- an entry that stands for inputs
+unfoldable pub is_entry : Stored → Bool
+is_entry s = is_run s || is_seconds s
+
+-- what an entry stands for; any that is no run counts as one input
+unfoldable pub inputs_in : Stored → List Entry
+inputs_in s = if is_run s then replicate (run_length s) (frame (byte 1 s.code)) else record { code = take 5 s.code } ∷ []
+
+abbrev pub inputs : List Stored → List Entry
+inputs [] = []
+inputs (s ∷ log) = inputs_in s ++ inputs log
+
+abbrev pub all_entries : List Stored → Type 0
+all_entries [] = Unit {0}
+all_entries (s ∷ log) = (is_entry s ≡ true) × all_entries log
+
+-- each entry of a log is an input, and a log holds at most 216,000 of them
+pub record AreInputs (log : List Stored) : Type 0 where
+  pub each : all_entries log
+  pub few : length (inputs log) ≤ 216000
+
+-- how many inputs a log counts from so many on: one for an entry that is no input, or with which there would be too many
+abbrev pub counted : ℕ → List Stored → ℕ
+counted before [] = before
+counted before (s ∷ log) = counted (before + (if is_entry s && nat_le (before + length (inputs_in s)) 216000 then length (inputs_in s) else 1)) log
+
+-- an entry for one input
+unfoldable pub single : Entry → Stored
+single e = record { code = if byte 0 e.code == 0 then 0 ∷ byte 1 e.code ∷ to_le_bytes w32 1 else e.code ++ 0 ∷ [] }
+
+-- the input is one more frame of the run
+unfoldable pub joins : Stored → Entry → Bool
+joins s e = byte 0 s.code == 0 && byte 0 e.code == 0 && byte 1 s.code == byte 1 e.code
+
+-- the same of the last entry, where there is one
+abbrev pub joins_last : Option Stored → Entry → Bool
+joins_last None e = false
+joins_last (Some s) e = joins s e
+
+-- a run with one frame more
+unfoldable pub longer : Stored → Stored
+longer s = record { code = 0 ∷ byte 1 s.code ∷ to_le_bytes w32 (run_length s + 1) }
+
+-- one input more: a frame lengthens the last run where it is equal, and every other input is a new entry
+abbrev pub with_input : List Stored → Entry → List Stored
+with_input [] e = single e ∷ []
+with_input (s ∷ []) e = if joins s e then longer s ∷ [] else s ∷ single e ∷ []
+with_input (s ∷ t ∷ log) e = s ∷ with_input (t ∷ log) e
+
+abbrev pub with_inputs : List Stored → List Entry → List Stored
+with_inputs log [] = log
+with_inputs log (e ∷ es) = with_inputs (with_input log e) es
+
+-- the entries of full sectors
+abbrev pub sealed : List Stored → ℕ
+sealed log = 84 * (length log / 84)
+
+-- the log with more inputs, where full sectors stay as they are
+unfoldable pub grown : List Stored → List Entry → List Stored
+grown log more = take (sealed log) log ++ with_inputs (drop (sealed log) log) more
+
+-- the entries fit the 32 sectors, and the inputs a log
+unfoldable pub fits : List Stored → List Entry → Bool
+fits log more = nat_le (length (grown log more)) 2688 && nat_le (length (inputs log) + length more) 216000

@@ -1,0 +1,10 @@
+pub mod Calls
+pub mod Content
+pub mod Found
+pub mod Inputs
+pub mod Laws
+pub mod Layout
+pub mod Log
+pub mod Reading
+pub mod Store
+pub mod Words

@@ -1,0 +1,68 @@
+-- What a store knows of its device, and the root that it writes next.
+use Rattle.std.specs.Prelude.{◌≡◌, ◌⊎◌, ◌^◌, ◌+◌, ◌≤◌, ◌<◌, ℕ, List, [], slice_index_or, length, Some, Bool, true, false}
+use Rattle.std.proofs.Props.{props}
+use Rattle.sector_device.specs.DiskState.{DiskState, Settled}
+use Rattle.sector_log.specs.declared.root.Root.{Root}
+use Rattle.sector_log.specs.Content.{chosen, generation_in, area_length, area_start, blob_sectors}
+use Rattle.sector_log.specs.Layout.{replaced}
+use Rattle.sector_log.specs.Log.{log_area}
+use Rattle.sector_log.specs.Inputs.{inputs, is_entry}
+use Rattle.sector_log.specs.declared.Stored.{Stored}
+use Rattle.sector_log.specs.declared.root.Version.TheVariants.{Two}
+
+-- one image is left; its chosen root's area begins at `start`, holds the whole blob, and has exactly this log
+pub record IsStored (now : DiskState) (start : ℕ) (root : Root) (log : List Stored) : Type 0 where
+  pub version_is : root.version ≡ Two
+  pub settled : Settled now
+  pub chosen_is : chosen now.sectors ≡ Some root
+  pub start_is : area_start root.generation now.sectors ≡ start
+  pub within : start + area_length now.sectors ≤ length now.sectors
+  pub fits : 32 + blob_sectors root.blob_length ≤ area_length now.sectors
+  pub log_is : now.sectors ≡ replaced start (log_area log) now.sectors
+
+abbrev pub StoredUnlessBroken : DiskState → ℕ → Root → List Stored → Bool → Type 0
+StoredUnlessBroken now start root log broken = broken ≡ false → now.honest → IsStored now start root log
+
+pub stored_prop : (now : DiskState) (start : ℕ) (root : Root) (log : List Stored) (broken : Bool) → IsProp (StoredUnlessBroken now start root log broken)
+stored_prop now start root log broken = hlevel props
+
+-- each entry has its six bytes
+abbrev pub HaveSix : List Stored → Type 0
+HaveSix log = (k : ℕ) → k < length log → length (slice_index_or log k (record { code = [] })).code ≡ 6
+
+-- each entry stands for inputs
+abbrev pub StandForInputs : List Stored → Type 0
+StandForInputs log = (k : ℕ) → k < length log → is_entry (slice_index_or log k (record { code = [] })) ≡ true
+
+-- what a store keeps of its log
+pub record Kept (log : List Stored) : Type 0 where
+  pub six : HaveSix log
+  pub entries : StandForInputs log
+  pub few : length (inputs log) ≤ 216000
+  pub small : length log ≤ 2688
+
+pub kept_prop : (log : List Stored) → IsProp (Kept log)
+kept_prop log = hlevel props
+
+-- its numbers have their widths
+pub record Fits (root : Root) : Type 0 where
+  pub generation : root.generation < 2 ^ 64
+  pub id : length root.id ≡ 32
+  pub base : root.base < 2 ^ 64
+  pub blob_length : root.blob_length < 2 ^ 32
+
+-- the root of the generation that follows, for the area that begins at `start`
+pub record IsNextGeneration (image : List (List ℕ)) (start : ℕ) (root : Root) (blob : List ℕ) : Type 0 where
+  pub start_is : area_start root.generation image ≡ start
+  pub follows : root.generation ≡ generation_in image + 1
+  pub within : start + area_length image ≤ length image
+  pub other : (r : Root) → chosen image ≡ Some r → (area_start r.generation image + area_length image ≤ start) ⊎ (start + area_length image ≤ area_start r.generation image)
+  pub fits : 32 + blob_sectors root.blob_length ≤ area_length image
+  pub blob_is : root.blob_length ≡ length blob
+  pub whole : Fits root
+  pub version_is : root.version ≡ Two
+  pub two : 2 ≤ length image
+
+-- the root of the generation that follows this one
+abbrev pub root_after : ℕ → List ℕ → ℕ → ℕ → Root
+root_after last id base blob_length = record { version = Two; generation = last + 1; id = id; base = base; blob_length = blob_length }

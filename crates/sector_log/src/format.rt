@@ -1,0 +1,76 @@
+//! The bytes of the device's sectors.
+ghost use Rattle.std.specs.Prelude.{◌≡◌, ◌≤◌, ◌<◌, ◌+◌, ◌/◌, ◌^◌, ◌-◌, ◌++◌, List, ℕ, length};
+ghost use lib.ListN.{replicate};
+ghost use Rattle.sector_device.specs.DiskState.{sector_at};
+ghost use Rattle.sector_log.specs.Content.{root_bytes};
+ghost use Rattle.sector_log.specs.declared.root.Version.TheVariants.{Two};
+ghost use Rattle.sector_log.specs.Log.{log_sector, padded, fresh_area};
+
+use crate::Stored;
+use crate::root::Root;
+
+/// The log sector at this index with these entries, blank with none.
+pub(crate) fn log_sector(index: u16, entries: &[Stored]) -> [u8; 512]
+    requires { length entries.now ≤ 84 }
+    ensures { result ≡ log_sector index entries.now }
+{
+    let mut sector = [0; 512];
+    if entries.is_empty() {
+        return sector;
+    }
+    sector[..4].copy_from_slice(b"GBL2");
+    sector[4..6].copy_from_slice(&index.to_le_bytes());
+    sector[6..8].copy_from_slice(&(entries.len() as u16).to_le_bytes());
+    for (i, entry) in entries.iter().enumerate() {
+        sector[8 + 6 * i..14 + 6 * i].copy_from_slice(&entry.code);
+    }
+    sector
+}
+
+/// A sector with these bytes, and zeros behind them.
+fn padded_sector(part: &[u8]) -> [u8; 512]
+    requires { length part.now ≤ 512 }
+    ensures { result ≡ padded part.now }
+{
+    let mut sector = [0; 512];
+    sector[..part.len()].copy_from_slice(part);
+    sector
+}
+
+/// The sector of this index in an area with a blank log and this blob.
+pub(crate) fn area_sector(index: u64, blob: &[u8]) -> [u8; 512]
+    requires size { length blob.now < 2 ^ 32 }
+    requires within { index < 32 + (length blob.now + 511) / 512 }
+    ensures { result ≡ sector_at (fresh_area blob.now) index }
+{
+    if index < 32 {
+        return padded_sector(&[]);
+    }
+    let from = (512 * (index - 32)) as usize;
+    let to = (from + 512).min(blob.len());
+    padded_sector(&blob[from..to])
+}
+
+/// Puts bytes behind those that are there already, in a sector that is zeros from `at` on.
+fn put(sector: &mut [u8; 512], at: usize, bytes: &[u8])
+    requires { at + length bytes.now ≤ 512 }
+    ensures { (done : List ℕ) → length done ≡ at → sector.old ≡ done ++ replicate (512 - at) 0 →
+        sector.new ≡ done ++ bytes.now ++ replicate (512 - (at + length bytes.now)) 0 }
+{
+    sector[at..at + bytes.len()].copy_from_slice(bytes);
+}
+
+/// The sector of a root.
+pub(crate) fn root_sector(root: &Root) -> [u8; 512]
+    requires { root.now.version ≡ Two }
+    ensures { result ≡ root_bytes root.now }
+{
+    let mut sector = [0; 512];
+    put(&mut sector, 0, b"GBKPROOT");
+    put(&mut sector, 8, &[2, 0, 0, 0]);
+    put(&mut sector, 12, &root.generation.to_le_bytes());
+    put(&mut sector, 20, &root.id);
+    put(&mut sector, 52, &root.base.to_le_bytes());
+    put(&mut sector, 60, &root.blob_length.to_le_bytes());
+    sector
+}

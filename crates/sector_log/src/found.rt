@@ -1,0 +1,106 @@
+//! What a log holds, as it was found.
+ghost use Rattle.std.specs.Prelude.{◌≡◌, ◌≤◌, ◌<◌, ◌+◌, ◌^◌, ◌&&◌, ℕ, length, Bool, if◌then◌else◌, nat_lt, nat_le};
+ghost use Rattle.sector_log.specs.Inputs.{is_run, is_seconds, run_length, is_entry, inputs_in, counted};
+
+use crate::Stored;
+
+/// What the chosen root says.
+#[derive(Clone, Copy, Debug, PartialEq, Eq)]
+pub struct Content {
+    /// What `begin` was given: the SHA-256 of the ROM in this project.
+    pub id: [u8; 32],
+    /// The count of inputs before the blob.
+    pub base: u64,
+    /// In bytes.
+    pub blob_length: u32,
+}
+
+/// What of a content is damaged.
+#[derive(Clone, Copy, Debug, PartialEq, Eq)]
+pub enum Part {
+    /// The blob does not fit an area of the device, and the log is not read.
+    Length {
+        /// The sectors that the device would need.
+        need: u64,
+    },
+    /// The base and the inputs of the log exceed the greatest `u64` together. An entry that is no input counts as one.
+    Count,
+}
+
+/// What is found on a device.
+#[derive(Clone, Copy, Debug, PartialEq, Eq)]
+pub enum Found {
+    /// There is no valid root.
+    Nothing,
+    Content(Content),
+    Damaged(Content, Part),
+}
+
+fn times(entry: &Stored) -> u32
+    ensures { result ≡ run_length entry.now }
+{
+    let code = entry.code;
+    u32::from_le_bytes([code[2], code[3], code[4], code[5]])
+}
+
+fn is_run(entry: &Stored) -> bool
+    ensures { result ≡ is_run entry.now }
+{
+    if entry.code[0] != 0 {
+        return false;
+    }
+    let times = times(entry);
+    if times == 0 {
+        return false;
+    }
+    times <= 216_000
+}
+
+fn is_seconds(entry: &Stored) -> bool
+    ensures { result ≡ is_seconds entry.now }
+{
+    if entry.code[0] != 1 {
+        return false;
+    }
+    entry.code[5] == 0
+}
+
+/// How many inputs an entry stands for, 0 where it stands for none.
+fn inputs_of(entry: &Stored) -> u32
+    ensures { result ≡ (if is_entry entry.now then length (inputs_in entry.now) else 0) }
+{
+    if is_run(entry) {
+        return times(entry);
+    }
+    if is_seconds(entry) {
+        return 1;
+    }
+    0
+}
+
+/// The count with an entry that stands for so many inputs.
+fn counted_with(count: u64, inputs: u32) -> u64
+    requires { count < 2 ^ 32 }
+    ensures count { result ≡ count + (if nat_lt 0 inputs && nat_le (count + inputs) 216000 then inputs else 1) }
+    ensures bound { (m : ℕ) → 216000 ≤ m → count ≤ m → result ≤ m + 1 }
+{
+    if inputs == 0 {
+        return count + 1;
+    }
+    if count + inputs as u64 > 216_000 {
+        return count + 1;
+    }
+    count + inputs as u64
+}
+
+/// How many inputs a log counts.
+pub(crate) fn counted(log: &[Stored]) -> u64
+    requires { length log.now ≤ 3200 }
+    ensures { result ≡ counted 0 log.now }
+{
+    let mut count = 0;
+    for entry in log {
+        count = counted_with(count, inputs_of(entry));
+    }
+    count
+}

@@ -1,0 +1,24 @@
+//! Laws of the layout. The functions do nothing: the contract of each is the law.
+ghost use Rattle.sector_log.specs.Laws.{AnAppendAddsAPrefix, AnAppendAddsAPrefixToTheLog, AWriteOutsideKeepsTheContent, AFoundBlobFits, ALogOfInputsCountsThem};
+
+/// Law: where the log ends in some sector and every later log sector is blank, after any of the writes of one append the image
+/// has the old content with a prefix of the inputs behind its log. `log` says the same of the log's sectors alone.
+pub fn an_append_adds_a_prefix()
+    ensures content { AnAppendAddsAPrefix }
+    ensures log { AnAppendAddsAPrefixToTheLog }
+{}
+
+/// Law: a write outside sectors 0 and 1 and outside the area of the chosen root leaves the content and the generation.
+pub fn a_write_outside_keeps_the_content()
+    ensures { AWriteOutsideKeepsTheContent }
+{}
+
+/// Law: a blob that is found whole fits the device again.
+pub fn a_found_blob_fits()
+    ensures { AFoundBlobFits }
+{}
+
+/// Law: a log of which each entry is an input counts as many as it stands for.
+pub fn a_log_of_inputs_counts_them()
+    ensures { ALogOfInputsCountsThem }
+{}

@@ -1,0 +1,45 @@
+//! A log of inputs behind a blob (a checkpoint), on a device of sectors: a stop of the host at any moment leaves the old
+//! content or the new one, and of an append a prefix.
+#![tactic(auto)]
+
+mod entries;
+mod fault;
+mod format;
+mod found;
+mod generation;
+mod laws;
+mod opened;
+mod opening;
+mod parse;
+mod reading;
+mod root;
+mod store;
+#[cfg(test)]
+mod tests;
+mod writes;
+
+pub use entries::are_inputs;
+pub use fault::{LogFault, Refused};
+pub use found::{Content, Found, Part};
+pub use laws::{
+    a_found_blob_fits, a_log_of_inputs_counts_them, a_write_outside_keeps_the_content,
+    an_append_adds_a_prefix,
+};
+pub use opened::Opened;
+pub use opening::open_log;
+pub use store::Store;
+
+/// One input, as it is given: `00`, buttons and three zeros for a frame, or `01` and the seconds, low byte first.
+#[derive(Clone, Copy, Debug, PartialEq, Eq)]
+pub struct Entry {
+    /// The kind, 0 or 1, and what belongs to it.
+    pub code: [u8; 5],
+}
+
+/// One entry of the log, as it is kept: `00`, buttons and a length, low byte first, for a run of equal frames, or `01`, the
+/// seconds, low byte first, and `00`.
+#[derive(Clone, Copy, Debug, PartialEq, Eq)]
+pub struct Stored {
+    /// The kind, 0 or 1, and what belongs to it. An entry of version 1 is kept in this form too.
+    pub code: [u8; 6],
+}

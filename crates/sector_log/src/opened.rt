@@ -1,0 +1,135 @@
+//! What was found when a log was opened, and the start of a new generation.
+ghost use Rattle.std.specs.Prelude.{◌≡◌, ◌↔◌, ◌≤◌, ◌<◌, ◌+◌, ◌*◌, ◌/◌, ◌^◌, ◌-◌, ◌⊎◌, ℕ, [], length, IfOk, IfErr, IfSome, IsNone, Some, None, false, vec_capacity};
+ghost use Rattle.sector_device.specs.DiskState.{Settled};
+ghost use Rattle.sector_device.specs.Runs.{HoldsSince};
+ghost use Rattle.sector_log.specs.Calls.{HasOldOrNewContent, HasBegun, CanBegin, IsBeginCause, faults_after};
+ghost use Rattle.sector_log.specs.Reading.{FoundIs, found_prop, BlobIs, blob_prop};
+ghost use Rattle.sector_log.specs.Content.{content, generation_in};
+ghost use Rattle.sector_log.specs.Found.{found_in, log_of, blob_in};
+ghost use Rattle.sector_log.specs.declared.fault.LogFault.TheVariants.{Memory, Device};
+
+use crate::Stored;
+use crate::fault::{LogFault, Refused};
+use crate::found::{Content, Found, Part, counted};
+use crate::generation::{follow, refusal};
+use crate::root::{Root, last_generation};
+use crate::store::Store;
+use sector_device::SectorDevice;
+
+/// A device whose log was read, and on which nothing can be appended: only `begin` makes a store of it.
+#[derive(Drop)]
+pub struct Opened<D: SectorDevice> {
+    pub(crate) device: D,
+    pub(crate) root: Option<Root>,
+    /// The blob does not fit the area.
+    pub(crate) short: bool,
+    pub(crate) log: Vec<Stored>,
+    pub(crate) most: usize,
+    /// The blob was read.
+    pub(crate) whole: bool,
+    pub(crate) blob: Vec<u8>,
+    ghost reserved: { 3200 ≤ vec_capacity log },
+    ghost few: { length log.items ≤ 3200 },
+    ghost found: { FoundIs (D.disk device) root short log.items } by { found_prop (D.disk device) root short log.items },
+    ghost blob_is: { BlobIs (D.disk device) most whole blob.items } by { blob_prop (D.disk device) most whole blob.items },
+}
+
+impl<D: SectorDevice> Opened<D> {
+    ghost use Rattle.sector_log.specs.Words.{device_under, found_generation, longest_blob, left_by_begin, device_of, is_broken, entries_of, generation_of, id_of};
+
+    /// What reads give: nothing, a content, or one that is damaged.
+    pub fn found(&self) -> Found
+        ensures { (D.disk (device_under self.now)).honest → result ≡ found_in (content (D.disk (device_under self.now)).sectors) }
+    {
+        let Some(root) = self.root else {
+            return Found::Nothing;
+        };
+        let id = root.id;
+        let content = Content {
+            id,
+            base: root.base,
+            blob_length: root.blob_length,
+        };
+        if self.short {
+            let need = 2 + 2 * (32 + (root.blob_length as u64 + 511) / 512);
+            return Found::Damaged(content, Part::Length { need });
+        }
+        if counted(&self.log) > u64::MAX - root.base {
+            return Found::Damaged(content, Part::Count);
+        }
+        Found::Content(content)
+    }
+
+    /// The generation of the chosen root, 0 where there is none.
+    pub fn generation(&self) -> u64
+        ensures generation { result ≡ found_generation self.now }
+        ensures found { (D.disk (device_under self.now)).honest → result ≡ generation_in (D.disk (device_under self.now)).sectors }
+    {
+        last_generation(self.root)
+    }
+
+    /// The entries of the log, none where nothing is found or the blob does not fit the area.
+    pub fn entries(&self) -> &[Stored]
+        ensures { (D.disk (device_under self.now)).honest → log_of (content (D.disk (device_under self.now)).sectors) ≡ result.now }
+    {
+        &self.log
+    }
+
+    /// The blob, where it fits its area and is no longer than the `most` of `open_log`.
+    pub fn blob(&self) -> Option<&[u8]>
+        ensures some { IfSome result (λ blob. (D.disk (device_under self.now)).honest → blob_in (longest_blob self.now) (content (D.disk (device_under self.now)).sectors) ≡ Some blob.now) }
+        ensures none { IsNone result → (D.disk (device_under self.now)).honest → blob_in (longest_blob self.now) (content (D.disk (device_under self.now)).sectors) ≡ None }
+    {
+        if self.whole { Some(&self.blob) } else { None }
+    }
+
+    /// The device as it is.
+    pub fn into_device(self) -> D
+        ensures { result ≡ device_under self }
+    {
+        self.device
+    }
+
+    /// Begins a new generation with this blob and an empty log. At each moment a stop leaves the old content or the new one.
+    /// `Err`: `TooSmall`, `Worn`, both with the device as it was, or `Device`.
+    pub fn begin(self, id: [u8; 32], base: u64, blob: &[u8]) -> Result<Store<D>, Refused<D>>
+        requires { length blob.now < 2 ^ 32 }
+        ensures images { (D.disk (device_under self)).honest →
+            HoldsSince (D.disk (device_under self)) (D.disk (left_by_begin result)) (HasOldOrNewContent (D.disk (device_under self)).sectors id base blob.now) }
+        ensures begun { IfOk result (λ store. (D.disk (device_under self)).honest → HasBegun (D.disk (device_under self)) (D.disk (device_of store)) id base blob.now) }
+        ensures can { IfOk result (λ _. CanBegin (length blob.now) (length (D.disk (device_under self)).sectors) (found_generation self)) }
+        ensures cause { IfErr result (λ refused. IsBeginCause refused.why (length blob.now) (length (D.disk (device_under self)).sectors) (found_generation self)) }
+        ensures untouched { IfErr result (λ refused. (refused.why ≡ Device) ⊎ (refused.device ≡ device_under self)) }
+        ensures generation { IfOk result (λ store. generation_of store ≡ found_generation self + 1) }
+        ensures id { IfOk result (λ store. id_of store ≡ id) }
+        ensures empty { IfOk result (λ store. (is_broken store ≡ false) × (entries_of store ≡ [])) }
+        ensures count { length (D.disk (left_by_begin result)).sectors ≡ length (D.disk (device_under self)).sectors }
+        ensures honest { (D.disk (left_by_begin result)).honest ↔ (D.disk (device_under self)).honest }
+        ensures faults_ok { IfOk result (λ store. (D.disk (device_of store)).faults ≡ (D.disk (device_under self)).faults) }
+        ensures faults { IfErr result (λ refused. (D.disk refused.device).faults ≡ faults_after refused.why (D.disk (device_under self)).faults) }
+    {
+        let Opened {
+            mut device,
+            root: found,
+            short: _,
+            most: _,
+            whole: _,
+            blob: _,
+            mut log,
+        } = self;
+        let last = last_generation(found);
+        if let Some(why) = refusal(device.count(), last, blob.len()) {
+            return Err(Refused { why, device });
+        }
+        match follow(&mut device, last, id, base, blob) {
+            Ok(begun) => {
+                log.clear();
+                Ok(Store::at(device, begun.start, begun.root, log))
+            }
+            Err(_) => Err(Refused {
+                why: LogFault::Device,
+                device,
+            }),
+        }
+    }
+}

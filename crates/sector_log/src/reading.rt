@@ -1,0 +1,201 @@
+//! What stands on a device.
+ghost use Rattle.std.specs.Prelude.{◌≡◌, ◌↔◌, ◌≤◌, ◌<◌, ◌+◌, ◌/◌, ◌^◌, ◌++◌, [], length, take, drop, IfOk, vec_capacity, Bool, if◌then◌else◌, Option, Some, None};
+ghost use Rattle.sector_device.specs.DiskState.{CountsFaults, Settled};
+ghost use Rattle.sector_log.specs.Log.{log_from};
+ghost use Rattle.std.specs.List.{flat_map};
+ghost use Rattle.sector_log.specs.Content.{root_at, newer, chosen, content};
+ghost use Rattle.sector_log.specs.Found.{blob_in};
+ghost use Rattle.sector_log.specs.Reading.{LooksOnly, IsFound};
+
+use crate::Stored;
+use crate::parse::{newer, parse_root, read_entries};
+use crate::root::{Root, Version};
+use crate::writes::sync_once;
+use sector_device::{DeviceFault, SectorDevice};
+
+fn read_root<D: SectorDevice>(device: &mut D, slot: u64) -> Result<Option<Root>, DeviceFault>
+    requires { slot < length (D.disk device.old).sectors }
+    ensures count { length (D.disk device.new).sectors ≡ length (D.disk device.old).sectors }
+    ensures honest { (D.disk device.new).honest ↔ (D.disk device.old).honest }
+    ensures faults { CountsFaults (D.disk device.old).faults (D.disk device.new).faults result }
+    ensures looked { (D.disk device.old).honest → LooksOnly (D.disk device.old) (D.disk device.new) }
+    ensures root { IfOk result (λ root. (D.disk device.old).honest → root ≡ root_at slot (D.disk device.old).sectors) }
+{
+    let mut sector = [0; 512];
+    device.read(slot, &mut sector)?;
+    Ok(parse_root(slot, &sector))
+}
+
+/// The root of greater generation.
+fn read_chosen<D: SectorDevice>(device: &mut D) -> Result<Option<Root>, DeviceFault>
+    requires { 2 ≤ length (D.disk device.old).sectors }
+    ensures count { length (D.disk device.new).sectors ≡ length (D.disk device.old).sectors }
+    ensures honest { (D.disk device.new).honest ↔ (D.disk device.old).honest }
+    ensures faults { CountsFaults (D.disk device.old).faults (D.disk device.new).faults result }
+    ensures looked { (D.disk device.old).honest → LooksOnly (D.disk device.old) (D.disk device.new) }
+    ensures root { IfOk result (λ root. (D.disk device.old).honest →
+        root ≡ newer (root_at 0 (D.disk device.old).sectors) (root_at 1 (D.disk device.old).sectors)) }
+{
+    let zeroth = read_root(device, 0)?;
+    let first = read_root(device, 1)?;
+    Ok(newer(zeroth, first))
+}
+
+/// Reads the log of an area, one sector in each turn.
+fn read_log<D: SectorDevice>(
+    device: &mut D,
+    start: u64,
+    version: Version,
+    log: &mut Vec<Stored>,
+) -> Result<(), DeviceFault>
+    requires room { start + 32 ≤ length (D.disk device.old).sectors }
+    requires range { start + 32 < 2 ^ 64 }
+    requires empty { log.old.items ≡ [] }
+    requires reserved { 3200 ≤ vec_capacity log.old }
+    ensures count { length (D.disk device.new).sectors ≡ length (D.disk device.old).sectors }
+    ensures honest { (D.disk device.new).honest ↔ (D.disk device.old).honest }
+    ensures faults { CountsFaults (D.disk device.old).faults (D.disk device.new).faults result }
+    ensures looked { (D.disk device.old).honest → LooksOnly (D.disk device.old) (D.disk device.new) }
+    ensures capacity { vec_capacity log.old ≤ vec_capacity log.new }
+    ensures few { length log.new.items ≤ 3200 }
+    ensures log { IfOk result (λ _. (D.disk device.old).honest →
+        log_from version 0 (take 32 (drop start (D.disk device.old).sectors)) ≡ log.new.items) }
+{
+    let mut sector = [0; 512];
+    for index in 0..32 {
+        device.read(start + index as u64, &mut sector)?;
+        if !read_entries(log, version, index, &sector) {
+            return Ok(());
+        }
+    }
+    Ok(())
+}
+
+/// What was found: the chosen root, and whether its blob does not fit the area.
+#[derive(Clone, Copy)]
+pub(crate) struct Finding {
+    pub(crate) root: Option<Root>,
+    pub(crate) short: bool,
+}
+
+/// Syncs, and reads the chosen root and its log. It writes nothing.
+pub(crate) fn look<D: SectorDevice>(
+    device: &mut D,
+    log: &mut Vec<Stored>,
+) -> Result<Finding, DeviceFault>
+    requires empty { log.old.items ≡ [] }
+    requires reserved { 3200 ≤ vec_capacity log.old }
+    ensures count { length (D.disk device.new).sectors ≡ length (D.disk device.old).sectors }
+    ensures honest { (D.disk device.new).honest ↔ (D.disk device.old).honest }
+    ensures faults { CountsFaults (D.disk device.old).faults (D.disk device.new).faults result }
+    ensures looked { (D.disk device.old).honest → LooksOnly (D.disk device.old) (D.disk device.new) }
+    ensures capacity { vec_capacity log.old ≤ vec_capacity log.new }
+    ensures few { length log.new.items ≤ 3200 }
+    ensures found { IfOk result (λ found. (D.disk device.old).honest → IsFound (D.disk device.new) found.root found.short log.new.items) }
+{
+    sync_once(device)?;
+    let count = device.count();
+    if count < 2 {
+        return Ok(Finding {
+            root: None,
+            short: false,
+        });
+    }
+    let chosen = read_chosen(device)?;
+    let Some(root) = chosen else {
+        return Ok(Finding {
+            root: None,
+            short: false,
+        });
+    };
+    let area = (count - 2) / 2;
+    if area < 32 + (root.blob_length as u64 + 511) / 512 {
+        return Ok(Finding {
+            root: Some(root),
+            short: true,
+        });
+    }
+    let start = 2 + root.generation % 2 * area;
+    read_log(device, start, root.version, log)?;
+    Ok(Finding {
+        root: Some(root),
+        short: false,
+    })
+}
+
+/// Puts bytes into room that was reserved.
+fn push_bytes(blob: &mut Vec<u8>, bytes: &[u8])
+    requires { length blob.old.items + length bytes.now ≤ vec_capacity blob.old }
+    ensures items { blob.new.items ≡ blob.old.items ++ bytes.now }
+    ensures capacity { vec_capacity blob.old ≤ vec_capacity blob.new }
+{
+    for byte in bytes {
+        blob.push_reserved(*byte);
+    }
+}
+
+/// Reads a blob from so many sectors, one in each turn.
+fn read_blob<D: SectorDevice>(
+    device: &mut D,
+    start: u64,
+    room: u64,
+    size: u64,
+    blob: &mut Vec<u8>,
+) -> Result<(), DeviceFault>
+    requires room { start + room ≤ length (D.disk device.old).sectors }
+    requires range { length (D.disk device.old).sectors < 2 ^ 64 }
+    requires size { (size + 511) / 512 ≤ room }
+    requires small { size < 2 ^ 32 }
+    requires empty { blob.old.items ≡ [] }
+    requires reserved { size ≤ vec_capacity blob.old }
+    ensures count { length (D.disk device.new).sectors ≡ length (D.disk device.old).sectors }
+    ensures honest { (D.disk device.new).honest ↔ (D.disk device.old).honest }
+    ensures faults { CountsFaults (D.disk device.old).faults (D.disk device.new).faults result }
+    ensures looked { (D.disk device.old).honest → LooksOnly (D.disk device.old) (D.disk device.new) }
+    ensures blob { IfOk result (λ _. (D.disk device.old).honest →
+        take size (flat_map (λ s. s) (take room (drop start (D.disk device.old).sectors))) ≡ blob.new.items) }
+{
+    let mut sector = [0; 512];
+    for index in 0..(size + 511) / 512 {
+        device.read(start + index, &mut sector)?;
+        let part = (size - 512 * index).min(512) as usize;
+        push_bytes(blob, &sector[..part]);
+    }
+    Ok(())
+}
+
+/// Reads the blob of the chosen root, where it fits its area and is no longer than `most`; whether it was read.
+pub(crate) fn look_blob<D: SectorDevice>(
+    device: &mut D,
+    found: Option<Root>,
+    most: usize,
+    blob: &mut Vec<u8>,
+) -> Result<bool, DeviceFault>
+    requires empty { blob.old.items ≡ [] }
+    requires reserved { most ≤ vec_capacity blob.old }
+    ensures count { length (D.disk device.new).sectors ≡ length (D.disk device.old).sectors }
+    ensures honest { (D.disk device.new).honest ↔ (D.disk device.old).honest }
+    ensures faults { CountsFaults (D.disk device.old).faults (D.disk device.new).faults result }
+    ensures looked { (D.disk device.old).honest → LooksOnly (D.disk device.old) (D.disk device.new) }
+    ensures blob { IfOk result (λ read. (D.disk device.old).honest → chosen (D.disk device.old).sectors ≡ found →
+        blob_in most (content (D.disk device.old).sectors) ≡ (if read then Some blob.new.items else None)) }
+{
+    let Some(root) = found else {
+        return Ok(false);
+    };
+    let size = root.blob_length as u64;
+    if size > most as u64 {
+        return Ok(false);
+    }
+    let count = device.count();
+    if count < 2 {
+        return Ok(false);
+    }
+    let area = (count - 2) / 2;
+    if area < 32 + (size + 511) / 512 {
+        return Ok(false);
+    }
+    let start = 2 + root.generation % 2 * area + 32;
+    read_blob(device, start, area - 32, size, blob)?;
+    Ok(true)
+}

@@ -1,0 +1,31 @@
+//! The root of a generation.
+ghost use Rattle.std.specs.Prelude.{◌≡◌};
+ghost use Rattle.sector_log.specs.Content.{last_generation};
+
+/// The two forms of a log's sectors. New generations are written in the second.
+#[derive(Clone, Copy, Debug, PartialEq, Eq)]
+pub enum Version {
+    One,
+    Two,
+}
+
+/// What a valid root says.
+#[derive(Clone, Copy, Debug, PartialEq, Eq)]
+pub struct Root {
+    pub version: Version,
+    pub generation: u64,
+    pub id: [u8; 32],
+    /// The count of inputs before the blob.
+    pub base: u64,
+    pub blob_length: u32,
+}
+
+/// The generation of the chosen root, 0 where there is none.
+pub(crate) fn last_generation(root: Option<Root>) -> u64
+    ensures { result ≡ last_generation root }
+{
+    match root {
+        Some(root) => root.generation,
+        None => 0,
+    }
+}

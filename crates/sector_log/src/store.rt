@@ -1,0 +1,160 @@
+//! A store: the log of a generation that this process began.
+ghost use Rattle.std.specs.Prelude.{◌≡◌, ◌≤◌, ◌<◌, ◌+◌, ◌-◌, ◌^◌, ◌⊎◌, ◌↔◌, [], ℕ, length, true, false, OnOk, IfErr, IsErrOf, vec_capacity};
+ghost use Rattle.sector_device.specs.Runs.{HoldsSince};
+ghost use Rattle.sector_log.specs.Calls.{HoldsPrefix, IsAppended, IsAppendCause, HasOldOrNewContent, HasBegun, CanBegin, IsReplaceCause, faults_after};
+ghost use Rattle.sector_log.specs.Store.{IsStored, Kept, kept_prop, StoredUnlessBroken, stored_prop};
+ghost use Rattle.sector_log.specs.Inputs.{inputs, all_input, grown, fits};
+ghost use Rattle.sector_log.specs.declared.fault.LogFault.TheVariants.{Device, Broken};
+
+use crate::entries::{add_inputs, grown_length};
+use crate::fault::LogFault;
+use crate::generation::{follow, refusal};
+use crate::root::Root;
+use crate::writes::{sync_once, write_log};
+use crate::{Entry, Stored};
+use sector_device::{DeviceFault, SectorDevice};
+
+/// The log of a generation that this process began. Inputs can be appended, until a call of the device fails.
+#[derive(Drop)]
+pub struct Store<D: SectorDevice> {
+    device: D,
+    /// The first sector of the area.
+    start: u64,
+    root: Root,
+    log: Vec<Stored>,
+    /// How many inputs the log stands for.
+    given: u32,
+    broken: bool,
+    ghost placed: { start + 32 ≤ length (D.disk device).sectors },
+    ghost range: { start + 32 < 2 ^ 64 },
+    ghost reserved: { 3200 ≤ vec_capacity log },
+    ghost kept: { Kept log.items } by { kept_prop log.items },
+    ghost count: { given ≡ length (inputs log.items) },
+    ghost stored: { StoredUnlessBroken (D.disk device) start root log.items broken } by { stored_prop (D.disk device) start root log.items broken },
+}
+
+impl<D: SectorDevice> Store<D> {
+    ghost use Rattle.sector_log.specs.Words.{device_of, is_broken, entries_of, generation_of, id_of};
+
+    /// A store that a new generation leaves.
+    pub(crate) fn at(device: D, start: u64, root: Root, log: Vec<Stored>) -> Self
+        requires placed { start + 32 ≤ length (D.disk device).sectors }
+        requires range { start + 32 < 2 ^ 64 }
+        requires reserved { 3200 ≤ vec_capacity log }
+        requires empty { log.items ≡ [] }
+        requires stored { (D.disk device).honest → IsStored (D.disk device) start root [] }
+        ensures device { result.device ≡ device }
+        ensures root { result.root ≡ root }
+        ensures log { result.log.items ≡ [] }
+        ensures open { result.broken ≡ false }
+    {
+        Store {
+            device,
+            start,
+            root,
+            log,
+            given: 0,
+            broken: false,
+        }
+    }
+
+    /// Whether the inputs can be appended: their entries fit the log's sectors, and the log stands for no more than 216,000.
+    pub fn fits(&self, more: &[Entry]) -> bool
+        ensures { result ≡ fits (entries_of self.now) more.now }
+    {
+        if more.len() > (216_000 - self.given) as usize {
+            return false;
+        }
+        grown_length(&self.log, more) <= 2688
+    }
+
+    /// Adds inputs behind the log. At each moment a stop leaves the old log with a prefix of them. Adding none makes no device
+    /// call. `Err`: `Broken`, `LogFull`, both with the store as it was, or `Device`, which breaks it.
+    pub fn append(&mut self, more: &[Entry]) -> Result<(), LogFault>
+        requires { all_input more.now }
+        ensures images { is_broken self.old ≡ false → (D.disk (device_of self.old)).honest →
+            HoldsSince (D.disk (device_of self.old)) (D.disk (device_of self.new)) (HoldsPrefix (D.disk (device_of self.old)).sectors more.now) }
+        ensures appended { OnOk result ((D.disk (device_of self.old)).honest → IsAppended (D.disk (device_of self.old)) (D.disk (device_of self.new)) more.now) }
+        ensures can { OnOk result ((is_broken self.old ≡ false) × (fits (entries_of self.old) more.now ≡ true)) }
+        ensures cause { IfErr result (λ why. IsAppendCause why (is_broken self.old) (fits (entries_of self.old) more.now)) }
+        ensures unchanged { IfErr result (λ why. (why ≡ Device) ⊎ (self.new ≡ self.old)) }
+        ensures nothing { length more.now ≡ 0 → self.new ≡ self.old }
+        ensures broken { (is_broken self.new ≡ true) ↔ ((is_broken self.old ≡ true) ⊎ IsErrOf result LogFault.Device) }
+        ensures entries { OnOk result (entries_of self.new ≡ grown (entries_of self.old) more.now) }
+        ensures generation { (generation_of self.new ≡ generation_of self.old) × (id_of self.new ≡ id_of self.old) }
+        ensures count { length (D.disk (device_of self.new)).sectors ≡ length (D.disk (device_of self.old)).sectors }
+        ensures honest { (D.disk (device_of self.new)).honest ↔ (D.disk (device_of self.old)).honest }
+        ensures faults_ok { OnOk result ((D.disk (device_of self.new)).faults ≡ (D.disk (device_of self.old)).faults) }
+        ensures faults { IfErr result (λ why. (D.disk (device_of self.new)).faults ≡ faults_after why (D.disk (device_of self.old)).faults) }
+    {
+        if self.broken {
+            // Nothing is known of what stands on the device.
+            return Err(LogFault::Broken);
+        }
+        if !self.fits(more) {
+            return Err(LogFault::LogFull);
+        }
+        if more.is_empty() {
+            return Ok(());
+        }
+        let first = (self.log.len() / 84) as u16;
+        // Until the sync below is done.
+        self.broken = true;
+        add_inputs(&mut self.log, more);
+        self.given += more.len() as u32;
+        let end = ((self.log.len() + 83) / 84) as u16;
+        write_log(&mut self.device, self.start, &self.log, first, end)?;
+        sync_once(&mut self.device)?;
+        self.broken = false;
+        Ok(())
+    }
+
+    /// Begins a new generation with this blob and an empty log. At each moment a stop leaves the old content or the new one.
+    /// `Err`: `Broken`, `TooSmall`, `Worn`, these with the store as it was, or `Device`, which breaks it.
+    pub fn replace(&mut self, base: u64, blob: &[u8]) -> Result<(), LogFault>
+        requires { length blob.now < 2 ^ 32 }
+        ensures images { is_broken self.old ≡ false → (D.disk (device_of self.old)).honest →
+            HoldsSince (D.disk (device_of self.old)) (D.disk (device_of self.new)) (HasOldOrNewContent (D.disk (device_of self.old)).sectors (id_of self.old) base blob.now) }
+        ensures begun { OnOk result ((D.disk (device_of self.old)).honest → HasBegun (D.disk (device_of self.old)) (D.disk (device_of self.new)) (id_of self.old) base blob.now) }
+        ensures can { OnOk result ((is_broken self.old ≡ false) × CanBegin (length blob.now) (length (D.disk (device_of self.old)).sectors) (generation_of self.old)) }
+        ensures cause { IfErr result (λ why. IsReplaceCause why (is_broken self.old) (length blob.now) (length (D.disk (device_of self.old)).sectors) (generation_of self.old)) }
+        ensures unchanged { IfErr result (λ why. (why ≡ Device) ⊎ (self.new ≡ self.old)) }
+        ensures broken { (is_broken self.new ≡ true) ↔ ((is_broken self.old ≡ true) ⊎ IsErrOf result LogFault.Device) }
+        ensures empty { OnOk result (entries_of self.new ≡ []) }
+        ensures generation { OnOk result (generation_of self.new ≡ generation_of self.old + 1) }
+        ensures id { id_of self.new ≡ id_of self.old }
+        ensures count { length (D.disk (device_of self.new)).sectors ≡ length (D.disk (device_of self.old)).sectors }
+        ensures honest { (D.disk (device_of self.new)).honest ↔ (D.disk (device_of self.old)).honest }
+        ensures faults_ok { OnOk result ((D.disk (device_of self.new)).faults ≡ (D.disk (device_of self.old)).faults) }
+        ensures faults { IfErr result (λ why. (D.disk (device_of self.new)).faults ≡ faults_after why (D.disk (device_of self.old)).faults) }
+    {
+        if self.broken {
+            return Err(LogFault::Broken);
+        }
+        if let Some(why) = refusal(self.device.count(), self.root.generation, blob.len()) {
+            return Err(why);
+        }
+        // Until the new generation stands.
+        self.broken = true;
+        let begun = follow(
+            &mut self.device,
+            self.root.generation,
+            self.root.id,
+            base,
+            blob,
+        )?;
+        self.start = begun.start;
+        self.root = begun.root;
+        self.log.clear();
+        self.given = 0;
+        self.broken = false;
+        Ok(())
+    }
+
+    /// The device as it is.
+    pub fn into_device(self) -> D
+        ensures { result ≡ device_of self }
+    {
+        self.device
+    }
+}

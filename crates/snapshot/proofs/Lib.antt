@@ -1,0 +1,10 @@
+pub mod Search
+pub mod Bytes
+pub mod Parts
+pub mod Pictures
+pub mod FixedFields
+pub mod Clocks
+pub mod Legality
+pub mod Offsets
+pub mod Machines
+pub mod Decoding

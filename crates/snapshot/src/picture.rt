@@ -1,0 +1,55 @@
+//! The shades of a picture as bytes: four shades a byte, the leftmost in bits 7 and 6, row by row.
+
+ghost use Rattle.std.specs.Prelude.{◌≡◌, ℕ, ◌<◌, [], length, slice_index_or, All};
+ghost use Rattle.snapshot.specs.Legal.{IsRow};
+ghost use Rattle.snapshot.specs.Text.{byte_of_four, picture_bytes};
+ghost use Rattle.snapshot.specs.Reading.{shade_in, row_in};
+
+use picture_unit::Picture;
+
+/// A byte of four shades, from column 4 times `place` on.
+fn byte_of_four(row: &[u8], place: usize) -> u8
+    requires place { place < 40 }
+    requires columns { length row.now ≡ 160 }
+    requires shades { All (λ shade. shade < 4) row.now }
+    ensures { result ≡ byte_of_four row.now place }
+{
+    64 * row[4 * place] + 16 * row[4 * place + 1] + 4 * row[4 * place + 2] + row[4 * place + 3]
+}
+
+/// Writes the bytes of the picture.
+pub(crate) fn write_picture(picture: &Picture, out: &mut [u8])
+    requires { length out.old ≡ 5760 }
+    ensures bytes { out.new ≡ picture_bytes picture.now.rows }
+    ensures rows { (y : ℕ) → y < 144 → IsRow (slice_index_or picture.now.rows y []) }
+{
+    for k in 0..out.len() {
+        out[k] = byte_of_four(picture.row(k / 40), k % 40);
+    }
+}
+
+/// A shade of a byte of four.
+fn shade_in(byte: u8, place: usize) -> u8
+    ensures shade { result ≡ shade_in byte place }
+    ensures small { result < 4 }
+{
+    match place {
+        0 => byte / 64,
+        1 => byte / 16 % 4,
+        2 => byte / 4 % 4,
+        _ => byte % 4,
+    }
+}
+
+/// A row of the picture.
+pub(crate) fn row_in(picture: &[u8], y: usize) -> [u8; 160]
+    requires length { length picture.now ≡ 5760 }
+    requires y_in { y < 144 }
+    ensures { result ≡ row_in picture.now y }
+{
+    let mut row = [0; 160];
+    for x in 0..160 {
+        row[x] = shade_in(picture[40 * y + x / 4], x % 4);
+    }
+    row
+}
