@@ -1,10 +1,11 @@
 -- A machine and its text: each gives the other.
-use Rattle.std.proofs.Common.{◌≡◌, ℕ, ◌+◌, ◌-◌, ◌*◌, ◌%◌, ◌<◌, Bool, true, nat_lt, List, [], ◌∷◌, ◌++◌, length, take, drop, replicate, get_or, get_or-take, get_or-drop, refl, sym, ap, subst, ◌∙◌, inl, inr, lit≤, arith}
-use Rattle.std.specs.Prelude.{slice_range, ◌==◌}
+use Rattle.std.proofs.Common.{◌≡◌, ℕ, ◌+◌, ◌-◌, ◌*◌, ◌/◌, ◌%◌, ◌<◌, ◌≤◌, Bool, true, false, eqb, nat_lt, List, [], ◌∷◌, ◌++◌, length, take, drop, replicate, get_or, get_or-take, get_or-drop, refl, sym, ap, subst, ◌∙◌, inl, inr, lit≤, arith}
+use Rattle.std.specs.Prelude.{slice_range, slice_index, ◌==◌}
 use Rattle.std.specs.List.{All, list_all}
 use Rattle.std.proofs.lemmas.Bool.{cases_lt, eqb-true, ltb-true, lt-ltb, and_parts}
 use Rattle.std.proofs.lemmas.List.{get_or_past, take_all, length-take}
 use Rattle.std.proofs.lemmas.List.Elements.{All-nil, All-cons, All-head, All-tail}
+use Rattle.sm83_alu.specs.Flags.{digit_of}
 use Rattle.cartridge.specs.Header.{has_rumble, ram_length_of}
 use Rattle.cartridge.specs.declared.controller.Controller.{Controller}
 use Rattle.cartridge.specs.declared.controller.Controller.TheVariants.{Plain, Mbc1, Mbc2, Mbc3, Mbc3Clock, Mbc5}
@@ -15,9 +16,9 @@ use Rattle.machine.specs.declared.machine_registers.MachineRegisters.{MachineReg
 use Rattle.machine.specs.Machine.{MachineState}
 use Rattle.machine.specs.MachineStores.{registers_of, AreLegalFor}
 use Rattle.snapshot.specs.Text.{fixed_fields, unused, picture_bytes, stores_text, text, text_length}
-use Rattle.snapshot.specs.Table.{bytes, is_legal, ram_rule, kind_of_image, table_of}
+use Rattle.snapshot.specs.Table.{bytes, is_legal, ram_rule, table, kind_of_image, table_of}
 use Rattle.snapshot.specs.Reading.{registers_in, rows_in, machine_in}
-use Rattle.snapshot.specs.Legal.{IsLegalMachine, IsMachineOf, IsLegalText}
+use Rattle.snapshot.specs.Legal.{IsRow, IsLegalMachine, IsMachineOf, IsLegalText}
 use Rattle.snapshot.proofs.Bytes.{bit_back, digit_small, numbers_at}
 use Rattle.snapshot.proofs.Parts.{AreParts, parts_of, parts_length, parts_join, part_length}
 use Rattle.snapshot.proofs.Pictures.{picture_length, picture_again, rows_back, rows_length, rows_are_rows}
