@@ -19,7 +19,7 @@ use Rattle.machine.specs.Rules.{Rules}
 use Rattle.machine.specs.Bus.{bus_rules}
 use Rattle.machine.specs.RegisterOperations.{previous_address, condition_holds}
 use Rattle.machine.specs.Execution.{executed, with_operand, pushed, at_pc}
-use Rattle.machine.specs.Steps.{Step, step_of, lowest_interrupt, vector_of, passing, waited, dispatched, decoded_at, begun, settled, ran, resumed, after_stop}
+use Rattle.machine.specs.Steps.{is_disabling, Step, step_of, lowest_interrupt, vector_of, passing, waited, dispatched, decoded_at, begun, settled, ran, resumed, after_stop}
 use Rattle.machine.specs.Machine.{MachineState, Ahead, steps_until, applied, after}
 use Rattle.machine.specs.MachineLaws.{CartridgeStays}
 
@@ -98,8 +98,7 @@ module _ {M : Type 0} (r : Rules M) (R : M → M → Type 0) (k : IsKept r R) wh
   by_instruction (instr.Undefined o) s = k.itself s.memory
 
   by_settling : (m : M) (enable : Bool) (i : Instr) (s : Processor M) → R m s.memory → R m (settled enable i s).memory
-  by_settling m enable instr.DisableInterrupts s before = before
-  by_settling m enable i s before = either m enable _ _ before before
+  by_settling m enable i s before = either m (enable && not (is_disabling i)) _ _ before before
 
   by_passing : (m : M) (n : ℕ) (s : Processor M) → R m s.memory → R m (passing r n s).memory
   by_passing m n s before = k.follows _ _ _ before (k.passed s.memory n)

@@ -3,6 +3,7 @@ pub mod Registers16
 pub mod RegisterOperations
 pub mod Execution
 pub mod Steps
+pub mod Opcodes
 pub mod Bus
 pub mod Machine
 pub mod MachineStores

@@ -77,10 +77,14 @@ begun n s = record s {
   state = record s.state { repeat = false };
 }
 
+abbrev pub is_disabling : Instr → Bool
+is_disabling instr.DisableInterrupts = true
+is_disabling _ = false
+
 -- an instruction that began with `enable` ends with IME set and `enable` clear, but for DI
 abbrev pub settled : {M : Type 0} → Bool → Instr → Processor M → Processor M
-settled enable instr.DisableInterrupts s = s
-settled enable _ s = if enable then record s { state = record s.state { ime = true; enable = false } } else s
+settled enable i s =
+    if enable && not (is_disabling i) then record s { state = record s.state { ime = true; enable = false } } else s
 
 -- one instruction
 abbrev pub ran : {M : Type 0} → Rules M → Processor M → Step M

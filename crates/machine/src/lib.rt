@@ -8,10 +8,12 @@
 mod bus_memory;
 mod frame;
 pub mod input;
+mod instructions;
 pub mod laws;
 pub mod machine;
 pub mod machine_registers;
 pub mod memory;
+mod opcodes;
 pub mod processor;
 mod registers;
 mod registers16;

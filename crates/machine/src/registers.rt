@@ -7,6 +7,7 @@ use crate::registers16::{hl, register16, set_hl};
 use opcode_table::{AccumulatorOperation, Condition, Indirect, Operation, Register16, Shift};
 use sm83_alu::{Flags, Outcome, Registers};
 
+#[inline(always)]
 pub(crate) fn condition_holds(condition: Condition, flags: Flags) -> bool
     ensures { result ≡ condition_holds condition flags }
 {
@@ -18,6 +19,7 @@ pub(crate) fn condition_holds(condition: Condition, flags: Flags) -> bool
     }
 }
 
+#[inline(always)]
 fn set_result(registers: &mut Registers, outcome: Outcome)
     ensures { registers.new ≡ with_result outcome registers.old }
 {
@@ -25,6 +27,7 @@ fn set_result(registers: &mut Registers, outcome: Outcome)
     registers.flags = outcome.flags;
 }
 
+#[inline(always)]
 pub(crate) fn operate(registers: &mut Registers, operation: Operation, byte: u8)
     ensures { registers.new ≡ operated operation byte registers.old }
 {
@@ -42,6 +45,7 @@ pub(crate) fn operate(registers: &mut Registers, operation: Operation, byte: u8)
     }
 }
 
+#[inline(always)]
 pub(crate) fn operate_accumulator(registers: &mut Registers, operation: AccumulatorOperation)
     ensures { registers.new ≡ accumulator_operated operation registers.old }
 {
@@ -71,6 +75,7 @@ pub(crate) fn operate_accumulator(registers: &mut Registers, operation: Accumula
     }
 }
 
+#[inline(always)]
 pub(crate) fn shift(shift: Shift, value: u8, carry: bool) -> Outcome
     ensures { result ≡ shifted shift value carry }
 {
@@ -86,6 +91,7 @@ pub(crate) fn shift(shift: Shift, value: u8, carry: bool) -> Outcome
     }
 }
 
+#[inline(always)]
 pub(crate) fn address(registers: &Registers, indirect: Indirect) -> u16
     ensures { result ≡ indirect_address indirect registers.now }
 {
@@ -96,6 +102,7 @@ pub(crate) fn address(registers: &Registers, indirect: Indirect) -> u16
     }
 }
 
+#[inline(always)]
 pub(crate) fn finish_access(registers: &mut Registers, indirect: Indirect)
     ensures { registers.new ≡ after_access indirect registers.old }
 {

@@ -26,12 +26,14 @@ fn joined(high: u8, low: u8) -> u16
 
 ghost use Rattle.std.specs.Prelude.{◌+◌, ◌*◌, ◌/◌, ◌%◌};
 
+#[inline(always)]
 pub(crate) fn hl(registers: &Registers) -> u16
     ensures { result ≡ hl_of registers.now }
 {
     joined(registers.h, registers.l)
 }
 
+#[inline(always)]
 pub(crate) fn set_hl(registers: &mut Registers, word: u16)
     ensures { registers.new ≡ with_hl word registers.old }
 {
@@ -39,6 +41,7 @@ pub(crate) fn set_hl(registers: &mut Registers, word: u16)
     registers.l = low(word);
 }
 
+#[inline(always)]
 pub(crate) fn register16(registers: &Registers, register: Register16) -> u16
     ensures { result ≡ register16_value register registers.now }
 {
@@ -50,6 +53,7 @@ pub(crate) fn register16(registers: &Registers, register: Register16) -> u16
     }
 }
 
+#[inline(always)]
 pub(crate) fn set_register16(registers: &mut Registers, register: Register16, word: u16)
     ensures { registers.new ≡ with_register16 register word registers.old }
 {
@@ -70,6 +74,7 @@ pub(crate) fn set_register16(registers: &mut Registers, register: Register16, wo
     }
 }
 
+#[inline(always)]
 pub(crate) fn stack_register16(registers: &Registers, register: StackRegister16) -> u16
     ensures { result ≡ stack_register16_value register registers.now }
 {
@@ -81,6 +86,7 @@ pub(crate) fn stack_register16(registers: &Registers, register: StackRegister16)
     }
 }
 
+#[inline(always)]
 pub(crate) fn set_stack_register16(registers: &mut Registers, register: StackRegister16, word: u16)
     ensures { registers.new ≡ with_stack_register16 register word registers.old }
 {

@@ -1,13 +1,11 @@
 //! One step of the processor.
 
-ghost use Rattle.std.specs.Prelude.{◌≡◌, ◌<◌, ◌≤◌, ◌+◌, ◌*◌, if◌then◌else◌};
-ghost use Rattle.machine.specs.RegisterOperations.{is_taken, next_address};
+ghost use Rattle.std.specs.Prelude.{◌≡◌, ◌<◌, ◌≤◌, ◌+◌, ◌*◌, true};
+ghost use Rattle.machine.specs.RegisterOperations.{next_address};
 
 use crate::memory::Memory;
 use crate::processor::Processor;
-use crate::registers::condition_holds;
-use opcode_table::{Decoded, Instr, decode};
-use sm83_alu::Flags;
+use opcode_table::decode;
 
 /// An instruction that ran: where it was, the three bytes that were fetched, and how many of them
 /// it has.
@@ -39,35 +37,13 @@ pub struct Stepped {
 /// The address of the joypad's register P1.
 const JOYPAD: u16 = 0xff00;
 
-fn takes_condition(instr: Instr, flags: Flags) -> bool
-    ensures { result ≡ is_taken instr flags }
-{
-    match instr {
-        Instr::JumpRelativeIf(condition, _) => condition_holds(condition, flags),
-        Instr::JumpIf(condition, _) => condition_holds(condition, flags),
-        Instr::CallIf(condition, _) => condition_holds(condition, flags),
-        Instr::ReturnIf(condition) => condition_holds(condition, flags),
-        _ => true,
-    }
-}
-
-/// The M-cycles of an instruction with these flags.
-fn cycles_by_flags(decoded: Decoded, flags: Flags) -> u8
-    ensures { result ≡ (if is_taken decoded.instr flags then decoded.cycles_taken else decoded.cycles) }
-{
-    if decoded.cycles_taken == decoded.cycles {
-        return decoded.cycles;
-    }
-    if takes_condition(decoded.instr, flags) {
-        decoded.cycles_taken
-    } else {
-        decoded.cycles
-    }
-}
+/// The opcode of DI.
+const DISABLE_INTERRUPTS: u8 = 0xf3;
 
 impl<M: Memory> Processor<M> {
     ghost use Rattle.machine.specs.Steps.{step_of, after_stop, resumed, ran, dispatched, waited, begun, settled, decoded_at, second_address, byte_at, lowest_interrupt};
-    ghost use Rattle.std.specs.Prelude.{[], ◌∷◌};
+    ghost use Rattle.std.specs.Prelude.{[], ◌∷◌, ℕ};
+    ghost use Rattle.opcode_table.specs.Table.{instruction_of};
 
     fn wait(&mut self) -> Stepped
         ensures after { self.new ≡ (waited M.rules self.old).after }
@@ -101,17 +77,6 @@ impl<M: Memory> Processor<M> {
         }
     }
 
-    fn second(&self) -> u16
-        ensures { result ≡ second_address self.now }
-    {
-        let pc = self.registers.pc;
-        if self.state.repeat {
-            pc
-        } else {
-            pc.wrapping_add(1)
-        }
-    }
-
     fn fetch(&self) -> [u8; 3]
         ensures { result ≡ byte_at M.rules self.now.registers.pc self.now ∷ byte_at M.rules (second_address self.now) self.now ∷ byte_at M.rules (next_address (second_address self.now)) self.now ∷ [] }
     {
@@ -124,29 +89,23 @@ impl<M: Memory> Processor<M> {
         ]
     }
 
-    fn begin(&mut self, length: u8)
-        requires { 0 < length }
-        ensures { self.new ≡ begun length self.old }
+    /// The end of an instruction of this opcode that began with `enable`.
+    #[inline(always)]
+    #[tactic(auto, using(crate::proofs::Disabling::disabling_opcode))]
+    fn settle(&mut self, enable: bool, opcode: u8)
+        ensures { (low high : ℕ) → self.new ≡ settled enable (instruction_of opcode low high) self.old }
     {
-        let second = self.second();
-        self.registers.pc = second.wrapping_add(u16::from(length - 1));
-        self.state.repeat = false;
-    }
-
-    fn settle(&mut self, enable: bool, instr: Instr)
-        ensures { self.new ≡ settled enable instr self.old }
-    {
-        match instr {
-            Instr::DisableInterrupts => {}
-            _ => {
-                if enable {
-                    self.state.ime = true;
-                    self.state.enable = false;
-                }
-            }
+        if !enable {
+            return;
         }
+        if opcode == DISABLE_INTERRUPTS {
+            return;
+        }
+        self.state.ime = true;
+        self.state.enable = false;
     }
 
+    #[inline(always)]
     fn run(&mut self) -> Stepped
         ensures after { self.new ≡ (ran M.rules self.old).after }
         ensures stepped { result ≡ (ran M.rules self.old).stepped }
@@ -156,23 +115,20 @@ impl<M: Memory> Processor<M> {
         let pc = self.registers.pc;
         let enable = self.state.enable;
         let bytes = self.fetch();
-        let decoded = decode(bytes);
-        let instr = decoded.instr;
-        let cycles = cycles_by_flags(decoded, self.registers.flags);
-        self.begin(decoded.length);
-        self.execute(instr);
-        self.settle(enable, instr);
+        let cycles = self.run_opcode(bytes[0]);
+        self.settle(enable, bytes[0]);
         self.memory.pass(cycles);
         Stepped {
             what: What::Ran(Seen {
                 pc,
                 bytes,
-                length: decoded.length,
+                length: decode(bytes).length,
             }),
             cycles,
         }
     }
 
+    #[inline(always)]
     fn resume(&mut self) -> Stepped
         ensures after { self.new ≡ (resumed M.rules self.old).after }
         ensures stepped { result ≡ (resumed M.rules self.old).stepped }
@@ -186,6 +142,7 @@ impl<M: Memory> Processor<M> {
         }
     }
 
+    #[inline(always)]
     fn leave_halt(&mut self) -> Stepped
         ensures after { self.new ≡ (after_stop M.rules self.old).after }
         ensures stepped { result ≡ (after_stop M.rules self.old).stepped }
@@ -200,6 +157,7 @@ impl<M: Memory> Processor<M> {
     }
 
     /// One step: a wait, an interrupt or one instruction.
+    #[inline(always)]
     #[tactic(auto, unfolding(crate::specs::Steps::step_of))]
     pub fn step(&mut self) -> Stepped
         ensures after { self.new ≡ (step_of M.rules self.old).after }

@@ -1,2 +1,1 @@
 pub mod UndefinedOpcodes
-mod ByOpcode

@@ -121,7 +121,7 @@ cycles_taken_of (CallIf c w) = 6
 cycles_taken_of (ReturnIf c) = 5
 cycles_taken_of i = cycles_of i
 
--- what is to know of an instruction, for private functions alone
+-- what is to know of an instruction
 abbrev pub row_of : Instr → Decoded
 row_of i = record { instr = i; length = length_of i; cycles = cycles_of i; cycles_taken = cycles_taken_of i }
 

@@ -5,7 +5,8 @@ use Rattle.std.specs.Fn.{iterate}
 use Rattle.std.proofs.lemmas.Bool.Decides.{nat_tests}
 use Rattle.picture_unit.specs.declared.state.PictureState.{PictureState}
 use Rattle.picture_unit.specs.Picture.{Screen, PictureAndRequests, unrequested, ticks, is_on, mode, stat_signal, is_source, advanced, entered, draws, drawn, begins_vblank, line_drawn, moved, taken, tick, is_entry}
-use Rattle.picture_unit.specs.PictureJump.{next_entry, later, skipped}
+use Rattle.picture_unit.specs.PictureJump.{next_entry, later, skipped, IsSettled, AreQuiet}
+use Rattle.picture_unit.proofs.Settled.{ticks_settle}
 use Rattle.repeated_steps.specs.NextEvent.{IsNextEvent}
 use Rattle.repeated_steps.proofs.Iterates.{iterate-add}
 
@@ -168,8 +169,63 @@ pub ticks_when_off : (n : ℕ) (p : PictureState) (s : Screen) → p ≡ s.state
 unfolding unrequested
 ticks_when_off n p s same off = stands_still n (unrequested s) (ap is_on (sym same) ∙ off)
 
-pub ticks_when_quiet : (n t : ℕ) (p : PictureState) (s : Screen) (e : PictureAndRequests) → p ≡ s.state → is_on p ≡ true → t ≡ next_entry p → n < t → e ≡ skipped n (record { screen = s; vblank = false; stat = false }) → e ≡ ticks n s
-unfolding unrequested
-ticks_when_quiet n t p s e same on entry lt h =
-    let lt' : n < next_entry s.state = rw (← same, ← entry) lt in
-    h ∙ sym (skips n (unrequested s) (ap is_on (sym same) ∙ on) lt')
+-- M-cycles that are known to be quiet: only the M-cycle grows
+
+stays_in_mode : (p : PictureState) (n : ℕ) → n < next_entry p → mode (record p { m_cycle = p.m_cycle + n }) ≡ mode p
+unfolding mode next_entry is_on
+stays_in_mode p n h = grind (arith, nat_tests)
+
+keeps_signal : (p : PictureState) (n : ℕ) → n < next_entry p → stat_signal (record p { m_cycle = p.m_cycle + n }) ≡ stat_signal p
+unfolding stat_signal is_on
+keeps_signal p n h = ap (λ (m : ℕ). is_on p && is_source p.stat m (p.ly == p.lyc)) (stays_in_mode p n h)
+
+nearer_entry : (p : PictureState) (n left : ℕ) → left + n < next_entry p → left < next_entry (record p { m_cycle = p.m_cycle + n })
+unfolding next_entry
+nearer_entry p n left h = grind (arith, nat_tests)
+
+before_line_end : (p : PictureState) (n : ℕ) → p.m_cycle < 114 → n < next_entry p → p.m_cycle + n < 114
+unfolding next_entry
+before_line_end p n legal h = grind (arith, nat_tests)
+
+no_rise : (b : Bool) → (b && not b) ≡ false
+no_rise true = refl
+no_rise false = refl
+
+-- none of them are
+pub none_quiet : (p : PictureState) → AreQuiet 0 p
+none_quiet p = record { on = λ pos. absurd (omega arith); entry = λ pos. absurd (omega arith); settled = λ pos. absurd (omega arith) }
+
+pub fewer_quiet : (q n left : ℕ) (p : PictureState) → left + n ≤ q → AreQuiet q p → AreQuiet left (record p { m_cycle = p.m_cycle + n })
+unfolding is_on
+fewer_quiet q n left p enough quiet =
+    record {
+      on = λ pos. quiet.on (omega arith);
+      entry = λ pos. let lt : q < next_entry p = quiet.entry (omega arith) in nearer_entry p n left (omega arith);
+      settled = λ pos. let lt : q < next_entry p = quiet.entry (omega arith) in keeps_signal p n (omega arith) ∙ quiet.settled (omega arith);
+    }
+
+pub quiet_in_line : (q n : ℕ) (p : PictureState) → n ≤ q → AreQuiet q p → p.m_cycle < 114 → p.m_cycle + n < 114
+quiet_in_line q zero p le quiet legal = omega arith
+quiet_in_line q (suc n) p le quiet legal =
+    let lt : q < next_entry p = quiet.entry (omega arith) in
+    before_line_end p (suc n) legal (omega arith)
+
+pub quiet_ticks : (q n : ℕ) (s : Screen) → n ≤ q → AreQuiet q s.state →
+    unrequested (record s { state = record s.state { m_cycle = s.state.m_cycle + n } }) ≡ ticks n s
+unfolding unrequested skipped later taken
+quiet_ticks q zero s le quiet = let e : s.state.m_cycle + 0 ≡ s.state.m_cycle = omega arith in rw e refl
+quiet_ticks q (suc n) s le quiet =
+    let lt : q < next_entry s.state = quiet.entry (omega arith) in
+    let lt' : suc n < next_entry s.state = omega arith in
+    let same : stat_signal (record s.state { m_cycle = s.state.m_cycle + suc n }) ≡ s.state.signal = keeps_signal s.state (suc n) lt' ∙ quiet.settled (omega arith) in
+    sym (skips (suc n) (unrequested s) (quiet.on (omega arith)) lt' ∙ rw (same, no_rise s.state.signal) refl)
+
+-- after some M-cycles those before the next entry are quiet
+pub quiet_before_entry : (p : PictureState) (n t : ℕ) (d e : PictureAndRequests) → p ≡ e.screen.state → is_on e.screen.state ≡ true → 0 < n → e ≡ iterate tick n d → t ≡ next_entry p → 0 < t → AreQuiet (t - 1) p
+quiet_before_entry p n t d e same on some ran entry ahead =
+    let settled : IsSettled e = subst IsSettled (sym ran) (ticks_settle n d some) in
+    record {
+      on = λ pos. ap is_on same ∙ on;
+      entry = λ pos. omega (arith, entry);
+      settled = λ pos. ap stat_signal same ∙ settled on ∙ ap (λ (p : PictureState). p.signal) (sym same);
+    }

@@ -1,10 +1,12 @@
 -- M-cycles without an entry request nothing, once the STAT signal was taken as it is.
-use Rattle.std.proofs.Common.{◌≡◌, ℕ, ◌+◌, Bool, true, false, cond, refl, sym, ap, subst, ◌∙◌, arith, inl, inr}
+use Rattle.std.proofs.Common.{◌≡◌, ℕ, zero, suc, ◌+◌, ◌<◌, Bool, true, false, cond, refl, sym, ap, subst, ◌∙◌, arith, inl, inr}
 use Rattle.std.specs.Prelude.{◌⊎◌, not, ◌&&◌, ◌||◌, ◌==◌}
+use Rattle.std.specs.Fn.{iterate}
 use Rattle.std.proofs.lemmas.Bool.Decides.{nat_tests}
 use Rattle.picture_unit.specs.declared.state.PictureState.{PictureState}
 use Rattle.picture_unit.specs.Picture.{PictureAndRequests, is_on, mode, stat_signal, is_source, advanced, entered, draws, drawn, begins_vblank, moved, taken, tick, is_entry}
 use Rattle.picture_unit.specs.PictureJump.{later, IsSettled}
+use Rattle.repeated_steps.proofs.Iterates.{iterate-suc}
 
 pub bool_cases : (b : Bool) → (b ≡ true) ⊎ (b ≡ false)
 bool_cases true = inl refl
@@ -33,6 +35,10 @@ tick_settles d =
       | inl on ↦ subst IsSettled (sym (runs d on)) (λ _. taken_settles (moved d))
       | inr off ↦ subst IsSettled (sym (stands d off)) (λ on. both_ways (is_on d.screen.state) on off)
     ]
+
+pub ticks_settle : (n : ℕ) (d : PictureAndRequests) → 0 < n → IsSettled (iterate tick n d)
+ticks_settle zero d pos = absurd (omega arith)
+ticks_settle (suc n) d pos = subst IsSettled (sym (iterate-suc tick n d)) (tick_settles (iterate tick n d))
 
 quiet_advance : (d : PictureAndRequests) → is_on d.screen.state ≡ true → is_entry d ≡ false →
     entered (advanced d.screen.state) ≡ record d.screen.state { m_cycle = d.screen.state.m_cycle + 1 }

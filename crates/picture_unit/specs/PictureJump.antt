@@ -1,5 +1,5 @@
 -- The picture unit between two entries, an entry being that to a line, to mode 3 or to mode 0.
-use Rattle.std.specs.Prelude.{◌≡◌, ℕ, zero, suc, ◌+◌, ◌-◌, true, ◌||◌, nat_le, nat_lt, if◌then◌else◌}
+use Rattle.std.specs.Prelude.{◌≡◌, ℕ, zero, suc, ◌+◌, ◌-◌, ◌<◌, true, ◌||◌, nat_le, nat_lt, if◌then◌else◌}
 use Rattle.picture_unit.specs.declared.state.PictureState.{PictureState}
 use Rattle.picture_unit.specs.declared.state.PictureRequests.{PictureRequests}
 use Rattle.picture_unit.specs.Picture.{Screen, PictureAndRequests, is_on, stat_signal, taken}
@@ -28,3 +28,9 @@ with_requests requests s = record { screen = s; vblank = requests.vblank; stat =
 -- The STAT signal was taken as it is now, so that it does not rise before the next entry.
 abbrev pub IsSettled : PictureAndRequests → Type 0
 IsSettled d = is_on d.screen.state ≡ true → stat_signal d.screen.state ≡ d.screen.state.signal
+
+-- In the next n M-cycles, if any, no entry comes and the STAT signal does not rise.
+pub record AreQuiet (n : ℕ) (p : PictureState) : Type 0 where
+  pub on : 0 < n → is_on p ≡ true
+  pub entry : 0 < n → n < next_entry p
+  pub settled : 0 < n → stat_signal p ≡ p.signal

@@ -20,6 +20,8 @@ use std::marker::Model;
 #[derive(Drop)]
 pub struct Picture {
     state: PictureState,
+    // So many M-cycles are known to change nothing but the M-cycle. What may end that sets it to 0.
+    quiet: u8,
     tiles: TileMemory,
     oam: Vec<u8>,
     rows: Vec<[u8; 160]>,
@@ -27,6 +29,7 @@ pub struct Picture {
 
 impl Model for Picture {
     ghost use Rattle.picture_unit.specs.Picture.{Screen, IsWhole};
+    ghost use Rattle.picture_unit.specs.PictureJump.{AreQuiet};
 
     ghost Value = { Screen };
 
@@ -37,7 +40,10 @@ impl Model for Picture {
       rows = p.rows.items;
     } };
 
-    ghost invariant = { λ p. IsWhole p.state p.oam.items p.rows.items };
+    ghost invariant = { λ p. record {
+      whole : IsWhole p.state p.oam.items p.rows.items;
+      quiet : AreQuiet p.quiet p.state;
+    } };
 }
 
 impl Picture {
@@ -59,6 +65,7 @@ impl Picture {
         let rows = Vec::from_elem(alloc, [0u8; 160], 144)?;
         Ok(Picture {
             state: PictureState::at_power_on(),
+            quiet: 0,
             tiles,
             oam,
             rows,
@@ -171,6 +178,7 @@ impl Picture {
             0xff41 => self.write_stat(value),
             0xff45 => self.write_lyc(value),
             _ => {
+                self.quiet = 0;
                 self.state.store_register(address, value);
                 false
             }
@@ -224,6 +232,7 @@ impl Picture {
         if !was_on && value >= 128 {
             return self.switch_on(value);
         }
+        self.quiet = 0;
         self.state.lcdc = value;
     }
 
@@ -231,6 +240,7 @@ impl Picture {
     fn switch_off(&mut self, lcdc: u8)
         ensures { self.new ≡ switched_off lcdc self.old }
     {
+        self.quiet = 0;
         self.state.lcdc = lcdc;
         self.state.ly = 0;
         self.state.m_cycle = 0;
@@ -244,6 +254,7 @@ impl Picture {
     fn switch_on(&mut self, lcdc: u8)
         ensures { self.new ≡ switched_on lcdc self.old }
     {
+        self.quiet = 0;
         self.state.lcdc = lcdc;
         self.state.ly = 0;
         self.state.m_cycle = 0;
@@ -256,6 +267,7 @@ impl Picture {
         ensures picture { self.new ≡ (taken (unrequested (stat_written value self.old))).screen }
         ensures stat { result ≡ (taken (unrequested (stat_written value self.old))).stat }
     {
+        self.quiet = 0;
         self.state.stat = value / 8 % 16 * 8;
         self.take_signal()
     }
@@ -265,6 +277,7 @@ impl Picture {
         ensures picture { self.new ≡ (taken (unrequested (lyc_written value self.old))).screen }
         ensures stat { result ≡ (taken (unrequested (lyc_written value self.old))).stat }
     {
+        self.quiet = 0;
         self.state.lyc = value;
         self.take_signal()
     }

@@ -16,17 +16,16 @@ impl Picture {
         ensures vblank { result.vblank ≡ (ticks cycles self.old).vblank }
         ensures stat { result.stat ≡ (ticks cycles self.old).stat }
     {
-        let none = PictureRequests {
+        if cycles > u32::from(self.quiet) {
+            return self.pass_by_entries(cycles);
+        }
+        let cycles = cycles as u8;
+        self.state.m_cycle += cycles;
+        self.quiet -= cycles;
+        PictureRequests {
             vblank: false,
             stat: false,
-        };
-        if !self.state.is_on() {
-            return none;
         }
-        if cycles < u32::from(self.state.next_entry()) {
-            return self.skip(cycles, none);
-        }
-        self.advance(cycles, none)
     }
 
     /// The same, M-cycle by M-cycle: what `pass` is compared with.
@@ -58,11 +57,31 @@ impl Picture {
         }
     }
 
-    // M-cycles of a picture unit that is on, from entry to entry.
+    // The same, where an entry may come or the STAT signal rise.
     #[inline(never)]
+    #[tactic(auto, unfolding(crate::specs::Picture::unrequested))]
+    fn pass_by_entries(&mut self, cycles: u32) -> PictureRequests
+        requires { 0 < cycles }
+        ensures { with_requests result self.new ≡ ticks cycles self.old }
+    {
+        let none = PictureRequests {
+            vblank: false,
+            stat: false,
+        };
+        if !self.state.is_on() {
+            return none;
+        }
+        let requests = self.advance(cycles, none);
+        let entry = self.state.next_entry();
+        self.quiet = entry - 1;
+        requests
+    }
+
+    // M-cycles of a picture unit that is on, from entry to entry.
     fn advance(&mut self, cycles: u32, requests: PictureRequests) -> PictureRequests
         requires { is_on self.old.state ≡ true }
-        ensures { with_requests result self.new
+        ensures on { is_on self.new.state ≡ true }
+        ensures ticks { with_requests result self.new
             ≡ iterate tick cycles (with_requests requests self.old) }
     {
         let mut left = cycles;
@@ -104,6 +123,7 @@ impl Picture {
         if cycles == 0 {
             return requests;
         }
+        self.quiet = 0;
         self.state.m_cycle += cycles as u8;
         let stat = self.take_signal();
         PictureRequests {
@@ -120,6 +140,7 @@ impl Picture {
         if !self.state.is_on() {
             return requests;
         }
+        self.quiet = 0;
         self.state.advance();
         let vblank = self.state.begins_vblank();
         self.draw_when_due();
@@ -140,7 +161,7 @@ impl Picture {
     }
 
     // Draws the current line.
-    #[tactic(auto, unfolding(crate::specs::Picture::line_drawn, crate::specs::Picture::line_registers, crate::specs::Picture::window_line_after))]
+    #[tactic(auto, unfolding(crate::specs::Picture::line_drawn, crate::specs::Picture::line_registers, crate::specs::Picture::window_line_after, crate::specs::Picture::is_on, crate::specs::Picture::mode, crate::specs::Picture::stat_signal, crate::specs::PictureJump::next_entry))]
     fn draw_line(&mut self)
         requires { self.old.state.ly < 144 }
         ensures { self.new ≡ line_drawn self.old }

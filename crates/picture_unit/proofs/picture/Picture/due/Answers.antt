@@ -6,7 +6,7 @@ use Rattle.picture_unit.proofs.picture.Picture.due.Goals as goal
 pub returns-then-is_on : goal.returns-then-is_on
 unfolding unrequested
 returns-then-is_on c =
-    is_due_at c.self.inside.state c.from.result (record { screen = c.args.self.now; vblank = false; stat = false }) (ap (λ (s : Screen). s.state) c.self.view_is) (sym c.is_on.ensures ∙ c.if-is_on.true) c.self.invariant.legal.m_cycle (c.from.ensures ∙ c.next_entry.ensures.entry)
+    is_due_at c.self.inside.state c.from.result (record { screen = c.args.self.now; vblank = false; stat = false }) (ap (λ (s : Screen). s.state) c.self.view_is) (sym c.is_on.ensures ∙ c.if-is_on.true) c.self.invariant.whole.legal.m_cycle (c.from.ensures ∙ c.next_entry.ensures.entry)
 
 pub returns-else-is_on : goal.returns-else-is_on
 unfolding unrequested

@@ -2,6 +2,7 @@ use Rattle.std.proofs.Common.{◌≡◌, ◌<◌, refl, arith, rules}
 use Rattle.std.specs.Prelude.{All, replicate}
 use Rattle.std.proofs.lemmas.List.Elements.{All-replicate, same_from_all_zip}
 use Rattle.picture_lines.proofs.Backgrounds.{zeros-small}
+use Rattle.picture_unit.proofs.Quiet.{none_quiet}
 use Rattle.picture_unit.specs.Picture.{IsLegalPicture, screen_at_power_on, state_at_power_on, blank_rows}
 use Rattle.picture_unit.proofs.picture.Picture.new.Goals as goal
 
@@ -13,10 +14,13 @@ pub invariant_of-result : goal.invariant_of-result
 invariant_of-result c =
     let blank : c.in_ok-rows.rows.items ≡ replicate 144 (replicate 160 0) = c.in_ok-rows.ensures.items_if_clones_equal (λ y h. search (rules, same_from_all_zip)) in
     record {
-      legal = rw c.at_power_on.ensures (legal_at_power_on);
-      oam_size = omega (arith, c.in_ok-oam.oam.ok.0, c.in_ok-oam.ensures.len);
-      row_count = omega (arith, c.in_ok-rows.rows.ok.0, c.in_ok-rows.ensures.len);
-      shades = rw blank (All-replicate (λ row. All (λ shade. shade < 4) row) 144 (replicate 160 0) (zeros-small 160));
+      whole = record {
+        legal = rw c.at_power_on.ensures (legal_at_power_on);
+        oam_size = omega (arith, c.in_ok-oam.oam.ok.0, c.in_ok-oam.ensures.len);
+        row_count = omega (arith, c.in_ok-rows.rows.ok.0, c.in_ok-rows.ensures.len);
+        shades = rw blank (All-replicate (λ row. All (λ shade. shade < 4) row) 144 (replicate 160 0) (zeros-small 160));
+      };
+      quiet = none_quiet c.at_power_on.result;
     }
 
 pub returns : goal.returns
