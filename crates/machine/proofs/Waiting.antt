@@ -1,6 +1,6 @@
 -- Waits of the processor over the bus, many at once, within a frame.
 use Rattle.std.proofs.Common.{◌≡◌, ℕ, zero, suc, ◌+◌, ◌%◌, ◌<◌, ◌≤◌, Bool, Option, Some, None, true, false, cond, refl, sym, ap, subst, ◌∙◌, arith, inl, inr}
-use Rattle.std.specs.Prelude.{◌&&◌, ◌==◌, not, min, if◌then◌else◌}
+use Rattle.std.specs.Prelude.{◌&&◌, ◌==◌, if◌then◌else◌}
 use Rattle.std.specs.Fn.{iterate}
 use Rattle.std.proofs.lemmas.Bool.{cases_lt}
 use Rattle.repeated_steps.specs.NextEvent.{IsNextEvent}
@@ -15,11 +15,10 @@ use Rattle.machine.specs.Rules.{Rules}
 use Rattle.machine.specs.Bus.{bus_rules}
 use Rattle.machine.specs.Execution.{at_pc, pushed, executed}
 use Rattle.machine.specs.Steps.{Step, step_of, passing, waited, lowest_interrupt, vector_of, dispatched, decoded_at, begun, settled, ran, resumed, after_stop}
-use Rattle.machine.specs.Machine.{Ahead, steps_until}
+use Rattle.machine.specs.Machine.{steps_until}
 use Rattle.machine.specs.Waiting.{Waits, within}
 use Rattle.machine.specs.declared.processor.Processor.{Processor}
-use Rattle.machine.specs.declared.processor.ProcessorState.{ProcessorState}
-use Rattle.machine.proofs.Frames.{AreCycles, step-bounds, ran-bounds, steps_until-step, steps_until-end}
+use Rattle.machine.proofs.Frames.{step-bounds, ran-bounds, steps_until-step, steps_until-end}
 
 -- ---- any number of steps that is enough gives the same frame
 

@@ -1,4 +1,3 @@
-use Rattle.std.proofs.Common.{arith}
 use Rattle.machine.specs.Bus.{bus_rules}
 use Rattle.machine.proofs.Frames.{steps_until-done}
 use Rattle.machine.proofs.frame.Processor+Bus.run_frame.Goals as goal

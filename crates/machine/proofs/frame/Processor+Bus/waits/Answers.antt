@@ -1,4 +1,4 @@
-use Rattle.std.proofs.Common.{◌≡◌, ℕ, true, ap, subst, sym, ◌∙◌, arith}
+use Rattle.std.proofs.Common.{ℕ, ap, subst, sym, ◌∙◌}
 use Rattle.std.specs.Prelude.{◌%◌}
 use Rattle.machine.specs.Waiting.{Waits}
 use Rattle.machine.proofs.Waiting.{locked_waits, stopped_waits, halted_waits}
