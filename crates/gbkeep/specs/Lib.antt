@@ -1,4 +1,5 @@
 pub mod Line
 pub mod StepLine
 pub mod Listing
+pub mod Request
 pub mod Program

@@ -1,8 +1,20 @@
 -- The statuses of the program: 0 done, 1 refused, 2 words not understood.
-use Rattle.std.specs.Prelude.{◌≡◌, ℕ, List, Option}
-use Rattle.std.specs.Io.KnownBytes.{Keeps}
-use Rattle.gbkeep.specs.declared.program.Fault.{Fault}
-use Rattle.gbkeep.specs.declared.program.Fault.TheVariants.{Cart, Step, Memory, File, Output, Address, Word}
+use Rattle.std.specs.Prelude.{◌≡◌, ◌≤◌, ◌↔◌, ◌≢◌, ◌⊎◌, ℕ, List, codes, Option, None, Some, Result, Ok, Err, ⊤, Bool, true, false}
+use Rattle.std.specs.Io.KnownBytes.{Appends, Keeps}
+use Rattle.exact_text.specs.Written.{AppendsProperPrefix}
+use Rattle.cartridge.specs.Accepted.{IsAccepted, refusal_of}
+use Rattle.clap.specs.Values.{kind_of}
+use Rattle.clap.specs.declared.error.kind.ErrorKind.{ErrorKind}
+use Rattle.clap.specs.declared.error.kind.ErrorKind.TheVariants.{DisplayHelp, DisplayVersion, OutOfMemory}
+use Rattle.command_line.specs.Words.{IsInRange}
+use Rattle.command_line.specs.declared.Request.{Request}
+use Rattle.gbkeep.specs.declared.asked.Asked.{Asked}
+use Rattle.gbkeep.specs.declared.asked.Asked.TheVariants.{Command, Help, Misuse, OutOfRange}
+use Rattle.gbkeep.specs.declared.error.StepError.TheVariants.{Cart as StepCart, Memory as StepMemory, Output as StepOutput}
+use Rattle.gbkeep.specs.declared.fault.Fault.{Fault}
+use Rattle.gbkeep.specs.declared.fault.Fault.TheVariants.{Cart, Step, Memory, File, Output, Address, Word}
+use Rattle.gbkeep.specs.Request.{HasAddress, IsDone, printed}
+use Rattle.gbkeep.specs.StepLine.{Refuses}
 
 abbrev pub status_of : Fault → ℕ
 status_of (Cart fault) = 1
@@ -13,6 +25,96 @@ status_of Output = 1
 status_of Address = 2
 status_of Word = 2
 
+-- its line on standard error; None for a fault of the cartridge, whose text no definition gives
+abbrev pub line_of : Fault → Option (List ℕ)
+line_of (Cart fault) = None
+line_of (Step (StepCart fault)) = None
+line_of (Step StepMemory) = Some (codes "gbkeep: no memory\n")
+line_of (Step StepOutput) = Some (codes "gbkeep: output failed\n")
+line_of Memory = Some (codes "gbkeep: no memory\n")
+line_of File = Some (codes "gbkeep: file failed\n")
+line_of Output = Some (codes "gbkeep: output failed\n")
+line_of Address = Some (codes "gbkeep: address\n")
+line_of Word = Some (codes "gbkeep: a word is not text\n")
+
+-- the line went out, or a proper prefix of it; nothing is said of a line that is not given
+abbrev pub HasLine : Option (List ℕ) → Option (List ℕ) → Option (List ℕ) → Type 0
+HasLine None old new = ⊤
+HasLine (Some line) old new = Appends old new line ⊎ AppendsProperPrefix old new line
+
 -- where words are not understood, nothing goes to the output
 abbrev pub KeepsAtMisuse : Option (List ℕ) → Option (List ℕ) → ℕ → Type 0
 KeepsAtMisuse old new status = status ≡ 2 → Keeps old new
+
+-- why a request was refused, and what went out then
+abbrev pub IsRefused : Request → Fault → Option (List ℕ) → Option (List ℕ) → Type 0
+IsRefused request (Cart fault) old new = HasAddress request × Keeps old new × ((rom : List ℕ) × (refusal_of rom ≡ Some fault))
+IsRefused request (Step fault) old new = HasAddress request × ((rom : List ℕ) × Refuses rom (printed request rom) old new fault)
+IsRefused request Memory old new = HasAddress request × Keeps old new
+IsRefused request File old new = HasAddress request × Keeps old new
+IsRefused request Output old new = HasAddress request × ((rom : List ℕ) × IsAccepted rom)
+IsRefused request Address old new = (¬ (HasAddress request)) × Keeps old new
+IsRefused request Word old new = ⊥
+
+-- a request was done or refused
+abbrev pub IsServed : Request → Result Unit Fault → Option (List ℕ) → Option (List ℕ) → Type 0
+IsServed request (Ok u) old new = IsDone request old new
+IsServed request (Err fault) old new = IsRefused request fault old new
+
+-- `clap` answers this where help or the version is asked for
+abbrev pub is_help : ErrorKind → Bool
+is_help DisplayHelp = true
+is_help DisplayVersion = true
+is_help kind = false
+
+-- Words can be read so: a request has counts in their ranges, `clap`'s text is help or says what is not understood, memory
+-- was wanted, or a word is not text.
+abbrev pub IsReading : Result Asked Fault → Type 0
+IsReading (Ok (Command request)) = IsInRange request
+IsReading (Ok (Help text)) = is_help (kind_of text) ≡ true
+IsReading (Ok (Misuse text)) = (is_help (kind_of text) ≡ false) × (kind_of text ≢ OutOfMemory)
+IsReading (Ok OutOfRange) = ⊤
+IsReading (Err Memory) = ⊤
+IsReading (Err Word) = ⊤
+IsReading (Err fault) = ⊥
+
+-- words that are not understood
+abbrev pub IsMisuse : Result Asked Fault → Type 0
+IsMisuse (Ok (Command request)) = ¬ (HasAddress request)
+IsMisuse (Ok (Help text)) = ⊥
+IsMisuse (Ok (Misuse text)) = ⊤
+IsMisuse (Ok OutOfRange) = ⊤
+IsMisuse (Err fault) = fault ≡ Word
+
+-- what was asked for was done: a request, or help was written
+abbrev pub IsFulfilled : Result Asked Fault → Option (List ℕ) → Option (List ℕ) → Type 0
+IsFulfilled (Ok (Command request)) old new = IsDone request old new
+IsFulfilled (Ok (Help text)) old new = ⊤
+IsFulfilled asked old new = ⊥
+
+-- this fault is why it was not done
+abbrev pub IsFaultOf : Result Asked Fault → Fault → Option (List ℕ) → Option (List ℕ) → Type 0
+IsFaultOf (Ok (Command request)) fault old new = IsRefused request fault old new
+IsFaultOf (Ok (Help text)) fault old new = fault ≡ Output
+IsFaultOf (Err why) fault old new = (fault ≡ why) × Keeps old new
+IsFaultOf asked fault old new = ⊥
+
+-- the line where the words are not understood; None where `clap` gives the text
+abbrev pub misuse_line : Result Asked Fault → Option (List ℕ)
+misuse_line (Ok (Command request)) = line_of Address
+misuse_line (Ok asked) = None
+misuse_line (Err fault) = line_of fault
+
+-- The program ended with this status on words that were read so. `old` and `new` are what went to the output before and
+-- since, and the other two what went to standard error.
+pub record HasEnded (asked : Result Asked Fault) (old new errors_old errors_new : Option (List ℕ)) (status : ℕ) : Type 0 where
+  pub reading : IsReading asked
+  pub done : status ≡ 0 → IsFulfilled asked old new × Keeps errors_old errors_new
+  pub refused : status ≡ 1 → (fault : Fault) × (status_of fault ≡ 1) × IsFaultOf asked fault old new × HasLine (line_of fault) errors_old errors_new
+  pub misuse : (status ≡ 2) ↔ IsMisuse asked
+  pub misused : status ≡ 2 → Keeps old new × HasLine (misuse_line asked) errors_old errors_new
+  pub bound : status ≤ 2
+
+-- the same for some reading of the words
+abbrev pub Ends : Option (List ℕ) → Option (List ℕ) → Option (List ℕ) → Option (List ℕ) → ℕ → Type 0
+Ends old new errors_old errors_new status = (asked : Result Asked Fault) × HasEnded asked old new errors_old errors_new status

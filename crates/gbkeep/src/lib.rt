@@ -4,7 +4,9 @@
 //! `specs/` give; `run` is the whole program over any runtime and any two writers.
 #![tactic(auto)]
 
+mod asked;
 pub mod error;
+mod fault;
 mod info;
 mod line;
 mod listing;

@@ -1,61 +1,24 @@
 //! The program: words in, files and lines out.
 
-ghost use Rattle.std.specs.Prelude.{◌≡◌, ◌≤◌, IfOk, IfErr};
-ghost use Rattle.gbkeep.specs.Program.{status_of, KeepsAtMisuse};
+ghost use Rattle.std.specs.Prelude.{◌≡◌, ◌≤◌, ◌⊎◌, IfErr};
+ghost use Rattle.gbkeep.specs.Program.{Ends, HasEnded, IsReading, IsServed, KeepsAtMisuse};
 
-use crate::error::StepError;
+use crate::asked::{Asked, address_of, asked_by};
+use crate::fault::{DONE, Fault, NOT_UNDERSTOOD, report};
 use crate::info::write_info;
 use crate::listing::list_lines;
 use crate::steps::step_line;
-use cartridge::{CartError, Cartridge};
-use clap::error::ErrorKind;
-use command_line::{Request, request_of};
+use cartridge::Cartridge;
+use clap::Error;
+use command_line::Request;
 use std::convert::AsStr;
 use std::fs::File;
 use std::io::{Read, Write};
 use std::rt::{Env, Files};
 use std::{env, io};
-use thiserror::Error;
-
-/// The statuses of the program.
-const DONE: u8 = 0;
-
-const REFUSED: u8 = 1;
-
-const NOT_UNDERSTOOD: u8 = 2;
 
 /// A ROM file is read up to this many bytes and one.
 const MOST_ROM: u64 = 0x80_0000;
-
-/// Why the program does not do what it is asked to. Its text follows `gbkeep: ` on standard error.
-#[derive(Clone, Copy, Debug, PartialEq, Eq, Error)]
-enum Fault {
-    #[error(transparent)]
-    Cart(#[from] CartError),
-    #[error(transparent)]
-    Step(StepError),
-    #[error("no memory")]
-    Memory,
-    #[error("file failed")]
-    File,
-    #[error("output failed")]
-    Output,
-    #[error("address")]
-    Address,
-    #[error("a word is not text")]
-    Word,
-}
-
-impl Fault {
-    fn status(self) -> u8
-        ensures { result ≡ status_of self }
-    {
-        match self {
-            Fault::Address | Fault::Word => NOT_UNDERSTOOD,
-            _ => REFUSED,
-        }
-    }
-}
 
 /// Runs the program on the words that the process was started with: `main` does nothing else.
 pub fn run_program<R: Env + Files + AllocGlobal, O: Write, E: Write>(
@@ -65,27 +28,22 @@ pub fn run_program<R: Env + Files + AllocGlobal, O: Write, E: Write>(
 ) -> u8
     ensures status { result ≤ 2 }
     ensures misuse { KeepsAtMisuse (O.contents out.old) (O.contents out.new) result }
+    ensures ends { Ends (O.contents out.old) (O.contents out.new) (E.contents err.old) (E.contents err.new) result }
 {
     match words(rt) {
         Ok(words) => run(rt, words.as_slice(), out, err),
-        Err(fault) => report(fault, err),
+        Err(fault) => answer(rt, Err(fault), out, err),
     }
 }
 
-fn words<R: Env + AllocGlobal>(rt: &R) -> Result<Vec<String>, Fault> {
+fn words<R: Env + AllocGlobal>(rt: &R) -> Result<Vec<String>, Fault>
+    ensures { IfErr result (λ fault. IsReading (Err fault)) }
+{
     match env::args(rt) {
         Ok(args) => args.collect(rt.alloc()).map_err(|_| Fault::Memory),
         Err(error) if error.kind() == io::ErrorKind::OutOfMemory => Err(Fault::Memory),
         Err(_) => Err(Fault::Word),
     }
-}
-
-/// Writes the line of a fault and answers its status.
-fn report<E: Write>(fault: Fault, err: &mut E) -> u8
-    ensures { result ≡ status_of fault }
-{
-    let _ = writeln!(err, "gbkeep: {fault}");
-    fault.status()
 }
 
 /// Runs the program on its words, the first of which is its own name, and answers its status:
@@ -101,40 +59,45 @@ pub fn run<R: Files + AllocGlobal, S: AsStr, O: Write, E: Write>(
 ) -> u8
     ensures status { result ≤ 2 }
     ensures misuse { KeepsAtMisuse (O.contents out.old) (O.contents out.new) result }
+    ensures ends { Ends (O.contents out.old) (O.contents out.new) (E.contents err.old) (E.contents err.new) result }
 {
-    match served(rt, words, out, err) {
-        Ok(status) => status,
+    answer(rt, asked_by(rt.alloc(), words), out, err)
+}
+
+/// Answers what was read of the words.
+fn answer<R: Files + AllocGlobal, O: Write, E: Write>(
+    rt: &R,
+    asked: Result<Asked<'_>, Fault>,
+    out: &mut O,
+    err: &mut E,
+) -> u8
+    requires { IsReading asked }
+    ensures { HasEnded asked.entry (O.contents out.old) (O.contents out.new) (E.contents err.old) (E.contents err.new) result }
+{
+    match asked {
+        Ok(Asked::Command(request)) => match serve(rt, request, out) {
+            Ok(()) => DONE,
+            Err(fault) => report(fault, err),
+        },
+        Ok(Asked::Help(text)) => match write_help(text, out) {
+            Ok(()) => DONE,
+            Err(fault) => report(fault, err),
+        },
+        Ok(Asked::Misuse(text)) => {
+            let _ = write!(err, "{text}");
+            NOT_UNDERSTOOD
+        }
+        Ok(Asked::OutOfRange) => NOT_UNDERSTOOD,
         Err(fault) => report(fault, err),
     }
 }
 
-fn served<R: Files + AllocGlobal, S: AsStr, O: Write, E: Write>(
-    rt: &R,
-    words: &[S],
-    out: &mut O,
-    err: &mut E,
-) -> Result<u8, Fault>
-    ensures status { IfOk result (λ status. status ≤ 2) }
-    ensures misuse { IfOk result (KeepsAtMisuse (O.contents out.old) (O.contents out.new)) }
-    ensures refused { IfErr result (λ fault. KeepsAtMisuse (O.contents out.old) (O.contents out.new) (status_of fault)) }
+fn write_help<O: Write>(text: Error, out: &mut O) -> Result<(), Fault>
+    ensures { IfErr result (λ fault. fault ≡ Fault.Output) }
 {
-    match request_of(rt.alloc(), words) {
-        Ok(Some(request)) => {
-            serve(rt, request, out)?;
-            Ok(DONE)
-        }
-        Ok(None) => Ok(NOT_UNDERSTOOD),
-        Err(error) => {
-            if error.kind() == ErrorKind::OutOfMemory {
-                return Err(Fault::Memory);
-            }
-            if error.use_stderr() {
-                let _ = write!(err, "{error}");
-                return Ok(NOT_UNDERSTOOD);
-            }
-            write!(out, "{error}").map_err(|_| Fault::Output)?;
-            Ok(DONE)
-        }
+    match write!(out, "{text}") {
+        Ok(()) => Ok(()),
+        Err(_) => Err(Fault::Output),
     }
 }
 
@@ -143,37 +106,80 @@ fn serve<R: Files + AllocGlobal, O: Write>(
     request: Request<'_>,
     out: &mut O,
 ) -> Result<(), Fault>
-    ensures refused { IfErr result (λ fault. KeepsAtMisuse (O.contents out.old) (O.contents out.new) (status_of fault)) }
+    ensures { IsServed request.entry result (O.contents out.old) (O.contents out.new) }
 {
     match request {
-        Request::Info { cart } => {
-            let cartridge = Cartridge::read(file_bytes(rt, cart, MOST_ROM)?)?;
-            write_info(out, &cartridge).map_err(|_| Fault::Output)
-        }
+        Request::Info { cart } => info(rt, cart, out),
         Request::List {
             cart,
             address,
             count,
-        } => {
-            let address = address_of(address).ok_or(Fault::Address)?;
-            let rom = file_bytes(rt, cart, MOST_ROM)?;
-            match list_lines(rt.alloc(), rom, address, count, out) {
-                Ok(()) => Ok(()),
-                Err(fault) => Err(Fault::Step(fault)),
-            }
-        }
-        Request::Step { cart, count } => {
-            let rom = file_bytes(rt, cart, MOST_ROM)?;
-            match step_line(rt.alloc(), rom, count, out) {
-                Ok(()) => Ok(()),
-                Err(fault) => Err(Fault::Step(fault)),
-            }
-        }
+        } => list(rt, cart, address, count, out),
+        Request::Step { cart, count } => step(rt, cart, count, out),
+    }
+}
+
+fn info<R: Files + AllocGlobal, O: Write>(rt: &R, cart: &str, out: &mut O) -> Result<(), Fault>
+    ensures { IsServed (Request.Info cart.entry) result (O.contents out.old) (O.contents out.new) }
+{
+    let rom = match file_bytes(rt, cart, MOST_ROM) {
+        Ok(rom) => rom,
+        Err(fault) => return Err(fault),
+    };
+    let cartridge = match Cartridge::read(rom) {
+        Ok(cartridge) => cartridge,
+        Err(fault) => return Err(Fault::Cart(fault)),
+    };
+    match write_info(out, &cartridge) {
+        Ok(()) => Ok(()),
+        Err(_) => Err(Fault::Output),
+    }
+}
+
+fn list<R: Files + AllocGlobal, O: Write>(
+    rt: &R,
+    cart: &str,
+    address: &str,
+    count: u32,
+    out: &mut O,
+) -> Result<(), Fault>
+    ensures { IsServed (Request.List cart.entry address.entry count) result (O.contents out.old) (O.contents out.new) }
+{
+    let Some(first) = address_of(address) else {
+        return Err(Fault::Address);
+    };
+    let rom = match file_bytes(rt, cart, MOST_ROM) {
+        Ok(rom) => rom,
+        Err(fault) => return Err(fault),
+    };
+    match list_lines(rt.alloc(), rom, first, count, out) {
+        Ok(()) => Ok(()),
+        Err(fault) => Err(Fault::Step(fault)),
+    }
+}
+
+fn step<R: Files + AllocGlobal, O: Write>(
+    rt: &R,
+    cart: &str,
+    count: u32,
+    out: &mut O,
+) -> Result<(), Fault>
+    ensures { IsServed (Request.Step cart.entry count) result (O.contents out.old) (O.contents out.new) }
+{
+    let rom = match file_bytes(rt, cart, MOST_ROM) {
+        Ok(rom) => rom,
+        Err(fault) => return Err(fault),
+    };
+    match step_line(rt.alloc(), rom, count, out) {
+        Ok(()) => Ok(()),
+        Err(fault) => Err(Fault::Step(fault)),
     }
 }
 
 /// The bytes of a file, and of a longer one the first `most` and one more.
-fn file_bytes<R: Files + AllocGlobal>(rt: &R, path: &str, most: u64) -> Result<Vec<u8>, Fault> {
+fn file_bytes<R: Files + AllocGlobal>(rt: &R, path: &str, most: u64) -> Result<Vec<u8>, Fault>
+    ensures { IfErr result (λ fault. (fault ≡ Fault.File) ⊎ (fault ≡ Fault.Memory)) }
+{
     let file = File::open(rt, path).map_err(|_| Fault::File)?;
     let mut bytes = Vec::new(rt.alloc());
     match file.take(most.saturating_add(1)).read_to_end(&mut bytes) {
@@ -181,12 +187,4 @@ fn file_bytes<R: Files + AllocGlobal>(rt: &R, path: &str, most: u64) -> Result<V
         Err(error) if error.kind() == io::ErrorKind::OutOfMemory => Err(Fault::Memory),
         Err(_) => Err(Fault::File),
     }
-}
-
-/// One to four hexadecimal digits, in either case.
-fn address_of(text: &str) -> Option<u16> {
-    if text.len() > 4 || text.as_bytes().first() == Some(&b'+') {
-        return None;
-    }
-    u16::from_str_radix(text, 16).ok()
 }

@@ -1,6 +1,6 @@
 -- What public clauses see of a `FileDevice`. What a file keeps is no fact that a program can know; it is a premise, and
--- stands in `honest`: the file gave what it held as it was opened, and `held` is whatever the reader of a clause takes it to
--- be, an image that the last stop left. From then on the device answers no read whose bytes are not those that were found
+-- stands in `honest`: the file gave what it held as it was opened, and `held` is whatever the caller takes it to be, as an
+-- image that the last stop left. From then on the device answers no read whose bytes are not those that were found
 -- or written, so within its life it returns what was written; and its images are the sectors of the last successful sync
 -- with any subset of the later writes.
 use Rattle.std.specs.Prelude.{◌≡◌, ℕ, ◌↔◌, ◌%◌, List}
@@ -12,10 +12,6 @@ use Rattle.sector_device.specs.declared.device.DeviceFault.TheVariants.{Device, 
 
 abbrev pub file_disk : FileDevice → DiskState
 file_disk d = recorded_disk (d.history.found ≡ d.history.held) d.history.found d.history.calls d.faults
-
--- what the file is taken to have held as it was opened
-abbrev pub held_by : FileDevice → List (List ℕ)
-held_by d = d.history.held
 
 -- it was just opened: no call yet and no fault, and it is honest exactly if reads give this content
 pub record IsOpened (content : List (List ℕ)) (d : FileDevice) : Type 0 where

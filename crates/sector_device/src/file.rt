@@ -39,34 +39,20 @@ pub struct FileDevice {
 }
 
 impl FileDevice {
-    ghost use Rattle.sector_device.specs.FileDevice.{file_disk, held_by, IsOpened, IsAttachFault};
+    ghost use Rattle.sector_device.specs.FileDevice.{file_disk, IsOpened, IsAttachFault};
     ghost use Rattle.sector_device.specs.FileRecord.{unasked, with_call};
     ghost use Rattle.sector_device.specs.declared.recorded.Recorded.TheVariants.{Write, Sync};
 
     /// Makes a file of so many zero sectors, where nothing stands at the path, and makes it and its folder's entry durable.
-    /// Any fault is `Device`, and then no file is left behind where that can be helped. No clause says what the file then
-    /// holds, so that the device's honesty stays a premise.
-    pub fn create<R: Files<File = File> + AllocGlobal, P: AsPath>(
+    /// Any fault is `Device`, and then no file is left behind where that can be helped. `held` is what the file then holds,
+    /// whatever the caller takes for it.
+    pub fn create<R: Files<File = File> + AllocGlobal>(
         rt: &R,
-        path: P,
+        path: Path<'_>,
         sectors: u64,
     ) -> Result<FileDevice, DeviceFault>
-        ensures opened { IfOk result (λ d. IsOpened (held_by d) d) }
-        ensures zero { IfOk result (λ d. (file_disk d).sectors ≡ replicate sectors (replicate 512 0)) }
-        ensures fault { IfErr result (λ fault. fault ≡ DeviceFault.Device) }
-    {
-        FileDevice::create_with(rt, path, sectors, FileRecord::of_unknown())
-    }
-
-    /// The same, for a file of which `history` says what it holds, whatever that is.
-    pub fn create_with<R: Files<File = File> + AllocGlobal, P: AsPath>(
-        rt: &R,
-        path: P,
-        sectors: u64,
-        history: FileRecord,
-    ) -> Result<FileDevice, DeviceFault>
-        requires { history ≡ unasked history.held }
-        ensures opened { IfOk result (IsOpened history.held) }
+        ghost held: { List (List ℕ) }
+        ensures opened { IfOk result (IsOpened held) }
         ensures zero { IfOk result (λ d. (file_disk d).sectors ≡ replicate sectors (replicate 512 0)) }
         ensures fault { IfErr result (λ fault. fault ≡ DeviceFault.Device) }
     {
@@ -76,29 +62,17 @@ impl FileDevice {
         let Ok(file) = new_file(rt, path.path_text(), sectors.saturating_mul(512)) else {
             return Err(DeviceFault::Device);
         };
-        Ok(FileDevice::opened(file, zero, history))
+        Ok(FileDevice::opened(file, zero, FileRecord::new()))
     }
 
-    /// Opens a file of whole sectors, syncs it and reads it. No clause says what it held, so that the device's honesty stays
-    /// a premise.
-    pub fn attach<R: Files<File = File> + AllocGlobal, P: AsPath>(
+    /// Opens a file of whole sectors, syncs it and reads it. `held` is what the file then holds, whatever the caller takes for
+    /// it: after a stop, one of the images of that time.
+    pub fn attach<R: Files<File = File> + AllocGlobal>(
         rt: &R,
-        path: P,
+        path: Path<'_>,
     ) -> Result<FileDevice, DeviceFault>
-        ensures opened { IfOk result (λ d. IsOpened (held_by d) d) }
-        ensures fault { IfErr result IsAttachFault }
-    {
-        FileDevice::attach_with(rt, path, FileRecord::of_unknown())
-    }
-
-    /// The same, for a file of which `history` says what it holds, whatever that is.
-    pub fn attach_with<R: Files<File = File> + AllocGlobal, P: AsPath>(
-        rt: &R,
-        path: P,
-        history: FileRecord,
-    ) -> Result<FileDevice, DeviceFault>
-        requires { history ≡ unasked history.held }
-        ensures opened { IfOk result (IsOpened history.held) }
+        ghost held: { List (List ℕ) }
+        ensures opened { IfOk result (IsOpened held) }
         ensures fault { IfErr result IsAttachFault }
     {
         let Ok((file, size)) = old_file(rt, path.path_text()) else {
@@ -108,7 +82,7 @@ impl FileDevice {
             return Err(DeviceFault::SizeNotSectors(size));
         }
         match read_sectors(rt.alloc(), &file, (size / 512) as usize) {
-            Some(sectors) => Ok(FileDevice::opened(file, sectors, history)),
+            Some(sectors) => Ok(FileDevice::opened(file, sectors, FileRecord::new())),
             None => Err(DeviceFault::Device),
         }
     }

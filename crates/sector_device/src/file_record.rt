@@ -23,22 +23,14 @@ impl FileRecord {
     ghost use Rattle.sector_device.specs.FileRecord.{unasked, noted, with_found, with_call};
     ghost use Rattle.sector_device.specs.declared.recorded.Recorded.TheVariants.{Write, Sync};
 
-    /// Of a file of which nothing was asked yet. The ghost value is what the file holds; the caller's clauses hold whatever
-    /// is taken for it.
-    pub fn new() -> FileRecord
+    /// Of a file that holds this and of which nothing was asked yet.
+    pub(crate) fn new() -> FileRecord
         ghost held: { List (List ℕ) }
         ensures { result ≡ unasked held }
     {
         FileRecord {
             marker: PhantomData,
         }
-    }
-
-    /// The same, where no clause says what the file holds.
-    pub(crate) fn of_unknown() -> FileRecord
-        ensures { result ≡ unasked result.held }
-    {
-        FileRecord::new()
     }
 
     /// These sectors were found in the file.

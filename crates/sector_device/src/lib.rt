@@ -13,6 +13,5 @@ mod tests;
 
 pub use device::{DeviceFault, SectorDevice};
 pub use file::FileDevice;
-pub use file_record::FileRecord;
 pub use laws::memory_keeps_the_disk_model;
 pub use memory::MemoryDevice;

@@ -1,5 +1,6 @@
 use super::*;
 use std::fs::{self, OpenOptions};
+use std::path::Path;
 use std::process::Abort;
 use std::test::Fail;
 
@@ -113,21 +114,21 @@ fn one_call_fails(rt: HostRuntime) -> Result<(), Fail> {
 #[test]
 fn a_file_keeps_sectors(rt: HostRuntime) -> Result<(), Fail> {
     let path = "kept.save";
-    let mut device = FileDevice::create(&rt, path, 3)?;
+    let mut device = FileDevice::create(&rt, Path::new(path), 3)?;
     assert_eq!(rt; three(&rt, &mut device)?, [0, 0, 0]);
     put(&rt, &mut device, 1, 7)?;
     device.sync()?;
     assert_eq!(rt; three(&rt, &mut device)?, [0, 7, 0]);
     assert_eq!(rt; fs::metadata(&rt, path)?.len(), 1536);
-    let mut again = FileDevice::attach(&rt, path)?;
+    let mut again = FileDevice::attach(&rt, Path::new(path))?;
     assert_eq!(rt; three(&rt, &mut again)?, [0, 7, 0]);
-    match FileDevice::create(&rt, path, 3) {
+    match FileDevice::create(&rt, Path::new(path), 3) {
         Ok(_) => assert!(rt; false, "made where a file stands"),
         Err(fault) => assert_eq!(rt; fault, DeviceFault::Device),
     }
     assert_eq!(rt; fs::metadata(&rt, path)?.len(), 1536);
     fs::remove_file(&rt, path)?;
-    match FileDevice::attach(&rt, path) {
+    match FileDevice::attach(&rt, Path::new(path)) {
         Ok(_) => assert!(rt; false, "attached to nothing"),
         Err(fault) => assert_eq!(rt; fault, DeviceFault::Device),
     }
@@ -138,7 +139,7 @@ fn a_file_keeps_sectors(rt: HostRuntime) -> Result<(), Fail> {
 fn a_file_of_other_size_is_refused(rt: HostRuntime) -> Result<(), Fail> {
     let path = "odd.save";
     fs::write(&rt, path, [0u8; 1000].as_slice())?;
-    match FileDevice::attach(&rt, path) {
+    match FileDevice::attach(&rt, Path::new(path)) {
         Ok(_) => assert!(rt; false, "attached to 1000 bytes"),
         Err(fault) => assert_eq!(rt; fault, DeviceFault::SizeNotSectors(1000)),
     }
@@ -149,7 +150,7 @@ fn a_file_of_other_size_is_refused(rt: HostRuntime) -> Result<(), Fail> {
 #[test]
 fn a_length_that_is_too_great_leaves_no_file(rt: HostRuntime) -> Result<(), Fail> {
     let path = "great.save";
-    match FileDevice::create(&rt, path, u64::MAX) {
+    match FileDevice::create(&rt, Path::new(path), u64::MAX) {
         Ok(_) => assert!(rt; false, "made"),
         Err(fault) => assert_eq!(rt; fault, DeviceFault::Device),
     }
@@ -160,7 +161,7 @@ fn a_length_that_is_too_great_leaves_no_file(rt: HostRuntime) -> Result<(), Fail
 #[test]
 fn a_changed_file_gives_a_fault(rt: HostRuntime) -> Result<(), Fail> {
     let path = "changed.save";
-    let mut device = FileDevice::create(&rt, path, 3)?;
+    let mut device = FileDevice::create(&rt, Path::new(path), 3)?;
     assert_eq!(rt; three(&rt, &mut device)?, [0, 0, 0]);
     let other = OpenOptions::new().write(true).open(&rt, path)?;
     other.set_len(700)?;

@@ -1,6 +1,6 @@
 use Rattle.std.proofs.Common.{◌≡◌, replicate, refl, rules}
 use Rattle.sector_device.proofs.Calls.{zero_sectors}
-use Rattle.sector_device.proofs.file.FileDevice.create_with.Goals as goal
+use Rattle.sector_device.proofs.file.FileDevice.create.Goals as goal
 
 pub opened-requires-clause-sized : goal.opened-requires-clause-sized
 opened-requires-clause-sized g c =

@@ -1,0 +1,70 @@
+//! What the words of the program ask for.
+
+ghost use Rattle.std.specs.Prelude.{◌≡◌, ◌==◌, slice_index};
+ghost use Rattle.std.specs.Option.{SomeIff};
+ghost use Rattle.std.specs.Str.Parse.{digits_value};
+ghost use Rattle.gbkeep.specs.Program.{IsReading};
+ghost use Rattle.gbkeep.specs.Request.{IsAddress};
+
+use crate::fault::Fault;
+use clap::Error;
+use clap::error::ErrorKind;
+use command_line::{Request, request_of};
+use std::alloc::Global;
+use std::convert::AsStr;
+
+/// What is asked for. `clap`'s texts are its own.
+#[derive(Drop)]
+pub(crate) enum Asked<'a> {
+    Command(Request<'a>),
+    /// Help, which is this text.
+    Help(Error),
+    /// Nothing that is understood; the text says why.
+    Misuse(Error),
+    /// A value is missing or out of its range, which `clap` rules out.
+    OutOfRange,
+}
+
+/// What the words ask for, the first of which is the program's own name. `Err`: `Memory`.
+pub(crate) fn asked_by<'a, S: AsStr>(alloc: Global, words: &'a [S]) -> Result<Asked<'a>, Fault>
+    ensures { IsReading result }
+{
+    match request_of(alloc, words) {
+        Ok(Some(request)) => Ok(Asked::Command(request)),
+        Ok(None) => Ok(Asked::OutOfRange),
+        Err(error) => read_error(error),
+    }
+}
+
+/// What `clap` answers where it finds no request.
+fn read_error<'a>(error: Error) -> Result<Asked<'a>, Fault>
+    ensures { IsReading result }
+{
+    if error.kind() == ErrorKind::OutOfMemory {
+        return Err(Fault::Memory);
+    }
+    if error.use_stderr() {
+        Ok(Asked::Misuse(error))
+    } else {
+        Ok(Asked::Help(error))
+    }
+}
+
+/// The address that one to four hexadecimal digits write, in either case.
+pub(crate) fn address_of(text: &str) -> Option<u16>
+    ensures { SomeIff result (IsAddress text.now) (digits_value 16 text.now) }
+{
+    if text.len() > 4 || has_plus(text) {
+        return None;
+    }
+    match u16::from_str_radix(text, 16) {
+        Ok(address) => Some(address),
+        Err(_) => None,
+    }
+}
+
+fn has_plus(text: &str) -> bool
+    ensures { result ≡ (slice_index text.now 0 == 43) }
+{
+    text.as_bytes().first() == Some(&b'+')
+}
