@@ -11,6 +11,7 @@ help:
 	@echo 'make install         puts bin/gbkeep into PREFIX/bin (PREFIX=$(PREFIX))'
 	@echo 'make check           while editing: proves what changed (CRATE=name for one crate)'
 	@echo 'make bench           proves the benchmarks: times, instructions a frame, device calls'
+	@echo 'make compare         compares the program with a second one, in Python, on random ROMs (SECONDS=20 a kind)'
 	@echo 'make test            the gate: proves everything from nothing, runs the tests and programs'
 
 ARGS ?= step data/rom.gb 2
@@ -43,8 +44,13 @@ bench:
 	cd crates/bench_snapshot && $(RT) run -- time
 	cd crates/bench_storage && $(RT) run
 
+SECONDS ?= 20
+
+compare: bin/gbkeep
+	python3 -B scripts/second_machine/compare.py bin/gbkeep $(SECONDS)
+
 test:
 	RT=$(RT) sh scripts/opened_has_no_append.sh
 	$(RT) ci
 
-.PHONY: help run build install check bench test
+.PHONY: help run build install check bench compare test
