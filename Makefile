@@ -5,7 +5,7 @@ PROGRAM := crates/gbkeep_program
 SOURCES := crates.txt $(shell find crates -name out -prune -o -type f \( -name '*.rt' -o -name '*.antt' \) -print)
 
 help:
-	@echo 'make run             runs the program on a small ROM, before any proof (half a minute)'
+	@echo 'make run             runs the program on a small ROM, before any proof (under a minute)'
 	@echo 'make run ARGS="..."  runs it on other words, as ARGS="info data/rom.gb", over files of $(PROGRAM)'
 	@echo 'make build           proves the program and leaves it at bin/gbkeep'
 	@echo 'make install         puts bin/gbkeep into PREFIX/bin (PREFIX=$(PREFIX))'
