@@ -86,7 +86,7 @@ IsMisuse (Ok (Misuse text)) = ⊤
 IsMisuse (Ok OutOfRange) = ⊤
 IsMisuse (Err fault) = fault ≡ Word
 
--- what was asked for was done: a request, or help was written
+-- what was asked for was done; nothing is said of what goes out where that is help
 abbrev pub IsFulfilled : Result Asked Fault → Option (List ℕ) → Option (List ℕ) → Type 0
 IsFulfilled (Ok (Command request)) old new = IsDone request old new
 IsFulfilled (Ok (Help text)) old new = ⊤
