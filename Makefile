@@ -5,14 +5,16 @@ PROGRAM := crates/gbkeep_program
 SOURCES := crates.txt $(shell find crates -name out -prune -o -type f \( -name '*.rt' -o -name '*.antt' \) -print)
 
 help:
-	@echo 'make run             runs the program on a small ROM, before any proof (under a minute)'
+	@echo 'Times are of two processors.'
+	@echo 'make run             runs the program on a small ROM, before any proof (a minute)'
 	@echo 'make run ARGS="..."  runs it on other words, as ARGS="info data/rom.gb", over files of $(PROGRAM)'
-	@echo 'make build           proves the program and leaves it at bin/gbkeep'
+	@echo 'make build           proves the program and leaves it at bin/gbkeep (20 minutes from nothing)'
 	@echo 'make install         puts bin/gbkeep into PREFIX/bin (PREFIX=$(PREFIX))'
-	@echo 'make check           while editing: proves what changed (CRATE=name for one crate)'
-	@echo 'make bench           proves the benchmarks: times, instructions a frame, device calls'
+	@echo 'make check           while editing: proves what changed, seconds a crate (CRATE=name for one crate)'
+	@echo 'make edits           tries every wrong body, 10 to 40 s each (CRATE=name for one crate)'
+	@echo 'make bench           proves the benchmarks: times, instructions a frame, device calls (20 minutes from nothing)'
 	@echo 'make compare         compares the program with a second one, in Python, on random ROMs (SECONDS=20 a kind)'
-	@echo 'make test            the gate: proves everything from nothing, runs the tests and programs'
+	@echo 'make test            the gate: proves everything from nothing, runs the tests and programs (an hour)'
 
 ARGS ?= step data/rom.gb 2
 
@@ -36,13 +38,16 @@ else
 	$(RT) all check
 endif
 
+edits:
+	RT=$(RT) python3 -B scripts/edits.py $(CRATE)
+
 bench:
-	cd crates/bench_machine && $(RT) run -- time
-	sh scripts/instructions_a_frame.sh crates/bench_machine/out/bench_machine
-	cd crates/bench_picture && $(RT) run -- time
-	cd crates/bench_timer && $(RT) run -- time
-	cd crates/bench_snapshot && $(RT) run -- time
-	cd crates/bench_storage && $(RT) run
+	cd crates/bench && $(RT) run -- frames
+	sh scripts/instructions_a_frame.sh crates/bench/out/bench
+	cd crates/bench && $(RT) run -- lines
+	cd crates/bench && $(RT) run -- units
+	cd crates/bench && $(RT) run -- snapshots
+	cd crates/bench && $(RT) run -- storage
 
 SECONDS ?= 20
 
@@ -53,4 +58,4 @@ test:
 	RT=$(RT) sh scripts/opened_has_no_append.sh
 	$(RT) ci
 
-.PHONY: help run build install check bench compare test
+.PHONY: help run build install check edits bench compare test

@@ -9,6 +9,3 @@ mod window;
 pub use banks::Banks;
 pub use clock::{ClockRegister, ClockRegisters};
 pub use state::BanksState;
-
-#[cfg(test)]
-mod tests;

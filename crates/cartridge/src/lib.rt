@@ -195,6 +195,3 @@ fn checksum(bytes: &[u8]) -> u8
         .iter()
         .fold(0, |sum: u8, byte| sum.wrapping_sub(*byte).wrapping_sub(1))
 }
-
-#[cfg(test)]
-mod tests;

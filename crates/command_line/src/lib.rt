@@ -76,6 +76,3 @@ fn between(least: u32, most: u32, count: u32) -> Option<u32>
         None
     }
 }
-
-#[cfg(test)]
-mod tests;

@@ -72,6 +72,3 @@ pub fn word_digits(value: u16) -> ArrayString<4>
     text.push_str(byte_digits((value % 256) as u8).as_str());
     text
 }
-
-#[cfg(test)]
-mod tests;

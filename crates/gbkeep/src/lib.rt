@@ -17,6 +17,3 @@ pub use error::StepError;
 pub use listing::list_lines;
 pub use program::{run, run_program};
 pub use steps::step_line;
-
-#[cfg(test)]
-mod tests;

@@ -27,6 +27,3 @@ pub use memory::Memory;
 pub use memory_map::{BusRegisters, Region};
 pub use processor::{Processor, ProcessorState};
 pub use step::{Seen, Stepped, What};
-
-#[cfg(test)]
-mod tests;

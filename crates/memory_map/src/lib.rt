@@ -10,8 +10,6 @@ mod control;
 mod laws;
 mod place;
 mod region;
-#[cfg(test)]
-mod tests;
 
 pub use bus::Bus;
 pub use bus_registers::BusRegisters;

@@ -18,6 +18,3 @@ pub use instruction::{
 };
 pub use listing::{Line, list_line};
 pub use text::{Text, write_text};
-
-#[cfg(test)]
-mod tests;

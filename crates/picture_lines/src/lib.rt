@@ -8,8 +8,6 @@ mod line;
 mod object_entry;
 mod plain;
 mod registers;
-#[cfg(test)]
-mod tests;
 mod tiles;
 
 pub use kernels::{map_shades, tile_colours};

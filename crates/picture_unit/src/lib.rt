@@ -7,8 +7,6 @@ mod pgm;
 mod picture;
 mod region;
 mod state;
-#[cfg(test)]
-mod tests;
 
 pub use exact_text::OutputFailed;
 pub use laws::{drawn_line_holds_its_pixels, frame_has_17556_cycles, picture_requests_are_added};

@@ -8,8 +8,6 @@ mod laws;
 mod memory;
 mod recorded;
 mod replay;
-#[cfg(test)]
-mod tests;
 
 pub use device::{DeviceFault, SectorDevice};
 pub use file::FileDevice;

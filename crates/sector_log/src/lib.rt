@@ -14,8 +14,6 @@ mod parse;
 mod reading;
 mod root;
 mod store;
-#[cfg(test)]
-mod tests;
 mod writes;
 
 pub use entries::are_inputs;

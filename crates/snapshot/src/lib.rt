@@ -18,6 +18,3 @@ pub use field::{Rule, SnapshotField};
 pub use from_text::decode;
 pub use laws::{one_text_is_one_machine, texts_are_legal};
 pub use to_text::{encode, length};
-
-#[cfg(test)]
-mod tests;

@@ -6,8 +6,6 @@
 mod laws;
 mod requests;
 mod serial;
-#[cfg(test)]
-mod tests;
 mod timer;
 
 pub use laws::{serial_request_is_added, timer_counts_at_its_rate, timer_request_is_added};

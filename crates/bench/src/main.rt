@@ -1,0 +1,46 @@
+//! Benchmarks: `bench WORD` times frames, lines, units or snapshots, or counts the device calls of the log.
+//!
+//! `bench frames ROM COUNT` plays a ROM once, for a tool that counts instructions. Without a word it prints its words.
+#![tactic(auto)]
+
+mod best;
+mod counting;
+mod frames;
+mod lines;
+mod rom;
+mod snapshots;
+mod storage;
+mod units;
+
+use std::{env, io};
+
+fn main(rt: HostRuntime) -> io::Result<()> {
+    let mut words = env::args(&rt)?.skip(1);
+    let what = words.next();
+    match what.as_deref() {
+        Some("frames") => {
+            let name = words.next();
+            let count = words.next();
+            match (name.as_deref(), count.as_deref()) {
+                (Some(name), Some(count)) => frames::play(&rt, name, count.parse().unwrap_or(1)),
+                _ => frames::time(&rt),
+            }
+        }
+        Some("lines") => lines::time(&rt),
+        Some("units") => units::time(&rt),
+        Some("snapshots") => snapshots::time(&rt),
+        Some("storage") => storage::count(&rt),
+        _ => usage(&rt),
+    }
+}
+
+fn usage(rt: &HostRuntime) -> io::Result<()> {
+    println!(rt; "bench frames: frames a second of three small ROMs")?;
+    println!(rt; "bench frames ROM COUNT: plays busy, scrolling or halting once")?;
+    println!(rt; "bench lines: lines of the picture by tile rows and pixel by pixel")?;
+    println!(rt;
+        "bench units: M-cycles of picture, timer and serial port, at once and one by one"
+    )?;
+    println!(rt; "bench snapshots: encode and decode")?;
+    println!(rt; "bench storage: device calls of append and replace, the same in each run")
+}

@@ -1,0 +1,762 @@
+//! Worked values on texts.
+use cartridge::Cartridge;
+use machine::{Input, Machine, Region};
+use snapshot::{SnapError, decode, encode, length};
+use std::alloc::Global;
+use std::process::Abort;
+use std::test::Fail;
+
+const REGIONS: [Region; 6] = [
+    Region::Vram,
+    Region::Wram,
+    Region::Oam,
+    Region::Hram,
+    Region::Sound,
+    Region::CartRam,
+];
+
+// A cartridge of 32 KiB with this type, RAM code and program at 0100.
+fn cartridge(alloc: Global, kind: u8, ram_code: u8, program: &[u8]) -> Result<Cartridge, Fail> {
+    let mut rom = vec![in alloc; 0u8; 0x8000]?;
+    put(&mut rom, 0x147, kind);
+    put(&mut rom, 0x149, ram_code);
+    for (index, byte) in program.iter().enumerate() {
+        put(&mut rom, 0x100usize.saturating_add(index), *byte);
+    }
+    Cartridge::read(rom).map_err(|_| Fail::from("no cartridge"))
+}
+
+fn put(bytes: &mut [u8], at: usize, value: u8) {
+    if let Some(place) = bytes.get_mut(at) {
+        *place = value;
+    }
+}
+
+fn at(bytes: &[u8], at: usize) -> u8 {
+    bytes.get(at).copied().unwrap_or(0)
+}
+
+fn text_of(alloc: Global, machine: &Machine) -> Result<Vec<u8>, Fail> {
+    let ram = machine.store(Region::CartRam).len();
+    if ram > 131_072 {
+        return Err(Fail::from("too much RAM"));
+    }
+    let mut text = vec![in alloc; 0u8; length(ram)]?;
+    encode(machine, &mut text);
+    Ok(text)
+}
+
+fn fault_of(alloc: Global, text: &[u8], cartridge: &Cartridge) -> Option<SnapError> {
+    decode(alloc, text, cartridge).err()
+}
+
+fn machine_of(alloc: Global, text: &[u8], cartridge: &Cartridge) -> Result<Machine, Fail> {
+    decode(alloc, text, cartridge).map_err(|_| Fail::from("refused"))
+}
+
+fn power_on(alloc: Global, cartridge: &Cartridge) -> Result<Machine, Fail> {
+    Ok(Machine::power_on(alloc, cartridge)?)
+}
+
+// These have no contract, so that a test's proof does not follow the numbers.
+
+fn steps(machine: &mut Machine, count: u32) {
+    machine.run_steps(count);
+}
+
+fn frame(machine: &mut Machine, buttons: u8) {
+    machine.frame(buttons);
+}
+
+fn apply(machine: &mut Machine, input: Input) {
+    machine.apply(input);
+}
+
+// Whether two machines agree in all that can be asked of them.
+fn are_same(a: &Machine, b: &Machine) -> bool {
+    if a.state() != b.state() {
+        return false;
+    }
+    for region in REGIONS {
+        if a.store(region) != b.store(region) {
+            return false;
+        }
+    }
+    for y in 0..144 {
+        if a.picture().row(y) != b.picture().row(y) {
+            return false;
+        }
+    }
+    true
+}
+
+// The machine comes back from its text, and goes on as before for ten frames.
+fn comes_back(alloc: Global, machine: &mut Machine, cartridge: &Cartridge) -> Result<bool, Fail> {
+    let text = text_of(alloc, machine)?;
+    let mut other = machine_of(alloc, &text, cartridge)?;
+    if !are_same(machine, &other) {
+        return Ok(false);
+    }
+    for buttons in 0..10u8 {
+        frame(machine, buttons);
+        frame(&mut other, buttons);
+        if !are_same(machine, &other) {
+            return Ok(false);
+        }
+    }
+    Ok(true)
+}
+
+#[test]
+fn lengths(rt: HostRuntime) -> Result<(), Fail> {
+    assert_eq!(rt; length(0), 22_607);
+    assert_eq!(rt; length(512), 23_119);
+    assert_eq!(rt; length(8_192), 30_799);
+    assert_eq!(rt; length(32_768), 55_375);
+    assert_eq!(rt; length(65_536), 88_143);
+    assert_eq!(rt; length(131_072), 153_679);
+    Ok(())
+}
+
+#[test]
+fn texts_are_refused_at_their_first_fault(rt: HostRuntime) -> Result<(), Fail> {
+    let alloc = rt.alloc();
+    let cartridge = cartridge(alloc, 0x00, 0, &[])?;
+    let machine = power_on(alloc, &cartridge)?;
+    let mut text = text_of(alloc, &machine)?;
+    assert_eq!(rt; text.len(), 22_607);
+    assert!(rt; are_same(&machine, &machine_of(alloc, &text, &cartridge)?));
+    for (offset, field) in [(127, 67), (9, 9)] {
+        put(&mut text, offset, 0x01);
+        assert_eq!(rt;
+            fault_of(alloc, &text, &cartridge),
+            Some(SnapError::Field(field))
+        );
+    }
+    for length in [22_606, 0] {
+        text.truncate(length);
+        let wanted = Some(SnapError::SnapLength(length as u64));
+        assert_eq!(rt; fault_of(alloc, &text, &cartridge), wanted);
+    }
+    Ok(())
+}
+
+#[test]
+fn another_kind_is_refused(rt: HostRuntime) -> Result<(), Fail> {
+    let alloc = rt.alloc();
+    let plain = cartridge(alloc, 0x00, 0, &[])?;
+    let mbc1 = cartridge(alloc, 0x01, 0, &[])?;
+    let text = text_of(alloc, &power_on(alloc, &plain)?)?;
+    assert_eq!(rt; fault_of(alloc, &text, &mbc1), Some(SnapError::Field(51)));
+    Ok(())
+}
+
+// All fields but the stores.
+const FRONT: [u8; 67] = [
+    0x47, 0x42, 0x53, 0x4e, 0x41, 0x50, 0x30, 0x31, 0x01, 0x80, 0x00, 0x13, 0x00, 0xd8, 0x01, 0x4d,
+    0xfe, 0xff, 0x00, 0x01, 0x00, 0x00, 0x00, 0x01, 0x00, 0x00, 0x00, 0xab, 0x00, 0x00, 0x00, 0x00,
+    0x00, 0x00, 0x00, 0xff, 0xa0, 0x91, 0x00, 0x00, 0x00, 0x00, 0xfc, 0xff, 0xff, 0x00, 0x00, 0x00,
+    0x00, 0x00, 0x01, 0x00, 0x00, 0x00, 0x00, 0x00, 0x00, 0x00, 0x00, 0x00, 0x00, 0x00, 0x00, 0x00,
+    0x00, 0x00, 0x00,
+];
+
+#[test]
+fn the_text_at_power_on(rt: HostRuntime) -> Result<(), Fail> {
+    let alloc = rt.alloc();
+    let cartridge = cartridge(alloc, 0x00, 0, &[])?;
+    let text = text_of(alloc, &power_on(alloc, &cartridge)?)?;
+    assert!(rt; text.starts_with(&FRONT));
+    assert!(rt; text.iter().skip(67).all(|byte| *byte == 0));
+    Ok(())
+}
+
+#[test]
+fn the_overrun_is_kept(rt: HostRuntime) -> Result<(), Fail> {
+    let alloc = rt.alloc();
+    let cartridge = cartridge(alloc, 0x00, 0, &[0x23, 0x18, 0xfd])?;
+    let mut machine = power_on(alloc, &cartridge)?;
+    frame(&mut machine, 0);
+    assert_eq!(rt; at(&text_of(alloc, &machine)?, 21), 0x01);
+    Ok(())
+}
+
+fn begin_copy(machine: &mut Machine) {
+    let mut state = machine.state();
+    state.bus.picture.lcdc = 0x11;
+    state.bus.dma = 0xc1;
+    state.bus.dma_copied = 0;
+    machine.restore(&state);
+    let mut wram = [0u8; 8192];
+    for offset in 0..160u8 {
+        put(&mut wram, 0x100 + usize::from(offset), offset);
+    }
+    machine.fill(Region::Wram, &wram);
+}
+
+#[test]
+fn a_copy_goes_on(rt: HostRuntime) -> Result<(), Fail> {
+    let alloc = rt.alloc();
+    let cartridge = cartridge(alloc, 0x00, 0, &[])?;
+    let mut machine = power_on(alloc, &cartridge)?;
+    begin_copy(&mut machine);
+    steps(&mut machine, 10);
+    let text = text_of(alloc, &machine)?;
+    assert_eq!(rt; at(&text, 35), 0xc1);
+    assert_eq!(rt; at(&text, 36), 0x0a);
+    let mut other = machine_of(alloc, &text, &cartridge)?;
+    assert_eq!(rt; other.peek(0xfe9f), 0x00);
+    steps(&mut other, 150);
+    assert_eq!(rt; other.peek(0xfe09), 0x09);
+    assert_eq!(rt; other.peek(0xfe9f), 0x9f);
+    Ok(())
+}
+
+fn set_enable(machine: &mut Machine) {
+    let mut state = machine.state();
+    state.state.enable = true;
+    state.bus.ie = 0xff;
+    machine.restore(&state);
+}
+
+fn set_transfer(machine: &mut Machine) {
+    let mut state = machine.state();
+    state.bus.serial.sb = 0x55;
+    state.bus.serial.sc = 0x81;
+    state.bus.serial.cycles_left = 700;
+    machine.restore(&state);
+}
+
+fn set_window(machine: &mut Machine) {
+    let mut state = machine.state();
+    state.bus.picture.lcdc = 0xf7;
+    state.bus.picture.wx = 0x17;
+    state.bus.picture.wy = 0x03;
+    state.bus.picture.seen = true;
+    state.bus.picture.ly = 71;
+    state.bus.picture.m_cycle = 17;
+    state.bus.picture.window_line = 44;
+    state.bus.picture.stat = 0x48;
+    state.bus.picture.lyc = 0x50;
+    state.bus.picture.signal = true;
+    machine.restore(&state);
+    let mut vram = [0u8; 8192];
+    let mut value = 1u8;
+    for byte in vram.iter_mut() {
+        value = value.wrapping_mul(5).wrapping_add(77);
+        *byte = value;
+    }
+    machine.fill(Region::Vram, &vram);
+}
+
+fn set_waiting(machine: &mut Machine, locked: bool, stopped: bool, halted: bool) {
+    let mut state = machine.state();
+    state.state.locked = locked;
+    state.state.stopped = stopped;
+    state.state.halted = halted;
+    state.bus.ie = 0x04;
+    state.bus.timer.tac = 5;
+    state.bus.timer.tma = 0xf0;
+    state.bus.timer.tima = 0xfe;
+    machine.restore(&state);
+}
+
+fn set_repeat(machine: &mut Machine) {
+    let mut state = machine.state();
+    state.state.ime = true;
+    state.state.repeat = true;
+    state.registers.h = 0xfd;
+    state.bus.buttons = 0x81;
+    state.bus.p1_select = 0x10;
+    machine.restore(&state);
+}
+
+fn turn_off(machine: &mut Machine) {
+    let mut state = machine.state();
+    state.bus.picture.lcdc = 0x11;
+    machine.restore(&state);
+}
+
+fn set_variant(machine: &mut Machine, variant: u8) {
+    match variant {
+        0 => {
+            begin_copy(machine);
+            steps(machine, 5);
+        }
+        1 => set_enable(machine),
+        2 => set_transfer(machine),
+        3 => set_window(machine),
+        4 => set_waiting(machine, true, false, false),
+        5 => set_waiting(machine, false, true, false),
+        6 => set_waiting(machine, false, false, true),
+        7 => set_repeat(machine),
+        _ => turn_off(machine),
+    }
+}
+
+// It writes A to each address from HL on.
+const WRITER: [u8; 4] = [0x22, 0x3c, 0x18, 0xfc];
+
+#[test]
+fn machines_come_back_from_their_texts(rt: HostRuntime) -> Result<(), Fail> {
+    let alloc = rt.alloc();
+    let cartridge = cartridge(alloc, 0x03, 0x02, &WRITER)?;
+    for variant in 0..9u8 {
+        let mut machine = power_on(alloc, &cartridge)?;
+        frame(&mut machine, 0);
+        set_variant(&mut machine, variant);
+        assert!(rt; comes_back(alloc, &mut machine, &cartridge)?);
+    }
+    Ok(())
+}
+
+// Machines of this type with every RAM code, after writes from 014D on and with the next ones from 9F00 on.
+fn come_back(alloc: Global, kind: u8) -> Result<bool, Fail> {
+    for ram_code in RAM_CODES {
+        if !comes_back_with(alloc, kind, ram_code)? {
+            return Ok(false);
+        }
+    }
+    Ok(true)
+}
+
+const RAM_CODES: [u8; 5] = [0x00, 0x02, 0x03, 0x04, 0x05];
+
+fn comes_back_with(alloc: Global, kind: u8, ram_code: u8) -> Result<bool, Fail> {
+    let cartridge = cartridge(alloc, kind, ram_code, &WRITER)?;
+    let mut machine = power_on(alloc, &cartridge)?;
+    steps(&mut machine, 20_000);
+    set_h(&mut machine, 0x9f);
+    comes_back(alloc, &mut machine, &cartridge)
+}
+
+fn set_h(machine: &mut Machine, h: u8) {
+    let mut state = machine.state();
+    state.registers.h = h;
+    machine.restore(&state);
+}
+
+#[test]
+fn plain_comes_back_from_its_text(rt: HostRuntime) -> Result<(), Fail> {
+    assert!(rt; come_back(rt.alloc(), 0x00)?);
+    Ok(())
+}
+
+#[test]
+fn mbc1_comes_back_from_its_text(rt: HostRuntime) -> Result<(), Fail> {
+    assert!(rt; come_back(rt.alloc(), 0x02)?);
+    Ok(())
+}
+
+#[test]
+fn mbc2_comes_back_from_its_text(rt: HostRuntime) -> Result<(), Fail> {
+    assert!(rt; come_back(rt.alloc(), 0x06)?);
+    Ok(())
+}
+
+#[test]
+fn mbc3_comes_back_from_its_text(rt: HostRuntime) -> Result<(), Fail> {
+    assert!(rt; come_back(rt.alloc(), 0x12)?);
+    Ok(())
+}
+
+#[test]
+fn mbc5_comes_back_from_its_text(rt: HostRuntime) -> Result<(), Fail> {
+    assert!(rt; come_back(rt.alloc(), 0x1a)?);
+    Ok(())
+}
+
+#[test]
+fn mbc5_with_rumble_comes_back_from_its_text(rt: HostRuntime) -> Result<(), Fail> {
+    assert!(rt; come_back(rt.alloc(), 0x1d)?);
+    Ok(())
+}
+
+// It enables RAM, sets the clock's minutes to 59 and its day to 256, and arms the latch.
+const CLOCK: [u8; 31] = [
+    0x3e, 0x0a, 0xea, 0x00, 0x00, 0x3e, 0x09, 0xea, 0x00, 0x40, 0x3e, 0x3b, 0xea, 0x00, 0xa0, 0x3e,
+    0x0c, 0xea, 0x00, 0x40, 0x3e, 0x01, 0xea, 0x00, 0xa0, 0xaf, 0xea, 0x00, 0x60, 0x18, 0xfe,
+];
+
+fn bytes_at(text: &[u8], offsets: [usize; 4]) -> [u8; 4] {
+    offsets.map(|offset| at(text, offset))
+}
+
+fn clocks_come_back(rt: &impl Abort, alloc: Global, ram_code: u8) -> Result<(), Fail> {
+    let cartridge = cartridge(alloc, 0x10, ram_code, &CLOCK)?;
+    let mut machine = power_on(alloc, &cartridge)?;
+    steps(&mut machine, 12);
+    apply(&mut machine, Input::Seconds(3_725));
+    let text = text_of(alloc, &machine)?;
+    assert_eq!(rt; (at(&text, 51), at(&text, 56)), (4, 1));
+    assert_eq!(rt; bytes_at(&text, [57, 58, 59, 61]), [5, 1, 2, 1]);
+    assert_eq!(rt; bytes_at(&text, [62, 63, 64, 66]), [0, 59, 0, 1]);
+    assert!(rt; comes_back(alloc, &mut machine, &cartridge)?);
+    Ok(())
+}
+
+#[test]
+fn an_armed_latch_and_both_clocks_come_back(rt: HostRuntime) -> Result<(), Fail> {
+    for ram_code in RAM_CODES {
+        clocks_come_back(&rt, rt.alloc(), ram_code)?;
+    }
+    Ok(())
+}
+
+// A row of the table as the tests have it: where the field begins, its width, the least and the greatest number, and the
+// bits that it may have.
+#[derive(Clone, Copy)]
+struct Row {
+    offset: u32,
+    width: u8,
+    least: u16,
+    most: u16,
+    bits: u16,
+}
+
+fn of(offset: u32, width: u8, least: u16, most: u16, bits: u16) -> Row {
+    Row {
+        offset,
+        width,
+        least,
+        most,
+        bits,
+    }
+}
+
+// A type with its byte 51, its first and last ROM bank, its last RAM bank, and 1 where RAM enable, mode and clock are there.
+#[derive(Clone, Copy)]
+struct Kind {
+    cartridge_type: u8,
+    number: u16,
+    first_bank: u16,
+    last_bank: u16,
+    last_ram_bank: u16,
+    enable: u16,
+    mode: u16,
+    clock: u16,
+}
+
+fn kind_row(cartridge_type: u8, number: u16, banks: [u16; 3], has: [u16; 3]) -> Kind {
+    Kind {
+        cartridge_type,
+        number,
+        first_bank: banks[0],
+        last_bank: banks[1],
+        last_ram_bank: banks[2],
+        enable: has[0],
+        mode: has[1],
+        clock: has[2],
+    }
+}
+
+fn kinds() -> [Kind; 7] {
+    [
+        kind_row(0x08, 0, [0, 0, 0], [0, 0, 0]),
+        kind_row(0x02, 1, [1, 31, 3], [1, 1, 0]),
+        kind_row(0x05, 2, [1, 15, 0], [1, 0, 0]),
+        kind_row(0x11, 3, [1, 127, 15], [1, 0, 0]),
+        kind_row(0x0f, 4, [1, 127, 15], [1, 1, 1]),
+        kind_row(0x19, 5, [0, 511, 15], [1, 0, 0]),
+        kind_row(0x1c, 5, [0, 511, 7], [1, 0, 0]),
+    ]
+}
+
+// The fields that have more than one rule for all bytes, by offset.
+fn rows(kind: Kind) -> [Row; 28] {
+    let sixty = if kind.clock == 1 { 63 } else { 0 };
+    let hours = if kind.clock == 1 { 31 } else { 0 };
+    let day = if kind.clock == 1 { 255 } else { 0 };
+    let high = if kind.clock == 1 { 0xc1 } else { 0 };
+    [
+        of(9, 1, 0, 255, 0xf0),
+        of(20, 1, 0, 255, 0x3f),
+        of(21, 1, 0, 5, 255),
+        of(23, 1, 0, 255, 0x1f),
+        of(25, 1, 0, 255, 0x30),
+        of(30, 1, 0, 7, 255),
+        of(32, 1, 0, 255, 0x81),
+        of(33, 2, 0, 1024, u16::MAX),
+        of(36, 1, 0, 160, 255),
+        of(38, 1, 0, 255, 0x78),
+        of(47, 1, 0, 153, 255),
+        of(48, 1, 0, 113, 255),
+        of(50, 1, 0, 255, 0x03),
+        of(51, 1, kind.number, kind.number, 255),
+        of(52, 1, 0, kind.enable, 255),
+        of(53, 2, kind.first_bank, kind.last_bank, u16::MAX),
+        of(55, 1, 0, kind.last_ram_bank, 255),
+        of(56, 1, 0, kind.mode, 255),
+        of(57, 1, 0, sixty, 255),
+        of(58, 1, 0, sixty, 255),
+        of(59, 1, 0, hours, 255),
+        of(60, 1, 0, day, 255),
+        of(61, 1, 0, 255, high),
+        of(62, 1, 0, sixty, 255),
+        of(63, 1, 0, sixty, 255),
+        of(64, 1, 0, hours, 255),
+        of(65, 1, 0, day, 255),
+        of(66, 1, 0, 255, high),
+    ]
+}
+
+fn number(text: &[u8], row: Row) -> u16 {
+    let low = u16::from(at(text, row.offset as usize));
+    if row.width == 1 {
+        return low;
+    }
+    low.wrapping_add(u16::from(at(text, (row.offset as usize).wrapping_add(1))).wrapping_mul(256))
+}
+
+fn place_of(row: Row, place: usize) -> usize {
+    (row.offset as usize).wrapping_add(place)
+}
+
+fn is_good(number: u16, row: Row) -> bool {
+    row.least <= number && number <= row.most && number & row.bits == number
+}
+
+// The first fault of a text of the right length, by looking at each rule in turn.
+fn first_fault(text: &[u8], kind: Kind) -> Option<u32> {
+    let magic = *b"GBSNAP01";
+    for (index, byte) in magic.iter().enumerate() {
+        if at(text, index) != *byte {
+            return Some(0);
+        }
+    }
+    for row in rows(kind) {
+        if !is_good(number(text, row), row) {
+            return Some(row.offset);
+        }
+    }
+    for offset in 67..128 {
+        if at(text, offset) != 0 {
+            return Some(67);
+        }
+    }
+    if kind.number == 2 {
+        for offset in 22_607..23_119 {
+            if at(text, offset) > 15 {
+                return Some(22_607);
+            }
+        }
+    }
+    None
+}
+
+const VALUES: [u8; 24] = [
+    0, 1, 2, 3, 4, 6, 7, 8, 15, 16, 31, 32, 63, 64, 113, 114, 127, 128, 153, 154, 160, 161, 192,
+    255,
+];
+
+// Whether the text is refused with this byte of a field, which it has to be at this field, or not at all.
+fn is_refused(alloc: Global, text: &[u8], row: Row, cartridge: &Cartridge) -> Result<bool, Fail> {
+    let wanted = if is_good(number(text, row), row) {
+        None
+    } else {
+        Some(SnapError::Field(row.offset))
+    };
+    if fault_of(alloc, text, cartridge) != wanted {
+        return Err(Fail::from("another answer"));
+    }
+    Ok(wanted.is_some())
+}
+
+// Each byte of a field becomes each of the values in turn: how many are refused.
+fn refusals(alloc: Global, text: &mut [u8], row: Row, cartridge: &Cartridge) -> Result<u32, Fail> {
+    let mut refused: u32 = 0;
+    for place in 0..usize::from(row.width) {
+        let offset = place_of(row, place);
+        let before = at(text, offset);
+        for value in VALUES {
+            put(text, offset, value);
+            if is_refused(alloc, text, row, cartridge)? {
+                refused = refused.wrapping_add(1);
+            }
+        }
+        put(text, offset, before);
+    }
+    Ok(refused)
+}
+
+fn each_field_is_looked_at(alloc: Global, kind: Kind) -> Result<u32, Fail> {
+    let cartridge = cartridge(alloc, kind.cartridge_type, 0x02, &[])?;
+    let mut text = text_of(alloc, &power_on(alloc, &cartridge)?)?;
+    let mut refused: u32 = 0;
+    for row in rows(kind) {
+        refused = refused.wrapping_add(refusals(alloc, &mut text, row, &cartridge)?);
+    }
+    Ok(refused)
+}
+
+#[test]
+fn each_field_of_each_kind_is_looked_at(rt: HostRuntime) -> Result<(), Fail> {
+    for kind in kinds() {
+        let refused = each_field_is_looked_at(rt.alloc(), kind)?;
+        assert!(rt; refused > 300);
+    }
+    Ok(())
+}
+
+#[test]
+fn every_byte_of_magic_and_unused_is_looked_at(rt: HostRuntime) -> Result<(), Fail> {
+    let alloc = rt.alloc();
+    let cartridge = cartridge(alloc, 0x00, 0, &[])?;
+    let mut text = text_of(alloc, &power_on(alloc, &cartridge)?)?;
+    for offset in 0..8 {
+        let byte = at(&text, offset);
+        put(&mut text, offset, byte ^ 1);
+        assert_eq!(rt;
+            fault_of(alloc, &text, &cartridge),
+            Some(SnapError::Field(0))
+        );
+        put(&mut text, offset, byte);
+    }
+    for offset in 67..128 {
+        put(&mut text, offset, 0x80);
+        assert_eq!(rt;
+            fault_of(alloc, &text, &cartridge),
+            Some(SnapError::Field(67))
+        );
+        put(&mut text, offset, 0);
+    }
+    assert_eq!(rt; fault_of(alloc, &text, &cartridge), None);
+    Ok(())
+}
+
+#[test]
+fn half_bytes_of_mbc2(rt: HostRuntime) -> Result<(), Fail> {
+    let alloc = rt.alloc();
+    let cartridge = cartridge(alloc, 0x05, 0, &[])?;
+    let mut text = text_of(alloc, &power_on(alloc, &cartridge)?)?;
+    assert_eq!(rt; text.len(), 23_119);
+    put(&mut text, 23_118, 0x0f);
+    assert_eq!(rt;
+        machine_of(alloc, &text, &cartridge)?
+            .store(Region::CartRam)
+            .last(),
+        Some(&0x0f)
+    );
+    put(&mut text, 23_118, 0x10);
+    assert_eq!(rt;
+        fault_of(alloc, &text, &cartridge),
+        Some(SnapError::Field(22_607))
+    );
+    Ok(())
+}
+
+// The next number of a plain generator.
+fn next(seed: &mut u64) -> u64 {
+    *seed = seed
+        .wrapping_mul(6_364_136_223_846_793_005)
+        .wrapping_add(1_442_695_040_888_963_407);
+    *seed >> 33
+}
+
+fn change_byte(text: &mut [u8], seed: &mut u64) {
+    let limit = if next(seed) % 4 == 0 {
+        text.len() as u64
+    } else {
+        70
+    };
+    if limit > 0 {
+        let offset = next(seed) % limit;
+        put(text, offset as usize, (next(seed) % 256) as u8);
+    }
+}
+
+// This text with up to five bytes changed.
+fn changed(alloc: Global, sound: &[u8], seed: &mut u64) -> Result<Vec<u8>, Fail> {
+    let mut text = sound.to_vec(alloc)?;
+    for _byte in 0..next(seed) % 6 {
+        change_byte(&mut text, seed);
+    }
+    Ok(text)
+}
+
+// Whether a machine was made. The answer has to be the first fault, or a machine with this very text.
+fn is_made(alloc: Global, text: &[u8], cartridge: &Cartridge, kind: Kind) -> Result<bool, Fail> {
+    let fault = first_fault(text, kind);
+    match decode(alloc, text, cartridge) {
+        Ok(found) => {
+            if fault.is_some() || text_of(alloc, &found)?.as_slice() != text {
+                return Err(Fail::from("a wrong machine"));
+            }
+            Ok(true)
+        }
+        Err(why) => {
+            if fault.map(SnapError::Field) != Some(why) {
+                return Err(Fail::from("a wrong fault"));
+            }
+            Ok(false)
+        }
+    }
+}
+
+// How many of so many texts with some bytes changed are still a machine's.
+fn random_texts(alloc: Global, kind: Kind, count: u32) -> Result<u32, Fail> {
+    let cartridge = cartridge(alloc, kind.cartridge_type, 0x02, &WRITER)?;
+    let mut machine = power_on(alloc, &cartridge)?;
+    frame(&mut machine, 0x81);
+    let sound = text_of(alloc, &machine)?;
+    let mut seed = u64::from(kind.cartridge_type);
+    let mut made: u32 = 0;
+    for _text in 0..count {
+        let text = changed(alloc, &sound, &mut seed)?;
+        if is_made(alloc, &text, &cartridge, kind)? {
+            made = made.wrapping_add(1);
+        }
+    }
+    Ok(made)
+}
+
+fn random_texts_are_answered(alloc: Global, index: usize) -> Result<bool, Fail> {
+    match kinds().get(index) {
+        Some(kind) => {
+            let made = random_texts(alloc, *kind, 400)?;
+            Ok(made > 80 && made < 360)
+        }
+        None => Ok(false),
+    }
+}
+
+#[test]
+fn random_texts_of_plain(rt: HostRuntime) -> Result<(), Fail> {
+    assert!(rt; random_texts_are_answered(rt.alloc(), 0)?);
+    Ok(())
+}
+
+#[test]
+fn random_texts_of_mbc1(rt: HostRuntime) -> Result<(), Fail> {
+    assert!(rt; random_texts_are_answered(rt.alloc(), 1)?);
+    Ok(())
+}
+
+#[test]
+fn random_texts_of_mbc2(rt: HostRuntime) -> Result<(), Fail> {
+    assert!(rt; random_texts_are_answered(rt.alloc(), 2)?);
+    Ok(())
+}
+
+#[test]
+fn random_texts_of_mbc3(rt: HostRuntime) -> Result<(), Fail> {
+    assert!(rt; random_texts_are_answered(rt.alloc(), 3)?);
+    Ok(())
+}
+
+#[test]
+fn random_texts_of_mbc3_with_clock(rt: HostRuntime) -> Result<(), Fail> {
+    assert!(rt; random_texts_are_answered(rt.alloc(), 4)?);
+    Ok(())
+}
+
+#[test]
+fn random_texts_of_mbc5(rt: HostRuntime) -> Result<(), Fail> {
+    assert!(rt; random_texts_are_answered(rt.alloc(), 5)?);
+    Ok(())
+}
+
+#[test]
+fn random_texts_of_mbc5_with_rumble(rt: HostRuntime) -> Result<(), Fail> {
+    assert!(rt; random_texts_are_answered(rt.alloc(), 6)?);
+    Ok(())
+}

@@ -1,0 +1,71 @@
+use command_line::{Request, request_of};
+use std::alloc::Global;
+use std::test::Fail;
+
+#[test]
+fn reads_each_command(rt: HostRuntime) -> Result<(), Fail> {
+    let alloc = rt.alloc();
+    assert_eq!(rt;
+        request_of(alloc, ["gbkeep", "info", "a.gb"].as_slice())?,
+        Some(Request::Info { cart: "a.gb" })
+    );
+    assert_eq!(rt;
+        request_of(alloc, ["gbkeep", "step", "a.gb", "0"].as_slice())?,
+        Some(Request::Step {
+            cart: "a.gb",
+            count: 0
+        })
+    );
+    assert_eq!(rt;
+        request_of(alloc, ["gbkeep", "step", "a.gb", "1000000"].as_slice())?,
+        Some(Request::Step {
+            cart: "a.gb",
+            count: 1_000_000
+        })
+    );
+    assert_eq!(rt;
+        request_of(alloc, ["gbkeep", "list", "a.gb", "0100", "4096"].as_slice())?,
+        Some(Request::List {
+            cart: "a.gb",
+            address: "0100",
+            count: 4096
+        })
+    );
+    Ok(())
+}
+
+#[test]
+fn does_not_understand_what_is_out_of_range(rt: HostRuntime) {
+    let alloc = rt.alloc();
+    assert_eq!(rt;
+        status(alloc, ["gbkeep", "list", "a", "0", "0"].as_slice()),
+        2
+    );
+    assert_eq!(rt;
+        status(alloc, ["gbkeep", "list", "a", "0", "4097"].as_slice()),
+        2
+    );
+    assert_eq!(rt;
+        status(alloc, ["gbkeep", "step", "a", "1000001"].as_slice()),
+        2
+    );
+    assert_eq!(rt; status(alloc, ["gbkeep", "step", "a", "-1"].as_slice()), 2);
+    assert_eq!(rt; status(alloc, ["gbkeep", "step", "a", "x"].as_slice()), 2);
+    assert_eq!(rt; status(alloc, ["gbkeep", "fly", "a"].as_slice()), 2);
+    assert_eq!(rt;
+        status(alloc, ["gbkeep", "play", "a", "b", "c"].as_slice()),
+        2
+    );
+    assert_eq!(rt; status(alloc, ["gbkeep", "step", "a"].as_slice()), 2);
+    assert_eq!(rt; status(alloc, ["gbkeep"].as_slice()), 2);
+    assert_eq!(rt; status(alloc, ["gbkeep", "--help"].as_slice()), 0);
+    assert_eq!(rt; status(alloc, ["gbkeep", "help", "step"].as_slice()), 0);
+    assert_eq!(rt; status(alloc, ["gbkeep", "step", "--help"].as_slice()), 0);
+}
+
+fn status(alloc: Global, words: &[&str]) -> i32 {
+    match request_of(alloc, words) {
+        Ok(_) => 1,
+        Err(error) => error.exit_code(),
+    }
+}

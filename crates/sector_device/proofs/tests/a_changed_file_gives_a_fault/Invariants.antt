@@ -1,5 +1,0 @@
-use Rattle.std.proofs.Common.{[]}
-use Rattle.sector_device.proofs.tests.a_changed_file_gives_a_fault.Given as goal
-
-abbrev pub ghost-create : goal.ghost-create
-ghost-create g a = []

@@ -1,0 +1,436 @@
+use bank_controllers::{Banks, BanksState, ClockRegisters};
+use cartridge::{Cartridge, Controller};
+use std::alloc::Global;
+use std::process::Abort;
+use std::test::Fail;
+
+/// A cartridge of this type, so many banks of ROM and this RAM code. Each bank's first byte is its
+/// number, its second byte the number's high half.
+fn inserted(alloc: Global, kind: u8, rom_banks: u16, ram_code: u8) -> Result<Banks, Fail> {
+    let mut image = vec![in alloc; 0; usize::from(rom_banks) * 0x4000]?;
+    for bank in 0..rom_banks {
+        let start = usize::from(bank) * 0x4000;
+        if start + 1 < image.len() {
+            image[start] = (bank % 256) as u8;
+            image[start + 1] = (bank / 256) as u8;
+        }
+    }
+    if image.len() > 0x149 {
+        image[0x147] = kind;
+        image[0x149] = ram_code;
+    }
+    let cartridge = Cartridge::read(image)?;
+    let banks = Banks::new(alloc, &cartridge)?;
+    Ok(banks)
+}
+
+/// The number of the ROM bank that an address shows.
+fn bank_at(banks: &Banks, address: u16) -> u16 {
+    let address = address / 0x4000 * 0x4000;
+    u16::from(banks.read(address)) + 256 * u16::from(banks.read(address.saturating_add(1)))
+}
+
+#[derive(Drop)]
+struct Shows {
+    kind: u8,
+    rom_banks: u16,
+    writes: &'static [(u16, u8)],
+    low: u16,
+    high: u16,
+}
+
+fn select(rt: &impl Abort, alloc: Global, case: &Shows) -> Result<(), Fail> {
+    let mut banks = inserted(alloc, case.kind, case.rom_banks, 0)?;
+    for (address, value) in case.writes {
+        banks.write(*address, *value);
+    }
+    assert_eq!(rt; bank_at(&banks, 0x0000), case.low);
+    assert_eq!(rt; bank_at(&banks, 0x4000), case.high);
+    Ok(())
+}
+
+/// Pan Docs, "MBC1" ("2000-3FFF ROM Bank Number", "6000-7FFF Banking Mode Select"), "MBC2" ("0000-3FFF RAM
+/// Enable, ROM Bank Number"), "MBC3" ("2000-3FFF ROM Bank Number") and "MBC5" ("2000-2FFF", "3000-3FFF").
+#[test]
+fn rom_banks(rt: HostRuntime) -> Result<(), Fail> {
+    let cases = [
+        Shows {
+            kind: 0x00,
+            rom_banks: 2,
+            writes: &[(0x2000, 0), (0x4000, 3)],
+            low: 0,
+            high: 1,
+        },
+        Shows {
+            kind: 0x01,
+            rom_banks: 128,
+            writes: &[],
+            low: 0,
+            high: 1,
+        },
+        Shows {
+            kind: 0x01,
+            rom_banks: 128,
+            writes: &[(0x2000, 0), (0x4000, 1)],
+            low: 0,
+            high: 0x21,
+        },
+        Shows {
+            kind: 0x01,
+            rom_banks: 128,
+            writes: &[(0x2000, 0x60), (0x4000, 3)],
+            low: 0,
+            high: 0x61,
+        },
+        Shows {
+            kind: 0x01,
+            rom_banks: 128,
+            writes: &[(0x2000, 0), (0x4000, 1), (0x6000, 1)],
+            low: 0x20,
+            high: 0x21,
+        },
+        Shows {
+            kind: 0x01,
+            rom_banks: 16,
+            writes: &[(0x2000, 0x10)],
+            low: 0,
+            high: 0,
+        },
+        Shows {
+            kind: 0x01,
+            rom_banks: 16,
+            writes: &[(0x3FFF, 0xE5), (0x5FFF, 2), (0x7FFF, 1)],
+            low: 0,
+            high: 5,
+        },
+        Shows {
+            kind: 0x05,
+            rom_banks: 16,
+            writes: &[(0x2100, 0)],
+            low: 0,
+            high: 1,
+        },
+        Shows {
+            kind: 0x05,
+            rom_banks: 16,
+            writes: &[(0x0100, 0x0F)],
+            low: 0,
+            high: 15,
+        },
+        Shows {
+            kind: 0x05,
+            rom_banks: 16,
+            writes: &[(0x2000, 0x07), (0x4100, 0x07)],
+            low: 0,
+            high: 1,
+        },
+        Shows {
+            kind: 0x05,
+            rom_banks: 4,
+            writes: &[(0x3FFF, 0xFE)],
+            low: 0,
+            high: 2,
+        },
+        Shows {
+            kind: 0x11,
+            rom_banks: 128,
+            writes: &[(0x2000, 0)],
+            low: 0,
+            high: 1,
+        },
+        Shows {
+            kind: 0x11,
+            rom_banks: 128,
+            writes: &[(0x2000, 0xA0)],
+            low: 0,
+            high: 0x20,
+        },
+        Shows {
+            kind: 0x11,
+            rom_banks: 128,
+            writes: &[(0x3FFF, 0x7F)],
+            low: 0,
+            high: 0x7F,
+        },
+        Shows {
+            kind: 0x19,
+            rom_banks: 512,
+            writes: &[],
+            low: 0,
+            high: 1,
+        },
+        Shows {
+            kind: 0x19,
+            rom_banks: 512,
+            writes: &[(0x2000, 0)],
+            low: 0,
+            high: 0,
+        },
+        Shows {
+            kind: 0x19,
+            rom_banks: 512,
+            writes: &[(0x2FFF, 0x45), (0x3000, 0xFF)],
+            low: 0,
+            high: 0x145,
+        },
+        Shows {
+            kind: 0x19,
+            rom_banks: 64,
+            writes: &[(0x2000, 0x45), (0x3FFF, 1)],
+            low: 0,
+            high: 5,
+        },
+    ];
+    for case in &cases {
+        select(&rt, rt.alloc(), case)?;
+    }
+    Ok(())
+}
+
+/// Pan Docs, "The Cartridge Header", "0149 - RAM size", and the RAM registers of each controller's page: with so
+/// many banks of 8 KiB, bank n is also bank n plus their number.
+#[test]
+fn ram_banks(rt: HostRuntime) -> Result<(), Fail> {
+    for (kind, ram_code, present) in [
+        (0x09, 0x02, 1),
+        (0x03, 0x02, 1),
+        (0x03, 0x03, 4),
+        (0x13, 0x03, 4),
+        (0x10, 0x05, 8),
+        (0x1B, 0x04, 16),
+        (0x1E, 0x03, 4),
+        (0x1E, 0x05, 8),
+    ] {
+        let mut banks = inserted(rt.alloc(), kind, 2, ram_code)?;
+        assert_eq!(rt; banks.store().len(), 0x2000 * usize::from(present));
+        assert_eq!(rt; banks.read(0xA000), if kind == 0x09 { 0x00 } else { 0xFF });
+        banks.write(0x1FFF, 0x1A);
+        banks.write(0x6000, 0x01);
+        let selected = if kind == 0x10 || kind == 0x13 {
+            8u8
+        } else {
+            16
+        };
+        for bank in 0..selected {
+            banks.write(0x4000, bank);
+            banks.write(0xBFFF, bank);
+        }
+        for bank in 0..selected {
+            banks.write(0x4000, bank);
+            let last = if present == 0 {
+                0
+            } else {
+                selected - present + bank % present
+            };
+            assert_eq!(rt; banks.read(0xBFFF), last, "type {kind} bank {bank}");
+        }
+        banks.write(0x0000, 0x0B);
+        assert_eq!(rt; banks.read(0xBFFF) == 0xFF, kind != 0x09);
+    }
+    Ok(())
+}
+
+/// MBC1 in mode 0 shows RAM bank 0, whatever its upper bits are; MBC3 answers nothing at D to F.
+#[test]
+fn ram_that_is_not_shown(rt: HostRuntime) -> Result<(), Fail> {
+    let mut mbc1 = inserted(rt.alloc(), 0x03, 2, 0x03)?;
+    mbc1.write(0x0000, 0x0A);
+    mbc1.write(0x4000, 0x02);
+    mbc1.write(0xA123, 0x55);
+    assert!(rt; mbc1.store().len() == 0x8000);
+    assert_eq!(rt; mbc1.store()[0x0123], 0x55);
+    let mut mbc3 = inserted(rt.alloc(), 0x12, 2, 0x03)?;
+    mbc3.write(0x0000, 0x0A);
+    for select in [0x08, 0x0C, 0x0D, 0x0F] {
+        mbc3.write(0x4000, select);
+        mbc3.write(0xA000, 0x55);
+        assert_eq!(rt; mbc3.read(0xA000), 0xFF);
+    }
+    let mut bare = inserted(rt.alloc(), 0x08, 2, 0x00)?;
+    bare.write(0xA000, 0x55);
+    assert_eq!(rt; bare.read(0xA000), 0xFF);
+    Ok(())
+}
+
+/// Pan Docs, "MBC2": 512 half bytes, and bit 8 of the address tells the two registers apart.
+#[test]
+fn half_bytes(rt: HostRuntime) -> Result<(), Fail> {
+    let mut banks = inserted(rt.alloc(), 0x06, 16, 0x00)?;
+    banks.write(0x0000, 0x0A);
+    banks.write(0xA000, 0x35);
+    assert_eq!(rt; banks.read(0xA000), 0xF5);
+    assert_eq!(rt; banks.read(0xA200), 0xF5);
+    assert_eq!(rt; banks.read(0xBE00), 0xF5);
+    assert!(rt; banks.store().len() == 512);
+    assert_eq!(rt; banks.store()[0], 0x05);
+    banks.write(0x2100, 0x00);
+    assert_eq!(rt; bank_at(&banks, 0x4000), 1);
+    assert_eq!(rt; banks.read(0xA000), 0xF5);
+    banks.write(0x3EFF, 0x00);
+    assert_eq!(rt; banks.read(0xA000), 0xFF);
+    Ok(())
+}
+
+/// An MBC3 with clock, whose clock registers are set to these and enabled.
+fn clock(alloc: Global, registers: [u8; 5]) -> Result<Banks, Fail> {
+    let mut banks = inserted(alloc, 0x10, 2, 0x00)?;
+    banks.write(0x0000, 0x0A);
+    for (register, value) in (8u8..13).zip(registers) {
+        banks.write(0x4000, register);
+        banks.write(0xA000, value);
+    }
+    Ok(banks)
+}
+
+/// Latches the clock and reads registers 8 to C.
+fn latched(banks: &mut Banks) -> [u8; 5] {
+    banks.write(0x6000, 0x00);
+    banks.write(0x6000, 0x01);
+    let mut registers = [0; 5];
+    for (register, value) in (8u8..13).zip(registers.iter_mut()) {
+        banks.write(0x4000, register);
+        *value = banks.read(0xA000);
+    }
+    registers
+}
+
+#[test]
+fn seconds(rt: HostRuntime) -> Result<(), Fail> {
+    for (registers, seconds, after) in [
+        ([59, 59, 23, 0xFF, 0x01], 1, [0, 0, 0, 0, 0x80]),
+        ([59, 59, 23, 0xFF, 0x41], 1, [59, 59, 23, 0xFF, 0x41]),
+        ([63, 7, 0, 0, 0], 1, [0, 7, 0, 0, 0]),
+        ([60, 63, 31, 0, 0], 5, [1, 63, 31, 0, 0]),
+        ([59, 59, 23, 0xFF, 0x00], 1, [0, 0, 0, 0x00, 0x01]),
+        ([0, 0, 0, 0, 0x80], 86400, [0, 0, 0, 1, 0x80]),
+        ([0, 0, 0, 0, 0], 4294967295, [0x0F, 0x1C, 0x06, 0x2E, 0x80]),
+    ] {
+        let mut banks = clock(rt.alloc(), registers)?;
+        assert_eq!(rt; latched(&mut banks), registers);
+        banks.pass_seconds(seconds);
+        assert_eq!(rt; latched(&mut banks), after);
+    }
+    Ok(())
+}
+
+/// Jumps and single seconds agree, from registers out of range too.
+#[test]
+fn seconds_at_once(rt: HostRuntime) -> Result<(), Fail> {
+    for registers in [
+        [58, 59, 23, 0xFF, 1],
+        [61, 62, 30, 0xFF, 0x81],
+        [0, 63, 25, 7, 0],
+    ] {
+        let mut at_once = clock(rt.alloc(), registers)?;
+        let mut one_by_one = clock(rt.alloc(), registers)?;
+        at_once.pass_seconds(20000);
+        for _ in 0..20000 {
+            one_by_one.pass_seconds(1);
+        }
+        assert_eq!(rt; at_once.state(), one_by_one.state());
+    }
+    Ok(())
+}
+
+/// Pan Docs, "MBC3", "6000-7FFF - Latch Clock Data".
+#[test]
+fn the_latch_is_armed_by_zero(rt: HostRuntime) -> Result<(), Fail> {
+    for (writes, copies) in [
+        ([0x00, 0x01], true),
+        ([0x01, 0x01], false),
+        ([0x00, 0x02], false),
+        ([0x02, 0x01], false),
+    ] {
+        let mut banks = clock(rt.alloc(), [10, 0, 0, 0, 0])?;
+        banks.pass_seconds(5);
+        for value in writes {
+            banks.write(0x7FFF, value);
+        }
+        banks.write(0x4000, 0x08);
+        assert_eq!(rt; banks.read(0xA000), if copies { 15 } else { 10 });
+    }
+    Ok(())
+}
+
+#[test]
+fn without_a_clock_no_time_passes(rt: HostRuntime) -> Result<(), Fail> {
+    let mut banks = inserted(rt.alloc(), 0x13, 2, 0x03)?;
+    let before = banks.state();
+    banks.pass_seconds(4294967295);
+    assert_eq!(rt; banks.state(), before);
+    Ok(())
+}
+
+#[test]
+fn begins_as_at_power_on(rt: HostRuntime) -> Result<(), Fail> {
+    for (kind, controller, rom_bank) in [
+        (0x08, Controller::Plain, 0),
+        (0x02, Controller::Mbc1, 1),
+        (0x05, Controller::Mbc2, 1),
+        (0x11, Controller::Mbc3, 1),
+        (0x0F, Controller::Mbc3Clock, 1),
+        (0x1D, Controller::Mbc5, 1),
+    ] {
+        let banks = inserted(rt.alloc(), kind, 2, 0x02)?;
+        let zero = ClockRegisters {
+            seconds: 0,
+            minutes: 0,
+            hours: 0,
+            day_low: 0,
+            day_high: 0,
+        };
+        let state = BanksState {
+            kind: controller,
+            ram_enabled: false,
+            rom_bank,
+            ram_bank: 0,
+            mode: false,
+            clock: zero,
+            latched: zero,
+        };
+        assert_eq!(rt; banks.state(), state);
+        assert!(rt; banks.store().iter().all(|byte| *byte == 0));
+        assert_eq!(rt; banks.read(0x8000), 0xFF);
+        assert_eq!(rt; banks.read(0xC000), 0xFF);
+        assert_eq!(rt; banks.read(0xFFFF), 0xFF);
+    }
+    Ok(())
+}
+
+#[test]
+fn restores_registers_and_ram(rt: HostRuntime) -> Result<(), Fail> {
+    let mut banks = inserted(rt.alloc(), 0x1B, 64, 0x03)?;
+    banks.write(0x0000, 0x0A);
+    banks.write(0x2000, 0x2A);
+    banks.write(0x4000, 0x03);
+    let state = banks.state();
+    assert_eq!(rt; state.kind, Controller::Mbc5);
+    assert_eq!(rt;
+        (state.ram_enabled, state.rom_bank, state.ram_bank),
+        (true, 0x2A, 3)
+    );
+    let other = BanksState {
+        rom_bank: 0x15,
+        ram_bank: 1,
+        ..state
+    };
+    banks.restore(&other);
+    assert_eq!(rt; banks.state(), other);
+    assert_eq!(rt; bank_at(&banks, 0x4000), 0x15);
+    let bytes = repeated(rt.alloc(), 0x77, banks.store().len())?;
+    fill(&rt, &mut banks, &bytes);
+    assert_eq!(rt; banks.read(0xB234), 0x77);
+    Ok(())
+}
+
+fn repeated(alloc: Global, value: u8, count: usize) -> Result<Vec<u8>, Fail> {
+    Ok(vec![in alloc; value; count]?)
+}
+
+/// Fills the RAM of an MBC5.
+fn fill(rt: &impl Abort, banks: &mut Banks, bytes: &[u8]) {
+    assert_eq!(rt; banks.state().kind, Controller::Mbc5);
+    assert_eq!(rt; banks.store().len(), bytes.len());
+    assert_eq!(rt; bytes.len() % 0x2000, 0);
+    banks.fill(bytes);
+}

@@ -1,0 +1,124 @@
+use arrayvec::ArrayVec;
+use exact_text::{OutputFailed, byte_digits, word_digits, write_whole};
+use std::io::{self, Write};
+use std::process::Abort;
+use std::test::Fail;
+
+/// A writer that takes at most `most` bytes a call, and fails once `room` bytes are taken.
+#[derive(Drop)]
+struct Scripted {
+    taken: ArrayVec<u8, 32>,
+    calls: u8,
+    most: usize,
+    room: usize,
+}
+
+impl Write for Scripted {
+    fn write(&mut self, buf: &[u8]) -> io::Result<usize> {
+        self.calls = self.calls.saturating_add(1);
+        let room = self.room.saturating_sub(self.taken.len());
+        if room == 0 {
+            return Err(io::Error::from(io::ErrorKind::Other));
+        }
+        let count = buf.len().min(self.most).min(room);
+        for byte in &buf[..count] {
+            let _ = self.taken.try_push(*byte);
+        }
+        Ok(count)
+    }
+
+    fn flush(&mut self) -> io::Result<()> {
+        Ok(())
+    }
+}
+
+#[derive(Drop)]
+struct Case {
+    most: usize,
+    room: usize,
+    outcome: Result<(), OutputFailed>,
+    taken: &'static [u8],
+    calls: u8,
+}
+
+fn run(rt: &impl Abort, case: &Case) {
+    let mut out = Scripted {
+        taken: ArrayVec::new(),
+        calls: 0,
+        most: case.most,
+        room: case.room,
+    };
+    let outcome = write_whole(&mut out, b"saved 120\n");
+    assert_eq!(rt; outcome, case.outcome);
+    assert!(rt; out.taken.as_slice() == case.taken);
+    assert_eq!(rt; out.calls, case.calls);
+}
+
+#[test]
+fn writes_all_or_stops_at_the_first_failure(rt: HostRuntime) {
+    let failed = Err(OutputFailed);
+    let cases = [
+        Case {
+            most: 32,
+            room: 32,
+            outcome: Ok(()),
+            taken: b"saved 120\n",
+            calls: 1,
+        },
+        Case {
+            most: 1,
+            room: 32,
+            outcome: Ok(()),
+            taken: b"saved 120\n",
+            calls: 10,
+        },
+        Case {
+            most: 32,
+            room: 4,
+            outcome: failed,
+            taken: b"save",
+            calls: 2,
+        },
+        Case {
+            most: 3,
+            room: 0,
+            outcome: failed,
+            taken: b"",
+            calls: 1,
+        },
+        Case {
+            most: 0,
+            room: 32,
+            outcome: failed,
+            taken: b"",
+            calls: 1,
+        },
+    ];
+    for case in &cases {
+        run(&rt, case);
+    }
+}
+
+#[test]
+fn writes_into_a_slice(rt: HostRuntime) {
+    let mut buffer = [0; 4];
+    let mut out: &mut [u8] = &mut buffer;
+    assert_eq!(rt; write_whole(&mut out, b"3A"), Ok(()));
+    assert_eq!(rt; write_whole(&mut out, b"C6C6"), Err(OutputFailed));
+    assert_eq!(rt; buffer, *b"3AC6");
+}
+
+#[test]
+fn gives_digits(rt: HostRuntime) {
+    assert_eq!(rt; byte_digits(0x09).as_str(), "09");
+    assert_eq!(rt; byte_digits(0xAF).as_str(), "AF");
+    assert_eq!(rt; word_digits(0xC0F9).as_str(), "C0F9");
+    assert_eq!(rt; word_digits(0).as_str(), "0000");
+}
+
+#[test]
+fn says_what_failed(rt: HostRuntime) -> Result<(), Fail> {
+    let text = format!(in rt.alloc(); "{OutputFailed}")?;
+    assert_eq!(rt; text.as_str(), "output failed");
+    Ok(())
+}

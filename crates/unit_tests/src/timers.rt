@@ -1,0 +1,250 @@
+use timer_unit::{Requests, Serial, SerialState, Timer, TimerState};
+
+fn timer_in(counter: u16, tima: u8, tma: u8, tac: u8) -> Timer {
+    let mut timer = Timer::new();
+    timer.restore(&TimerState {
+        counter,
+        tima,
+        tma,
+        tac: tac % 8,
+    });
+    timer
+}
+
+#[test]
+fn power_on(rt: HostRuntime) {
+    let timer = Timer::new();
+    assert_eq!(rt;
+        timer.state(),
+        TimerState {
+            counter: 0xab00,
+            tima: 0,
+            tma: 0,
+            tac: 0
+        }
+    );
+    assert_eq!(rt;
+        [timer.div(), timer.tima(), timer.tma(), timer.tac()],
+        [0xab, 0x00, 0x00, 0xf8]
+    );
+    assert_eq!(rt; timer.due(), None);
+    let serial = Serial::new();
+    assert_eq!(rt;
+        serial.state(),
+        SerialState {
+            sb: 0,
+            sc: 0,
+            cycles_left: 0
+        }
+    );
+    assert_eq!(rt; [serial.sb(), serial.sc()], [0x00, 0x7e]);
+    assert_eq!(rt; serial.due(), None);
+}
+
+#[test]
+fn overflow_reloads_and_requests(rt: HostRuntime) {
+    let mut timer = timer_in(0x000c, 0xff, 0xfe, 5);
+    assert_eq!(rt; timer.due(), Some(1));
+    assert_eq!(rt; timer.pass(1), Requests { bits: 0x04 });
+    assert_eq!(rt;
+        timer.state(),
+        TimerState {
+            counter: 0x0010,
+            tima: 0xfe,
+            tma: 0xfe,
+            tac: 5
+        }
+    );
+    assert_eq!(rt; timer.due(), Some(4));
+    assert_eq!(rt; timer.pass(3), Requests { bits: 0 });
+    assert_eq!(rt; timer.tima(), 0xfe);
+}
+
+#[test]
+fn a_write_to_div_can_count(rt: HostRuntime) {
+    let mut timer = timer_in(0x0008, 0x10, 0x00, 5);
+    assert_eq!(rt; timer.write_div(), Requests { bits: 0 });
+    assert_eq!(rt;
+        timer.state(),
+        TimerState {
+            counter: 0,
+            tima: 0x11,
+            tma: 0,
+            tac: 5
+        }
+    );
+    let mut timer = timer_in(0x0008, 0xff, 0x77, 5);
+    assert_eq!(rt; timer.write_div(), Requests { bits: 0x04 });
+    assert_eq!(rt; timer.tima(), 0x77);
+    let mut timer = timer_in(0x0007, 0x10, 0x00, 5);
+    assert_eq!(rt; timer.write_div(), Requests { bits: 0 });
+    assert_eq!(rt; timer.tima(), 0x10);
+}
+
+#[test]
+fn a_write_to_tac_can_count(rt: HostRuntime) {
+    let mut timer = timer_in(0x0208, 0xff, 0x77, 5);
+    assert_eq!(rt; timer.write_tac(0xfc), Requests { bits: 0 });
+    assert_eq!(rt; [timer.tima(), timer.tac()], [0xff, 0xfc]);
+    assert_eq!(rt; timer.write_tac(0x00), Requests { bits: 0x04 });
+    assert_eq!(rt; [timer.tima(), timer.tac()], [0x77, 0xf8]);
+    timer.write_tima(0x12);
+    timer.write_tma(0x34);
+    assert_eq!(rt; [timer.tima(), timer.tma()], [0x12, 0x34]);
+}
+
+/// `pass` behind a function without a contract: a proof would count a literal number of M-cycles out, one by one.
+fn pass_timer(timer: &mut Timer, cycles: u32) -> u8 {
+    timer.pass(cycles).bits
+}
+
+fn pass_serial(serial: &mut Serial, cycles: u32) -> u8 {
+    serial.pass(cycles).bits
+}
+
+#[test]
+fn div_after_a_thousand_longest_passes(rt: HostRuntime) {
+    let mut timer = Timer::new();
+    for _ in 0..1000 {
+        assert_eq!(rt; pass_timer(&mut timer, u32::MAX), 0);
+    }
+    assert_eq!(rt; timer.div(), 0x9b);
+}
+
+#[test]
+fn a_transfer_takes_1024_cycles(rt: HostRuntime) {
+    let mut serial = Serial::new();
+    serial.write_sb(0x5a);
+    serial.write_sc(0x81);
+    assert_eq!(rt; serial.due(), Some(1024));
+    assert_eq!(rt; pass_serial(&mut serial, 1023), 0);
+    assert_eq!(rt; [serial.sb(), serial.sc()], [0x5a, 0xff]);
+    assert_eq!(rt; serial.due(), Some(1));
+    assert_eq!(rt; pass_serial(&mut serial, 1), 0x08);
+    assert_eq!(rt; [serial.sb(), serial.sc()], [0xff, 0x7f]);
+    assert_eq!(rt; pass_serial(&mut serial, u32::MAX), 0);
+}
+
+#[test]
+fn another_write_to_sc_ends_a_transfer(rt: HostRuntime) {
+    for (value, read) in [(0x01, 0x7f), (0x80, 0xfe), (0x00, 0x7e)] {
+        let mut serial = Serial::new();
+        serial.write_sc(0x81);
+        assert_eq!(rt; pass_serial(&mut serial, 500), 0);
+        serial.write_sc(value);
+        assert_eq!(rt; serial.sc(), read);
+        assert_eq!(rt; serial.due(), None);
+        assert_eq!(rt; pass_serial(&mut serial, 1024), 0);
+        serial.write_sc(0xff);
+        assert_eq!(rt;
+            serial.state(),
+            SerialState {
+                sb: 0,
+                sc: 0x81,
+                cycles_left: 1024
+            }
+        );
+    }
+}
+
+/// The next of a row of numbers without pattern (a linear congruential generator).
+fn next_number(seed: &mut u64) -> u64 {
+    *seed = seed
+        .wrapping_mul(6364136223846793005)
+        .wrapping_add(1442695040888963407);
+    *seed >> 33
+}
+
+/// The timer's signal by shifts, for the comparison.
+fn plain_signal(state: &TimerState) -> bool {
+    let bit = [9, 3, 5, 7][usize::from(state.tac % 4)];
+    state.tac >= 4 && state.counter >> bit & 1 == 1
+}
+
+/// One M-cycle of the timer, for the comparison; answers whether the signal fell and whether the interrupt is requested.
+fn plain_timer_cycle(state: &mut TimerState) -> (bool, bool) {
+    let before = plain_signal(state);
+    state.counter = state.counter.wrapping_add(4);
+    if !before || plain_signal(state) {
+        return (false, false);
+    }
+    if state.tima == 0xff {
+        state.tima = state.tma;
+        return (true, true);
+    }
+    state.tima += 1;
+    (true, false)
+}
+
+#[test]
+fn many_cycles_are_single_cycles_of_the_timer(rt: HostRuntime) {
+    let mut seed = 1;
+    for round in 0..5000 {
+        let mut plain = TimerState {
+            counter: (next_number(&mut seed) % 65536) as u16,
+            tima: (next_number(&mut seed) % 256) as u8,
+            tma: (next_number(&mut seed) % 256) as u8,
+            tac: (next_number(&mut seed) % 8) as u8,
+        };
+        let cycles = (next_number(&mut seed) % 2000) as u32;
+        let mut timer = timer_in(plain.counter, plain.tima, plain.tma, plain.tac);
+        let due = timer.due();
+        let requests = timer.pass(cycles);
+        let mut first = None;
+        let mut bits = 0;
+        for cycle in 1..=cycles {
+            let (fell, requested) = plain_timer_cycle(&mut plain);
+            if fell && first.is_none() {
+                first = Some(cycle);
+            }
+            if requested {
+                bits = 0x04;
+            }
+        }
+        assert_eq!(rt; timer.state(), plain, "round {round}");
+        assert_eq!(rt; requests.bits, bits, "round {round}");
+        assert_eq!(rt; due.filter(|&at| at <= cycles), first, "round {round}");
+    }
+}
+
+/// One M-cycle of the serial port, for the comparison.
+fn plain_serial_cycle(state: &mut SerialState) -> bool {
+    if state.cycles_left == 0 {
+        return false;
+    }
+    state.cycles_left -= 1;
+    if state.cycles_left > 0 {
+        return false;
+    }
+    state.sb = 0xff;
+    state.sc &= 0x7f;
+    true
+}
+
+#[test]
+fn many_cycles_are_single_cycles_of_the_serial_port(rt: HostRuntime) {
+    let mut seed = 2;
+    for round in 0..5000 {
+        let mut plain = SerialState {
+            sb: (next_number(&mut seed) % 256) as u8,
+            sc: if next_number(&mut seed) % 2 == 0 {
+                0x81
+            } else {
+                0x80
+            },
+            cycles_left: (next_number(&mut seed) % 1025) as u16,
+        };
+        let cycles = (next_number(&mut seed) % 2000) as u32;
+        let mut serial = Serial::new();
+        serial.restore(&plain);
+        let requests = serial.pass(cycles);
+        let mut bits = 0;
+        for _ in 0..cycles {
+            if plain_serial_cycle(&mut plain) {
+                bits = 0x08;
+            }
+        }
+        assert_eq!(rt; serial.state(), plain, "round {round}");
+        assert_eq!(rt; requests.bits, bits, "round {round}");
+    }
+}

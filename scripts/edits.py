@@ -1,0 +1,192 @@
+#!/usr/bin/env python3
+"""Tries wrong bodies on a copy of the repository: a proof has to refuse each, at a goal that stays open.
+
+usage: scripts/edits.py [CRATE | CRATE/EDIT]...    (no word: every crate; EDIT without .edit)
+
+The edits are those of crates/CRATE/must-fail and crates/CRATE/wrong-bodies. An edit counts only if it changes src/ and
+leaves a goal open: one that no proof was found for, or whose answer in a proof file no longer proves it. One that is
+proved, that no longer applies, that does not compile, or that is refused only because a proof file names what is gone,
+shows nothing, and fails this run. $RT is the command `rt`.
+"""
+import os
+import re
+import shutil
+import subprocess
+import sys
+import tempfile
+import time
+from pathlib import Path
+
+ROOT = Path(__file__).resolve().parent.parent
+RT = os.environ.get("RT", "rt")
+PLACES = ("must-fail", "wrong-bodies")
+
+AT_PLACE = re.compile(r"(?:\./)?(\S+?):\d+:\d+: error(?:\[[\w-]+\])?: (.*)")
+OPEN_GOAL = re.compile(r"note: (src/\S+:\d+):\d+: (it is not proved that .*)")
+FUNCTION = re.compile(r"fn [^:\s]+::(\S+): (not proved|no proof: .*)")
+IS_GONE = re.compile(r"has no `|has no field|is not in scope|is no name")
+FOLLOWS = re.compile(r"which was (?:rejected|not admitted)|no proof: it calls")
+
+
+class ShowsNothing(Exception):
+    """The edit was not refused, or by no open goal."""
+
+
+def libraries():
+    """Returns what each crate of crates.txt stands on."""
+    rows = [row.partition("#")[0].partition(":") for row in (ROOT / "crates.txt").read_text().splitlines()]
+    return {row[0].split()[0]: row[2].split() for row in rows if row[0].strip()}
+
+
+def with_those_below(names, below):
+    found = set()
+    while names:
+        name = names.pop()
+        if name in below and name not in found:
+            found.add(name)
+            names += below[name]
+    return found
+
+
+def copy_repository(names, to):
+    """Copies the repository, with the kept proofs of these crates: only what an edit touches is then proved again."""
+    def left_out(folder, files):
+        place = Path(folder)
+        is_crate = place.parent == ROOT / "crates"
+        return [name for name in files if name == ".git" or name == "out" and is_crate and place.name not in names]
+
+    shutil.copytree(ROOT, to, ignore=left_out, dirs_exist_ok=True)
+
+
+def edited(edit, crate):
+    """Returns the text of each file that the edit changes."""
+    path, old, texts = None, None, {}
+    for line in edit.read_text().splitlines():
+        word, _, text = line.partition(":")
+        text = text[1:] if text.startswith(" ") else text
+        if word == "file":
+            path = crate / text.strip()
+            if path.parts[len(crate.parts)] != "src" or not path.is_file():
+                raise ShowsNothing(f"no body is changed: {text} is no file of src/")
+        elif word == "old":
+            old = text
+        elif word == "new":
+            if path is None or not old:
+                raise ShowsNothing("a line 'new:' comes before 'file:' and 'old:'")
+            before = texts.get(path) or path.read_text()
+            if before.count(old) != 1:
+                raise ShowsNothing(f"does not apply: its text is {before.count(old)} times in {path.relative_to(crate)}")
+            texts[path], old = before.replace(old, text), None
+    if not texts:
+        raise ShowsNothing("it has no pair of lines 'old:' and 'new:'")
+    return texts
+
+
+def open_goal(said):
+    """Returns the first goal that stays open in what `rt check` said, as `function: goal`."""
+    refused, gone, goals, notes, first = {}, {}, [], [], None
+    for line in said.splitlines():
+        error, note, function = AT_PLACE.match(line), OPEN_GOAL.match(line), FUNCTION.match(line)
+        if error:
+            path, what = error.groups()
+            if path.startswith(("src/", "specs/")):
+                raise ShowsNothing(f"it does not compile: {line}")
+            first = first or line
+            folder = os.path.dirname(path).removeprefix("proofs").lstrip("/")
+            if IS_GONE.search(what):
+                gone.setdefault(folder, what)
+            elif not FOLLOWS.search(what):
+                refused.setdefault(folder, what)
+        elif note:
+            notes.append(f"{note[1]}: {note[2]}")
+        elif function:
+            name, why = function.groups()
+            folder = name.replace("::", "/")
+            if not FOLLOWS.search(why) and folder not in gone:
+                what = notes[0] if notes else refused.get(folder) or why
+                goals.append(f"{name}: {what}")
+            notes = []
+    if goals:
+        return goals[0]
+    if gone:
+        raise ShowsNothing(f"a proof file names what is gone: {next(iter(gone.values()))}")
+    raise ShowsNothing(f"no goal is open; the first error: {first or said.strip().splitlines()[-1]}")
+
+
+def check(crate):
+    ran = subprocess.run([RT, "check"], cwd=crate, stdout=subprocess.PIPE, stderr=subprocess.STDOUT, text=True, errors="replace")
+    return ran.returncode == 0, ran.stdout
+
+
+def try_edit(edit, crate, kept):
+    """Returns the goal that refuses the edit. Each is tried over the proofs of the crate as it stands, and not over
+    those of the edit before it."""
+    before = {path: path.read_text() for path in edited(edit, crate)}
+    shutil.rmtree(crate / "out/incremental", ignore_errors=True)
+    shutil.copytree(kept, crate / "out/incremental")
+    try:
+        for path, text in edited(edit, crate).items():
+            path.write_text(text)
+        is_proved, said = check(crate)
+    finally:
+        for path, text in before.items():
+            path.write_text(text)
+    if is_proved:
+        raise ShowsNothing("it is PROVED with this edit")
+    if not re.search(r"^logic=not-proved", said, re.M) and not re.search(r"^src/\S+ error", said, re.M):
+        raise ShowsNothing(f"the check gave no verdict: {said.strip().splitlines()[-1]}")
+    return open_goal(said)
+
+
+def edits_of(crate, chosen):
+    found = [it for place in PLACES for it in sorted((crate / place).glob("*.edit"))]
+    lost = set(chosen) - {it.stem for it in found}
+    if lost:
+        sys.exit(f"{crate.name} has no edit {min(lost)}")
+    return [it for it in found if not chosen or it.stem in chosen]
+
+
+def try_crate(crate, chosen):
+    """Returns how many edits were refused, and how many not."""
+    edits, refused = edits_of(crate, chosen), 0
+    if not edits:
+        return 0, 0
+    is_proved, said = check(crate)
+    if not is_proved:
+        print(f"{crate.name}: it is not proved as it stands\n{said}", flush=True)
+        return 0, len(edits)
+    kept = crate / "out/kept"
+    shutil.copytree(crate / "out/incremental", kept)
+    for edit in edits:
+        start = time.monotonic()
+        try:
+            why = try_edit(edit, crate, kept)
+            refused += 1
+        except ShowsNothing as error:
+            why = f"SHOWS NOTHING: {error}"
+        seconds = time.monotonic() - start
+        print(f"{crate.name}/{edit.parent.name}/{edit.stem} ({seconds:.0f} s): {why[:300]}", flush=True)
+    shutil.rmtree(crate / "out/incremental")
+    kept.rename(crate / "out/incremental")
+    return refused, len(edits) - refused
+
+
+def main():
+    below, wanted = libraries(), {}
+    for word in sys.argv[1:] or below:
+        name, _, edit = word.partition("/")
+        if name not in below:
+            sys.exit(f"crates.txt has no crate {name}")
+        wanted.setdefault(name, []).extend([edit] if edit else [])
+    refused = shown_nothing = 0
+    with tempfile.TemporaryDirectory(prefix="edits-") as room:
+        copy_repository(with_those_below([*wanted], below), room)
+        for name, chosen in wanted.items():
+            counts = try_crate(Path(room) / "crates" / name, chosen)
+            refused, shown_nothing = refused + counts[0], shown_nothing + counts[1]
+    print(f"{refused} refused, {shown_nothing} not")
+    return 1 if shown_nothing else 0
+
+
+if __name__ == "__main__":
+    sys.exit(main())
