@@ -11,5 +11,5 @@ mod replay;
 
 pub use device::{DeviceFault, SectorDevice};
 pub use file::FileDevice;
-pub use laws::memory_keeps_the_disk_model;
+pub use laws::{file_keeps_the_disk_model, memory_keeps_the_disk_model};
 pub use memory::MemoryDevice;

@@ -8,7 +8,7 @@ use Rattle.sector_log.specs.Log.{log_sector, log_from, log_area}
 use Rattle.sector_log.specs.Layout.{replaced}
 use Rattle.sector_log.specs.declared.root.Root.{Root}
 use Rattle.sector_log.specs.Content.{chosen, last_generation, generation_in, area_length, area_start, area, blob_sectors, header_of, content_in, content_by, content, ImageContent}
-use Rattle.sector_log.specs.Calls.{HoldsPrefix, Adds, IsAppended}
+use Rattle.sector_log.specs.Calls.{HoldsPrefix, ChangesOpenLog, Adds, IsAppended}
 use Rattle.sector_log.specs.Store.{IsStored}
 use Rattle.sector_log.specs.declared.Entry.{Entry}
 use Rattle.sector_log.specs.declared.Stored.{Stored}
@@ -195,6 +195,23 @@ module _ (base : List (List ℕ)) (start : ℕ) (log : List Stored) (root : Root
         let whole_sector : 84 * j + 84 ≤ sealed log = omega arith in
         subst (λ n. sector_at base n ≡ sector_at target n) (back k past_start) (in_base j small ∙ ap (log_sector j) (sealed_sector log new j whole_sector) ∙ sym (in_target j small))
   ]
+
+  -- so only sectors from that of the log's end on change
+  pub changes_open : (c : List (List ℕ)) → Mixed base target c → ChangesOpenLog base (length log) c
+  changes_open c mixed =
+      let at : area_start (generation_in base) base ≡ start = ap (λ (r : Option Root). area_start (last_generation r) base) chosen_is ∙ start_is in
+      record {
+        size = mixed.size;
+        each = λ k. ⊎_elim (λ o. inl o)
+            (λ n. elim (cases_lt k (start + length log / 84)) [
+              | inl below ↦ inl (n ∙ sym (same_front (length log / 84) refl k below))
+              | inr past_front ↦ elim (cases_lt k (start + 32)) [
+                | inl inside ↦ inr (omega (arith, at, past_front), omega (arith, at, inside))
+                | inr above ↦ inl (n ∙ outside k (inr above))
+              ]
+            ])
+            (mixed.each k);
+      }
 
   -- and so do the blank ones
   pub same_back : (end : ℕ) → end ≡ (length (grown log new) + 83) / 84 → (k : ℕ) → start + end ≤ k → sector_at target k ≡ sector_at base k

@@ -4,6 +4,7 @@ use Rattle.std.proofs.lemmas.List.{append-nil, take-append-drop}
 use Rattle.std.proofs.lemmas.Bool.Decides.{nat_tests}
 use Rattle.std.specs.List.{flat_map}
 use Rattle.sector_log.specs.Content.{area, header_of, content}
+use Rattle.sector_log.specs.Found.{log_of}
 use Rattle.sector_log.specs.declared.found.Content.{Content}
 use Rattle.sector_device.specs.DiskState.{DiskState, Settled, Throughout, sector_at}
 use Rattle.sector_device.specs.Runs.{HoldsThroughout, HoldsSince, Mixed, WrittenUpTo}
@@ -11,13 +12,13 @@ use Rattle.sector_device.proofs.Runs.{throughout_weaker, written_all, holds_sinc
 use Rattle.sector_log.specs.Log.{log_area}
 use Rattle.sector_log.specs.Inputs.{inputs, all_input, all_entries, AllFive, AreInputs, sealed, grown, fits}
 use Rattle.sector_log.specs.Layout.{replaced}
-use Rattle.sector_log.specs.Calls.{HoldsPrefix, IsAppended, Adds}
+use Rattle.sector_log.specs.Calls.{HoldsPrefix, ChangesOpenLog, IsAppended, Adds}
 use Rattle.sector_log.specs.Store.{IsStored, HaveSix, StandForInputs, Kept}
 use Rattle.sector_log.specs.declared.Entry.{Entry}
 use Rattle.sector_log.specs.declared.Stored.{Stored}
 use Rattle.sector_log.specs.declared.root.Root.{Root}
 use Rattle.sector_log.proofs.Codec.{AreCodes}
-use Rattle.sector_log.proofs.AppendContent.{holds_more, same_front, same_back, rests_after, length-target, added_after, content_base}
+use Rattle.sector_log.proofs.AppendContent.{holds_more, changes_open, same_front, same_back, rests_after, length-target, added_after, content_base}
 use Rattle.sector_log.proofs.Grown.{whole_grown, codes_grown}
 
 pub codes_of_six : (es : List Stored) → HaveSix es → AreCodes es
@@ -83,6 +84,12 @@ nothing_added now start root log new rests kept none = record {
       (are_inputs log kept) new none;
 }
 
+-- reads give the log that is kept
+pub log_stored : (now : DiskState) (start : ℕ) (root : Root) (log : List Stored) → IsStored now start root log → Kept log → log_of (content now.sectors) ≡ log
+log_stored now start root log rests kept =
+    ap log_of (content_base now.sectors start log root rests.version_is rests.chosen_is rests.start_is rests.within rests.fits rests.log_is [] (codes_of_six log kept.six) tt (are_inputs log kept) tt (omega (arith, kept.few)) kept.small
+    (omega (arith, ap length (nothing_grown log [] refl), kept.small)))
+
 -- before the first write
 old_holds : (now : DiskState) (start : ℕ) (root : Root) (log : List Stored) (new : List Entry) → IsStored now start root log → Kept log → (c : List (List ℕ)) → now.image c → HoldsPrefix now.sectors new c
 old_holds now start root log new rests kept c is_image =
@@ -92,6 +99,17 @@ old_holds now start root log new rests kept c is_image =
 pub since_nothing_appended : (now : DiskState) (start : ℕ) (root : Root) (log : List Stored) (new : List Entry) → IsStored now start root log → Kept log → ((c : List (List ℕ)) → now.since now.moment c → now.image c) → HoldsSince now now (HoldsPrefix now.sectors new)
 since_nothing_appended now start root log new rests kept only =
     holds_since only (record { later = omega arith; each = λ t c le since. inl since }) (λ t c le since. since) (old_holds now start root log new rests kept)
+
+-- nothing changes
+changes_none : (image : List (List ℕ)) (entries : ℕ) → ChangesOpenLog image entries image
+changes_none image entries = record { size = refl; each = λ k. inl refl }
+
+old_unchanged : (now : DiskState) (entries : ℕ) → Settled now → (c : List (List ℕ)) → now.image c → ChangesOpenLog now.sectors entries c
+old_unchanged now entries settled c is_image = subst (ChangesOpenLog now.sectors entries) (sym (settled c is_image)) (changes_none now.sectors entries)
+
+pub since_nothing_written : (now : DiskState) (entries : ℕ) → Settled now → ((c : List (List ℕ)) → now.since now.moment c → now.image c) → HoldsSince now now (ChangesOpenLog now.sectors entries)
+since_nothing_written now entries settled only =
+    holds_since only (record { later = omega arith; each = λ t c le since. inl since }) (λ t c le since. since) (old_unchanged now entries settled)
 
 module _ (old : DiskState) (start : ℕ) (root : Root) (log all : List Stored) (new : List Entry) (rests : IsStored old start root log) (kept : Kept log) (fives : AllFive new) (input : all_input new)
     (few : length (inputs log) + length new ≤ 216000) (room : length (grown log new) ≤ 2688) (is_all : all ≡ grown log new) where
@@ -112,6 +130,14 @@ module _ (old : DiskState) (start : ℕ) (root : Root) (log all : List Stored) (
 
   pub since_prefix : ((c : List (List ℕ)) → old.since old.moment c → old.image c) → (now : DiskState) → HoldsThroughout old now (Mixed old.sectors (target_of all)) (Mixed old.sectors (target_of all)) → HoldsSince old now (HoldsPrefix old.sectors new)
   since_prefix only now held = holds_since only (held_more now held) held.past (old_holds old start root log new rests kept)
+
+  pub since_written : ((c : List (List ℕ)) → old.since old.moment c → old.image c) → (now : DiskState) → HoldsThroughout old now (Mixed old.sectors (target_of all)) (Mixed old.sectors (target_of all)) → HoldsSince old now (ChangesOpenLog old.sectors (length log))
+  since_written only now held =
+      holds_since only
+      (throughout_weaker held.throughout (λ c mixed.
+      changes_open old.sectors start log root rests.version_is rests.chosen_is rests.start_is rests.within rests.fits rests.log_is new b fives are input few kept.small room c
+      (subst (λ (l : List Stored). Mixed old.sectors (target_of l) c) is_all mixed)))
+      held.past (old_unchanged old (length log) rests.settled)
 
   pub front : (first : ℕ) → first ≡ length log / 84 → (k : ℕ) → k < start + first → sector_at old.sectors k ≡ sector_at (target_of all) k
   front first is k le = same_front old.sectors start log root rests.version_is rests.chosen_is rests.start_is rests.within rests.fits rests.log_is new b fives are input few kept.small room first is k le

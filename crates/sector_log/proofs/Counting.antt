@@ -27,7 +27,7 @@ pub none_counts : (s : Stored) → is_run s ≡ false → is_seconds s ≡ false
 unfolding is_entry
 none_counts s run seconds = sym ((λ i. if run i || seconds i then length (inputs_in s) else 0))
 
-some_inputs : (s : Stored) → is_entry s ≡ true → 1 ≤ length (inputs_in s)
+pub some_inputs : (s : Stored) → is_entry s ≡ true → 1 ≤ length (inputs_in s)
 unfolding is_entry inputs_in
 some_inputs s entry = elim (cases_Bool (is_run s)) [
   | inl run ↦

@@ -1,12 +1,14 @@
 -- What was found, by what the definitions say of the image.
-use Rattle.std.proofs.Common.{◌≡◌, ◌+◌, ◌-◌, ◌^◌, ◌<◌, ◌≤◌, List, Bool, true, false, if◌then◌else◌, nat_lt, Option, Some, None, refl, sym, ap, ◌∙◌, arith}
+use Rattle.std.proofs.Common.{◌≡◌, ◌+◌, ◌-◌, ◌^◌, ◌<◌, ◌≤◌, ℕ, inl, inr, length, List, Bool, true, false, if◌then◌else◌, nat_lt, Option, Some, None, refl, sym, ap, ◌∙◌, arith}
+use Rattle.std.proofs.lemmas.Bool.{cases_Bool}
 use Rattle.std.proofs.lemmas.Bool.Decides.{nat_tests}
 use Rattle.sector_device.specs.DiskState.{DiskState}
 use Rattle.sector_log.specs.Content.{Body, header_of, need, area, content, content_by, content_in}
 use Rattle.sector_log.specs.Inputs.{counted}
 use Rattle.sector_log.specs.Reading.{IsFound}
-use Rattle.sector_log.specs.Found.{found_by, found_in, is_short, no_body, log_of, log_in}
+use Rattle.sector_log.specs.Found.{found_by, found_in, is_short, no_body, log_of, log_in, blob_in, Seen, seen_in, IsSound, found_with}
 use Rattle.sector_log.specs.declared.Stored.{Stored}
+use Rattle.sector_log.specs.declared.found.Content.{Content}
 use Rattle.sector_log.specs.declared.root.Root.{Root}
 use Rattle.sector_log.specs.declared.found.Found.TheVariants.{Nothing, Content as Sound, Damaged}
 use Rattle.sector_log.specs.declared.found.Part.TheVariants.{Length, Count}
@@ -45,3 +47,36 @@ module _ (now : DiskState) (root : Root) (short : Bool) (log : List Stored) (fou
 
 pub found_nothing : (now : DiskState) (short : Bool) (log : List Stored) → IsFound now None short log → Nothing ≡ found_in (content now.sectors)
 found_nothing now short log found = sym (ap (λ (r : Option Root). found_in (content_by r now.sectors)) found.chosen_is)
+
+-- what an opened log keeps, by its fields
+abbrev pub seen_with : Option Root → Bool → List Stored → Bool → List ℕ → Seen
+seen_with root short log whole blob = record { found = found_with root short log; log = log; blob = if whole then Some blob else None }
+
+pub found_with_is : (now : DiskState) (root : Option Root) (short : Bool) (log : List Stored) → IsFound now root short log → found_with root short log ≡ found_in (content now.sectors)
+found_with_is now None short log found = found_nothing now short log found
+found_with_is now (Some root) true log found = found_damaged now root true log found refl
+found_with_is now (Some root) false log found = sym (whole now root false log found refl)
+
+pub seen_is : (now : DiskState) (root : Option Root) (short : Bool) (log : List Stored) (most : ℕ) (whole : Bool) (blob : List ℕ)
+    → IsFound now root short log → blob_in most (content now.sectors) ≡ (if whole then Some blob else None) → seen_with root short log whole blob ≡ seen_in most (content now.sectors)
+seen_is now root short log most whole blob found blob_is =
+    λ i. record { found = found_with_is now root short log found i; log = sym found.log_is i; blob = sym blob_is i }
+
+-- of any device
+sound_counts : (root : Option Root) (short : Bool) (log : List Stored) (c : Content) → found_with root short log ≡ Sound c → c.base + counted 0 log < 2 ^ 64
+sound_counts None short log c is = absurd (cc)
+sound_counts (Some root) true log c is = absurd (cc)
+sound_counts (Some root) false log c is = elim (cases_Bool (nat_lt (2 ^ 64 - 1) (root.base + counted 0 log))) [
+  | inl many ↦
+      let no : Damaged (header_of root) Count ≡ Sound c = sym (ap (λ (t : Bool). if t then Damaged (header_of root) Count else Sound (header_of root)) many) ∙ is in
+      absurd (cc)
+  | inr few ↦
+      let yes : Sound (header_of root) ≡ Sound c = sym (ap (λ (t : Bool). if t then Damaged (header_of root) Count else Sound (header_of root)) few) ∙ is in
+      let same : header_of root ≡ c = cc in
+      let base : root.base ≡ c.base = ap (λ (x : Content). x.base) same in
+      let fits : root.base + counted 0 log ≤ 2 ^ 64 - 1 = grind (arith, nat_tests) in
+      omega (arith, base, fits)
+]
+
+pub sound_with : (root : Option Root) (short : Bool) (log : List Stored) (whole : Bool) (blob : List ℕ) → length log ≤ 3200 → IsSound (seen_with root short log whole blob)
+sound_with root short log whole blob few = record { few = few; counts = sound_counts root short log }

@@ -10,7 +10,7 @@ mod ContentLaw
 mod Counting
 mod Findings
 mod Grown
-mod FoundLaws
+pub mod FoundLaws
 mod Looking
 mod NewGeneration
 mod OpenLaw
@@ -18,3 +18,5 @@ mod Parsing
 mod Places
 mod Roots
 mod Runs
+mod Standing
+pub mod Wrong

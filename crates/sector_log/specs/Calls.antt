@@ -1,8 +1,8 @@
 -- What the calls of a log make of a device, by the content of its images.
-use Rattle.std.specs.Prelude.{◌≡◌, ◌⊎◌, ◌++◌, ◌^◌, ◌+◌, ◌-◌, ◌≤◌, ◌<◌, ℕ, List, length, take, Option, Some, Bool, true, false}
-use Rattle.sector_device.specs.DiskState.{DiskState, Settled, NoNewImage, NoLostImage, next_count}
+use Rattle.std.specs.Prelude.{◌≡◌, ◌⊎◌, ◌++◌, ◌^◌, ◌+◌, ◌-◌, ◌/◌, ◌≤◌, ◌<◌, ℕ, List, length, take, Option, Some, Bool, true, false}
+use Rattle.sector_device.specs.DiskState.{DiskState, Settled, NoNewImage, NoLostImage, next_count, sector_at}
 use Rattle.sector_device.specs.Runs.{HoldsSince}
-use Rattle.sector_log.specs.Content.{ImageContent, content, generation_in, new_generation, need, Holds}
+use Rattle.sector_log.specs.Content.{ImageContent, area_start, content, generation_in, new_generation, need, Holds}
 use Rattle.sector_log.specs.Inputs.{inputs, AreInputs}
 use Rattle.sector_log.specs.declared.Entry.{Entry}
 use Rattle.sector_log.specs.declared.Stored.{Stored}
@@ -77,6 +77,13 @@ pub record IsAppended (old now : DiskState) (more : List Entry) : Type 0 where
   pub settled : Settled now
   pub adds : Adds more (content old.sectors) (content now.sectors)
   pub generation_is : generation_in now.sectors ≡ generation_in old.sectors
+
+-- Each sector is the old one, but for those of the chosen area's log from the one in which a log of so many entries ends on.
+-- So no full sector has changed.
+pub record ChangesOpenLog (old : List (List ℕ)) (entries : ℕ) (image : List (List ℕ)) : Type 0 where
+  pub size : length image ≡ length old
+  pub each : (k : ℕ) → (sector_at image k ≡ sector_at old k)
+      ⊎ ((area_start (generation_in old) old + entries / 84 ≤ k) × (k < area_start (generation_in old) old + 32))
 
 -- why nothing, or not everything, is appended: a call failed before, else the inputs don't fit, else a call fails now
 abbrev pub IsAppendCause : LogFault → Bool → Bool → Type 0

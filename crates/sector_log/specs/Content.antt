@@ -62,6 +62,10 @@ abbrev pub last_generation : Option Root → ℕ
 last_generation None = 0
 last_generation (Some root) = root.generation
 
+abbrev pub version_of : Option Root → Option Version
+version_of None = None
+version_of (Some root) = Some root.version
+
 -- the generation of the chosen root, 0 where there is none
 abbrev pub generation_in : List (List ℕ) → ℕ
 generation_in image = last_generation (chosen image)

@@ -1,12 +1,13 @@
 -- What is found on an image, as `found`, `entries` and `blob` answer it.
-use Rattle.std.specs.Prelude.{◌+◌, ◌-◌, ◌^◌, ℕ, List, [], Option, Some, None, Bool, true, false, if◌then◌else◌, nat_lt, nat_le}
-use Rattle.sector_log.specs.Content.{ImageContent, Body, need}
+use Rattle.std.specs.Prelude.{◌≡◌, ◌≤◌, ◌<◌, ◌+◌, ◌-◌, ◌^◌, ℕ, List, [], length, Option, Some, None, Bool, true, false, if◌then◌else◌, nat_lt, nat_le}
+use Rattle.sector_log.specs.Content.{ImageContent, Body, header_of, need}
 use Rattle.sector_log.specs.Inputs.{counted}
 use Rattle.sector_log.specs.declared.Stored.{Stored}
 use Rattle.sector_log.specs.declared.found.Content.{Content}
 use Rattle.sector_log.specs.declared.found.Found.{Found}
 use Rattle.sector_log.specs.declared.found.Found.TheVariants.{Nothing, Content as Sound, Damaged}
 use Rattle.sector_log.specs.declared.found.Part.TheVariants.{Length, Count}
+use Rattle.sector_log.specs.declared.root.Root.{Root}
 
 -- damaged in length where the blob does not fit its area, in count where base and log are above the greatest `u64`
 abbrev pub found_by : Content → Option Body → Found
@@ -43,3 +44,26 @@ blob_by most size (Some body) = if nat_le size most then Some body.blob else Non
 abbrev pub blob_in : ℕ → Option ImageContent → Option (List ℕ)
 blob_in most None = None
 blob_in most (Some found) = blob_by most found.header.blob_length found.body
+
+-- ---- what an opened log holds
+
+-- what was found when a log was opened: the roots' content, the log's entries, and the blob where it is whole and not too
+-- long to be kept
+pub record Seen : Type 0 where
+  pub found : Found
+  pub log : List Stored
+  pub blob : Option (List ℕ)
+
+abbrev pub seen_in : ℕ → Option ImageContent → Seen
+seen_in most held = record { found = found_in held; log = log_of held; blob = blob_in most held }
+
+-- what holds of any device, honest or not
+pub record IsSound (seen : Seen) : Type 0 where
+  pub few : length seen.log ≤ 3200
+  pub counts : (c : Content) → seen.found ≡ Sound c → c.base + counted 0 seen.log < 2 ^ 64
+
+-- what a chosen root says whose blob does not fit its area, or behind whose blob this log stands
+abbrev pub found_with : Option Root → Bool → List Stored → Found
+found_with None short log = Nothing
+found_with (Some root) true log = Damaged (header_of root) (Length (need root.blob_length))
+found_with (Some root) false log = if nat_lt (2 ^ 64 - 1) (root.base + counted 0 log) then Damaged (header_of root) Count else Sound (header_of root)

@@ -1,14 +1,20 @@
 -- The inputs that the entries of a log stand for: an entry is a run of equal frames, or seconds.
-use Rattle.std.specs.Prelude.{◌≡◌, ◌==◌, ◌&&◌, ◌||◌, ◌++◌, ◌+◌, ◌*◌, ◌/◌, ◌≤◌, ℕ, List, [], ◌∷◌, length, take, drop, Bool, true, false, if◌then◌else◌, nat_le, Option, Some, None}
+use Rattle.std.specs.Prelude.{◌≡◌, ◌==◌, ◌&&◌, ◌||◌, ◌++◌, ◌+◌, ◌*◌, ◌/◌, ◌^◌, ◌<◌, ◌≤◌, ℕ, List, [], ◌∷◌, length, take, drop, Bool, true, false, if◌then◌else◌, nat_le, Option, Some, None}
 use Rattle.std.specs.Int.{w32, to_le_bytes, from_le_bytes}
 use lib.ListN.{replicate}
 use Rattle.sector_log.specs.Log.{byte, zeros}
 use Rattle.sector_log.specs.declared.Entry.{Entry}
 use Rattle.sector_log.specs.declared.Stored.{Stored}
+use Rattle.sector_log.specs.declared.logged.Logged.{Logged}
+use Rattle.sector_log.specs.declared.logged.Logged.TheVariants.{Frames, Seconds}
 
 -- a frame with these buttons
 abbrev pub frame : ℕ → Entry
 frame buttons = record { code = 0 ∷ buttons ∷ 0 ∷ 0 ∷ 0 ∷ [] }
+
+-- so many seconds
+abbrev pub seconds : ℕ → Entry
+seconds n = record { code = 1 ∷ to_le_bytes w32 n }
 
 -- each input has its five bytes
 abbrev pub AllFive : List Entry → Type 0
@@ -40,6 +46,16 @@ is_entry s = is_run s || is_seconds s
 unfoldable pub inputs_in : Stored → List Entry
 inputs_in s = if is_run s then replicate (run_length s) (frame (byte 1 s.code)) else record { code = take 5 s.code } ∷ []
 
+-- the inputs of an entry by what it stands for
+abbrev pub inputs_logged : Logged → List Entry
+inputs_logged (Frames buttons times) = replicate times (frame buttons)
+inputs_logged (Seconds n) = seconds n ∷ []
+
+-- a run has 1 to 216,000 frames, and seconds fit 32 bits
+abbrev pub HasFewTimes : Logged → Type 0
+HasFewTimes (Frames buttons times) = (1 ≤ times) × (times ≤ 216000)
+HasFewTimes (Seconds n) = n < 2 ^ 32
+
 abbrev pub inputs : List Stored → List Entry
 inputs [] = []
 inputs (s ∷ log) = inputs_in s ++ inputs log
@@ -57,6 +73,16 @@ pub record AreInputs (log : List Stored) : Type 0 where
 abbrev pub counted : ℕ → List Stored → ℕ
 counted before [] = before
 counted before (s ∷ log) = counted (before + (if is_entry s && nat_le (before + length (inputs_in s)) 216000 then length (inputs_in s) else 1)) log
+
+-- the index of the first entry that is no input, or with which there would be more than 216,000; `before` inputs stand
+-- before these
+abbrev pub wrong_from : ℕ → ℕ → List Stored → Option ℕ
+wrong_from index before [] = None
+wrong_from index before (s ∷ log) =
+    if is_entry s && nat_le (before + length (inputs_in s)) 216000 then wrong_from (index + 1) (before + length (inputs_in s)) log else Some index
+
+abbrev pub first_wrong : List Stored → Option ℕ
+first_wrong log = wrong_from 0 0 log
 
 -- an entry for one input
 unfoldable pub single : Entry → Stored

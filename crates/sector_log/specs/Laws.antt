@@ -1,11 +1,11 @@
 -- Laws of the layout, each proved by the contract of a function.
-use Rattle.std.specs.Prelude.{◌≡◌, ◌⊎◌, ◌++◌, ◌+◌, ◌-◌, ◌/◌, ◌<◌, ◌≤◌, ℕ, List, length, take, slice_set, Some, true}
+use Rattle.std.specs.Prelude.{◌≡◌, ◌⊎◌, ◌↔◌, ◌++◌, ◌+◌, ◌-◌, ◌/◌, ◌<◌, ◌≤◌, ℕ, List, length, take, slice_set, Some, None, true}
 use lib.ListN.{replicate}
-use Rattle.sector_device.specs.DiskState.{sector_at}
+use Rattle.sector_device.specs.DiskState.{IsSized, sector_at}
 use Rattle.sector_log.specs.Log.{log_from, log_area}
 use Rattle.sector_log.specs.Calls.{HoldsPrefix}
 use Rattle.sector_log.specs.Content.{ImageContent, Body, content, generation_in, chosen, area, area_start, area_length, blob_sectors, need}
-use Rattle.sector_log.specs.Inputs.{inputs, all_input, AllFive, AreInputs, grown, fits, counted}
+use Rattle.sector_log.specs.Inputs.{inputs, all_input, AllFive, AreInputs, grown, fits, counted, first_wrong}
 use Rattle.sector_log.specs.Store.{HaveSix}
 use Rattle.sector_log.specs.declared.Entry.{Entry}
 use Rattle.sector_log.specs.declared.Stored.{Stored}
@@ -77,3 +77,12 @@ AFoundBlobFits = (image : List (List ℕ)) (held : ImageContent) (body : Body) �
 -- a log of inputs counts as many as it stands for
 abbrev pub ALogOfInputsCountsThem : Type 0
 ALogOfInputsCountsThem = (log : List Stored) → AreInputs log → counted 0 log ≡ length (inputs log)
+
+-- a blob that is found whole has the length that its root says
+abbrev pub AFoundBlobHasItsLength : Type 0
+AFoundBlobHasItsLength =
+    (image : List (List ℕ)) (held : ImageContent) (body : Body) → IsSized (length image) image → content image ≡ Some held → held.body ≡ Some body → length body.blob ≡ held.header.blob_length
+
+-- a log has no wrong entry exactly if it is one of inputs
+abbrev pub ALogOfInputsHasNoneWrong : Type 0
+ALogOfInputsHasNoneWrong = (log : List Stored) → (first_wrong log ≡ None) ↔ AreInputs log

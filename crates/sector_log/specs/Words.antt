@@ -1,7 +1,8 @@
 -- What public clauses see of an `Opened` and a `Store`.
-use Rattle.std.specs.Prelude.{ℕ, List, Bool, Result, Ok, Err}
+use Rattle.std.specs.Prelude.{ℕ, List, Bool, if◌then◌else◌, Some, None, Result, Ok, Err}
 use Rattle.sector_device.specs.declared.device.SectorDevice.{Ghosts}
 use Rattle.sector_log.specs.Content.{last_generation}
+use Rattle.sector_log.specs.Found.{Seen, found_with}
 use Rattle.sector_log.specs.declared.Stored.{Stored}
 use Rattle.sector_log.specs.declared.opened.Opened.{Opened}
 use Rattle.sector_log.specs.declared.store.Store.{Store}
@@ -19,6 +20,10 @@ module _ {D : Type 0} {disk : Ghosts D} where
   -- the length of the longest blob that is kept
   abbrev pub longest_blob : Opened D disk → ℕ
   longest_blob o = o.most
+
+  -- what was found
+  unfoldable pub seen : Opened D disk → Seen
+  seen o = record { found = found_with o.root o.short o.log.items; log = o.log.items; blob = if o.whole then Some o.blob.items else None }
 
   -- the device that `open_log` leaves
   abbrev pub left_by_open : Result (Opened D disk) (Refused D) → D

@@ -36,14 +36,15 @@ pub enum Found {
     Damaged(Content, Part),
 }
 
-fn times(entry: &Stored) -> u32
+/// The length of a run.
+pub(crate) fn times(entry: &Stored) -> u32
     ensures { result ≡ run_length entry.now }
 {
     let code = entry.code;
     u32::from_le_bytes([code[2], code[3], code[4], code[5]])
 }
 
-fn is_run(entry: &Stored) -> bool
+pub(crate) fn is_run(entry: &Stored) -> bool
     ensures { result ≡ is_run entry.now }
 {
     if entry.code[0] != 0 {
@@ -56,7 +57,7 @@ fn is_run(entry: &Stored) -> bool
     times <= 216_000
 }
 
-fn is_seconds(entry: &Stored) -> bool
+pub(crate) fn is_seconds(entry: &Stored) -> bool
     ensures { result ≡ is_seconds entry.now }
 {
     if entry.code[0] != 1 {
@@ -66,7 +67,7 @@ fn is_seconds(entry: &Stored) -> bool
 }
 
 /// How many inputs an entry stands for, 0 where it stands for none.
-fn inputs_of(entry: &Stored) -> u32
+pub(crate) fn inputs_of(entry: &Stored) -> u32
     ensures { result ≡ (if is_entry entry.now then length (inputs_in entry.now) else 0) }
 {
     if is_run(entry) {

@@ -9,7 +9,7 @@ ghost use Rattle.sector_log.specs.declared.fault.LogFault.TheVariants.{Device};
 
 use crate::fault::LogFault;
 use crate::format::root_sector;
-use crate::root::{Root, Version};
+use crate::root::{Root, Version, sectors_needed};
 use crate::writes::{fill_area, sync_once};
 use sector_device::{DeviceFault, SectorDevice};
 
@@ -49,7 +49,7 @@ pub(crate) fn refusal(count: u64, last: u64, blob_length: usize) -> Option<LogFa
     ensures some { IfSome result (λ why. IsBeginCause why blob_length count last × (why ≢ Device)) }
     ensures none { IsNone result → CanBegin blob_length count last }
 {
-    let need = 2 + 2 * (32 + (blob_length as u64 + 511) / 512);
+    let need = sectors_needed(blob_length as u32);
     if count < need {
         return Some(LogFault::TooSmall { need });
     }

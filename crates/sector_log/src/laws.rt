@@ -1,5 +1,5 @@
 //! Laws of the layout. The functions do nothing: the contract of each is the law.
-ghost use Rattle.sector_log.specs.Laws.{AnAppendAddsAPrefix, AnAppendAddsAPrefixToTheLog, AWriteOutsideKeepsTheContent, AFoundBlobFits, ALogOfInputsCountsThem};
+ghost use Rattle.sector_log.specs.Laws.{AnAppendAddsAPrefix, AnAppendAddsAPrefixToTheLog, AWriteOutsideKeepsTheContent, AFoundBlobFits, AFoundBlobHasItsLength, ALogOfInputsCountsThem, ALogOfInputsHasNoneWrong};
 
 /// Law: where the log ends in some sector and every later log sector is blank, after any of the writes of one append the image
 /// has the old content with a prefix of the inputs behind its log. `log` says the same of the log's sectors alone.
@@ -18,7 +18,17 @@ pub fn a_found_blob_fits()
     ensures { AFoundBlobFits }
 {}
 
+/// Law: a blob that is found whole has as many bytes as its root says.
+pub fn a_found_blob_has_its_length()
+    ensures { AFoundBlobHasItsLength }
+{}
+
 /// Law: a log of which each entry is an input counts as many as it stands for.
 pub fn a_log_of_inputs_counts_them()
     ensures { ALogOfInputsCountsThem }
+{}
+
+/// Law: `first_wrong` finds nothing in a log exactly if each entry is an input and there are no more than 216,000 of them.
+pub fn a_log_of_inputs_has_none_wrong()
+    ensures { ALogOfInputsHasNoneWrong }
 {}

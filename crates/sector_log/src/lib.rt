@@ -8,6 +8,7 @@ mod format;
 mod found;
 mod generation;
 mod laws;
+mod logged;
 mod opened;
 mod opening;
 mod parse;
@@ -20,11 +21,13 @@ pub use entries::are_inputs;
 pub use fault::{LogFault, Refused};
 pub use found::{Content, Found, Part};
 pub use laws::{
-    a_found_blob_fits, a_log_of_inputs_counts_them, a_write_outside_keeps_the_content,
-    an_append_adds_a_prefix,
+    a_found_blob_fits, a_found_blob_has_its_length, a_log_of_inputs_counts_them,
+    a_log_of_inputs_has_none_wrong, a_write_outside_keeps_the_content, an_append_adds_a_prefix,
 };
+pub use logged::{Logged, first_wrong};
 pub use opened::Opened;
 pub use opening::open_log;
+pub use root::sectors_needed;
 pub use store::Store;
 
 /// One input, as it is given: `00`, buttons and three zeros for a frame, or `01` and the seconds, low byte first.

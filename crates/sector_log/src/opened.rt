@@ -4,15 +4,16 @@ ghost use Rattle.sector_device.specs.DiskState.{Settled};
 ghost use Rattle.sector_device.specs.Runs.{HoldsSince};
 ghost use Rattle.sector_log.specs.Calls.{HasOldOrNewContent, HasBegun, CanBegin, IsBeginCause, faults_after};
 ghost use Rattle.sector_log.specs.Reading.{FoundIs, found_prop, BlobIs, blob_prop};
-ghost use Rattle.sector_log.specs.Content.{content, generation_in};
+ghost use Rattle.sector_log.specs.Content.{content, generation_in, chosen, version_of};
 ghost use Rattle.sector_log.specs.Found.{found_in, log_of, blob_in};
 ghost use Rattle.sector_log.specs.declared.fault.LogFault.TheVariants.{Memory, Device};
+ghost use Rattle.sector_log.specs.declared.root.Version.TheVariants.{Two};
 
 use crate::Stored;
 use crate::fault::{LogFault, Refused};
 use crate::found::{Content, Found, Part, counted};
 use crate::generation::{follow, refusal};
-use crate::root::{Root, last_generation};
+use crate::root::{Root, last_generation, sectors_needed};
 use crate::store::Store;
 use sector_device::SectorDevice;
 
@@ -35,11 +36,12 @@ pub struct Opened<D: SectorDevice> {
 }
 
 impl<D: SectorDevice> Opened<D> {
-    ghost use Rattle.sector_log.specs.Words.{device_under, found_generation, longest_blob, left_by_begin, device_of, is_broken, entries_of, generation_of, id_of};
+    ghost use Rattle.sector_log.specs.Words.{device_under, found_generation, longest_blob, seen, left_by_begin, device_of, is_broken, entries_of, generation_of, id_of};
 
     /// What reads give: nothing, a content, or one that is damaged.
     pub fn found(&self) -> Found
-        ensures { (D.disk (device_under self.now)).honest → result ≡ found_in (content (D.disk (device_under self.now)).sectors) }
+        ensures seen { result ≡ (seen self.now).found }
+        ensures reads { (D.disk (device_under self.now)).honest → result ≡ found_in (content (D.disk (device_under self.now)).sectors) }
     {
         let Some(root) = self.root else {
             return Found::Nothing;
@@ -51,7 +53,7 @@ impl<D: SectorDevice> Opened<D> {
             blob_length: root.blob_length,
         };
         if self.short {
-            let need = 2 + 2 * (32 + (root.blob_length as u64 + 511) / 512);
+            let need = sectors_needed(root.blob_length);
             return Found::Damaged(content, Part::Length { need });
         }
         if counted(&self.log) > u64::MAX - root.base {
@@ -69,14 +71,19 @@ impl<D: SectorDevice> Opened<D> {
     }
 
     /// The entries of the log, none where nothing is found or the blob does not fit the area.
+    #[tactic(auto, unfolding(crate::specs::Words::seen))]
     pub fn entries(&self) -> &[Stored]
-        ensures { (D.disk (device_under self.now)).honest → log_of (content (D.disk (device_under self.now)).sectors) ≡ result.now }
+        ensures seen { result.now ≡ (seen self.now).log }
+        ensures reads { (D.disk (device_under self.now)).honest → log_of (content (D.disk (device_under self.now)).sectors) ≡ result.now }
     {
         &self.log
     }
 
     /// The blob, where it fits its area and is no longer than the `most` of `open_log`.
+    #[tactic(auto, unfolding(crate::specs::Words::seen))]
     pub fn blob(&self) -> Option<&[u8]>
+        ensures seen_some { IfSome result (λ blob. (seen self.now).blob ≡ Some blob.now) }
+        ensures seen_none { IsNone result → (seen self.now).blob ≡ None }
         ensures some { IfSome result (λ blob. (D.disk (device_under self.now)).honest → blob_in (longest_blob self.now) (content (D.disk (device_under self.now)).sectors) ≡ Some blob.now) }
         ensures none { IsNone result → (D.disk (device_under self.now)).honest → blob_in (longest_blob self.now) (content (D.disk (device_under self.now)).sectors) ≡ None }
     {
@@ -97,6 +104,7 @@ impl<D: SectorDevice> Opened<D> {
         ensures images { (D.disk (device_under self)).honest →
             HoldsSince (D.disk (device_under self)) (D.disk (left_by_begin result)) (HasOldOrNewContent (D.disk (device_under self)).sectors id base blob.now) }
         ensures begun { IfOk result (λ store. (D.disk (device_under self)).honest → HasBegun (D.disk (device_under self)) (D.disk (device_of store)) id base blob.now) }
+        ensures version { IfOk result (λ store. (D.disk (device_under self)).honest → version_of (chosen (D.disk (device_of store)).sectors) ≡ Some Two) }
         ensures can { IfOk result (λ _. CanBegin (length blob.now) (length (D.disk (device_under self)).sectors) (found_generation self)) }
         ensures cause { IfErr result (λ refused. IsBeginCause refused.why (length blob.now) (length (D.disk (device_under self)).sectors) (found_generation self)) }
         ensures untouched { IfErr result (λ refused. (refused.why ≡ Device) ⊎ (refused.device ≡ device_under self)) }

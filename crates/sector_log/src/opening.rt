@@ -2,8 +2,9 @@
 ghost use Rattle.std.specs.Prelude.{◌≡◌, ◌↔◌, ◌≤◌, ◌<◌, ◌+◌, ◌⊎◌, [], length, IfOk, IfErr};
 ghost use Rattle.sector_device.specs.DiskState.{Settled};
 ghost use Rattle.sector_log.specs.Calls.{HasLooked, faults_after};
-ghost use Rattle.sector_log.specs.Content.{generation_in};
-ghost use Rattle.sector_log.specs.Words.{device_under, found_generation, longest_blob, left_by_open};
+ghost use Rattle.sector_log.specs.Content.{content, generation_in};
+ghost use Rattle.sector_log.specs.Found.{IsSound, seen_in};
+ghost use Rattle.sector_log.specs.Words.{device_under, found_generation, longest_blob, seen, left_by_open};
 ghost use Rattle.sector_log.specs.declared.fault.LogFault.TheVariants.{Memory, Device};
 
 use crate::fault::{LogFault, Refused};
@@ -23,6 +24,8 @@ pub fn open_log<D: SectorDevice>(
     ensures settled { IfOk result (λ opened. (D.disk device).honest → Settled (D.disk (device_under opened))) }
     ensures generation { IfOk result (λ opened. (D.disk device).honest → found_generation opened ≡ generation_in (D.disk device).sectors) }
     ensures most { IfOk result (λ opened. longest_blob opened ≡ most) }
+    ensures seen { IfOk result (λ opened. (D.disk device).honest → seen opened ≡ seen_in most (content (D.disk device).sectors)) }
+    ensures sound { IfOk result (λ opened. IsSound (seen opened)) }
     ensures count { length (D.disk (left_by_open result)).sectors ≡ length (D.disk device).sectors }
     ensures honest { (D.disk (left_by_open result)).honest ↔ (D.disk device).honest }
     ensures cause { IfErr result (λ refused. (refused.why ≡ Memory × refused.device ≡ device) ⊎ (refused.why ≡ Device)) }

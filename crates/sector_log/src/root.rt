@@ -1,6 +1,6 @@
 //! The root of a generation.
 ghost use Rattle.std.specs.Prelude.{◌≡◌};
-ghost use Rattle.sector_log.specs.Content.{last_generation};
+ghost use Rattle.sector_log.specs.Content.{last_generation, need};
 
 /// The two forms of a log's sectors. New generations are written in the second.
 #[derive(Clone, Copy, Debug, PartialEq, Eq)]
@@ -28,4 +28,11 @@ pub(crate) fn last_generation(root: Option<Root>) -> u64
         Some(root) => root.generation,
         None => 0,
     }
+}
+
+/// The sectors that a device needs for a blob of so many bytes: two roots, and two areas of 32 log sectors and the blob's.
+pub fn sectors_needed(blob_length: u32) -> u64
+    ensures { result ≡ need blob_length }
+{
+    2 + 2 * (32 + (blob_length as u64 + 511) / 512)
 }

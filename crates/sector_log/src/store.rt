@@ -1,10 +1,13 @@
 //! A store: the log of a generation that this process began.
-ghost use Rattle.std.specs.Prelude.{◌≡◌, ◌≤◌, ◌<◌, ◌+◌, ◌-◌, ◌^◌, ◌⊎◌, ◌↔◌, [], ℕ, length, true, false, OnOk, IfErr, IsErrOf, vec_capacity};
+ghost use Rattle.std.specs.Prelude.{◌≡◌, ◌≤◌, ◌<◌, ◌+◌, ◌-◌, ◌^◌, ◌⊎◌, ◌↔◌, [], ℕ, length, true, false, Some, OnOk, IfErr, IsErrOf, vec_capacity};
 ghost use Rattle.sector_device.specs.Runs.{HoldsSince};
-ghost use Rattle.sector_log.specs.Calls.{HoldsPrefix, IsAppended, IsAppendCause, HasOldOrNewContent, HasBegun, CanBegin, IsReplaceCause, faults_after};
+ghost use Rattle.sector_log.specs.Calls.{HoldsPrefix, ChangesOpenLog, IsAppended, IsAppendCause, HasOldOrNewContent, HasBegun, CanBegin, IsReplaceCause, faults_after};
 ghost use Rattle.sector_log.specs.Store.{IsStored, Kept, kept_prop, StoredUnlessBroken, stored_prop};
+ghost use Rattle.sector_log.specs.Content.{content, chosen, version_of};
+ghost use Rattle.sector_log.specs.Found.{log_of};
 ghost use Rattle.sector_log.specs.Inputs.{inputs, all_input, grown, fits};
 ghost use Rattle.sector_log.specs.declared.fault.LogFault.TheVariants.{Device, Broken};
+ghost use Rattle.sector_log.specs.declared.root.Version.TheVariants.{Two};
 
 use crate::entries::{add_inputs, grown_length};
 use crate::fault::LogFault;
@@ -58,6 +61,13 @@ impl<D: SectorDevice> Store<D> {
         }
     }
 
+    /// Whether a call of the device failed: only opening the log again helps.
+    pub fn is_broken(&self) -> bool
+        ensures { result ≡ is_broken self.now }
+    {
+        self.broken
+    }
+
     /// Whether the inputs can be appended: their entries fit the log's sectors, and the log stands for no more than 216,000.
     pub fn fits(&self, more: &[Entry]) -> bool
         ensures { result ≡ fits (entries_of self.now) more.now }
@@ -74,6 +84,8 @@ impl<D: SectorDevice> Store<D> {
         requires { all_input more.now }
         ensures images { is_broken self.old ≡ false → (D.disk (device_of self.old)).honest →
             HoldsSince (D.disk (device_of self.old)) (D.disk (device_of self.new)) (HoldsPrefix (D.disk (device_of self.old)).sectors more.now) }
+        ensures writes { is_broken self.old ≡ false → (D.disk (device_of self.old)).honest →
+            HoldsSince (D.disk (device_of self.old)) (D.disk (device_of self.new)) (ChangesOpenLog (D.disk (device_of self.old)).sectors (length (entries_of self.old))) }
         ensures appended { OnOk result ((D.disk (device_of self.old)).honest → IsAppended (D.disk (device_of self.old)) (D.disk (device_of self.new)) more.now) }
         ensures can { OnOk result ((is_broken self.old ≡ false) × (fits (entries_of self.old) more.now ≡ true)) }
         ensures cause { IfErr result (λ why. IsAppendCause why (is_broken self.old) (fits (entries_of self.old) more.now)) }
@@ -81,6 +93,7 @@ impl<D: SectorDevice> Store<D> {
         ensures nothing { length more.now ≡ 0 → self.new ≡ self.old }
         ensures broken { (is_broken self.new ≡ true) ↔ ((is_broken self.old ≡ true) ⊎ IsErrOf result LogFault.Device) }
         ensures entries { OnOk result (entries_of self.new ≡ grown (entries_of self.old) more.now) }
+        ensures reads { OnOk result ((D.disk (device_of self.old)).honest → log_of (content (D.disk (device_of self.new)).sectors) ≡ entries_of self.new) }
         ensures generation { (generation_of self.new ≡ generation_of self.old) × (id_of self.new ≡ id_of self.old) }
         ensures count { length (D.disk (device_of self.new)).sectors ≡ length (D.disk (device_of self.old)).sectors }
         ensures honest { (D.disk (device_of self.new)).honest ↔ (D.disk (device_of self.old)).honest }
@@ -116,6 +129,7 @@ impl<D: SectorDevice> Store<D> {
         ensures images { is_broken self.old ≡ false → (D.disk (device_of self.old)).honest →
             HoldsSince (D.disk (device_of self.old)) (D.disk (device_of self.new)) (HasOldOrNewContent (D.disk (device_of self.old)).sectors (id_of self.old) base blob.now) }
         ensures begun { OnOk result ((D.disk (device_of self.old)).honest → HasBegun (D.disk (device_of self.old)) (D.disk (device_of self.new)) (id_of self.old) base blob.now) }
+        ensures version { OnOk result ((D.disk (device_of self.old)).honest → version_of (chosen (D.disk (device_of self.new)).sectors) ≡ Some Two) }
         ensures can { OnOk result ((is_broken self.old ≡ false) × CanBegin (length blob.now) (length (D.disk (device_of self.old)).sectors) (generation_of self.old)) }
         ensures cause { IfErr result (λ why. IsReplaceCause why (is_broken self.old) (length blob.now) (length (D.disk (device_of self.old)).sectors) (generation_of self.old)) }
         ensures unchanged { IfErr result (λ why. (why ≡ Device) ⊎ (self.new ≡ self.old)) }
@@ -149,6 +163,13 @@ impl<D: SectorDevice> Store<D> {
         self.given = 0;
         self.broken = false;
         Ok(())
+    }
+
+    /// The device, to be looked at.
+    pub fn device(&self) -> &D
+        ensures { result.now ≡ device_of self.now }
+    {
+        &self.device
     }
 
     /// The device as it is.

@@ -8,3 +8,4 @@ pub mod Legality
 pub mod Offsets
 pub mod Machines
 pub mod Decoding
+pub mod PowerOn

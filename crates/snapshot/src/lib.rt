@@ -16,5 +16,7 @@ mod to_text;
 pub use error::SnapError;
 pub use field::{Rule, SnapshotField};
 pub use from_text::decode;
-pub use laws::{one_text_is_one_machine, texts_are_legal};
+pub use laws::{
+    a_legal_text_is_a_machine, one_text_is_one_machine, texts_are_legal, the_start_is_a_machine,
+};
 pub use to_text::{encode, length};

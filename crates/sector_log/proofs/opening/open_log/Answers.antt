@@ -1,6 +1,8 @@
 use Rattle.std.proofs.Common.{sym, ap, ◌∙◌}
 use Rattle.sector_log.specs.Content.{chosen, last_generation, content}
-use Rattle.sector_log.specs.Found.{blob_in}
+use Rattle.sector_log.specs.Found.{blob_in, seen_in}
+use Rattle.sector_log.specs.Words.{seen}
+use Rattle.sector_log.proofs.Findings.{seen_is, sound_with}
 use Rattle.sector_log.proofs.Looking.{looked_then, found_looked, settled_looked, has_looked}
 use Rattle.sector_log.proofs.opening.open_log.Goals as goal
 
@@ -31,3 +33,19 @@ pub returns-clause-generation : goal.returns-clause-generation
 returns-clause-generation g c = λ honest.
     let looked = c.look.ensures.looked honest in
     ap last_generation (sym (c.in-Ok-look.ensures.found honest).chosen_is ∙ ap chosen looked.sectors)
+
+pub returns-clause-seen : goal.returns-clause-seen
+unfolding seen
+returns-clause-seen g c = λ honest.
+    let looked = c.look.ensures.looked honest in
+    let last = c.look_blob.ensures.looked looked.honest in
+    let first = c.in-Ok-look.ensures.found honest in
+    let blob = c.look_blob.new.blob.items in
+    seen_is (g.D.SectorDevice.disk c.look_blob.new.device) c.in-Ok-look.found.root c.in-Ok-look.found.short c.look.new.log.items c.args.most c.in-Ok-look_blob.whole blob
+    (found_looked c.in-Ok-look.found.root c.in-Ok-look.found.short c.look.new.log.items first last)
+    (ap (λ s. blob_in c.args.most (content s)) last.sectors ∙ c.in-Ok-look_blob.ensures.blob looked.honest first.chosen_is)
+    ∙ ap (λ s. seen_in c.args.most (content s)) (last.sectors ∙ looked.sectors)
+
+pub returns-clause-sound : goal.returns-clause-sound
+unfolding seen
+returns-clause-sound g c = sound_with c.in-Ok-look.found.root c.in-Ok-look.found.short c.look.new.log.items c.in-Ok-look_blob.whole c.look_blob.new.blob.items c.look.ensures.few

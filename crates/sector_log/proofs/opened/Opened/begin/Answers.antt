@@ -1,7 +1,8 @@
-use Rattle.std.proofs.Common.{sym, ap, ◌∙◌, subst}
+use Rattle.std.proofs.Common.{◌≡◌, Some, sym, ap, ◌∙◌, subst}
 use Rattle.sector_device.specs.Runs.{HoldsSince}
-use Rattle.sector_log.specs.Content.{last_generation}
+use Rattle.sector_log.specs.Content.{last_generation, chosen, version_of}
 use Rattle.sector_log.specs.Calls.{HasOldOrNewContent, HasBegun}
+use Rattle.sector_log.specs.declared.root.Version.TheVariants.{Two}
 use Rattle.sector_log.proofs.NewGeneration.{since_old_or_new, since_nothing}
 use Rattle.sector_log.proofs.opened.Opened.begin.Goals as goal
 
@@ -36,3 +37,10 @@ at-requires-clause-stored g c = λ honest_now.
     let found = c.args.self.found honest in
     let was = c.last_generation-last.ensures ∙ ap last_generation (sym found.chosen_is) in
     c.in-Ok.ensures.stored honest found.settled was
+
+pub returns-in-Ok-clause-version : goal.returns-in-Ok-clause-version
+returns-in-Ok-clause-version g c = λ honest.
+    let found = c.args.self.found honest in
+    let was = c.last_generation-last.ensures ∙ ap last_generation (sym found.chosen_is) in
+    let now = c.in-Ok.ensures.stored honest found.settled was in
+    subst (λ d. version_of (chosen (g.D.SectorDevice.disk d).sectors) ≡ Some Two) (sym c.at.ensures.device) (ap version_of now.chosen_is ∙ ap Some now.version_is)

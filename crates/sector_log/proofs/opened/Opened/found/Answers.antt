@@ -1,30 +1,68 @@
-use Rattle.std.proofs.Common.{rules, ◌≡◌, ◌-◌, ◌^◌, ◌≤◌, Some, Option, ap, ◌∙◌, subst, arith}
+use Rattle.std.proofs.Common.{rules, ◌≡◌, ◌+◌, ◌-◌, ◌^◌, ◌≤◌, ◌<◌, ℕ, true, false, Bool, if◌then◌else◌, nat_lt, Option, ap, sym, ◌∙◌, arith}
+use Rattle.std.proofs.lemmas.Bool.Decides.{nat_tests}
+use Rattle.sector_log.specs.Content.{header_of}
+use Rattle.sector_log.specs.Found.{found_with}
 use Rattle.sector_log.specs.Inputs.{counted}
-use Rattle.sector_log.specs.Reading.{IsFound}
+use Rattle.sector_log.specs.Words.{seen}
+use Rattle.sector_log.specs.declared.found.Found.TheVariants.{Content as Sound, Damaged}
+use Rattle.sector_log.specs.declared.found.Part.TheVariants.{Length, Count}
 use Rattle.sector_log.specs.declared.root.Root.{Root}
-use Rattle.sector_log.proofs.Findings.{found_damaged, found_too_many, found_sound}
+use Rattle.sector_log.proofs.Findings.{found_with_is}
 use Rattle.sector_log.proofs.opened.Opened.found.Goals as goal
 
-pub returns-then-self : goal.returns-then-self
-returns-then-self g c = λ honest.
-    let self = c.args.self.now in
-    let now = g.D.SectorDevice.disk self.device in
-    let found : IsFound now (Some c.in-Some.root) self.short self.log.items = subst (λ (r : Option Root). IsFound now r self.short self.log.items) c.in-Some.is (self.found honest) in
-    found_damaged now c.in-Some.root self.short self.log.items found c.if-self.true
+pub returns-then-self-clause-seen : goal.returns-then-self-clause-seen
+unfolding seen
+returns-then-self-clause-seen g c =
+    ap (λ (n : ℕ). Damaged (header_of c.in-Some.root) (Length n)) c.sectors_needed-need.ensures
+    ∙ (λ i. found_with (sym c.in-Some.is i) (sym c.if-self.true i) c.args.self.now.log.items)
 
-pub returns-then-counted-root : goal.returns-then-counted-root
-returns-then-counted-root g c = λ honest.
+pub returns-then-self-clause-reads : goal.returns-then-self-clause-reads
+unfolding seen
+returns-then-self-clause-reads g c = λ honest.
     let self = c.args.self.now in
-    let now = g.D.SectorDevice.disk self.device in
-    let found : IsFound now (Some c.in-Some.root) self.short self.log.items = subst (λ (r : Option Root). IsFound now r self.short self.log.items) c.in-Some.is (self.found honest) in
-    let many : c.counted.result ≡ counted 0 self.log.items = c.counted.ensures ∙ ap (counted 0) c.deref.ensures.value in
-    found_too_many now c.in-Some.root self.short self.log.items found c.if-self.false (omega (arith, many, c.if-counted-root.true))
+    returns-then-self-clause-seen g c ∙ found_with_is (g.D.SectorDevice.disk self.device) self.root self.short self.log.items (self.found honest)
 
-pub returns : goal.returns
-returns g c = λ honest.
+pub returns-then-counted-root-clause-seen : goal.returns-then-counted-root-clause-seen
+unfolding seen
+returns-then-counted-root-clause-seen g c =
     let self = c.args.self.now in
-    let now = g.D.SectorDevice.disk self.device in
-    let found : IsFound now (Some c.in-Some.root) self.short self.log.items = subst (λ (r : Option Root). IsFound now r self.short self.log.items) c.in-Some.is (self.found honest) in
-    let many : c.counted.result ≡ counted 0 self.log.items = c.counted.ensures ∙ ap (counted 0) c.deref.ensures.value in
-    let base : c.in-Some.root.base ≤ 2 ^ 64 - 1 = search rules in
-    found_sound now c.in-Some.root self.short self.log.items found c.if-self.false (omega (arith, many, c.if-counted-root.false, base))
+    let root = c.in-Some.root in
+    let is : c.counted.result ≡ counted 0 self.log.items = c.counted.ensures ∙ ap (counted 0) c.deref.ensures.value in
+    let many : 2 ^ 64 - 1 < root.base + counted 0 self.log.items = omega (arith, is, c.if-counted-root.true) in
+    let holds : nat_lt (2 ^ 64 - 1) (root.base + counted 0 self.log.items) ≡ true = grind (arith, nat_tests) in
+    sym (ap (λ (t : Bool). if t then Damaged (header_of root) Count else Sound (header_of root)) holds)
+    ∙ (λ i. found_with (sym c.in-Some.is i) (sym c.if-self.false i) self.log.items)
+
+pub returns-then-counted-root-clause-reads : goal.returns-then-counted-root-clause-reads
+unfolding seen
+returns-then-counted-root-clause-reads g c = λ honest.
+    let self = c.args.self.now in
+    returns-then-counted-root-clause-seen g c ∙ found_with_is (g.D.SectorDevice.disk self.device) self.root self.short self.log.items (self.found honest)
+
+pub returns-clause-seen : goal.returns-clause-seen
+unfolding seen
+returns-clause-seen g c =
+    let self = c.args.self.now in
+    let root = c.in-Some.root in
+    let is : c.counted.result ≡ counted 0 self.log.items = c.counted.ensures ∙ ap (counted 0) c.deref.ensures.value in
+    let base : root.base ≤ 2 ^ 64 - 1 = search rules in
+    let few : root.base + counted 0 self.log.items ≤ 2 ^ 64 - 1 = omega (arith, is, c.if-counted-root.false, base) in
+    let fails : nat_lt (2 ^ 64 - 1) (root.base + counted 0 self.log.items) ≡ false = grind (arith, nat_tests) in
+    sym (ap (λ (t : Bool). if t then Damaged (header_of root) Count else Sound (header_of root)) fails)
+    ∙ (λ i. found_with (sym c.in-Some.is i) (sym c.if-self.false i) self.log.items)
+
+pub returns-clause-reads : goal.returns-clause-reads
+unfolding seen
+returns-clause-reads g c = λ honest.
+    let self = c.args.self.now in
+    returns-clause-seen g c ∙ found_with_is (g.D.SectorDevice.disk self.device) self.root self.short self.log.items (self.found honest)
+
+pub returns-in_default-clause-seen : goal.returns-in_default-clause-seen
+unfolding seen
+returns-in_default-clause-seen g c = ap (λ (r : Option Root). found_with r c.args.self.now.short c.args.self.now.log.items) (sym c.in_default.is)
+
+pub returns-in_default-clause-reads : goal.returns-in_default-clause-reads
+unfolding seen
+returns-in_default-clause-reads g c = λ honest.
+    let self = c.args.self.now in
+    returns-in_default-clause-seen g c ∙ found_with_is (g.D.SectorDevice.disk self.device) self.root self.short self.log.items (self.found honest)

@@ -3,9 +3,9 @@ use Rattle.sector_device.proofs.Runs.{has_synced}
 use Rattle.std.proofs.lemmas.Bool.Decides.{nat_tests}
 use Rattle.sector_log.specs.declared.Stored.{Stored}
 use Rattle.sector_log.specs.Inputs.{grown}
-use Rattle.sector_log.proofs.Appending.{front, rests_again, added, fits_means, kept_after, count_after, nothing_grown, nothing_added, entries_of_each}
+use Rattle.sector_log.proofs.Appending.{front, rests_again, added, fits_means, kept_after, count_after, nothing_grown, nothing_added, entries_of_each, log_stored}
 use Rattle.sector_log.specs.Store.{IsStored}
-use Rattle.sector_log.proofs.Appending.{since_prefix, since_nothing_appended}
+use Rattle.sector_log.proofs.Appending.{since_prefix, since_nothing_appended, since_written, since_nothing_written}
 use Rattle.sector_log.proofs.Grown.{length-grown}
 use Rattle.sector_log.proofs.store.Store.append.Goals as goal
 
@@ -179,3 +179,68 @@ pub returns-then-not-fits-clause-images : goal.returns-then-not-fits-clause-imag
 returns-then-not-fits-clause-images g c = λ open_before honest.
     let self = c.args.self.now in
     since_nothing_appended (g.D.SectorDevice.disk self.device) self.start self.root self.log.items c.args.more.now (self.stored open_before honest) self.kept (g.met.D.SectorDevice.only_now self.device)
+
+pub returns-then-is_empty-clause-reads : goal.returns-then-is_empty-clause-reads
+returns-then-is_empty-clause-reads g c = λ honest.
+    let self = c.args.self.now in
+    log_stored (g.D.SectorDevice.disk self.device) self.start self.root self.log.items (self.stored c.if-self.false honest) self.kept
+
+pub returns-clause-reads : goal.returns-clause-reads
+returns-clause-reads g c = λ honest.
+    let self = c.args.self.now in
+    let means = fits_means self.log.items c.args.more.now (sym c.fits.ensures ∙ c.if-not-fits.false) in
+    let rests = self.stored c.if-self.false honest in
+    let all : c.deref.result.now ≡ grown self.log.items c.args.more.now = c.deref.ensures.value ∙ c.add_inputs.ensures.items in
+    let held = c.write_log.ensures.moments honest rests.settled in
+    let size : c.len.result ≡ length self.log.items = search rules in
+    let now : c.len-2.result ≡ length c.add_inputs.new.log.items = search rules in
+    let first : c.len.result / 84 ≡ length self.log.items / 84 = ap (λ n. n / 84) size in
+    let end : (c.len-2.result + 83) / 84 ≡ (length (grown self.log.items c.args.more.now) + 83) / 84 = ap (λ n. (n + 83) / 84) (now ∙ ap length c.add_inputs.ensures.items) in
+    let synced = c.in_ok-sync_once.ensures.synced held.honest in
+    let kept = kept_after self.log.items c.deref.result.now c.args.more.now self.kept c.add_inputs.ensures.five c.requires means.1 means.0 all in
+    log_stored (g.D.SectorDevice.disk c.sync_once.new.device) self.start self.root c.deref.result.now
+    (rests_again (g.D.SectorDevice.disk self.device) self.start self.root self.log.items c.deref.result.now c.args.more.now rests self.kept c.add_inputs.ensures.five c.requires means.1 means.0 all
+    ((c.len-2.result + 83) / 84) end (g.D.SectorDevice.disk c.write_log.new.device) (g.D.SectorDevice.disk c.sync_once.new.device) synced.settled synced.sectors
+    (c.in_ok-write_log.ensures.written honest rests.settled
+    (front (g.D.SectorDevice.disk self.device) self.start self.root self.log.items c.deref.result.now c.args.more.now rests self.kept c.add_inputs.ensures.five c.requires means.1 means.0 all (c.len.result / 84) first)))
+    kept
+    ∙ c.deref.ensures.value
+
+pub returns-in_err-write_log-clause-writes : goal.returns-in_err-write_log-clause-writes
+returns-in_err-write_log-clause-writes g c = λ open_before honest.
+    let self = c.args.self.now in
+    let means = fits_means self.log.items c.args.more.now (sym c.fits.ensures ∙ c.if-not-fits.false) in
+    let rests = self.stored open_before honest in
+    let all : c.deref.result.now ≡ grown self.log.items c.args.more.now = c.deref.ensures.value ∙ c.add_inputs.ensures.items in
+    since_written (g.D.SectorDevice.disk self.device) self.start self.root self.log.items c.deref.result.now c.args.more.now rests self.kept c.add_inputs.ensures.five c.requires means.1 means.0 all
+    (g.met.D.SectorDevice.only_now self.device) (g.D.SectorDevice.disk c.write_log.new.device) (c.write_log.ensures.moments honest rests.settled)
+
+pub returns-in_err-sync_once-clause-writes : goal.returns-in_err-sync_once-clause-writes
+returns-in_err-sync_once-clause-writes g c = λ open_before honest.
+    let self = c.args.self.now in
+    let means = fits_means self.log.items c.args.more.now (sym c.fits.ensures ∙ c.if-not-fits.false) in
+    let rests = self.stored open_before honest in
+    let all : c.deref.result.now ≡ grown self.log.items c.args.more.now = c.deref.ensures.value ∙ c.add_inputs.ensures.items in
+    let held = c.write_log.ensures.moments honest rests.settled in
+    since_written (g.D.SectorDevice.disk self.device) self.start self.root self.log.items c.deref.result.now c.args.more.now rests self.kept c.add_inputs.ensures.five c.requires means.1 means.0 all
+    (g.met.D.SectorDevice.only_now self.device) (g.D.SectorDevice.disk c.sync_once.new.device) (has_synced held (c.sync_once.ensures.synced held.honest))
+
+pub returns-clause-writes : goal.returns-clause-writes
+returns-clause-writes g c = λ open_before honest.
+    let self = c.args.self.now in
+    let means = fits_means self.log.items c.args.more.now (sym c.fits.ensures ∙ c.if-not-fits.false) in
+    let rests = self.stored open_before honest in
+    let all : c.deref.result.now ≡ grown self.log.items c.args.more.now = c.deref.ensures.value ∙ c.add_inputs.ensures.items in
+    let held = c.write_log.ensures.moments honest rests.settled in
+    since_written (g.D.SectorDevice.disk self.device) self.start self.root self.log.items c.deref.result.now c.args.more.now rests self.kept c.add_inputs.ensures.five c.requires means.1 means.0 all
+    (g.met.D.SectorDevice.only_now self.device) (g.D.SectorDevice.disk c.sync_once.new.device) (has_synced held (c.sync_once.ensures.synced held.honest))
+
+pub returns-then-is_empty-clause-writes : goal.returns-then-is_empty-clause-writes
+returns-then-is_empty-clause-writes g c = λ open_before honest.
+    let self = c.args.self.now in
+    since_nothing_written (g.D.SectorDevice.disk self.device) (length self.log.items) (self.stored open_before honest).settled (g.met.D.SectorDevice.only_now self.device)
+
+pub returns-then-not-fits-clause-writes : goal.returns-then-not-fits-clause-writes
+returns-then-not-fits-clause-writes g c = λ open_before honest.
+    let self = c.args.self.now in
+    since_nothing_written (g.D.SectorDevice.disk self.device) (length self.log.items) (self.stored open_before honest).settled (g.met.D.SectorDevice.only_now self.device)

@@ -1,5 +1,5 @@
-use Rattle.std.proofs.Common.{sym, ap}
-use Rattle.sector_log.specs.Content.{last_generation}
+use Rattle.std.proofs.Common.{Some, sym, ap, ◌∙◌}
+use Rattle.sector_log.specs.Content.{last_generation, version_of}
 use Rattle.sector_log.proofs.NewGeneration.{since_old_or_new, since_nothing}
 use Rattle.sector_log.proofs.store.Store.replace.Goals as goal
 
@@ -22,3 +22,10 @@ returns-in-Some-clause-images g c = λ open_before honest.
     let self = c.args.self.now in
     let stored = self.stored open_before honest in
     since_nothing (g.D.SectorDevice.disk self.device) self.root.id c.args.base c.args.blob.now (g.met.D.SectorDevice.only_now self.device) stored.settled
+
+pub returns-clause-version : goal.returns-clause-version
+returns-clause-version g c = λ honest.
+    let stored = c.args.self.now.stored c.if-self.false honest in
+    let was = ap last_generation (sym stored.chosen_is) in
+    let now = c.in_ok-begun.ensures.stored honest stored.settled was in
+    ap version_of now.chosen_is ∙ ap Some now.version_is

@@ -1,0 +1,18 @@
+//! Scripts: text that names the moves of a play session, a line each.
+//!
+//! `read_script` is proved to give exactly the moves that the definitions in `specs/` read from the
+//! bytes, or the number of the first wrong line. What a move does to a machine is told elsewhere.
+#![tactic(auto)]
+
+mod cut;
+pub mod error;
+mod line;
+mod lines;
+pub mod moves;
+
+pub use error::ScriptError;
+pub use lines::read_script;
+pub use moves::Move;
+
+#[cfg(test)]
+mod tests;

@@ -1,0 +1,139 @@
+use super::*;
+use std::alloc::Global;
+use std::process::Abort;
+use std::test::Fail;
+
+const fn frames(buttons: u8, times: u32) -> Move {
+    Move::Frames { buttons, times }
+}
+
+/// A script is read as these moves.
+fn accepts(rt: &impl Abort, alloc: Global, script: &[u8], moves: &[Move]) {
+    match read_script(alloc, script) {
+        Ok(read) => assert!(rt; read.as_slice() == moves, "{script:?} is read as {read:?}"),
+        Err(why) => assert!(rt; false, "{script:?} is refused: {why}"),
+    }
+}
+
+#[test]
+fn reads_moves(rt: HostRuntime) {
+    let alloc = rt.alloc();
+    accepts(&rt, alloc, b"", &[]);
+    accepts(&rt, alloc, b"\n\n", &[]);
+    accepts(
+        &rt,
+        alloc,
+        b"frames 00 3\nseconds 60\nsave\n",
+        &[frames(0, 3), Move::Seconds(60), Move::Save],
+    );
+    accepts(
+        &rt,
+        alloc,
+        b"\nsave\n\nframe 01",
+        &[Move::Save, frames(1, 1)],
+    );
+    accepts(
+        &rt,
+        alloc,
+        b"frame aF\nframe Fa",
+        &[frames(0xAF, 1), frames(0xFA, 1)],
+    );
+    accepts(
+        &rt,
+        alloc,
+        b"frames 80 1\nframes 10 1000000\n",
+        &[frames(0x80, 1), frames(0x10, 1_000_000)],
+    );
+    accepts(&rt, alloc, b"frames 09 0000000007", &[frames(9, 7)]);
+    accepts(
+        &rt,
+        alloc,
+        b"seconds 0\nseconds 4294967295",
+        &[Move::Seconds(0), Move::Seconds(u32::MAX)],
+    );
+    accepts(&rt, alloc, b"seconds 0000000000", &[Move::Seconds(0)]);
+}
+
+#[test]
+fn names_the_first_wrong_line(rt: HostRuntime) {
+    let cases: [(&[u8], u32); 35] = [
+        (b"save\nframe 1G\n", 2),
+        (b"\nwait", 2),
+        (b"wait\nsave \n", 1),
+        (b"save\n\n\nsave\nframes 00 0", 5),
+        (b"frames 00 0", 1),
+        (b"frames 00 1000001", 1),
+        (b"frames 00 4294967297", 1),
+        (b"frames 00 00000000001", 1),
+        (b"frames 00", 1),
+        (b"frames 00 ", 1),
+        (b"frames 00 1 1", 1),
+        (b"frames  00 1", 1),
+        (b"frames 00 +1", 1),
+        (b"frames 00 -1", 1),
+        (b"frames 00 a", 1),
+        (b"frames 0 1", 1),
+        (b"frame  00", 1),
+        (b"frame 00 ", 1),
+        (b"frame 000", 1),
+        (b"frame 0", 1),
+        (b"frame", 1),
+        (b"frame ", 1),
+        (b"frame +1", 1),
+        (b"frame 00 1", 1),
+        (b"Frame 00", 1),
+        (b"save ", 1),
+        (b" save", 1),
+        (b" ", 1),
+        (b"save\r\n", 1),
+        (b"SAVE", 1),
+        (b"seconds", 1),
+        (b"seconds ", 1),
+        (b"seconds 4294967296", 1),
+        (b"seconds 10000000000", 1),
+        (b"seconds 00000000000", 1),
+    ];
+    for (script, number) in cases {
+        let read = read_script(rt.alloc(), script).err();
+        assert_eq!(rt; read, Some(ScriptError::Script(number)), "{script:?}");
+    }
+}
+
+/// A first line, so many newlines, and `save`.
+fn long_script(alloc: Global, first: &[u8], newlines: usize) -> Result<Vec<u8>, Fail> {
+    let mut script = first.to_vec(alloc)?;
+    let empty = vec![in alloc; b'\n'; newlines]?;
+    script.extend_from_slice(&empty)?;
+    script.extend_from_slice(b"save")?;
+    Ok(script)
+}
+
+#[test]
+fn has_a_most_of_bytes(rt: HostRuntime) -> Result<(), Fail> {
+    let alloc = rt.alloc();
+    let most = long_script(alloc, b"", 1_048_572)?;
+    accepts(&rt, alloc, &most, &[Move::Save]);
+    for (first, newlines, number) in [
+        ("", 1_048_573, 0),
+        ("?", 1_048_572, 0),
+        ("?", 1_048_571, 1),
+    ] {
+        let script = long_script(alloc, first.as_bytes(), newlines)?;
+        let read = read_script(alloc, &script).err();
+        assert_eq!(rt;
+            read,
+            Some(ScriptError::Script(number)),
+            "{first} and {newlines}"
+        );
+    }
+    Ok(())
+}
+
+#[test]
+fn says_what_is_wrong(rt: HostRuntime) -> Result<(), Fail> {
+    let line = format!(in rt.alloc(); "{}", ScriptError::Script(12))?;
+    assert_eq!(rt; line.as_str(), "script line 12");
+    let memory = format!(in rt.alloc(); "{}", ScriptError::Memory)?;
+    assert_eq!(rt; memory.as_str(), "no memory");
+    Ok(())
+}

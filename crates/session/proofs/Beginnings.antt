@@ -1,0 +1,143 @@
+-- The steps of beginning a generation.
+use Rattle.std.proofs.Common.{◌≡◌, ◌⊎◌, inl, inr, ⊎_elim, ℕ, ◌+◌, ◌-◌, ◌<◌, ◌≤◌, ◌^◌, List, [], ◌∷◌, length, Bool, true, false, Option, Some, None, Result, Ok, Err, refl, sym, ap, ◌∙◌, subst, arith}
+use Rattle.std.specs.Prelude.{IfOk, IfErr}
+use Rattle.std.proofs.lemmas.List.{length-replicate}
+use Rattle.sha2.specs.Sha256.{sha256}
+use Rattle.cartridge.specs.Header.{has_rumble, ram_length_of}
+use Rattle.bank_controllers.specs.CartridgeState.{cartridge_at_power_on, IsSameCartridge}
+use Rattle.machine.specs.Machine.{MachineState, start, after}
+use Rattle.machine.specs.declared.input.Input.{Input}
+use Rattle.machine.proofs.KeptByInputs.{by_inputs}
+use Rattle.snapshot.specs.Text.{text}
+use Rattle.snapshot.specs.Legal.{IsMachineOf, IsLegalMachine}
+use Rattle.snapshot.specs.Table.{kind_of_image}
+use Rattle.sector_device.specs.DiskState.{DiskState, Settled, Throughout}
+use Rattle.sector_device.specs.Runs.{HoldsSince}
+use Rattle.sector_device.proofs.Runs.{throughout_then, remembers_then, holds_since}
+use Rattle.sector_log.specs.Calls.{HasLooked, HasBegun, HasOldOrNewContent}
+use Rattle.sector_log.specs.Content.{content, generation_in, new_generation}
+use Rattle.sector_log.specs.Found.{log_of}
+use Rattle.sector_log.specs.declared.Stored.{Stored}
+use Rattle.session.specs.Calls.{IsAtRest, HasContentOf, HasOldContentOrNewGame, StandsAsBefore}
+use Rattle.session.specs.Resting.{IsOfItsRom, Rests}
+use Rattle.session.specs.Stands.{Position, stands, further}
+use Rattle.session.proofs.StandsLaws.{after_none, new_stands}
+use Rattle.session.proofs.Writes.{since_weaker}
+
+-- ---- runs of calls
+
+-- two runs, one after the other
+pub since_then : {first mid last : DiskState} {P : List (List ℕ) → Type 0} → HoldsSince first mid P → HoldsSince mid last P → HoldsSince first last P
+since_then {first} {mid} {last} a b = record {
+  each = λ image since. ⊎_elim (a.each image) (λ p. p) (b.moments.each first.moment image a.moments.later since);
+  moments = throughout_then a.moments b.moments;
+  past = remembers_then first mid last a.moments a.past b.past;
+}
+
+-- no call at all
+pub since_now : (now : DiskState) → ((image : List (List ℕ)) → now.since now.moment image → now.image image) → HoldsSince now now now.image
+since_now now only = holds_since only (record { later = omega arith; each = λ t c le since. inl since }) (λ t c le since. since) (λ c here. here)
+
+-- ---- answers
+
+pub if_ok : {T E : Type 0} (r : Result T E) {P Q : T → Type 0} → IfOk r P → ((x : T) → P x → Q x) → IfOk r Q
+if_ok (Ok x) p to = to x p
+if_ok (Err e) p to = tt
+
+pub if_ok_both : {T E : Type 0} (r : Result T E) {P Q R : T → Type 0} → IfOk r P → IfOk r Q → ((x : T) → P x → Q x → R x) → IfOk r R
+if_ok_both (Ok x) p q to = to x p q
+if_ok_both (Err e) p q to = tt
+
+pub if_err : {T E : Type 0} (r : Result T E) {P Q : E → Type 0} → IfErr r P → ((e : E) → P e → Q e) → IfErr r Q
+if_err (Ok x) p to = tt
+if_err (Err e) p to = to e p
+
+-- ---- machines of a ROM
+
+pub machine_of_rom : (rom : List ℕ) (m : MachineState) → m.processor.memory.banks.rom ≡ rom → IsOfItsRom m → IsLegalMachine m → IsMachineOf rom m
+machine_of_rom rom m is own legal =
+    subst (λ (r : List ℕ). IsMachineOf r m) is (record { legal = legal; rom = refl; kind = own.kind; rumble = own.rumble; ram_length = own.ram_length })
+
+pub start_rom : (rom : List ℕ) → (start rom).processor.memory.banks.rom ≡ rom
+unfolding cartridge_at_power_on
+start_rom rom = refl
+
+pub start_own : (rom : List ℕ) → IsOfItsRom (start rom)
+unfolding cartridge_at_power_on
+start_own rom = record { kind = refl; rumble = refl; ram_length = length-replicate (ram_length_of rom) 0 }
+
+pub own_of_machine : (rom : List ℕ) (m : MachineState) → IsMachineOf rom m → IsOfItsRom m
+own_of_machine rom m of = record {
+  kind = of.kind ∙ ap kind_of_image (sym of.rom);
+  rumble = of.rumble ∙ ap has_rumble (sym of.rom);
+  ram_length = of.ram_length ∙ ap ram_length_of (sym of.rom);
+}
+
+-- no input changes it
+pub own_after : (m : MachineState) (inputs : List Input) → IsOfItsRom m → IsOfItsRom (after m inputs)
+own_after m inputs own = let same = by_inputs m inputs in record {
+  kind = same.kind ∙ own.kind ∙ ap kind_of_image (sym same.rom);
+  rumble = same.rumble ∙ own.rumble ∙ ap has_rumble (sym same.rom);
+  ram_length = same.ram_length ∙ own.ram_length ∙ ap ram_length_of (sym same.rom);
+}
+
+pub rom_after : (m : MachineState) (inputs : List Input) → (after m inputs).processor.memory.banks.rom ≡ m.processor.memory.banks.rom
+rom_after m inputs = (by_inputs m inputs).rom
+
+-- ---- a generation that was begun
+
+-- the new content stands for the machine
+pub begun_stands : (rom id written : List ℕ) (m : MachineState) (base : ℕ) (image : List (List ℕ)) → IsMachineOf rom m → base < 2 ^ 64 → id ≡ sha256 rom → written ≡ text m
+    → content image ≡ Some (new_generation id base written) → stands rom (content image) ≡ Some (record { count = base; machine = m })
+begun_stands rom id written m base image of few id_is written_is is =
+    ap (stands rom) (is ∙ (λ i. Some (new_generation (id_is i) base (written_is i)))) ∙ new_stands rom m base of few
+
+pub begun_at_rest : (rom id written : List ℕ) (m : MachineState) (base : ℕ) (old now : DiskState) → IsMachineOf rom m → base < 2 ^ 64 → id ≡ sha256 rom → written ≡ text m
+    → HasBegun old now id base written → IsAtRest rom now base [] m
+begun_at_rest rom id written m base old now of few id_is written_is begun = record {
+  settled = begun.settled;
+  leads = ap (further []) (begun_stands rom id written m base now.sectors of few id_is written_is begun.holds.content_is)
+      ∙ (let same = after_none m in λ i. Some (record { count = base + 0; machine = same i }));
+}
+
+pub begun_rests : (id written : List ℕ) (m : MachineState) (base : ℕ) (old now : DiskState) (log : List Stored) → IsMachineOf m.processor.memory.banks.rom m → base < 2 ^ 64 → id ≡ sha256 m.processor.memory.banks.rom → written ≡ text m
+    → HasBegun old now id base written → log ≡ [] → Rests now log base [] m
+begun_rests id written m base old now log of few id_is written_is begun empty = record {
+  at_rest = begun_at_rest m.processor.memory.banks.rom id written m base old now of few id_is written_is begun;
+  log_is = ap log_of begun.holds.content_is ∙ sym empty;
+}
+
+pub begun_of : {old now : DiskState} {id written id' written' : List ℕ} (base : ℕ) → id ≡ id' → written ≡ written' → HasBegun old now id base written → HasBegun old now id' base written'
+begun_of {old} {now} {id} {written} {id'} {written'} base id_is written_is begun =
+    subst (λ (i : List ℕ). HasBegun old now i base written') id_is (subst (λ (w : List ℕ). HasBegun old now id base w) written_is begun)
+
+pub images_of : {old now : DiskState} {id written id' written' : List ℕ} (base : ℕ) → id ≡ id' → written ≡ written' → HoldsSince old now (HasOldOrNewContent old.sectors id base written) → HoldsSince old now (HasOldOrNewContent old.sectors id' base written')
+images_of {old} {now} {id} {written} {id'} {written'} base id_is written_is held =
+    subst (λ (i : List ℕ). HoldsSince old now (HasOldOrNewContent old.sectors i base written')) id_is (subst (λ (w : List ℕ). HoldsSince old now (HasOldOrNewContent old.sectors id base w)) written_is held)
+
+-- ---- each moment
+
+-- of a new game, whatever the device held
+pub new_game_images : (rom : List ℕ) (old mid new : DiskState) → old.image old.sectors → HasLooked old mid → HoldsSince mid new (HasOldOrNewContent mid.sectors (sha256 rom) 0 (text (start rom))) → HoldsSince old new (HasOldContentOrNewGame rom old)
+new_game_images rom old mid new reads looked held =
+    since_then
+    (since_weaker looked.since (λ image was. inl (record { before = image; stood = was; is = refl })))
+    (since_weaker held (λ image. ⊎_elim
+      (λ stays. inl (record { before = old.sectors; stood = reads; is = stays.content_is ∙ ap content looked.sectors }))
+      (λ new. inr new.content_is)))
+
+pub looked_new_game : (rom : List ℕ) (old mid : DiskState) → HasLooked old mid → HoldsSince old mid (HasOldContentOrNewGame rom old)
+looked_new_game rom old mid looked = since_weaker looked.since (λ image was. inl (record { before = image; stood = was; is = refl }))
+
+-- of a game that is taken up
+pub resume_images : (rom : List ℕ) (old mid new : DiskState) (count : ℕ) (m : MachineState) → old.image old.sectors → HasLooked old mid → IsMachineOf rom m → count < 2 ^ 64 → stands rom (content old.sectors) ≡ Some (record { count = count; machine = m })
+    → HoldsSince mid new (HasOldOrNewContent mid.sectors (sha256 rom) count (text m)) → HoldsSince old new (StandsAsBefore rom old)
+resume_images rom old mid new count m reads looked of few stood held =
+    since_then
+    (since_weaker looked.since (λ image was. record { before = image; stood = was; is = refl }))
+    (since_weaker held (λ image. ⊎_elim
+      (λ stays. record { before = old.sectors; stood = reads; is = ap (stands rom) (stays.content_is ∙ ap content looked.sectors) })
+      (λ new. record { before = old.sectors; stood = reads; is = begun_stands rom (sha256 rom) (text m) m count image of few refl refl new.content_is ∙ sym stood })))
+
+pub looked_resume : (rom : List ℕ) (old mid : DiskState) → HasLooked old mid → HoldsSince old mid (StandsAsBefore rom old)
+looked_resume rom old mid looked = since_weaker looked.since (λ image was. record { before = image; stood = was; is = refl })

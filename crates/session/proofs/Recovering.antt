@@ -1,0 +1,43 @@
+-- The steps of recovery.
+use Rattle.std.proofs.Common.{◌≡◌, ◌≢◌, ◌⊎◌, inl, inr, ⊎_elim, ℕ, ◌+◌, ◌-◌, ◌<◌, ◌≤◌, ◌^◌, List, [], length, Bool, true, false, if◌then◌else◌, nat_lt, nat_le, Option, Some, None, refl, sym, ap, ◌∙◌, subst, arith}
+use Rattle.std.proofs.lemmas.Bool.{cases_Bool, cases_lt, lt-ltb, ltb-true}
+use Rattle.std.proofs.lemmas.Bool.Decides.{nat_tests}
+use Rattle.sha2.specs.Sha256.{sha256}
+use Rattle.machine.specs.Machine.{MachineState, after}
+use Rattle.snapshot.specs.Text.{text}
+use Rattle.snapshot.specs.Legal.{IsMachineOf, IsLegalText, IsRefusal}
+use Rattle.snapshot.specs.declared.error.SnapError.{SnapError}
+use Rattle.snapshot.proofs.Machines.{text_legal, machine_back}
+use Rattle.sector_log.specs.Inputs.{inputs, counted, first_wrong, AreInputs}
+use Rattle.sector_log.specs.declared.Stored.{Stored}
+use Rattle.sector_log.specs.declared.found.Content.{Content}
+use Rattle.sector_log.proofs.FoundLaws.{counts_inputs}
+use Rattle.sector_log.proofs.Wrong.{none_wrong}
+use Rattle.session.specs.Inputs.{logged}
+use Rattle.session.specs.Recovery.{IsLogCause, IsRebuildCause}
+use Rattle.session.specs.declared.error.Damage.TheVariants.{Count, Snapshot, Entry}
+use Rattle.session.specs.declared.error.SessionError.{SessionError}
+use Rattle.session.specs.declared.error.SessionError.TheVariants.{Memory, Device, NoSession, TooSmall, OtherCartridge, Damaged, Worn, Broken, SaveFirst, CountFull, Output}
+
+-- a log of inputs counts as many as it stands for
+pub counted_all : (log : List Stored) → first_wrong log ≡ None → counted 0 log ≡ length (inputs log)
+counted_all log none = counts_inputs log ((none_wrong log).0 none)
+
+pub legal_of : (rom bytes : List ℕ) (m : MachineState) → IsMachineOf rom m → text m ≡ bytes → IsLegalText rom bytes
+legal_of rom bytes m of same = subst (λ (t : List ℕ). IsLegalText rom t) same (text_legal rom m of)
+
+-- a refusal of the log behind a legal snapshot
+pub log_cause : (rom bytes : List ℕ) (log : List Stored) (generation : ℕ) (why : SessionError) → IsLegalText rom bytes → IsLogCause log generation why → IsRebuildCause rom bytes log generation why
+log_cause rom bytes log generation Memory legal cause = absurd cause
+log_cause rom bytes log generation Device legal cause = absurd cause
+log_cause rom bytes log generation NoSession legal cause = absurd cause
+log_cause rom bytes log generation (TooSmall n) legal cause = absurd cause
+log_cause rom bytes log generation OtherCartridge legal cause = absurd cause
+log_cause rom bytes log generation (Damaged Count) legal cause = absurd cause
+log_cause rom bytes log generation (Damaged (Snapshot e)) legal cause = absurd cause
+log_cause rom bytes log generation (Damaged (Entry k)) legal cause = (legal, cause)
+log_cause rom bytes log generation Worn legal cause = (legal, cause.0, cause.1)
+log_cause rom bytes log generation Broken legal cause = absurd cause
+log_cause rom bytes log generation SaveFirst legal cause = absurd cause
+log_cause rom bytes log generation CountFull legal cause = absurd cause
+log_cause rom bytes log generation Output legal cause = absurd cause

@@ -1,0 +1,210 @@
+-- The steps of an input and of a save.
+use Rattle.std.proofs.Common.{◌≡◌, ◌&&◌, ◌⊎◌, inl, inr, ⊎_elim, ℕ, ◌+◌, ◌-◌, ◌<◌, ◌≤◌, ◌^◌, List, [], ◌∷◌, ◌++◌, length, take, Bool, true, false, Option, Some, None, Result, Ok, Err, refl, sym, ap, ◌∙◌, subst, arith, length-append}
+use Rattle.std.specs.List.{list_all}
+use Rattle.std.proofs.lemmas.Bool.{and_parts}
+use Rattle.std.proofs.lemmas.List.{take_all, take-map, length-map, length-take-le}
+use Rattle.sha2.specs.Sha256.{sha256}
+use Rattle.bank_controllers.specs.CartridgeState.{IsSameCartridge}
+use Rattle.machine.specs.Machine.{MachineState, after, applied}
+use Rattle.machine.specs.declared.input.Input.{Input}
+use Rattle.machine.proofs.KeptByInputs.{by_inputs}
+use Rattle.cartridge.specs.Header.{has_rumble, ram_length_of}
+use Rattle.snapshot.specs.Text.{text}
+use Rattle.snapshot.specs.Legal.{IsMachineOf, IsLegalMachine}
+use Rattle.snapshot.specs.Table.{kind_of_image}
+use Rattle.sector_device.specs.DiskState.{DiskState, Settled}
+use Rattle.sector_device.specs.Runs.{HoldsSince}
+use Rattle.sector_device.proofs.Runs.{holds_since}
+use Rattle.sector_log.specs.Calls.{Adds, HasBegun, IsAppended, HoldsPrefix}
+use Rattle.sector_log.specs.Content.{content, generation_in, new_generation}
+use Rattle.sector_log.specs.Found.{log_of}
+use Rattle.sector_log.specs.Inputs.{is_input, grown}
+use Rattle.sector_log.specs.declared.Entry.{Entry}
+use Rattle.sector_log.specs.declared.Stored.{Stored}
+use Rattle.session.specs.Calls.{IsAtRest, IsSaved}
+use Rattle.session.specs.Inputs.{input_of, inputs_of}
+use Rattle.session.specs.Resting.{IsOfItsRom, Rests}
+use Rattle.session.specs.Stands.{Position, stands, further, StandsWithin}
+use Rattle.session.specs.Writing.{HoldsWritten, IsWritten}
+use Rattle.session.proofs.StandsLaws.{after_append, after_none, after_one, logged_append, more_stands}
+use Rattle.session.proofs.Beginnings.{begun_stands, begun_rests, machine_of_rom}
+use Rattle.session.proofs.Writes.{since_weaker}
+
+-- ---- where some inputs lead
+
+pub record Leading (from : Option Position) (more : List Input) (count : ℕ) (m : MachineState) : Type 0 where
+  pub position : Position
+  pub stood : from ≡ Some position
+  pub count_is : position.count + length more ≡ count
+  pub machine_is : after position.machine more ≡ m
+
+pub leading : (from : Option Position) (more : List Input) (count : ℕ) (m : MachineState) → further more from ≡ Some (record { count = count; machine = m }) → Leading from more count m
+leading None more count m leads = absurd (cc)
+leading (Some p) more count m leads =
+    let same : record { count = p.count + length more; machine = after p.machine more } ≡ record { count = count; machine = m } = cc in
+    record { position = p; stood = refl; count_is = ap (λ (q : Position). q.count) same; machine_is = ap (λ (q : Position). q.machine) same }
+
+-- ---- an input
+
+pub same_after : (m now : MachineState) (input : Input) → now ≡ applied input m → IsSameCartridge m.processor.memory.banks now.processor.memory.banks
+same_after m now input is = subst (λ (n : MachineState). IsSameCartridge m.processor.memory.banks n.processor.memory.banks) (after_one m input ∙ sym is) (by_inputs m (input ∷ []))
+
+pub own_again : (m now : MachineState) → IsSameCartridge m.processor.memory.banks now.processor.memory.banks → IsOfItsRom m → IsOfItsRom now
+own_again m now same own = record {
+  kind = same.kind ∙ own.kind ∙ ap kind_of_image (sym same.rom);
+  rumble = same.rumble ∙ own.rumble ∙ ap has_rumble (sym same.rom);
+  ram_length = same.ram_length ∙ own.ram_length ∙ ap ram_length_of (sym same.rom);
+}
+
+pub listed_more : (entries : List Entry) (entry : Entry) → list_all is_input entries ≡ true → is_input entry ≡ true → list_all is_input (entries ++ entry ∷ []) ≡ true
+listed_more [] entry all one = λ i. one i && true
+listed_more (e ∷ entries) entry all one =
+    let parts = and_parts (is_input e) (list_all is_input entries) all in
+    λ i. parts.0 i && listed_more entries entry parts.1 one i
+
+pub rests_more :
+    (now : DiskState) (log : List Stored) (acknowledged : ℕ) (pending after_it : List Entry) (entry : Entry) (m then : MachineState) (input : Input)
+    → Rests now log acknowledged pending m → after_it ≡ pending ++ entry ∷ [] → input_of entry ≡ input → then ≡ applied input m → Rests now log acknowledged after_it then
+rests_more now log acknowledged pending after_it entry m then input rests more input_is is =
+    let rom = m.processor.memory.banks.rom in
+    let same = same_after m then input is in
+    let from = leading (stands rom (content now.sectors)) (inputs_of pending) (acknowledged + length pending) m rests.at_rest.leads in
+    let inputs_are : inputs_of after_it ≡ inputs_of pending ++ input ∷ [] = ap inputs_of more ∙ logged_append pending (entry ∷ []) ∙ ap (λ (i : Input). inputs_of pending ++ i ∷ []) input_is in
+    let machine_is : after from.position.machine (inputs_of after_it) ≡ then =
+    ap (after from.position.machine) inputs_are ∙ sym (after_append from.position.machine (inputs_of pending) (input ∷ []))
+    ∙ ap (λ (n : MachineState). after n (input ∷ [])) from.machine_is ∙ after_one m input ∙ sym is in
+    let count_is : from.position.count + length (inputs_of after_it) ≡ acknowledged + length after_it =
+    omega (arith, from.count_is, ap length inputs_are, ap length more, length-append (inputs_of pending) (input ∷ []), length-append pending (entry ∷ [])) in
+    record {
+      at_rest = record {
+        settled = rests.at_rest.settled;
+        leads = ap (λ (r : List ℕ). further (inputs_of after_it) (stands r (content now.sectors))) same.rom
+            ∙ ap (further (inputs_of after_it)) from.stood
+            ∙ (λ i. Some (record { count = count_is i; machine = machine_is i }));
+      };
+      log_is = rests.log_is;
+    }
+
+-- ---- a save
+
+module _
+  (old : DiskState) (log : List Stored) (acknowledged : ℕ) (pending : List Entry) (m : MachineState) (rests : Rests old log acknowledged pending m)
+  (few : acknowledged + length pending < 2 ^ 64) where
+  abbrev rom : List ℕ
+  rom = m.processor.memory.banks.rom
+
+  from : Leading (stands rom (content old.sectors)) (inputs_of pending) (acknowledged + length pending) m
+  from = leading (stands rom (content old.sectors)) (inputs_of pending) (acknowledged + length pending) m rests.at_rest.leads
+
+  -- none further
+  here : (image : List (List ℕ)) → content image ≡ content old.sectors → StandsWithin rom (stands rom (content old.sectors)) (inputs_of pending) image
+  here image same = record {
+    count = 0;
+    within = omega arith;
+    is = ap (stands rom) same ∙ from.stood
+        ∙ (let count_is : from.position.count ≡ from.position.count + 0 = omega arith in let machine_is = sym (after_none from.position.machine) in λ i. Some (record { count = count_is i; machine = machine_is i }))
+        ∙ ap (further []) (sym from.stood);
+  }
+
+  -- a prefix further
+  front : (image : List (List ℕ)) → HoldsPrefix old.sectors pending image → StandsWithin rom (stands rom (content old.sectors)) (inputs_of pending) image
+  front image holds =
+      let size : length (take holds.count pending) ≡ holds.count = length-take-le holds.count pending holds.within in
+      let all : length (inputs_of pending) ≡ length pending = length-map pending input_of in
+      let less : from.position.count + length (take holds.count pending) < 2 ^ 64 = omega (arith, size, all, from.count_is, few, holds.within) in
+      record {
+        count = holds.count;
+        within = omega (arith, holds.within, all);
+        is = more_stands rom (content old.sectors) (content image) (take holds.count pending) from.position holds.adds from.stood less
+            ∙ ap (λ (l : List Input). further l (Some from.position)) (sym (take-map input_of holds.count pending))
+            ∙ ap (further (take holds.count (inputs_of pending))) (sym from.stood);
+      }
+
+  -- all further
+  whole : (id : List ℕ) (image : List (List ℕ)) → IsMachineOf rom m → id ≡ sha256 rom → content image ≡ Some (new_generation id (acknowledged + length pending) (text m)) → StandsWithin rom (stands rom (content old.sectors)) (inputs_of pending) image
+  whole id image of id_is is = record {
+    count = length (inputs_of pending);
+    within = omega arith;
+    is = begun_stands rom id (text m) m (acknowledged + length pending) image of few id_is refl is
+        ∙ sym rests.at_rest.leads
+        ∙ ap (λ (l : List Input). further l (stands rom (content old.sectors))) (sym (take_all (length (inputs_of pending)) (inputs_of pending) (omega arith)));
+  }
+
+  pub written_within : (fits : Bool) (now : DiskState) (id : List ℕ) → (fits ≡ false → IsMachineOf rom m) → id ≡ sha256 rom
+      → HoldsSince old now (HoldsWritten fits old.sectors pending id (acknowledged + length pending) (text m)) → HoldsSince old now (StandsWithin rom (stands rom (content old.sectors)) (inputs_of pending))
+  written_within true now id of id_is held = since_weaker held front
+  written_within false now id of id_is held = since_weaker held (λ image. ⊎_elim (here image) (whole id image (of refl) id_is))
+
+  -- after an append
+  appended_rests : (now : DiskState) (then : List Stored) → IsAppended old now pending → log_of (content now.sectors) ≡ then → Rests now then (acknowledged + length pending) [] m
+  appended_rests now then appended reads =
+      let all : length (inputs_of pending) ≡ length pending = length-map pending input_of in
+      let less : from.position.count + length pending < 2 ^ 64 = omega (arith, all, from.count_is, few) in
+      record {
+        at_rest = record {
+          settled = appended.settled;
+          leads = ap (further []) (more_stands rom (content old.sectors) (content now.sectors) pending from.position appended.adds from.stood less ∙ ap (further (inputs_of pending)) (sym from.stood) ∙ rests.at_rest.leads)
+              ∙ (let same = after_none m in λ i. Some (record { count = acknowledged + length pending + 0; machine = same i }));
+        };
+        log_is = reads;
+      }
+
+  pub written_rests : (fits : Bool) (now : DiskState) (id : List ℕ) (then : List Stored) → (fits ≡ false → IsMachineOf rom m) → id ≡ sha256 rom
+      → IsWritten fits old now pending id (acknowledged + length pending) (text m) log then → Rests now then (acknowledged + length pending) [] m
+  written_rests true now id then of id_is written = appended_rests now then written.0 written.2
+  written_rests false now id then of id_is written = begun_rests id (text m) m (acknowledged + length pending) old now then (of refl) few id_is refl written.0 written.1
+
+  pub written_saved : (fits : Bool) (now : DiskState) (id : List ℕ) (then : List Stored) → id ≡ sha256 rom
+      → IsWritten fits old now pending id (acknowledged + length pending) (text m) log then → IsSaved fits rom (acknowledged + length pending) m pending old.sectors now.sectors
+  written_saved true now id then id_is written = (written.0.adds, written.2 ∙ written.1 ∙ ap (λ (l : List Stored). grown l pending) (sym rests.log_is), written.0.generation_is)
+  written_saved false now id then id_is written =
+      (written.0.holds.content_is ∙ ap (λ (i : List ℕ). Some (new_generation i (acknowledged + length pending) (text m))) id_is, written.0.holds.generation_is)
+
+  -- a save of nothing
+  pub nothing_within : ((image : List (List ℕ)) → old.since old.moment image → old.image image) → HoldsSince old old (StandsWithin rom (stands rom (content old.sectors)) (inputs_of pending))
+  nothing_within only =
+      holds_since only (record { later = omega arith; each = λ t c le since. inl since }) (λ t c le since. since)
+          (λ image now. here image (ap content (rests.at_rest.settled image now)))
+
+  pub nothing_rests : (none : ℕ) → pending ≡ [] → none ≡ length pending → IsAtRest rom old (acknowledged + none) [] m
+  nothing_rests none empty size = record {
+    settled = rests.at_rest.settled;
+    leads = ap (λ (l : List Entry). further (inputs_of l) (stands rom (content old.sectors))) (sym empty) ∙ rests.at_rest.leads
+        ∙ (let count_is : acknowledged + length pending ≡ acknowledged + none + 0 = omega (arith, size) in λ i. Some (record { count = count_is i; machine = m }));
+  }
+
+  -- the same where entries and count have other names
+  module _ (test : List Entry → Bool) (now : DiskState) (id : List ℕ) (entries : List Entry) (all : ℕ) (entries_are : entries ≡ pending) (all_is : all ≡ acknowledged + length pending) (id_is : id ≡ sha256 rom) where
+    renamed : (then : List Stored) → IsWritten (test entries) old now entries id all (text m) log then → IsWritten (test pending) old now pending id (acknowledged + length pending) (text m) log then
+    renamed then written =
+        subst (λ (l : List Entry). IsWritten (test l) old now l id (acknowledged + length pending) (text m) log then) entries_are
+        (subst (λ (n : ℕ). IsWritten (test entries) old now entries id n (text m) log then) all_is written)
+
+    legal_then : (test entries ≡ false → IsMachineOf rom m) → test pending ≡ false → IsMachineOf rom m
+    legal_then of e = of (ap test entries_are ∙ e)
+
+    pub rests_after : (then : List Stored) (cleared : List Entry) → cleared ≡ [] → (test entries ≡ false → IsMachineOf rom m)
+        → IsWritten (test entries) old now entries id all (text m) log then → Rests now then all cleared m
+    rests_after then cleared empty of written =
+        subst (λ (n : ℕ). Rests now then n cleared m) (sym all_is)
+        (subst (λ (l : List Entry). Rests now then (acknowledged + length pending) l m) (sym empty)
+        (written_rests (test pending) now id then (legal_then of) id_is (renamed then written)))
+
+    pub saved_after : (then : List Stored) → IsWritten (test entries) old now entries id all (text m) log then → IsSaved (test pending) rom all m pending old.sectors now.sectors
+    saved_after then written =
+        subst (λ (n : ℕ). IsSaved (test pending) rom n m pending old.sectors now.sectors) (sym all_is) (written_saved (test pending) now id then id_is (renamed then written))
+
+    pub within_after : (test entries ≡ false → IsMachineOf rom m)
+        → HoldsSince old now (HoldsWritten (test entries) old.sectors entries id all (text m)) → HoldsSince old now (StandsWithin rom (stands rom (content old.sectors)) (inputs_of pending))
+    within_after of held =
+        written_within (test pending) now id (legal_then of) id_is
+        (subst (λ (l : List Entry). HoldsSince old now (HoldsWritten (test l) old.sectors l id (acknowledged + length pending) (text m))) entries_are
+        (subst (λ (n : ℕ). HoldsSince old now (HoldsWritten (test entries) old.sectors entries id n (text m))) all_is held))
+
+pub none_left : (entries : List Entry) → length entries ≡ 0 → entries ≡ []
+none_left [] size = refl
+none_left (e ∷ entries) size = absurd (omega (arith, size))
+
+-- a buffer that was written in place keeps its length
+pub buffer_length : (out raw : List ℕ) (n : ℕ) → length out ≡ n → length (take n (out ++ raw)) ≡ n
+buffer_length out raw n size = length-take-le n (out ++ raw) (omega (arith, size, length-append out raw))

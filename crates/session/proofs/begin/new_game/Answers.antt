@@ -1,0 +1,57 @@
+use Rattle.std.proofs.Common.{◌≡◌, ◌⊎◌, ⊎_elim, inl, inr, [], List, ℕ, length, refl, sym, ap, ◌∙◌, subst, arith}
+use Rattle.sha2.specs.Sha256.{sha256}
+use Rattle.machine.specs.Machine.{MachineState, start}
+use Rattle.snapshot.specs.Text.{text, text_length}
+use Rattle.cartridge.specs.Header.{ram_length_of}
+use Rattle.sector_device.specs.DiskState.{DiskState}
+use Rattle.sector_device.specs.Runs.{HoldsSince}
+use Rattle.sector_log.specs.Calls.{HasOldOrNewContent}
+use Rattle.sector_log.specs.Words.{device_under, found_generation}
+use Rattle.session.specs.Beginning.{IsBeginRefusal}
+use Rattle.session.specs.Calls.{IsAtRest}
+use Rattle.session.specs.Resting.{IsOfItsRom}
+use Rattle.session.specs.Words.{device_of, left_by}
+use Rattle.session.proofs.Beginnings.{if_ok, if_err, since_now, start_rom, start_own, begun_at_rest, new_game_images, looked_new_game}
+use Rattle.session.proofs.Writes.{since_weaker}
+use Rattle.session.proofs.begin.new_game.Goals as goal
+
+pub returns-in_default-power_on-clause-images : goal.returns-in_default-power_on-clause-images
+returns-in_default-power_on-clause-images g c = λ honest.
+    since_weaker (since_now (g.D.SectorDevice.disk c.args.device) (g.met.D.SectorDevice.only_now c.args.device)) (λ image was. inl (record { before = image; stood = was; is = refl }))
+
+pub returns-in-Err-clause-images : goal.returns-in-Err-clause-images
+returns-in-Err-clause-images g c = λ honest.
+    looked_new_game c.args.cartridge.now (g.D.SectorDevice.disk c.args.device) (g.D.SectorDevice.disk c.in-Err.refused.device) (c.in-Err.ensures.looked honest)
+
+pub begin_with-requires-clause-rom : goal.begin_with-requires-clause-rom
+begin_with-requires-clause-rom g c = ap (λ (m : MachineState). m.processor.memory.banks.rom) c.in-Ok-power_on.ensures ∙ start_rom c.args.cartridge.now
+
+pub begin_with-requires-clause-own : goal.begin_with-requires-clause-own
+begin_with-requires-clause-own g c = subst IsOfItsRom (sym c.in-Ok-power_on.ensures) (start_own c.args.cartridge.now)
+
+pub returns-clause-rests : goal.returns-clause-rests
+returns-clause-rests g c =
+    if_ok c.begin_with.result c.begin_with.ensures.new
+    (λ s new honest. subst (λ (m : MachineState). IsAtRest c.args.cartridge.now (g.D.SectorDevice.disk (device_of s)) 0 [] m) c.in-Ok-power_on.ensures
+      (begun_at_rest c.args.cartridge.now (sha256 c.args.cartridge.now) (text c.in-Ok-power_on.machine) c.in-Ok-power_on.machine 0
+        (g.D.SectorDevice.disk (device_under c.in-Ok-open_log.opened)) (g.D.SectorDevice.disk (device_of s)) c.begin_with.ensures.of (omega arith) refl refl (new (c.in-Ok-open_log.ensures.honest.1 honest))))
+
+pub returns-clause-images : goal.returns-clause-images
+returns-clause-images g c = λ honest.
+    new_game_images c.args.cartridge.now (g.D.SectorDevice.disk c.args.device) (g.D.SectorDevice.disk (device_under c.in-Ok-open_log.opened)) (g.D.SectorDevice.disk (left_by c.begin_with.result))
+    (g.met.D.SectorDevice.reads_are_an_image c.args.device honest) (c.in-Ok-open_log.ensures.looked honest)
+    (subst (λ (m : MachineState). HoldsSince (g.D.SectorDevice.disk (device_under c.in-Ok-open_log.opened)) (g.D.SectorDevice.disk (left_by c.begin_with.result))
+        (HasOldOrNewContent (g.D.SectorDevice.disk (device_under c.in-Ok-open_log.opened)).sectors (sha256 c.args.cartridge.now) 0 (text m))) c.in-Ok-power_on.ensures
+      (c.begin_with.ensures.images (c.in-Ok-open_log.ensures.honest.1 honest)))
+
+pub returns-clause-untouched : goal.returns-clause-untouched
+returns-clause-untouched g c =
+    if_err c.begin_with.result c.begin_with.ensures.untouched
+    (λ refused. ⊎_elim inl (λ same. inr (λ honest. subst (λ d. HoldsSince (g.D.SectorDevice.disk c.args.device) (g.D.SectorDevice.disk d) (g.D.SectorDevice.disk c.args.device).image) (sym same) (c.in-Ok-open_log.ensures.looked honest).since)))
+
+pub returns-clause-worn : goal.returns-clause-worn
+returns-clause-worn g c =
+    if_err c.begin_with.result c.begin_with.ensures.cause
+    (λ refused cause worn honest.
+      sym (c.in-Ok-open_log.ensures.generation honest)
+      ∙ (subst (λ why. IsBeginRefusal why (text_length (ram_length_of c.args.cartridge.now)) (length (g.D.SectorDevice.disk (device_under c.in-Ok-open_log.opened)).sectors) (found_generation c.in-Ok-open_log.opened)) worn cause).1)

@@ -1,0 +1,86 @@
+use Rattle.std.proofs.Common.{◌≡◌, ◌⊎◌, ⊎_elim, inl, inr, ◌≤◌, [], List, ℕ, length, Option, Some, None, refl, sym, ap, ◌∙◌, subst, arith}
+use Rattle.sha2.specs.Sha256.{sha256}
+use Rattle.machine.specs.Machine.{MachineState}
+use Rattle.snapshot.specs.Text.{text, text_length}
+use Rattle.cartridge.specs.Header.{ram_length_of}
+use Rattle.sector_device.specs.Runs.{HoldsSince}
+use Rattle.sector_log.specs.Content.{content, generation_in, need}
+use Rattle.sector_log.specs.Words.{device_under, found_generation, seen}
+use Rattle.session.specs.Calls.{IsAtRest, StandsAsBefore}
+use Rattle.session.specs.Found.{IsResumeCause}
+use Rattle.session.specs.Stands.{Position}
+use Rattle.session.specs.Words.{device_of, machine_of, left_by}
+use Rattle.session.proofs.Beginnings.{if_ok, if_ok_both, if_err, begun_at_rest, resume_images, looked_resume}
+use Rattle.session.proofs.Finding.{cause_found, recovered_stands, recovered_machine, recovered_fits, begin_cause}
+use Rattle.session.proofs.resuming.resume.Goals as goal
+
+pub begin_with-requires-clause-rom : goal.begin_with-requires-clause-rom
+begin_with-requires-clause-rom g c = (recovered_machine c.args.cartridge.now (found_generation c.in-Ok-open_log.opened) c.in-Ok-recovered.count (seen c.in-Ok-open_log.opened) c.in-Ok-recovered.machine c.in-Ok-recovered.ensures.ok).0
+
+pub begin_with-requires-clause-own : goal.begin_with-requires-clause-own
+begin_with-requires-clause-own g c = (recovered_machine c.args.cartridge.now (found_generation c.in-Ok-open_log.opened) c.in-Ok-recovered.count (seen c.in-Ok-open_log.opened) c.in-Ok-recovered.machine c.in-Ok-recovered.ensures.ok).1
+
+pub returns-in-Ok-recovered-clause-stands : goal.returns-in-Ok-recovered-clause-stands
+returns-in-Ok-recovered-clause-stands g c =
+    if_ok c.begin_with.result c.begin_with.ensures.begun
+    (λ s begun honest.
+      recovered_stands c.args.cartridge.now (found_generation c.in-Ok-open_log.opened) c.text_length.result c.in-Ok-recovered.count (g.D.SectorDevice.disk c.args.device).sectors (seen c.in-Ok-open_log.opened) c.in-Ok-recovered.machine
+        (c.in-Ok-open_log.ensures.seen honest) c.in-Ok-recovered.ensures.ok
+      ∙ (λ i. Some (record { count = sym begun.0 i; machine = sym begun.3 i })))
+
+pub returns-in-Ok-recovered-clause-rests : goal.returns-in-Ok-recovered-clause-rests
+returns-in-Ok-recovered-clause-rests g c =
+    if_ok_both c.begin_with.result c.begin_with.ensures.begun c.begin_with.ensures.new
+    (λ s begun new honest.
+      subst (λ (n : ℕ). IsAtRest c.args.cartridge.now (g.D.SectorDevice.disk (device_of s)) n [] (machine_of s)) (sym begun.0)
+      (subst (λ (m : MachineState). IsAtRest c.args.cartridge.now (g.D.SectorDevice.disk (device_of s)) c.in-Ok-recovered.count [] m) (sym begun.3)
+        (begun_at_rest c.args.cartridge.now (sha256 c.args.cartridge.now) (text c.in-Ok-recovered.machine) c.in-Ok-recovered.machine c.in-Ok-recovered.count
+          (g.D.SectorDevice.disk (device_under c.in-Ok-open_log.opened)) (g.D.SectorDevice.disk (device_of s)) c.begin_with.ensures.of c.in-Ok-recovered.ensures.fits refl refl (new (c.in-Ok-open_log.ensures.honest.1 honest)))))
+
+pub returns-in-Ok-recovered-clause-images : goal.returns-in-Ok-recovered-clause-images
+returns-in-Ok-recovered-clause-images g c = λ honest.
+    resume_images c.args.cartridge.now (g.D.SectorDevice.disk c.args.device) (g.D.SectorDevice.disk (device_under c.in-Ok-open_log.opened)) (g.D.SectorDevice.disk (left_by c.begin_with.result))
+    c.in-Ok-recovered.count c.in-Ok-recovered.machine (g.met.D.SectorDevice.reads_are_an_image c.args.device honest) (c.in-Ok-open_log.ensures.looked honest) c.begin_with.ensures.of c.in-Ok-recovered.ensures.fits
+    (recovered_stands c.args.cartridge.now (found_generation c.in-Ok-open_log.opened) c.text_length.result c.in-Ok-recovered.count (g.D.SectorDevice.disk c.args.device).sectors (seen c.in-Ok-open_log.opened) c.in-Ok-recovered.machine
+      (c.in-Ok-open_log.ensures.seen honest) c.in-Ok-recovered.ensures.ok)
+    (c.begin_with.ensures.images (c.in-Ok-open_log.ensures.honest.1 honest))
+
+pub returns-in-Ok-recovered-clause-nothing : goal.returns-in-Ok-recovered-clause-nothing
+returns-in-Ok-recovered-clause-nothing g c = λ honest none.
+    let stood = recovered_stands c.args.cartridge.now (found_generation c.in-Ok-open_log.opened) c.text_length.result c.in-Ok-recovered.count (g.D.SectorDevice.disk c.args.device).sectors (seen c.in-Ok-open_log.opened) c.in-Ok-recovered.machine
+        (c.in-Ok-open_log.ensures.seen honest) c.in-Ok-recovered.ensures.ok in
+    let wrong : None ≡ Some (record { count = c.in-Ok-recovered.count; machine = c.in-Ok-recovered.machine }) = sym none ∙ stood in
+    absurd (cc)
+
+pub returns-in-Ok-recovered-clause-untouched : goal.returns-in-Ok-recovered-clause-untouched
+returns-in-Ok-recovered-clause-untouched g c =
+    if_err c.begin_with.result c.begin_with.ensures.untouched
+    (λ refused. ⊎_elim inl (λ same. inr (λ honest. subst (λ d. HoldsSince (g.D.SectorDevice.disk c.args.device) (g.D.SectorDevice.disk d) (g.D.SectorDevice.disk c.args.device).image) (sym same) (c.in-Ok-open_log.ensures.looked honest).since)))
+
+pub returns-in-Ok-recovered-clause-cause : goal.returns-in-Ok-recovered-clause-cause
+returns-in-Ok-recovered-clause-cause g c =
+    if_err c.begin_with.result c.begin_with.ensures.cause
+    (λ refused cause honest.
+      begin_cause c.args.cartridge.now (generation_in (g.D.SectorDevice.disk c.args.device).sectors) (content (g.D.SectorDevice.disk c.args.device).sectors) (text_length (ram_length_of c.args.cartridge.now)) _ (found_generation c.in-Ok-open_log.opened) refused.why
+      (subst (λ (n : ℕ). need (text_length (ram_length_of c.args.cartridge.now)) ≤ n) (sym c.in-Ok-open_log.ensures.count)
+        (recovered_fits c.args.cartridge.now (found_generation c.in-Ok-open_log.opened) c.text_length.result c.in-Ok-recovered.count (g.D.SectorDevice.disk c.args.device).sectors (seen c.in-Ok-open_log.opened) c.in-Ok-recovered.machine
+          (g.met.D.SectorDevice.images_are_sized c.args.device (g.D.SectorDevice.disk c.args.device).sectors honest (g.met.D.SectorDevice.reads_are_an_image c.args.device honest))
+          (c.in-Ok-open_log.ensures.seen honest) c.in-Ok-recovered.ensures.ok))
+      c.in-Ok-recovered.ensures.ok.rebuilt.unworn cause)
+
+pub returns-in-Ok-recovered-clause-honest : goal.returns-in-Ok-recovered-clause-honest
+returns-in-Ok-recovered-clause-honest g c =
+    (λ now. c.in-Ok-open_log.ensures.honest.0 (c.begin_with.ensures.honest.0 now), λ was. c.begin_with.ensures.honest.1 (c.in-Ok-open_log.ensures.honest.1 was))
+
+pub returns-in-Err-recovered-clause-images : goal.returns-in-Err-recovered-clause-images
+returns-in-Err-recovered-clause-images g c = λ honest.
+    subst (λ d. HoldsSince (g.D.SectorDevice.disk c.args.device) (g.D.SectorDevice.disk d) (StandsAsBefore c.args.cartridge.now (g.D.SectorDevice.disk c.args.device))) (sym c.into_device.ensures)
+    (looked_resume c.args.cartridge.now (g.D.SectorDevice.disk c.args.device) (g.D.SectorDevice.disk (device_under c.in-Ok-open_log.opened)) (c.in-Ok-open_log.ensures.looked honest))
+
+pub returns-in-Err-recovered-clause-cause : goal.returns-in-Err-recovered-clause-cause
+returns-in-Err-recovered-clause-cause g c = λ honest.
+    subst (λ (n : ℕ). IsResumeCause c.args.cartridge.now n (content (g.D.SectorDevice.disk c.args.device).sectors) c.in-Err-recovered.why) (c.in-Ok-open_log.ensures.generation honest)
+    (cause_found c.args.cartridge.now (found_generation c.in-Ok-open_log.opened) c.text_length.result (g.D.SectorDevice.disk c.args.device).sectors (seen c.in-Ok-open_log.opened) c.in-Err-recovered.why
+      c.text_length.ensures.length
+      (g.met.D.SectorDevice.images_are_sized c.args.device (g.D.SectorDevice.disk c.args.device).sectors honest (g.met.D.SectorDevice.reads_are_an_image c.args.device honest))
+      (c.in-Ok-open_log.ensures.seen honest) c.in-Err-recovered.ensures.err)

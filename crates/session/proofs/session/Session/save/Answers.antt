@@ -1,0 +1,126 @@
+use Rattle.std.proofs.Common.{rules, Ok, Err, ◌≡◌, ◌≤◌, ◌<◌, ◌+◌, ◌^◌, [], ℕ, List, false, true, refl, inl, inr, ⊎_elim, sym, ap, ◌∙◌, subst, arith, length, drop}
+use Rattle.std.proofs.lemmas.Bool.Decides.{nat_tests}
+use Rattle.sector_log.specs.Content.{need}
+use Rattle.sector_log.specs.Inputs.{fits}
+use Rattle.sector_log.specs.Words.{device_of as device_of_store, is_broken as is_broken_store, entries_of, generation_of, id_of}
+use Rattle.session.specs.Resting.{Rests}
+use Rattle.session.specs.declared.error.SessionError.TheVariants.{Device}
+use Rattle.session.proofs.Beginnings.{machine_of_rom}
+use Rattle.session.proofs.Saving.{rests_after, saved_after, within_after, nothing_within, nothing_rests, none_left, buffer_length}
+use Rattle.session.proofs.session.Session.save.Goals as goal
+
+pub returns-then-is_empty-clause-nothing : goal.returns-then-is_empty-clause-nothing
+returns-then-is_empty-clause-nothing g c = λ whole empty.
+    let self = c.args.self.now in
+    let size : c.len.result ≡ length self.pending.items = search rules in
+    let count_is : self.acknowledged + c.len.result ≡ self.acknowledged = omega (arith, size, ap length empty) in
+    (record { device = refl; machine = refl; pending = refl; acknowledged = refl; broken = refl; log = refl; generation = refl }, ap Ok count_is)
+
+pub returns-then-is_empty-clause-images : goal.returns-then-is_empty-clause-images
+returns-then-is_empty-clause-images g c = λ whole honest.
+    let self = c.args.self.now in
+    let size : c.len.result ≡ length self.pending.items = search rules in
+    nothing_within (g.D.SectorDevice.disk (device_of_store self.store)) (entries_of self.store) self.acknowledged self.pending.items self.machine (self.rests whole honest) self.counted
+    (g.met.D.SectorDevice.only_now (device_of_store self.store))
+
+pub returns-then-is_empty-clause-rests : goal.returns-then-is_empty-clause-rests
+returns-then-is_empty-clause-rests g c = λ honest.
+    let self = c.args.self.now in
+    let size : c.len.result ≡ length self.pending.items = search rules in
+    let none : length self.pending.items ≡ 0 = grind (arith, nat_tests) in
+    nothing_rests (g.D.SectorDevice.disk (device_of_store self.store)) (entries_of self.store) self.acknowledged self.pending.items self.machine (self.rests (sym c.is_broken.ensures ∙ c.if-is_broken.false) honest) self.counted
+    c.len.result (none_left self.pending.items none) size
+
+pub invariant_of-self-in-Ok-clause-room : goal.invariant_of-self-in-Ok-clause-room
+invariant_of-self-in-Ok-clause-room g c =
+    let self = c.args.self.now in
+    let long : length c.write_pending.new.buffer ≡ self.text.len = omega arith in
+    let kept : self.text.len ≡ length self.text.items = search rules in
+    buffer_length c.write_pending.new.buffer (drop (length c.write_pending.new.buffer) self.text.items) self.text.len long ∙ kept ∙ self.room
+
+pub invariant_of-self-in-Ok-clause-short : goal.invariant_of-self-in-Ok-clause-short
+invariant_of-self-in-Ok-clause-short g c =
+    let self = c.args.self.now in
+    let long : length c.write_pending.new.buffer ≡ self.text.len = omega arith in
+    let kept : self.text.len ≡ length self.text.items = search rules in
+    subst (λ (n : ℕ). n < 2 ^ 32) (sym (buffer_length c.write_pending.new.buffer (drop (length c.write_pending.new.buffer) self.text.items) self.text.len long ∙ kept)) self.short
+
+pub invariant_of-self-in-Ok-clause-large : goal.invariant_of-self-in-Ok-clause-large
+invariant_of-self-in-Ok-clause-large g c =
+    let self = c.args.self.now in
+    let long : length c.write_pending.new.buffer ≡ self.text.len = omega arith in
+    let kept : self.text.len ≡ length self.text.items = search rules in
+    let same = buffer_length c.write_pending.new.buffer (drop (length c.write_pending.new.buffer) self.text.items) self.text.len long ∙ kept in
+    subst (λ (n : ℕ). need n ≤ length (g.D.SectorDevice.disk (device_of_store c.write_pending.new.store)).sectors) (sym same)
+    (subst (λ (n : ℕ). need (length self.text.items) ≤ n) (sym c.in-Ok.ensures.count) self.large)
+
+pub invariant_of-self-in-Ok-clause-rests : goal.invariant_of-self-in-Ok-clause-rests
+invariant_of-self-in-Ok-clause-rests g c = λ whole_now honest_now.
+    let self = c.args.self.now in
+    let size : c.len.result ≡ length self.pending.items = search rules in
+    let honest = c.in-Ok.ensures.honest.0 honest_now in
+    rests_after (g.D.SectorDevice.disk (device_of_store self.store)) (entries_of self.store) self.acknowledged self.pending.items self.machine (self.rests (sym c.is_broken.ensures ∙ c.if-is_broken.false) honest) self.counted
+    (fits (entries_of self.store)) (g.D.SectorDevice.disk (device_of_store c.write_pending.new.store)) (id_of self.store) c.deref.result.now (self.acknowledged + c.len.result) c.deref.ensures.value (ap (λ (n : ℕ). self.acknowledged + n) size) self.id
+    (entries_of c.write_pending.new.store) c.clear.new.self.items c.clear.ensures.items (λ e. machine_of_rom self.machine.processor.memory.banks.rom self.machine refl self.own (c.in-Ok.ensures.legal e)) (c.in-Ok.ensures.written honest)
+
+pub invariant_of-self-in-Err-1 : goal.invariant_of-self-in-Err-1
+invariant_of-self-in-Err-1 g c =
+    let self = c.args.self.now in
+    let long : length c.write_pending.new.buffer ≡ self.text.len = omega arith in
+    let kept : self.text.len ≡ length self.text.items = search rules in
+    let same = buffer_length c.write_pending.new.buffer (drop (length c.write_pending.new.buffer) self.text.items) self.text.len long ∙ kept in
+    record {
+      inputs = self.inputs;
+      few = self.few;
+      reserved = self.reserved;
+      counted = self.counted;
+      room = same ∙ self.room;
+      short = subst (λ (n : ℕ). n < 2 ^ 32) (sym same) self.short;
+      large = subst (λ (n : ℕ). need n ≤ length (g.D.SectorDevice.disk (device_of_store c.write_pending.new.store)).sectors) (sym same)
+          (subst (λ (n : ℕ). need (length self.text.items) ≤ n) (sym c.write_pending.ensures.count) self.large);
+      id = c.write_pending.ensures.id ∙ self.id;
+      own = self.own;
+      rests = λ whole_now honest_now.
+          let whole : is_broken_store self.store ≡ false = sym c.is_broken.ensures ∙ c.if-is_broken.false in
+          let honest = c.write_pending.ensures.honest.0 honest_now in
+          ⊎_elim
+          (λ (device : c.in-Err.why ≡ Device). let broke : is_broken_store c.write_pending.new.store ≡ true = c.in-Err.ensures.broken.1 (ap Err device) in absurd (cc))
+          (λ stays. subst (λ s. Rests (g.D.SectorDevice.disk (device_of_store s)) (entries_of s) self.acknowledged self.pending.items self.machine) (sym stays) (self.rests whole honest))
+          c.in-Err.ensures.unchanged;
+    }
+
+pub returns-in-Ok-clause-rests : goal.returns-in-Ok-clause-rests
+returns-in-Ok-clause-rests g c = λ honest.
+    let self = c.args.self.now in
+    let size : c.len.result ≡ length self.pending.items = search rules in
+    (rests_after (g.D.SectorDevice.disk (device_of_store self.store)) (entries_of self.store) self.acknowledged self.pending.items self.machine (self.rests (sym c.is_broken.ensures ∙ c.if-is_broken.false) honest) self.counted
+    (fits (entries_of self.store)) (g.D.SectorDevice.disk (device_of_store c.write_pending.new.store)) (id_of self.store) c.deref.result.now (self.acknowledged + c.len.result) c.deref.ensures.value (ap (λ (n : ℕ). self.acknowledged + n) size) self.id
+    (entries_of c.write_pending.new.store) [] refl (λ e. machine_of_rom self.machine.processor.memory.banks.rom self.machine refl self.own (c.in-Ok.ensures.legal e)) (c.in-Ok.ensures.written honest)).at_rest
+
+pub returns-in-Ok-clause-saved : goal.returns-in-Ok-clause-saved
+returns-in-Ok-clause-saved g c = λ honest some.
+    let self = c.args.self.now in
+    let size : c.len.result ≡ length self.pending.items = search rules in
+    saved_after (g.D.SectorDevice.disk (device_of_store self.store)) (entries_of self.store) self.acknowledged self.pending.items self.machine (self.rests (sym c.is_broken.ensures ∙ c.if-is_broken.false) honest) self.counted
+    (fits (entries_of self.store)) (g.D.SectorDevice.disk (device_of_store c.write_pending.new.store)) (id_of self.store) c.deref.result.now (self.acknowledged + c.len.result) c.deref.ensures.value (ap (λ (n : ℕ). self.acknowledged + n) size) self.id
+    (entries_of c.write_pending.new.store) (c.in-Ok.ensures.written honest)
+
+pub returns-in-Ok-clause-images : goal.returns-in-Ok-clause-images
+returns-in-Ok-clause-images g c = λ whole honest.
+    let self = c.args.self.now in
+    let size : c.len.result ≡ length self.pending.items = search rules in
+    within_after (g.D.SectorDevice.disk (device_of_store self.store)) (entries_of self.store) self.acknowledged self.pending.items self.machine (self.rests whole honest) self.counted
+    (fits (entries_of self.store)) (g.D.SectorDevice.disk (device_of_store c.write_pending.new.store)) (id_of self.store) c.deref.result.now (self.acknowledged + c.len.result) c.deref.ensures.value (ap (λ (n : ℕ). self.acknowledged + n) size) self.id
+    (λ e. machine_of_rom self.machine.processor.memory.banks.rom self.machine refl self.own (c.in-Ok.ensures.legal e)) (c.in-Ok.ensures.images honest)
+
+pub returns-in-Err-clause-images : goal.returns-in-Err-clause-images
+returns-in-Err-clause-images g c = λ whole honest.
+    let self = c.args.self.now in
+    let size : c.len.result ≡ length self.pending.items = search rules in
+    within_after (g.D.SectorDevice.disk (device_of_store self.store)) (entries_of self.store) self.acknowledged self.pending.items self.machine (self.rests whole honest) self.counted
+    (fits (entries_of self.store)) (g.D.SectorDevice.disk (device_of_store c.write_pending.new.store)) (id_of self.store) c.deref.result.now (self.acknowledged + c.len.result) c.deref.ensures.value (ap (λ (n : ℕ). self.acknowledged + n) size) self.id
+    (λ e. machine_of_rom self.machine.processor.memory.banks.rom self.machine refl self.own (c.in-Err.ensures.legal e)) (c.in-Err.ensures.images honest)
+
+pub returns-in-Err-clause-unchanged : goal.returns-in-Err-clause-unchanged
+returns-in-Err-clause-unchanged g c =
+    ⊎_elim inl (λ same. inr (record { device = ap device_of_store same; machine = refl; pending = refl; acknowledged = refl; broken = ap is_broken_store same; log = ap entries_of same; generation = ap generation_of same })) c.in-Err.ensures.unchanged

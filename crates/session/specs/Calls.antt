@@ -1,0 +1,89 @@
+-- What the calls of a session leave on a device, by what its images hold and stand for.
+use Rattle.std.specs.Prelude.{◌≡◌, ◌⊎◌, ◌==◌, ◌≤◌, ◌<◌, ◌+◌, ◌-◌, ◌^◌, ℕ, List, [], length, Bool, true, false, if◌then◌else◌, Option, Some, Result, Ok, Err}
+use Rattle.sha2.specs.Sha256.{sha256}
+use Rattle.machine.specs.Machine.{MachineState, start}
+use Rattle.snapshot.specs.Text.{text}
+use Rattle.sector_device.specs.DiskState.{DiskState, Settled, next_count}
+use Rattle.sector_log.specs.Content.{ImageContent, content, generation_in, new_generation}
+use Rattle.sector_log.specs.Calls.{Adds}
+use Rattle.sector_log.specs.Found.{log_of}
+use Rattle.sector_log.specs.Inputs.{grown}
+use Rattle.sector_log.specs.declared.Entry.{Entry}
+use Rattle.session.specs.declared.error.SessionError.{SessionError}
+use Rattle.session.specs.declared.error.SessionError.TheVariants.{Memory, Device, NoSession, TooSmall, OtherCartridge, Damaged, Worn, Broken, SaveFirst, CountFull, Output}
+use Rattle.session.specs.Inputs.{inputs_of}
+use Rattle.session.specs.Stands.{Position, stands, further}
+
+-- ---- at rest
+
+-- One image is left; what it stands for, the pending inputs further, is this count and this machine.
+pub record IsAtRest (rom : List ℕ) (now : DiskState) (acknowledged : ℕ) (pending : List Entry) (machine : MachineState) : Type 0 where
+  pub settled : Settled now
+  pub leads : further (inputs_of pending) (stands rom (content now.sectors)) ≡ Some (record { count = acknowledged + length pending; machine = machine })
+
+-- ---- a new game
+
+-- a snapshot of the machine at power-on, behind which there is no input
+abbrev pub new_game_content : (rom : List ℕ) → ImageContent
+new_game_content rom = new_generation (sha256 rom) 0 (text (start rom))
+
+-- the image has the content of one that stood before
+pub record HasContentOf (old : DiskState) (image : List (List ℕ)) : Type 0 where
+  pub before : List (List ℕ)
+  pub stood : old.image before
+  pub is : content image ≡ content before
+
+abbrev pub HasOldContentOrNewGame : (rom : List ℕ) → DiskState → List (List ℕ) → Type 0
+HasOldContentOrNewGame rom old image = HasContentOf old image ⊎ (content image ≡ Some (new_game_content rom))
+
+-- ---- a game taken up
+
+-- the image stands for what one stood for before
+pub record StandsAsBefore (rom : List ℕ) (old : DiskState) (image : List (List ℕ)) : Type 0 where
+  pub before : List (List ℕ)
+  pub stood : old.image before
+  pub is : stands rom (content image) ≡ stands rom (content before)
+
+-- ---- a save
+
+-- behind the log where the entries fit it, else in a new generation with a snapshot of the machine and an empty log
+abbrev pub IsSaved : (fits : Bool) → (rom : List ℕ) → (all : ℕ) → MachineState → List Entry → (old new : List (List ℕ)) → Type 0
+IsSaved true rom all machine entries old new =
+    Adds entries (content old) (content new) × (log_of (content new) ≡ grown (log_of (content old)) entries) × (generation_in new ≡ generation_in old)
+IsSaved false rom all machine entries old new =
+    (content new ≡ Some (new_generation (sha256 rom) all (text machine))) × (generation_in new ≡ generation_in old + 1)
+
+-- ---- answers
+
+-- to an input, with so many unsaved and so many inputs in all
+abbrev pub input_answer : (broken : Bool) → (pending all : ℕ) → Result Unit SessionError
+input_answer broken pending all =
+    if broken then Err Broken else (if pending == 3200 then Err SaveFirst else (if all == 2 ^ 64 - 1 then Err CountFull else Ok tt))
+
+-- why nothing is saved: a call failed before; else the entries don't fit and the generations are used up; else a call failed
+abbrev pub IsSaveCause : SessionError → (broken fits : Bool) → (generation : ℕ) → Type 0
+IsSaveCause Broken broken fits generation = broken ≡ true
+IsSaveCause Worn broken fits generation = (broken ≡ false) × (fits ≡ false) × (generation ≡ 2 ^ 64 - 1)
+IsSaveCause Device broken fits generation = (broken ≡ false) × ((fits ≡ true) ⊎ (generation < 2 ^ 64 - 1))
+IsSaveCause Memory broken fits generation = ⊥
+IsSaveCause NoSession broken fits generation = ⊥
+IsSaveCause (TooSmall needed) broken fits generation = ⊥
+IsSaveCause OtherCartridge broken fits generation = ⊥
+IsSaveCause (Damaged damage) broken fits generation = ⊥
+IsSaveCause SaveFirst broken fits generation = ⊥
+IsSaveCause CountFull broken fits generation = ⊥
+IsSaveCause Output broken fits generation = ⊥
+
+-- the device's count of failed calls after an answer: one more after `Device`, and after no other
+abbrev pub faults_after : SessionError → ℕ → ℕ
+faults_after Device faults = next_count faults
+faults_after Memory faults = faults
+faults_after NoSession faults = faults
+faults_after (TooSmall needed) faults = faults
+faults_after OtherCartridge faults = faults
+faults_after (Damaged damage) faults = faults
+faults_after Worn faults = faults
+faults_after Broken faults = faults
+faults_after SaveFirst faults = faults
+faults_after CountFull faults = faults
+faults_after Output faults = faults

@@ -1,0 +1,10 @@
+pub mod Inputs
+pub mod Stands
+pub mod Beginning
+pub mod Found
+pub mod Recovery
+pub mod Calls
+pub mod Resting
+pub mod Writing
+pub mod Words
+pub mod Laws

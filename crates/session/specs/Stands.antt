@@ -1,0 +1,57 @@
+-- What an image stands for: a count of inputs, and the machine after them.
+use Rattle.std.specs.Prelude.{◌≡◌, ◌==◌, ◌&&◌, ◌≤◌, ◌+◌, ◌^◌, ℕ, List, [], length, take, Bool, if◌then◌else◌, nat_lt, Option, Some, None, is_none}
+use Rattle.std.specs.List.{list_all}
+use Rattle.std.specs.Str.{bytes_eq}
+use Rattle.sha2.specs.Sha256.{sha256}
+use Rattle.cartridge.specs.Header.{ram_length_of}
+use Rattle.machine.specs.declared.input.Input.{Input}
+use Rattle.machine.specs.Machine.{MachineState, after}
+use Rattle.snapshot.specs.Text.{text_length}
+use Rattle.snapshot.specs.Table.{is_legal, table_of}
+use Rattle.snapshot.specs.Reading.{machine_in}
+use Rattle.sector_log.specs.Content.{ImageContent, Body, content}
+use Rattle.sector_log.specs.Inputs.{inputs, counted, first_wrong}
+use Rattle.sector_log.specs.declared.Stored.{Stored}
+use Rattle.sector_log.specs.declared.found.Content.{Content}
+use Rattle.session.specs.Inputs.{logged}
+
+-- a machine, and how many inputs brought it there
+pub record Position : Type 0 where
+  pub count : ℕ
+  pub machine : MachineState
+
+-- the bytes are a legal snapshot for this ROM: as long as its snapshots are, and each field legal
+abbrev pub is_snapshot : (rom bytes : List ℕ) → Bool
+is_snapshot rom bytes = length bytes == text_length (ram_length_of rom) && list_all (λ field. is_legal field bytes) (table_of rom)
+
+-- the content is this ROM's, no count overflows, the blob is a legal snapshot, and each entry is an input
+abbrev pub is_sound : (rom : List ℕ) → Content → Body → Bool
+is_sound rom header body =
+    bytes_eq header.id (sha256 rom) && (nat_lt (header.base + counted 0 body.log) (2 ^ 64) && (is_snapshot rom body.blob && is_none (first_wrong body.log)))
+
+-- the inputs before the snapshot and those of the log, and the machine of the snapshot after those of the log
+abbrev pub position_in : (rom : List ℕ) → Content → Body → Position
+position_in rom header body = record {
+  count = header.base + length (inputs body.log);
+  machine = after (machine_in rom body.blob) (logged body.log);
+}
+
+abbrev pub stands_by : (rom : List ℕ) → Content → Option Body → Option Position
+stands_by rom header None = None
+stands_by rom header (Some body) = if is_sound rom header body then Some (position_in rom header body) else None
+
+-- what a content stands for, with this ROM
+unfoldable pub stands : (rom : List ℕ) → Option ImageContent → Option Position
+stands rom None = None
+stands rom (Some held) = stands_by rom held.header held.body
+
+-- these inputs further
+abbrev pub further : List Input → Option Position → Option Position
+further more None = None
+further more (Some from) = Some (record { count = from.count + length more; machine = after from.machine more })
+
+-- the image stands for this position, or for some of these inputs further, the first of them first
+pub record StandsWithin (rom : List ℕ) (from : Option Position) (more : List Input) (image : List (List ℕ)) : Type 0 where
+  pub count : ℕ
+  pub within : count ≤ length more
+  pub is : stands rom (content image) ≡ further (take count more) from

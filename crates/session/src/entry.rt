@@ -1,0 +1,19 @@
+//! Inputs as entries of a log.
+ghost use Rattle.std.specs.Prelude.{◌≡◌, true};
+ghost use Rattle.sector_log.specs.Inputs.{is_input};
+ghost use Rattle.session.specs.Inputs.{entry_of, input_of};
+
+use machine::Input;
+use sector_log::Entry;
+
+/// The entry of an input.
+pub(crate) fn entry_of(input: Input) -> Entry
+    ensures entry { result ≡ entry_of input }
+    ensures input { input_of result ≡ input }
+    ensures is_input { is_input result ≡ true }
+{
+    match input {
+        Input::Frame(buttons) => Entry::frame(buttons),
+        Input::Seconds(seconds) => Entry::seconds(seconds),
+    }
+}

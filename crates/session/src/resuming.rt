@@ -1,0 +1,70 @@
+//! A game taken up again.
+ghost use Rattle.std.specs.Prelude.{◌≡◌, ◌↔◌, ◌<◌, ◌-◌, ◌^◌, ◌⊎◌, [], false, length, Ok, Err, Some, None, IfOk, IfErr};
+ghost use Rattle.sector_device.specs.Runs.{HoldsSince};
+ghost use Rattle.sector_log.specs.Content.{content, generation_in};
+ghost use Rattle.session.specs.Calls.{IsAtRest, StandsAsBefore, faults_after};
+ghost use Rattle.session.specs.Found.{IsResumeCause};
+ghost use Rattle.session.specs.Stands.{stands};
+ghost use Rattle.session.specs.Words.{device_of, machine_of, rom_of, pending_of, acknowledged_of, is_broken, left_by};
+ghost use Rattle.session.specs.declared.error.SessionError.TheVariants.{Device};
+
+use crate::begin::{begin_with, fault_of, make_room, text_length};
+use crate::error::{Refused, SessionError};
+use crate::recovery::recovered;
+use crate::session::Session;
+use cartridge::Cartridge;
+use sector_device::SectorDevice;
+use sector_log::open_log;
+use std::alloc::Global;
+
+/// Takes up the game that the device stands for, and begins a new generation with it. At each moment a cut leaves an image that
+/// stands for what one stood for before.
+///
+/// Refusals, in this order: `Memory` for the buffers, `Device`, `NoSession`, `TooSmall`, `OtherCartridge`, `Damaged` (`Count`,
+/// `Snapshot`, `Entry`), `Worn`, `Memory` for the machine, all with nothing written; `Device` while writing.
+pub fn resume<D: SectorDevice>(
+    alloc: Global,
+    device: D,
+    cartridge: &Cartridge,
+) -> Result<Session<D>, Refused<D>>
+    // what is taken up
+    ensures begun { IfOk result (λ s. (pending_of s ≡ []) × (is_broken s ≡ false) × (rom_of s ≡ cartridge.now)) }
+    ensures stands { IfOk result (λ s. (D.disk device).honest →
+        stands cartridge.now (content (D.disk device).sectors) ≡ Some (record { count = acknowledged_of s; machine = machine_of s })) }
+
+    // what the device stands for, at Ok and at each moment
+    ensures rests { IfOk result (λ s. (D.disk device).honest → IsAtRest cartridge.now (D.disk (device_of s)) (acknowledged_of s) [] (machine_of s)) }
+    ensures images { (D.disk device).honest → HoldsSince (D.disk device) (D.disk (left_by result)) (StandsAsBefore cartridge.now (D.disk device)) }
+    ensures nothing { (D.disk device).honest → stands cartridge.now (content (D.disk device).sectors) ≡ None → HoldsSince (D.disk device) (D.disk (left_by result)) (D.disk device).image }
+    ensures untouched { IfErr result (λ refused. (refused.why ≡ Device) ⊎ ((D.disk device).honest → HoldsSince (D.disk device) (D.disk refused.device) (D.disk device).image)) }
+
+    // when it is refused
+    ensures can { IfOk result (λ s. (D.disk device).honest → generation_in (D.disk device).sectors < 2 ^ 64 - 1) }
+    ensures cause { IfErr result (λ refused. (D.disk device).honest → IsResumeCause cartridge.now (generation_in (D.disk device).sectors) (content (D.disk device).sectors) refused.why) }
+
+    ensures count { length (D.disk (left_by result)).sectors ≡ length (D.disk device).sectors }
+    ensures honest { (D.disk (left_by result)).honest ↔ (D.disk device).honest }
+    ensures faults_ok { IfOk result (λ s. (D.disk (device_of s)).faults ≡ (D.disk device).faults) }
+    ensures faults { IfErr result (λ refused. (D.disk refused.device).faults ≡ faults_after refused.why (D.disk device).faults) }
+{
+    let Ok(room) = make_room(alloc, cartridge) else {
+        return Err(Refused {
+            why: SessionError::Memory,
+            device,
+        });
+    };
+    let opened = match open_log(alloc, device, text_length(cartridge)) {
+        Ok(opened) => opened,
+        Err(refused) => return Err(Refused {
+            why: fault_of(refused.why),
+            device: refused.device,
+        }),
+    };
+    match recovered(alloc, &opened, cartridge) {
+        Ok((count, machine)) => begin_with(opened, cartridge, count, machine, room),
+        Err(why) => Err(Refused {
+            why,
+            device: opened.into_device(),
+        }),
+    }
+}
