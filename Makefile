@@ -14,7 +14,7 @@ help:
 	@echo 'make edits           tries every wrong body, 10 to 40 s each (CRATE=name for one crate)'
 	@echo 'make bench           proves the benchmarks: times, instructions a frame, device calls (20 minutes from nothing)'
 	@echo 'make compare         compares the program with a second one, in Python, on random ROMs (SECONDS=20 a kind)'
-	@echo 'make test            the gate: proves everything from nothing, runs the tests and programs (an hour)'
+	@echo 'make test            the gate: proves everything from nothing, runs the tests and programs (an hour and a half)'
 
 ARGS ?= step data/rom.gb 2
 

@@ -30,6 +30,24 @@ pub enum Request<'a> {
         cart: &'a str,
         count: u32,
     },
+    /// Begins a game in a new file of `sectors` sectors, 1 to 65,536.
+    New {
+        cart: &'a str,
+        save: &'a str,
+        sectors: u32,
+    },
+    /// Plays a script on the game in a file.
+    Play {
+        cart: &'a str,
+        save: &'a str,
+        script: &'a str,
+    },
+    /// Writes the picture of the game in a file to another file.
+    Frame {
+        cart: &'a str,
+        save: &'a str,
+        out: &'a str,
+    },
 }
 
 /// The request that the words make, of which the first is the program's own name.
@@ -61,6 +79,21 @@ fn named_request<'a>(name: &str, values: &ArgMatches<'a>) -> Option<Request<'a>>
         "step" => Some(Request::Step {
             cart,
             count: between(0, 1_000_000, values.get_one("COUNT")?)?,
+        }),
+        "new" => Some(Request::New {
+            cart,
+            save: values.get_str("SAVE")?,
+            sectors: between(1, 65_536, values.get_one("SECTORS")?)?,
+        }),
+        "play" => Some(Request::Play {
+            cart,
+            save: values.get_str("SAVE")?,
+            script: values.get_str("SCRIPT")?,
+        }),
+        "frame" => Some(Request::Frame {
+            cart,
+            save: values.get_str("SAVE")?,
+            out: values.get_str("OUT")?,
         }),
         _ => None,
     }

@@ -9,13 +9,19 @@ pub fn command<'a>(alloc: Global) -> Result<Command<'a>, AllocError> {
     let info = over_cart(alloc, "info", "Prints the header of a cartridge")?;
     let list = list(alloc)?;
     let step = step(alloc)?;
+    let new = new(alloc)?;
+    let play = play(alloc)?;
+    let frame = frame(alloc)?;
     Command::new(alloc, NAME)
         .about("A Game Boy emulator whose every function is proved to meet its contract")
         .bin_name(NAME)?
         .subcommand_required(true)
         .subcommand(info)?
         .subcommand(list)?
-        .subcommand(step)
+        .subcommand(step)?
+        .subcommand(new)?
+        .subcommand(play)?
+        .subcommand(frame)
 }
 
 fn word<'a>(alloc: Global, name: &'a str, help: &'a str) -> Arg<'a> {
@@ -55,4 +61,36 @@ fn step<'a>(alloc: Global) -> Result<Command<'a>, AllocError> {
         "Prints the registers after some steps from power-on",
     )?
     .arg(count)
+}
+
+fn over_save<'a>(alloc: Global, name: &'a str, about: &'a str) -> Result<Command<'a>, AllocError> {
+    over_cart(alloc, name, about)?.arg(word(alloc, "SAVE", "The file that keeps the game"))
+}
+
+fn new<'a>(alloc: Global) -> Result<Command<'a>, AllocError> {
+    let sectors = word(
+        alloc,
+        "SECTORS",
+        "How many sectors of 512 bytes the file has",
+    )
+    .value_parser(value_parser!(u32).range(1..=65_536));
+    over_save(alloc, "new", "Begins a game in a new file")?.arg(sectors)
+}
+
+fn play<'a>(alloc: Global) -> Result<Command<'a>, AllocError> {
+    over_save(
+        alloc,
+        "play",
+        "Takes up a game, plays a script on it and saves it",
+    )?
+    .arg(word(alloc, "SCRIPT", "The file of moves, a line each"))
+}
+
+fn frame<'a>(alloc: Global) -> Result<Command<'a>, AllocError> {
+    over_save(
+        alloc,
+        "frame",
+        "Takes up a game and writes its picture to a file",
+    )?
+    .arg(word(alloc, "OUT", "The file for the picture, as plain PGM"))
 }

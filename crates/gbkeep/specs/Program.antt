@@ -8,12 +8,16 @@ use Rattle.clap.specs.declared.error.kind.ErrorKind.{ErrorKind}
 use Rattle.clap.specs.declared.error.kind.ErrorKind.TheVariants.{DisplayHelp, DisplayVersion, OutOfMemory}
 use Rattle.command_line.specs.Words.{IsInRange}
 use Rattle.command_line.specs.declared.Request.{Request}
+use Rattle.session.specs.declared.error.SessionError.TheVariants.{Memory as GameMemory, Device as GameDevice, NoSession as GameNoSession, OtherCartridge as GameOtherCartridge, Worn as GameWorn, Broken as GameBroken, SaveFirst as GameSaveFirst, CountFull as GameCountFull, Output as GameOutput, TooSmall as GameTooSmall, Damaged as GameDamaged}
 use Rattle.gbkeep.specs.declared.asked.Asked.{Asked}
 use Rattle.gbkeep.specs.declared.asked.Asked.TheVariants.{Command, Help, Misuse, OutOfRange}
 use Rattle.gbkeep.specs.declared.error.StepError.TheVariants.{Cart as StepCart, Memory as StepMemory, Output as StepOutput}
+use Rattle.gbkeep.specs.declared.error.PlayError.{PlayError}
+use Rattle.gbkeep.specs.declared.error.PlayError.TheVariants.{Cart as PlayCart, Script as PlayScript, Session as PlaySession, Picture as PlayPicture}
 use Rattle.gbkeep.specs.declared.fault.Fault.{Fault}
-use Rattle.gbkeep.specs.declared.fault.Fault.TheVariants.{Cart, Step, Memory, File, Output, Address, Word}
-use Rattle.gbkeep.specs.Request.{HasAddress, IsDone, printed}
+use Rattle.gbkeep.specs.declared.fault.Fault.TheVariants.{Cart, Step, Memory, File, Output, Address, Word, Device, Script, Session}
+use Rattle.script.specs.Script.{IsRefused as IsScriptRefused}
+use Rattle.gbkeep.specs.Request.{HasAddress, HasSave, HasScript, IsDone, IsGameRefused, printed}
 use Rattle.gbkeep.specs.StepLine.{Refuses}
 
 abbrev pub status_of : Fault → ℕ
@@ -24,8 +28,19 @@ status_of File = 1
 status_of Output = 1
 status_of Address = 2
 status_of Word = 2
+status_of (Device fault) = 1
+status_of (Script fault) = 1
+status_of (Session fault) = 1
 
--- its line on standard error; None for a fault of the cartridge, whose text no definition gives
+-- what a play that was refused is for the program
+abbrev pub fault_of_play : PlayError → Fault
+fault_of_play (PlayCart fault) = Cart fault
+fault_of_play (PlayScript fault) = Script fault
+fault_of_play (PlaySession fault) = Session fault
+fault_of_play PlayPicture = Output
+
+-- its line on standard error; None for a fault of the cartridge, of a save file, of a script, or of a game that is too large
+-- for its file or damaged, whose text no definition gives
 abbrev pub line_of : Fault → Option (List ℕ)
 line_of (Cart fault) = None
 line_of (Step (StepCart fault)) = None
@@ -36,6 +51,19 @@ line_of File = Some (codes "gbkeep: file failed\n")
 line_of Output = Some (codes "gbkeep: output failed\n")
 line_of Address = Some (codes "gbkeep: address\n")
 line_of Word = Some (codes "gbkeep: a word is not text\n")
+line_of (Device fault) = None
+line_of (Script fault) = None
+line_of (Session GameMemory) = Some (codes "gbkeep: no memory\n")
+line_of (Session GameDevice) = Some (codes "gbkeep: device failed\n")
+line_of (Session GameNoSession) = Some (codes "gbkeep: no session\n")
+line_of (Session GameOtherCartridge) = Some (codes "gbkeep: other cartridge\n")
+line_of (Session GameWorn) = Some (codes "gbkeep: generations used up\n")
+line_of (Session GameBroken) = Some (codes "gbkeep: broken, open it again\n")
+line_of (Session GameSaveFirst) = Some (codes "gbkeep: save first\n")
+line_of (Session GameCountFull) = Some (codes "gbkeep: count full\n")
+line_of (Session GameOutput) = Some (codes "gbkeep: output failed\n")
+line_of (Session (GameTooSmall needed)) = None
+line_of (Session (GameDamaged damage)) = None
 
 -- the line went out, or a proper prefix of it; nothing is said of a line that is not given
 abbrev pub HasLine : Option (List ℕ) → Option (List ℕ) → Option (List ℕ) → Type 0
@@ -55,6 +83,9 @@ IsRefused request File old new = HasAddress request × Keeps old new
 IsRefused request Output old new = HasAddress request × ((rom : List ℕ) × IsAccepted rom)
 IsRefused request Address old new = (¬ (HasAddress request)) × Keeps old new
 IsRefused request Word old new = ⊥
+IsRefused request (Device fault) old new = HasSave request × Keeps old new
+IsRefused request (Script fault) old new = HasScript request × Keeps old new × ((script : List ℕ) × IsScriptRefused script fault)
+IsRefused request (Session fault) old new = IsGameRefused request fault old new
 
 -- a request was done or refused
 abbrev pub IsServed : Request → Result Unit Fault → Option (List ℕ) → Option (List ℕ) → Type 0

@@ -1,5 +1,8 @@
 //! What the calls of this crate refuse.
 use cartridge::CartError;
+use script::ScriptError;
+use sector_device::SectorDevice;
+use session::SessionError;
 use thiserror::Error;
 
 /// Why `step_line` or `list_lines` did not write all of its text.
@@ -14,4 +17,29 @@ pub enum StepError {
     /// A write failed or took no byte: a proper prefix of the text went out.
     #[error("output failed")]
     Output,
+}
+
+/// Why `play_to_picture` did not do all of it.
+#[derive(Clone, Copy, Debug, PartialEq, Eq, Error)]
+pub enum PlayError {
+    /// The image is no cartridge.
+    #[error(transparent)]
+    Cart(CartError),
+    /// The script is refused.
+    #[error(transparent)]
+    Script(ScriptError),
+    /// The play ended here.
+    #[error(transparent)]
+    Session(SessionError),
+    /// The picture could not be written: a proper prefix of its text went out.
+    #[error("output failed")]
+    Picture,
+}
+
+/// A refusal that hands the device back.
+#[derive(Drop)]
+pub struct PlayRefused<D: SectorDevice> {
+    pub why: PlayError,
+    /// As it was, where the cartridge or the script is refused; else as the play left it.
+    pub device: D,
 }

@@ -1,11 +1,15 @@
 //! Why the program does not do what it is asked to.
 
 ghost use Rattle.std.specs.Prelude.{◌≡◌, Some};
-ghost use Rattle.gbkeep.specs.Program.{HasLine, line_of, status_of};
+ghost use Rattle.gbkeep.specs.Program.{HasLine, fault_of_play, line_of, status_of};
 
-use crate::error::StepError;
+use crate::error::{PlayError, StepError};
 use cartridge::CartError;
 use exact_text::write_whole;
+use script::ScriptError;
+use sector_device::DeviceFault;
+use session::SessionError;
+use std::fmt::Display;
 use std::io::Write;
 
 /// The statuses of the program.
@@ -24,9 +28,26 @@ pub(crate) enum Fault {
     Output,
     Address,
     Word,
+    /// The save file can't be made or opened.
+    Device(DeviceFault),
+    Script(ScriptError),
+    /// A game is not begun, or a play ended here.
+    Session(SessionError),
 }
 
 impl Fault {
+    /// What a play that was refused is for the program.
+    pub(crate) fn of_play(why: PlayError) -> Fault
+        ensures { result ≡ fault_of_play why }
+    {
+        match why {
+            PlayError::Cart(why) => Fault::Cart(why),
+            PlayError::Script(why) => Fault::Script(why),
+            PlayError::Session(why) => Fault::Session(why),
+            PlayError::Picture => Fault::Output,
+        }
+    }
+
     fn status(self) -> u8
         ensures { result ≡ status_of self }
     {
@@ -50,6 +71,9 @@ pub(crate) fn report<E: Write>(fault: Fault, err: &mut E) -> u8
         Fault::Output => write_line("gbkeep: output failed\n", err),
         Fault::Address => write_line("gbkeep: address\n", err),
         Fault::Word => write_line("gbkeep: a word is not text\n", err),
+        Fault::Device(why) => write_text_line(why, err),
+        Fault::Script(why) => write_text_line(why, err),
+        Fault::Session(why) => write_session_line(why, err),
     }
     fault.status()
 }
@@ -62,6 +86,28 @@ fn write_step_line<E: Write>(fault: StepError, err: &mut E)
         StepError::Memory => write_line("gbkeep: no memory\n", err),
         StepError::Output => write_line("gbkeep: output failed\n", err),
     }
+}
+
+fn write_session_line<E: Write>(fault: SessionError, err: &mut E)
+    ensures { HasLine (line_of (Fault.Session fault)) (E.contents err.old) (E.contents err.new) }
+{
+    match fault {
+        SessionError::Memory => write_line("gbkeep: no memory\n", err),
+        SessionError::Device => write_line("gbkeep: device failed\n", err),
+        SessionError::NoSession => write_line("gbkeep: no session\n", err),
+        SessionError::OtherCartridge => write_line("gbkeep: other cartridge\n", err),
+        SessionError::Worn => write_line("gbkeep: generations used up\n", err),
+        SessionError::Broken => write_line("gbkeep: broken, open it again\n", err),
+        SessionError::SaveFirst => write_line("gbkeep: save first\n", err),
+        SessionError::CountFull => write_line("gbkeep: count full\n", err),
+        SessionError::Output => write_line("gbkeep: output failed\n", err),
+        SessionError::TooSmall { need: _ } => write_text_line(fault, err),
+        SessionError::Damaged(_) => write_text_line(fault, err),
+    }
+}
+
+fn write_text_line<T: Display + Copy, E: Write>(fault: T, err: &mut E) {
+    let _ = writeln!(err, "gbkeep: {fault}");
 }
 
 fn write_cart_line<E: Write>(fault: CartError, err: &mut E) {

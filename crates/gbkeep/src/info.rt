@@ -1,22 +1,9 @@
 //! The lines about a cartridge.
 
-ghost use Rattle.std.specs.Prelude.{◌≡◌, ◌+◌, ◌*◌, ◌/◌, ◌<◌, ◌≤◌};
-
 use cartridge::{Cartridge, Controller};
+use session::sectors_needed;
 use std::io;
 use std::io::Write;
-
-/// The bytes of a snapshot without its cartridge RAM.
-const SNAPSHOT: u64 = 22_607;
-
-/// The sectors that a play session of a cartridge with this much RAM needs: two for the roots, and
-/// two areas of 32 log sectors and the sectors of a snapshot.
-fn sectors_needed(ram: u64) -> u64
-    requires { ram < 1048576 }
-    ensures { result ≡ 2 + 2 * (32 + (22607 + ram + 511) / 512) }
-{
-    2 + 2 * (32 + (SNAPSHOT + ram).div_ceil(512))
-}
 
 /// Writes the six lines about a cartridge.
 pub(crate) fn write_info<W: Write>(out: &mut W, cartridge: &Cartridge) -> io::Result<()> {
@@ -28,7 +15,7 @@ pub(crate) fn write_info<W: Write>(out: &mut W, cartridge: &Cartridge) -> io::Re
     let stored = cartridge.checksum_stored();
     let computed = cartridge.checksum_computed();
     writeln!(out, "checksum stored {stored:02X} computed {computed:02X}")?;
-    let sectors = sectors_needed(cartridge.ram_length() as u64);
+    let sectors = sectors_needed(cartridge);
     writeln!(out, "sectors {sectors}")
 }
 

@@ -5,15 +5,19 @@
 #![tactic(auto)]
 
 mod asked;
+mod bytes;
 pub mod error;
 mod fault;
 mod info;
 mod line;
 mod listing;
+mod picture;
 pub mod program;
+mod saves;
 mod steps;
 
-pub use error::StepError;
+pub use error::{PlayError, PlayRefused, StepError};
 pub use listing::list_lines;
+pub use picture::play_to_picture;
 pub use program::{run, run_program};
 pub use steps::step_line;

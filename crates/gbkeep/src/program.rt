@@ -1,27 +1,26 @@
 //! The program: words in, files and lines out.
 
-ghost use Rattle.std.specs.Prelude.{◌≡◌, ◌≤◌, ◌⊎◌, IfErr};
+ghost use Rattle.std.specs.Prelude.{◌≡◌, ◌≤◌, IfErr};
 ghost use Rattle.gbkeep.specs.Program.{Ends, HasEnded, IsReading, IsServed, KeepsAtMisuse};
 
 use crate::asked::{Asked, address_of, asked_by};
+use crate::bytes::{MOST_ROM, file_bytes};
 use crate::fault::{DONE, Fault, NOT_UNDERSTOOD, report};
 use crate::info::write_info;
 use crate::listing::list_lines;
+use crate::saves::{frame, new, play};
 use crate::steps::step_line;
 use cartridge::Cartridge;
 use clap::Error;
 use command_line::Request;
 use std::convert::AsStr;
 use std::fs::File;
-use std::io::{Read, Write};
+use std::io::Write;
 use std::rt::{Env, Files};
 use std::{env, io};
 
-/// A ROM file is read up to this many bytes and one.
-const MOST_ROM: u64 = 0x80_0000;
-
 /// Runs the program on the words that the process was started with: `main` does nothing else.
-pub fn run_program<R: Env + Files + AllocGlobal, O: Write, E: Write>(
+pub fn run_program<R: Env + Files<File = File> + AllocGlobal, O: Write, E: Write>(
     rt: &R,
     out: &mut O,
     err: &mut E,
@@ -51,7 +50,7 @@ fn words<R: Env + AllocGlobal>(rt: &R) -> Result<Vec<String>, Fault>
 ///
 /// What is asked for goes to `out`, which gets nothing where the status is 2. A fault is one line on `err`, `gbkeep: ` and its text; of words
 /// that are not understood `err` gets `clap`'s text.
-pub fn run<R: Files + AllocGlobal, S: AsStr, O: Write, E: Write>(
+pub fn run<R: Files<File = File> + AllocGlobal, S: AsStr, O: Write, E: Write>(
     rt: &R,
     words: &[S],
     out: &mut O,
@@ -65,7 +64,7 @@ pub fn run<R: Files + AllocGlobal, S: AsStr, O: Write, E: Write>(
 }
 
 /// Answers what was read of the words.
-fn answer<R: Files + AllocGlobal, O: Write, E: Write>(
+fn answer<R: Files<File = File> + AllocGlobal, O: Write, E: Write>(
     rt: &R,
     asked: Result<Asked<'_>, Fault>,
     out: &mut O,
@@ -101,7 +100,7 @@ fn write_help<O: Write>(text: Error, out: &mut O) -> Result<(), Fault>
     }
 }
 
-fn serve<R: Files + AllocGlobal, O: Write>(
+fn serve<R: Files<File = File> + AllocGlobal, O: Write>(
     rt: &R,
     request: Request<'_>,
     out: &mut O,
@@ -116,10 +115,25 @@ fn serve<R: Files + AllocGlobal, O: Write>(
             count,
         } => list(rt, cart, address, count, out),
         Request::Step { cart, count } => step(rt, cart, count, out),
+        Request::New {
+            cart,
+            save,
+            sectors,
+        } => new(rt, cart, save, sectors, out),
+        Request::Play { cart, save, script } => play(rt, cart, save, script, out),
+        Request::Frame {
+            cart,
+            save,
+            out: picture,
+        } => frame(rt, cart, save, picture, out),
     }
 }
 
-fn info<R: Files + AllocGlobal, O: Write>(rt: &R, cart: &str, out: &mut O) -> Result<(), Fault>
+fn info<R: Files<File = File> + AllocGlobal, O: Write>(
+    rt: &R,
+    cart: &str,
+    out: &mut O,
+) -> Result<(), Fault>
     ensures { IsServed (Request.Info cart.entry) result (O.contents out.old) (O.contents out.new) }
 {
     let rom = match file_bytes(rt, cart, MOST_ROM) {
@@ -136,7 +150,7 @@ fn info<R: Files + AllocGlobal, O: Write>(rt: &R, cart: &str, out: &mut O) -> Re
     }
 }
 
-fn list<R: Files + AllocGlobal, O: Write>(
+fn list<R: Files<File = File> + AllocGlobal, O: Write>(
     rt: &R,
     cart: &str,
     address: &str,
@@ -158,7 +172,7 @@ fn list<R: Files + AllocGlobal, O: Write>(
     }
 }
 
-fn step<R: Files + AllocGlobal, O: Write>(
+fn step<R: Files<File = File> + AllocGlobal, O: Write>(
     rt: &R,
     cart: &str,
     count: u32,
@@ -173,18 +187,5 @@ fn step<R: Files + AllocGlobal, O: Write>(
     match step_line(rt.alloc(), rom, count, out) {
         Ok(()) => Ok(()),
         Err(fault) => Err(Fault::Step(fault)),
-    }
-}
-
-/// The bytes of a file, and of a longer one the first `most` and one more.
-fn file_bytes<R: Files + AllocGlobal>(rt: &R, path: &str, most: u64) -> Result<Vec<u8>, Fault>
-    ensures { IfErr result (λ fault. (fault ≡ Fault.File) ⊎ (fault ≡ Fault.Memory)) }
-{
-    let file = File::open(rt, path).map_err(|_| Fault::File)?;
-    let mut bytes = Vec::new(rt.alloc());
-    match file.take(most.saturating_add(1)).read_to_end(&mut bytes) {
-        Ok(_) => Ok(bytes),
-        Err(error) if error.kind() == io::ErrorKind::OutOfMemory => Err(Fault::Memory),
-        Err(_) => Err(Fault::File),
     }
 }

@@ -4,4 +4,6 @@
 #[cfg(test)]
 mod runs;
 #[cfg(test)]
+mod saves;
+#[cfg(test)]
 mod words;

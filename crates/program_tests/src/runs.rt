@@ -1,13 +1,17 @@
 //! Runs of the whole program over files of the folder that it runs in, and of its public calls.
 use gbkeep::run;
 use std::alloc::{AllocError, Global};
-use std::fs;
+use std::fs::{self, File};
 use std::process::Abort;
 use std::rt::Files;
 use std::test::Fail;
 
 /// A ROM of zeros with these bytes at 0100, and others at their addresses.
-fn rom(alloc: Global, program: &[u8], header: &[(usize, u8)]) -> Result<Vec<u8>, AllocError> {
+pub(crate) fn rom(
+    alloc: Global,
+    program: &[u8],
+    header: &[(usize, u8)],
+) -> Result<Vec<u8>, AllocError> {
     let mut rom = vec![in alloc; 0u8; 0x8000]?;
     for (index, byte) in program.iter().enumerate() {
         set(&mut rom, 0x100usize.saturating_add(index), *byte);
@@ -25,14 +29,14 @@ fn set(rom: &mut Vec<u8>, address: usize, byte: u8) {
 }
 
 #[derive(Clone, Copy)]
-struct Run {
+pub(crate) struct Run {
     words: &'static [&'static str],
     status: u8,
     out: &'static str,
     err: &'static str,
 }
 
-fn done(words: &'static [&'static str], out: &'static str) -> Run {
+pub(crate) fn done(words: &'static [&'static str], out: &'static str) -> Run {
     Run {
         words,
         status: 0,
@@ -41,7 +45,7 @@ fn done(words: &'static [&'static str], out: &'static str) -> Run {
     }
 }
 
-fn refused(words: &'static [&'static str], status: u8, err: &'static str) -> Run {
+pub(crate) fn refused(words: &'static [&'static str], status: u8, err: &'static str) -> Run {
     Run {
         words,
         status,
@@ -50,7 +54,7 @@ fn refused(words: &'static [&'static str], status: u8, err: &'static str) -> Run
     }
 }
 
-fn is_as_written<R: Files + AllocGlobal + Abort>(rt: &R, expected: Run) {
+pub(crate) fn is_as_written<R: Files<File = File> + AllocGlobal + Abort>(rt: &R, expected: Run) {
     let mut out = Vec::new(rt.alloc());
     let mut err = Vec::new(rt.alloc());
     let status = run(rt, expected.words, &mut out, &mut err);

@@ -31,6 +31,39 @@ fn reads_each_command(rt: HostRuntime) -> Result<(), Fail> {
             count: 4096
         })
     );
+    assert_eq!(rt;
+        request_of(
+            alloc,
+            ["gbkeep", "new", "a.gb", "a.save", "65536"].as_slice()
+        )?,
+        Some(Request::New {
+            cart: "a.gb",
+            save: "a.save",
+            sectors: 65_536
+        })
+    );
+    assert_eq!(rt;
+        request_of(
+            alloc,
+            ["gbkeep", "play", "a.gb", "a.save", "moves"].as_slice()
+        )?,
+        Some(Request::Play {
+            cart: "a.gb",
+            save: "a.save",
+            script: "moves"
+        })
+    );
+    assert_eq!(rt;
+        request_of(
+            alloc,
+            ["gbkeep", "frame", "a.gb", "a.save", "a.pgm"].as_slice()
+        )?,
+        Some(Request::Frame {
+            cart: "a.gb",
+            save: "a.save",
+            out: "a.pgm"
+        })
+    );
     Ok(())
 }
 
@@ -53,9 +86,15 @@ fn does_not_understand_what_is_out_of_range(rt: HostRuntime) {
     assert_eq!(rt; status(alloc, ["gbkeep", "step", "a", "x"].as_slice()), 2);
     assert_eq!(rt; status(alloc, ["gbkeep", "fly", "a"].as_slice()), 2);
     assert_eq!(rt;
-        status(alloc, ["gbkeep", "play", "a", "b", "c"].as_slice()),
+        status(alloc, ["gbkeep", "new", "a", "b", "0"].as_slice()),
         2
     );
+    assert_eq!(rt;
+        status(alloc, ["gbkeep", "new", "a", "b", "65537"].as_slice()),
+        2
+    );
+    assert_eq!(rt; status(alloc, ["gbkeep", "play", "a", "b"].as_slice()), 2);
+    assert_eq!(rt; status(alloc, ["gbkeep", "frame", "a", "b"].as_slice()), 2);
     assert_eq!(rt; status(alloc, ["gbkeep", "step", "a"].as_slice()), 2);
     assert_eq!(rt; status(alloc, ["gbkeep"].as_slice()), 2);
     assert_eq!(rt; status(alloc, ["gbkeep", "--help"].as_slice()), 0);

@@ -123,8 +123,8 @@ new_game_images rom old mid new reads looked held =
     since_then
     (since_weaker looked.since (λ image was. inl (record { before = image; stood = was; is = refl })))
     (since_weaker held (λ image. ⊎_elim
-      (λ stays. inl (record { before = old.sectors; stood = reads; is = stays.content_is ∙ ap content looked.sectors }))
-      (λ new. inr new.content_is)))
+    (λ stays. inl (record { before = old.sectors; stood = reads; is = stays.content_is ∙ ap content looked.sectors }))
+    (λ new. inr new.content_is)))
 
 pub looked_new_game : (rom : List ℕ) (old mid : DiskState) → HasLooked old mid → HoldsSince old mid (HasOldContentOrNewGame rom old)
 looked_new_game rom old mid looked = since_weaker looked.since (λ image was. inl (record { before = image; stood = was; is = refl }))
@@ -136,8 +136,8 @@ resume_images rom old mid new count m reads looked of few stood held =
     since_then
     (since_weaker looked.since (λ image was. record { before = image; stood = was; is = refl }))
     (since_weaker held (λ image. ⊎_elim
-      (λ stays. record { before = old.sectors; stood = reads; is = ap (stands rom) (stays.content_is ∙ ap content looked.sectors) })
-      (λ new. record { before = old.sectors; stood = reads; is = begun_stands rom (sha256 rom) (text m) m count image of few refl refl new.content_is ∙ sym stood })))
+    (λ stays. record { before = old.sectors; stood = reads; is = ap (stands rom) (stays.content_is ∙ ap content looked.sectors) })
+    (λ new. record { before = old.sectors; stood = reads; is = begun_stands rom (sha256 rom) (text m) m count image of few refl refl new.content_is ∙ sym stood })))
 
 pub looked_resume : (rom : List ℕ) (old mid : DiskState) → HasLooked old mid → HoldsSince old mid (StandsAsBefore rom old)
 looked_resume rom old mid looked = since_weaker looked.since (λ image was. record { before = image; stood = was; is = refl })

@@ -189,14 +189,14 @@ cause_found rom generation most image seen why most_is sized is cause =
     ⊎_elim
     (λ header. header_cause rom generation held why (subst (λ (f : Found). IsHeaderCause f (sha256 rom) why) found_is header))
     (⊎_elim
-      (λ long.
-        let found = found_sound held long.content (sym found_is ∙ long.found_is) in
-        subst (IsResumeCause rom generation held) (sym long.why_is)
-        (too_long rom generation most held long.content long.id_is found most_is (found_length image (record { header = long.content; body = Some found.body }) found.body sized found.is refl) (sym blob_is ∙ long.none)))
-      (λ refusal.
-        let found = found_sound held refusal.content (sym found_is ∙ refusal.found_is) in
-        rebuild_cause rom generation most held refusal.content refusal.id_is found refusal.bytes why (sym blob_is ∙ refusal.blob_is)
-        (subst (λ (l : List Stored). IsRebuildCause rom refusal.bytes l generation why) log_are refusal.cause)))
+    (λ long.
+    let found = found_sound held long.content (sym found_is ∙ long.found_is) in
+    subst (IsResumeCause rom generation held) (sym long.why_is)
+    (too_long rom generation most held long.content long.id_is found most_is (found_length image (record { header = long.content; body = Some found.body }) found.body sized found.is refl) (sym blob_is ∙ long.none)))
+    (λ refusal.
+    let found = found_sound held refusal.content (sym found_is ∙ refusal.found_is) in
+    rebuild_cause rom generation most held refusal.content refusal.id_is found refusal.bytes why (sym blob_is ∙ refusal.blob_is)
+    (subst (λ (l : List Stored). IsRebuildCause rom refusal.bytes l generation why) log_are refusal.cause)))
     cause
 
 -- what was recovered is what the content stands for

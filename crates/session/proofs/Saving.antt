@@ -88,8 +88,8 @@ rests_more now log acknowledged pending after_it entry m then input rests more i
 -- ---- a save
 
 module _
-  (old : DiskState) (log : List Stored) (acknowledged : ℕ) (pending : List Entry) (m : MachineState) (rests : Rests old log acknowledged pending m)
-  (few : acknowledged + length pending < 2 ^ 64) where
+    (old : DiskState) (log : List Stored) (acknowledged : ℕ) (pending : List Entry) (m : MachineState) (rests : Rests old log acknowledged pending m)
+    (few : acknowledged + length pending < 2 ^ 64) where
   abbrev rom : List ℕ
   rom = m.processor.memory.banks.rom
 
@@ -164,7 +164,7 @@ module _
   pub nothing_within : ((image : List (List ℕ)) → old.since old.moment image → old.image image) → HoldsSince old old (StandsWithin rom (stands rom (content old.sectors)) (inputs_of pending))
   nothing_within only =
       holds_since only (record { later = omega arith; each = λ t c le since. inl since }) (λ t c le since. since)
-          (λ image now. here image (ap content (rests.at_rest.settled image now)))
+      (λ image now. here image (ap content (rests.at_rest.settled image now)))
 
   pub nothing_rests : (none : ℕ) → pending ≡ [] → none ≡ length pending → IsAtRest rom old (acknowledged + none) [] m
   nothing_rests none empty size = record {

@@ -33,9 +33,7 @@ pub enum SessionError {
     NoSession,
     /// An area does not hold the snapshot: the sectors that the device would need.
     #[error("too small, {need} sectors needed")]
-    TooSmall {
-        need: u64,
-    },
+    TooSmall { need: u64 },
     /// The session on the device is of another ROM.
     #[error("other cartridge")]
     OtherCartridge,
@@ -63,6 +61,6 @@ pub enum SessionError {
 #[derive(Drop)]
 pub struct Refused<D: SectorDevice> {
     pub why: SessionError,
-    /// As it was, unless `why` is `Device`: then as the failed call left it.
+    /// Unless `why` is `Device`, nothing was written to it; a call that looked at what it holds made a sync first.
     pub device: D,
 }

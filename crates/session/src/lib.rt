@@ -13,8 +13,6 @@ mod recovery;
 mod resuming;
 mod save;
 pub mod session;
-#[cfg(test)]
-mod tests;
 
 pub use begin::{new_game, sectors_needed};
 pub use error::{Damage, Refused, SessionError};

@@ -122,6 +122,7 @@ impl<D: SectorDevice> Session<D> {
         ensures answer { result ≡ input_answer (is_broken self.old) (length (pending_of self.old)) (acknowledged_of self.old + length (pending_of self.old)) }
         ensures machine { OnOk result (machine_of self.new ≡ applied input (machine_of self.old)) }
         ensures pending { OnOk result (pending_of self.new ≡ pending_of self.old ++ entry_of input ∷ []) }
+        ensures given { OnOk result (inputs_of (pending_of self.new) ≡ inputs_of (pending_of self.old) ++ input ∷ []) }
         ensures refused { OnErr result (IsUnchanged self.old self.new) }
         ensures device { device_of self.new ≡ device_of self.old }
         ensures kept { (acknowledged_of self.new ≡ acknowledged_of self.old) × (is_broken self.new ≡ is_broken self.old) × (rom_of self.new ≡ rom_of self.old) }
@@ -200,7 +201,6 @@ impl<D: SectorDevice> Session<D> {
     {
         self.store.into_device()
     }
-
 }
 
 impl<D: SectorDevice + Drop> Session<D> {

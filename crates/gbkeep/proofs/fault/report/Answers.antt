@@ -1,5 +1,5 @@
 use Rattle.gbkeep.proofs.fault.report.Goals as goal
-use Rattle.gbkeep.proofs.fault.report.Goals.{in-Cart, in-Step, in-Memory, in-File, in-Output, in-Address, in-Word}
+use Rattle.gbkeep.proofs.fault.report.Goals.{in-Cart, in-Step, in-Memory, in-File, in-Output, in-Address, in-Word, in-Device, in-Script, in-Session}
 
 pub returns-clause-line : goal.returns-clause-line
 returns-clause-line g c =
@@ -11,4 +11,7 @@ returns-clause-line g c =
       | in-Output w ↦ rw (w.in-Output.is, w.err-is) w.write_line-in-Output.ensures
       | in-Address w ↦ rw (w.in-Address.is, w.err-is) w.write_line-in-Address.ensures
       | in-Word w ↦ rw (w.in-Word.is, w.err-is) w.write_line-in-Word.ensures
+      | in-Device w ↦ rw w.in-Device.is tt
+      | in-Script w ↦ rw w.in-Script.is tt
+      | in-Session w ↦ rw (w.in-Session.is, w.err-is) w.write_session_line.ensures
     ]

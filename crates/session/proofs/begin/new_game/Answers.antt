@@ -33,16 +33,16 @@ pub returns-clause-rests : goal.returns-clause-rests
 returns-clause-rests g c =
     if_ok c.begin_with.result c.begin_with.ensures.new
     (λ s new honest. subst (λ (m : MachineState). IsAtRest c.args.cartridge.now (g.D.SectorDevice.disk (device_of s)) 0 [] m) c.in-Ok-power_on.ensures
-      (begun_at_rest c.args.cartridge.now (sha256 c.args.cartridge.now) (text c.in-Ok-power_on.machine) c.in-Ok-power_on.machine 0
-        (g.D.SectorDevice.disk (device_under c.in-Ok-open_log.opened)) (g.D.SectorDevice.disk (device_of s)) c.begin_with.ensures.of (omega arith) refl refl (new (c.in-Ok-open_log.ensures.honest.1 honest))))
+    (begun_at_rest c.args.cartridge.now (sha256 c.args.cartridge.now) (text c.in-Ok-power_on.machine) c.in-Ok-power_on.machine 0
+    (g.D.SectorDevice.disk (device_under c.in-Ok-open_log.opened)) (g.D.SectorDevice.disk (device_of s)) c.begin_with.ensures.of (omega arith) refl refl (new (c.in-Ok-open_log.ensures.honest.1 honest))))
 
 pub returns-clause-images : goal.returns-clause-images
 returns-clause-images g c = λ honest.
     new_game_images c.args.cartridge.now (g.D.SectorDevice.disk c.args.device) (g.D.SectorDevice.disk (device_under c.in-Ok-open_log.opened)) (g.D.SectorDevice.disk (left_by c.begin_with.result))
     (g.met.D.SectorDevice.reads_are_an_image c.args.device honest) (c.in-Ok-open_log.ensures.looked honest)
     (subst (λ (m : MachineState). HoldsSince (g.D.SectorDevice.disk (device_under c.in-Ok-open_log.opened)) (g.D.SectorDevice.disk (left_by c.begin_with.result))
-        (HasOldOrNewContent (g.D.SectorDevice.disk (device_under c.in-Ok-open_log.opened)).sectors (sha256 c.args.cartridge.now) 0 (text m))) c.in-Ok-power_on.ensures
-      (c.begin_with.ensures.images (c.in-Ok-open_log.ensures.honest.1 honest)))
+    (HasOldOrNewContent (g.D.SectorDevice.disk (device_under c.in-Ok-open_log.opened)).sectors (sha256 c.args.cartridge.now) 0 (text m))) c.in-Ok-power_on.ensures
+    (c.begin_with.ensures.images (c.in-Ok-open_log.ensures.honest.1 honest)))
 
 pub returns-clause-untouched : goal.returns-clause-untouched
 returns-clause-untouched g c =
@@ -53,5 +53,5 @@ pub returns-clause-worn : goal.returns-clause-worn
 returns-clause-worn g c =
     if_err c.begin_with.result c.begin_with.ensures.cause
     (λ refused cause worn honest.
-      sym (c.in-Ok-open_log.ensures.generation honest)
-      ∙ (subst (λ why. IsBeginRefusal why (text_length (ram_length_of c.args.cartridge.now)) (length (g.D.SectorDevice.disk (device_under c.in-Ok-open_log.opened)).sectors) (found_generation c.in-Ok-open_log.opened)) worn cause).1)
+    sym (c.in-Ok-open_log.ensures.generation honest)
+    ∙ (subst (λ why. IsBeginRefusal why (text_length (ram_length_of c.args.cartridge.now)) (length (g.D.SectorDevice.disk (device_under c.in-Ok-open_log.opened)).sectors) (found_generation c.in-Ok-open_log.opened)) worn cause).1)

@@ -24,31 +24,31 @@ pub returns-in-Ok-recovered-clause-stands : goal.returns-in-Ok-recovered-clause-
 returns-in-Ok-recovered-clause-stands g c =
     if_ok c.begin_with.result c.begin_with.ensures.begun
     (λ s begun honest.
-      recovered_stands c.args.cartridge.now (found_generation c.in-Ok-open_log.opened) c.text_length.result c.in-Ok-recovered.count (g.D.SectorDevice.disk c.args.device).sectors (seen c.in-Ok-open_log.opened) c.in-Ok-recovered.machine
-        (c.in-Ok-open_log.ensures.seen honest) c.in-Ok-recovered.ensures.ok
-      ∙ (λ i. Some (record { count = sym begun.0 i; machine = sym begun.3 i })))
+    recovered_stands c.args.cartridge.now (found_generation c.in-Ok-open_log.opened) c.text_length.result c.in-Ok-recovered.count (g.D.SectorDevice.disk c.args.device).sectors (seen c.in-Ok-open_log.opened) c.in-Ok-recovered.machine
+    (c.in-Ok-open_log.ensures.seen honest) c.in-Ok-recovered.ensures.ok
+    ∙ (λ i. Some (record { count = sym begun.0 i; machine = sym begun.3 i })))
 
 pub returns-in-Ok-recovered-clause-rests : goal.returns-in-Ok-recovered-clause-rests
 returns-in-Ok-recovered-clause-rests g c =
     if_ok_both c.begin_with.result c.begin_with.ensures.begun c.begin_with.ensures.new
     (λ s begun new honest.
-      subst (λ (n : ℕ). IsAtRest c.args.cartridge.now (g.D.SectorDevice.disk (device_of s)) n [] (machine_of s)) (sym begun.0)
-      (subst (λ (m : MachineState). IsAtRest c.args.cartridge.now (g.D.SectorDevice.disk (device_of s)) c.in-Ok-recovered.count [] m) (sym begun.3)
-        (begun_at_rest c.args.cartridge.now (sha256 c.args.cartridge.now) (text c.in-Ok-recovered.machine) c.in-Ok-recovered.machine c.in-Ok-recovered.count
-          (g.D.SectorDevice.disk (device_under c.in-Ok-open_log.opened)) (g.D.SectorDevice.disk (device_of s)) c.begin_with.ensures.of c.in-Ok-recovered.ensures.fits refl refl (new (c.in-Ok-open_log.ensures.honest.1 honest)))))
+    subst (λ (n : ℕ). IsAtRest c.args.cartridge.now (g.D.SectorDevice.disk (device_of s)) n [] (machine_of s)) (sym begun.0)
+    (subst (λ (m : MachineState). IsAtRest c.args.cartridge.now (g.D.SectorDevice.disk (device_of s)) c.in-Ok-recovered.count [] m) (sym begun.3)
+    (begun_at_rest c.args.cartridge.now (sha256 c.args.cartridge.now) (text c.in-Ok-recovered.machine) c.in-Ok-recovered.machine c.in-Ok-recovered.count
+    (g.D.SectorDevice.disk (device_under c.in-Ok-open_log.opened)) (g.D.SectorDevice.disk (device_of s)) c.begin_with.ensures.of c.in-Ok-recovered.ensures.fits refl refl (new (c.in-Ok-open_log.ensures.honest.1 honest)))))
 
 pub returns-in-Ok-recovered-clause-images : goal.returns-in-Ok-recovered-clause-images
 returns-in-Ok-recovered-clause-images g c = λ honest.
     resume_images c.args.cartridge.now (g.D.SectorDevice.disk c.args.device) (g.D.SectorDevice.disk (device_under c.in-Ok-open_log.opened)) (g.D.SectorDevice.disk (left_by c.begin_with.result))
     c.in-Ok-recovered.count c.in-Ok-recovered.machine (g.met.D.SectorDevice.reads_are_an_image c.args.device honest) (c.in-Ok-open_log.ensures.looked honest) c.begin_with.ensures.of c.in-Ok-recovered.ensures.fits
     (recovered_stands c.args.cartridge.now (found_generation c.in-Ok-open_log.opened) c.text_length.result c.in-Ok-recovered.count (g.D.SectorDevice.disk c.args.device).sectors (seen c.in-Ok-open_log.opened) c.in-Ok-recovered.machine
-      (c.in-Ok-open_log.ensures.seen honest) c.in-Ok-recovered.ensures.ok)
+    (c.in-Ok-open_log.ensures.seen honest) c.in-Ok-recovered.ensures.ok)
     (c.begin_with.ensures.images (c.in-Ok-open_log.ensures.honest.1 honest))
 
 pub returns-in-Ok-recovered-clause-nothing : goal.returns-in-Ok-recovered-clause-nothing
 returns-in-Ok-recovered-clause-nothing g c = λ honest none.
     let stood = recovered_stands c.args.cartridge.now (found_generation c.in-Ok-open_log.opened) c.text_length.result c.in-Ok-recovered.count (g.D.SectorDevice.disk c.args.device).sectors (seen c.in-Ok-open_log.opened) c.in-Ok-recovered.machine
-        (c.in-Ok-open_log.ensures.seen honest) c.in-Ok-recovered.ensures.ok in
+    (c.in-Ok-open_log.ensures.seen honest) c.in-Ok-recovered.ensures.ok in
     let wrong : None ≡ Some (record { count = c.in-Ok-recovered.count; machine = c.in-Ok-recovered.machine }) = sym none ∙ stood in
     absurd (cc)
 
@@ -61,12 +61,12 @@ pub returns-in-Ok-recovered-clause-cause : goal.returns-in-Ok-recovered-clause-c
 returns-in-Ok-recovered-clause-cause g c =
     if_err c.begin_with.result c.begin_with.ensures.cause
     (λ refused cause honest.
-      begin_cause c.args.cartridge.now (generation_in (g.D.SectorDevice.disk c.args.device).sectors) (content (g.D.SectorDevice.disk c.args.device).sectors) (text_length (ram_length_of c.args.cartridge.now)) _ (found_generation c.in-Ok-open_log.opened) refused.why
-      (subst (λ (n : ℕ). need (text_length (ram_length_of c.args.cartridge.now)) ≤ n) (sym c.in-Ok-open_log.ensures.count)
-        (recovered_fits c.args.cartridge.now (found_generation c.in-Ok-open_log.opened) c.text_length.result c.in-Ok-recovered.count (g.D.SectorDevice.disk c.args.device).sectors (seen c.in-Ok-open_log.opened) c.in-Ok-recovered.machine
-          (g.met.D.SectorDevice.images_are_sized c.args.device (g.D.SectorDevice.disk c.args.device).sectors honest (g.met.D.SectorDevice.reads_are_an_image c.args.device honest))
-          (c.in-Ok-open_log.ensures.seen honest) c.in-Ok-recovered.ensures.ok))
-      c.in-Ok-recovered.ensures.ok.rebuilt.unworn cause)
+    begin_cause c.args.cartridge.now (generation_in (g.D.SectorDevice.disk c.args.device).sectors) (content (g.D.SectorDevice.disk c.args.device).sectors) (text_length (ram_length_of c.args.cartridge.now)) _ (found_generation c.in-Ok-open_log.opened) refused.why
+    (subst (λ (n : ℕ). need (text_length (ram_length_of c.args.cartridge.now)) ≤ n) (sym c.in-Ok-open_log.ensures.count)
+    (recovered_fits c.args.cartridge.now (found_generation c.in-Ok-open_log.opened) c.text_length.result c.in-Ok-recovered.count (g.D.SectorDevice.disk c.args.device).sectors (seen c.in-Ok-open_log.opened) c.in-Ok-recovered.machine
+    (g.met.D.SectorDevice.images_are_sized c.args.device (g.D.SectorDevice.disk c.args.device).sectors honest (g.met.D.SectorDevice.reads_are_an_image c.args.device honest))
+    (c.in-Ok-open_log.ensures.seen honest) c.in-Ok-recovered.ensures.ok))
+    c.in-Ok-recovered.ensures.ok.rebuilt.unworn cause)
 
 pub returns-in-Ok-recovered-clause-honest : goal.returns-in-Ok-recovered-clause-honest
 returns-in-Ok-recovered-clause-honest g c =
@@ -81,6 +81,6 @@ pub returns-in-Err-recovered-clause-cause : goal.returns-in-Err-recovered-clause
 returns-in-Err-recovered-clause-cause g c = λ honest.
     subst (λ (n : ℕ). IsResumeCause c.args.cartridge.now n (content (g.D.SectorDevice.disk c.args.device).sectors) c.in-Err-recovered.why) (c.in-Ok-open_log.ensures.generation honest)
     (cause_found c.args.cartridge.now (found_generation c.in-Ok-open_log.opened) c.text_length.result (g.D.SectorDevice.disk c.args.device).sectors (seen c.in-Ok-open_log.opened) c.in-Err-recovered.why
-      c.text_length.ensures.length
-      (g.met.D.SectorDevice.images_are_sized c.args.device (g.D.SectorDevice.disk c.args.device).sectors honest (g.met.D.SectorDevice.reads_are_an_image c.args.device honest))
-      (c.in-Ok-open_log.ensures.seen honest) c.in-Err-recovered.ensures.err)
+    c.text_length.ensures.length
+    (g.met.D.SectorDevice.images_are_sized c.args.device (g.D.SectorDevice.disk c.args.device).sectors honest (g.met.D.SectorDevice.reads_are_an_image c.args.device honest))
+    (c.in-Ok-open_log.ensures.seen honest) c.in-Err-recovered.ensures.err)

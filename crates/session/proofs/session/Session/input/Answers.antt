@@ -1,9 +1,12 @@
-use Rattle.std.proofs.Common.{◌≡◌, true, refl, sym, ap, ◌∙◌, subst, arith}
+use Rattle.std.proofs.Common.{◌≡◌, ◌++◌, ◌∷◌, [], true, refl, sym, ap, ◌∙◌, subst, arith}
 use Rattle.std.specs.List.{list_all}
 use Rattle.sha2.specs.Sha256.{sha256}
 use Rattle.snapshot.specs.Text.{text_length}
 use Rattle.sector_log.specs.Inputs.{is_input}
 use Rattle.sector_log.specs.Words.{device_of as device_of_store, entries_of}
+use Rattle.machine.specs.declared.input.Input.{Input}
+use Rattle.session.specs.Inputs.{inputs_of}
+use Rattle.session.proofs.StandsLaws.{logged_append}
 use Rattle.session.proofs.Saving.{same_after, own_again, listed_more, rests_more}
 use Rattle.session.proofs.session.Session.input.Goals as goal
 
@@ -30,3 +33,8 @@ invariant_of-self-clause-rests g c = λ whole honest.
 
 pub returns-clause-kept : goal.returns-clause-kept
 returns-clause-kept g c = (refl, refl, (same_after c.args.self.now.machine c.apply.new.self c.args.input c.apply.ensures).rom)
+
+pub returns-clause-given : goal.returns-clause-given
+returns-clause-given g c =
+    ap inputs_of c.push.ensures.items ∙ logged_append c.args.self.now.pending.items (c.entry_of.result ∷ [])
+    ∙ ap (λ (i : Input). inputs_of c.args.self.now.pending.items ++ i ∷ []) c.entry_of.ensures.input

@@ -1,0 +1,102 @@
+-- One more step of a debugger.
+use Rattle.std.proofs.Common.{◌≡◌, ◌∙◌, ℕ, zero, suc, ◌+◌, ◌-◌, ◌<◌, ◌≤◌, List, [], ◌++◌, length, drop, append-nil, append_assoc, below_more, length-append, length-drop, add-one, ap, refl, sym, arith}
+use Rattle.std.proofs.lemmas.List.{drop-append-le, drop-drop}
+use Rattle.circular_buffer.specs.Buffer.{Buffer, buffer, keep_last}
+use Rattle.machine.specs.Bus.{bus_rules}
+use Rattle.machine.specs.Machine.{MachineState}
+use Rattle.machine.specs.Rules.{Rules}
+use Rattle.machine.specs.Steps.{step_of, after_steps}
+use Rattle.machine.specs.declared.processor.Processor.{Processor}
+use Rattle.machine.specs.declared.step.Seen.{Seen}
+use Rattle.machine.specs.declared.step.What.{What}
+use Rattle.machine.specs.declared.step.What.TheVariants.{Dispatch, Wait, Ran}
+use Rattle.memory_map.specs.State.{BusState}
+use Rattle.machine.proofs.Runs.{after_steps-zero, after_steps-add_one}
+use Rattle.debugger.specs.History.{DebuggerState, HoldsAtMost, after_run, instruction_in, instructions_in}
+
+pub keep_last-all : {X : Type 0} (n : ℕ) (xs : List X) → length xs ≤ n → keep_last n xs ≡ xs
+keep_last-all n xs most =
+    let none : length xs - n ≡ 0 = omega arith in
+    ap (λ (k : ℕ). drop k xs) none
+
+pub keep_last-most : {X : Type 0} (n : ℕ) (xs : List X) → length (keep_last n xs) ≤ n
+keep_last-most n xs = rw length-drop (omega arith)
+
+-- what was left out before stays out
+pub keep_last-again : {X : Type 0} (n : ℕ) (xs ys : List X) → keep_last n (keep_last n xs ++ ys) ≡ keep_last n (xs ++ ys)
+keep_last-again n xs ys =
+    let out : length xs - n ≤ length xs = omega arith in
+    let joined = drop-append-le (length xs - n) xs ys out in
+    let front : length (keep_last n xs ++ ys) ≡ (length xs - (length xs - n)) + length ys = rw (length-append, length-drop) refl in
+    let whole : length (xs ++ ys) ≡ length xs + length ys = length-append xs ys in
+    let places : (length xs - n) + (length (keep_last n xs ++ ys) - n) ≡ length (xs ++ ys) - n = omega arith in
+    ap (λ zs. drop (length (keep_last n xs ++ ys) - n) zs) (sym joined)
+    ∙ drop-drop (length (keep_last n xs ++ ys) - n) (length xs - n) (xs ++ ys)
+    ∙ ap (λ (k : ℕ). drop k (xs ++ ys)) places
+
+instructions_more : {M : Type 0} (rules : Rules M) (n : ℕ) (p : Processor M) →
+    instructions_in rules (suc n) p ≡ instructions_in rules n p ++ instruction_in (step_of rules (after_steps rules n p)).stepped.what
+unfolding instructions_in after_steps
+instructions_more rules zero p = append-nil _
+instructions_more rules (suc n) p =
+    ap (λ (xs : List Seen). instruction_in (step_of rules p).stepped.what ++ xs) (instructions_more rules n (step_of rules p).after)
+    ∙ sym (append_assoc (instruction_in (step_of rules p).stepped.what) _ _)
+
+pub one_instruction : {M : Type 0} (rules : Rules M) (p : Processor M) → instructions_in rules 1 p ≡ instruction_in (step_of rules p).stepped.what
+unfolding instructions_in
+one_instruction rules p = append-nil _
+
+pub no_instruction : {M : Type 0} (rules : Rules M) (p : Processor M) → instructions_in rules 0 p ≡ []
+unfolding instructions_in
+no_instruction rules p = refl
+
+pub one_step : {M : Type 0} (rules : Rules M) (p : Processor M) → (step_of rules p).after ≡ after_steps rules 1 p
+unfolding after_steps
+one_step rules p = refl
+
+-- what a debugger with this machine and this buffer is seen as
+abbrev pub seen_as : MachineState → Buffer Seen → DebuggerState
+seen_as m b = record { machine = m; size = b.capacity; history = b.items }
+
+-- a step whose instruction, if it had one, was put into the buffer
+pub step_kept : (m n : MachineState) (b k : Buffer Seen) (seen : List Seen) →
+    instruction_in (step_of bus_rules m.processor).stepped.what ≡ seen →
+    n ≡ record m { processor = (step_of bus_rules m.processor).after } →
+    k ≡ buffer (keep_last b.capacity (b.items ++ seen)) b.capacity →
+    seen_as n k ≡ after_run 1 (seen_as m b)
+step_kept m n b k seen is ran kept =
+    rw (one_instruction bus_rules m.processor, is, ← one_step bus_rules m.processor) (ap (λ (x : MachineState). seen_as x k) ran ∙ ap (seen_as _) kept)
+
+pub other_steps : (what : What) → ((seen : Seen) → what ≡ Ran seen → ⊥) → instruction_in what ≡ []
+other_steps (Dispatch vector) h = refl
+other_steps Wait h = refl
+other_steps (Ran seen) h = absurd (h seen refl)
+
+pub nothing_kept : (b : Buffer Seen) → HoldsAtMost b.capacity b.items → b ≡ buffer (keep_last b.capacity (b.items ++ [])) b.capacity
+nothing_kept b most = ap (λ (xs : List Seen). buffer xs b.capacity) (sym (ap (keep_last b.capacity) (append-nil b.items) ∙ keep_last-all b.capacity b.items most))
+
+pub not_begun : (d : DebuggerState) → HoldsAtMost d.size d.history → d ≡ after_run 0 d
+not_begun d most = rw (no_instruction bus_rules d.machine.processor, append-nil d.history, keep_last-all d.size d.history most, ← after_steps-zero bus_rules d.machine.processor) refl
+
+two_runs : (n : ℕ) (d : DebuggerState) → after_run 1 (after_run n d) ≡ after_run (n + 1) d
+two_runs n d =
+    let p = d.machine.processor in
+    let q = after_steps bus_rules n p in
+    let there : after_steps bus_rules 1 q ≡ after_steps bus_rules (n + 1) p =
+    sym (one_step bus_rules q) ∙ after_steps-add_one bus_rules n p q refl in
+    let more : instructions_in bus_rules n p ++ instructions_in bus_rules 1 q ≡ instructions_in bus_rules (n + 1) p =
+    ap (λ (xs : List Seen). instructions_in bus_rules n p ++ xs) (one_instruction bus_rules q) ∙ sym (instructions_more bus_rules n p)
+    ∙ ap (λ (k : ℕ). instructions_in bus_rules k p) (sym (add-one n)) in
+    let kept : keep_last d.size (keep_last d.size (d.history ++ instructions_in bus_rules n p) ++ instructions_in bus_rules 1 q)
+    ≡ keep_last d.size (d.history ++ instructions_in bus_rules (n + 1) p) =
+    keep_last-again d.size (d.history ++ instructions_in bus_rules n p) (instructions_in bus_rules 1 q)
+    ∙ ap (keep_last d.size) (append_assoc d.history (instructions_in bus_rules n p) (instructions_in bus_rules 1 q)
+    ∙ ap (λ (xs : List Seen). d.history ++ xs) more) in
+    ap (λ (r : Processor BusState). seen_as (record d.machine { processor = r }) (buffer (keep_last d.size (keep_last d.size (d.history ++ instructions_in bus_rules n p) ++ instructions_in bus_rules 1 q)) d.size)) there
+    ∙ ap (λ (xs : List Seen). seen_as (record d.machine { processor = after_steps bus_rules (n + 1) p }) (buffer xs d.size)) kept
+
+pub one_more : (n : ℕ) (d e f : DebuggerState) → e ≡ after_run n d → f ≡ after_run 1 e → f ≡ after_run (n + 1) d
+one_more n d e f so_far step = step ∙ ap (after_run 1) so_far ∙ two_runs n d
+
+pub past_more : (P : ℕ → Type 0) (n : ℕ) → ((k : ℕ) → 0 < k → k < n → P k) → (0 < n → P n) → (k : ℕ) → 0 < k → k < n + 1 → P k
+past_more P n before here k some below = below_more (λ j. 0 < j → P j) n (λ j less some. before j some less) here k below some

@@ -1,0 +1,4 @@
+pub mod History
+pub mod Listing
+pub mod Run
+pub mod Report

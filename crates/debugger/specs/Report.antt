@@ -1,0 +1,20 @@
+-- The line of a step.
+use Rattle.std.specs.Prelude.{ℕ, List, ◌++◌, ◌%◌, codes, slice_index}
+use Rattle.exact_text.specs.Hex.{byte_text}
+use Rattle.opcode_table.specs.Listing.{list_line}
+use Rattle.machine.specs.declared.step.Seen.{Seen}
+use Rattle.machine.specs.declared.step.What.{What}
+use Rattle.machine.specs.declared.step.What.TheVariants.{Dispatch, Wait, Ran}
+
+-- an instruction as it was fetched
+abbrev pub line_seen : Seen → List ℕ
+line_seen seen = list_line seen.pc (slice_index seen.bytes 0) (slice_index seen.bytes 1) (slice_index seen.bytes 2)
+
+-- of a vector its low byte: all five are below 100
+abbrev pub interrupt_line : ℕ → List ℕ
+interrupt_line vector = codes "interrupt " ++ byte_text (vector % 256) ++ codes "\n"
+
+abbrev pub line_of : What → List ℕ
+line_of (Dispatch vector) = interrupt_line vector
+line_of Wait = codes "wait\n"
+line_of (Ran seen) = line_seen seen

@@ -1,0 +1,31 @@
+-- A run up to a break.
+use Rattle.std.specs.Prelude.{◌≡◌, ℕ, ◌<◌, List}
+use Rattle.std.specs.List.{Contains}
+use Rattle.machine.specs.Bus.{bus_rules}
+use Rattle.machine.specs.Steps.{after_steps}
+use Rattle.debugger.specs.declared.stop.Stop.{Stop}
+use Rattle.debugger.specs.declared.stop.Stop.TheVariants.{Break, Limit}
+use Rattle.debugger.specs.History.{DebuggerState, after_run}
+
+-- PC after n steps
+abbrev pub pc_after : ℕ → DebuggerState → ℕ
+pc_after n d = (after_steps bus_rules n d.machine.processor).registers.pc
+
+-- so many steps were made, and no step but the first began at a break
+pub record HasRun (breaks : List ℕ) (steps : ℕ) (old new : DebuggerState) : Type 0 where
+  pub run : new ≡ after_run steps old
+  pub past : (k : ℕ) → 0 < k → k < steps → ¬ (Contains breaks (pc_after k old))
+
+-- a step was due that was not the first and would have begun at the break
+pub record HasMet (breaks : List ℕ) (limit pc : ℕ) (old new : DebuggerState) : Type 0 where
+  pub steps : ℕ
+  pub some : 0 < steps
+  pub due : steps < limit
+  pub ran : HasRun breaks steps old new
+  pub here : pc ≡ pc_after steps old
+  pub met : Contains breaks pc
+
+-- why a run stopped
+abbrev pub IsStop : List ℕ → ℕ → DebuggerState → DebuggerState → Stop → Type 0
+IsStop breaks limit old new (Break pc) = HasMet breaks limit pc old new
+IsStop breaks limit old new Limit = HasRun breaks limit old new

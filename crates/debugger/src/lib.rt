@@ -1,0 +1,18 @@
+//! A debugger: steps of a machine one by one or up to a break, and the instructions that ran last.
+//!
+//! The machine steps as it does without a debugger, and looking changes nothing. Only `new` takes
+//! memory, for the history.
+#![tactic(auto)]
+
+pub mod debugger;
+mod listing;
+pub mod stepped;
+pub mod stop;
+
+pub use debugger::Debugger;
+pub use exact_text::OutputFailed;
+pub use stepped::write_stepped;
+pub use stop::Stop;
+
+#[cfg(test)]
+mod tests;

@@ -1,0 +1,10 @@
+//! Why a run stopped.
+
+/// Why `Debugger::run_until` stopped.
+#[derive(Clone, Copy, Debug, PartialEq, Eq)]
+pub enum Stop {
+    /// The next step would have begun at this address, which is one of the breaks.
+    Break(u16),
+    /// All steps were made.
+    Limit,
+}

@@ -1,0 +1,104 @@
+//! From ROM and script bytes to a report, a device and a picture.
+
+ghost use Rattle.std.specs.Prelude.{◌≡◌, IfErr, OnOk, OnErr};
+ghost use Rattle.std.specs.Io.KnownBytes.{Appends};
+ghost use Rattle.exact_text.specs.Written.{AppendsProperPrefix};
+ghost use Rattle.picture_unit.specs.Pgm.{picture_text};
+ghost use Rattle.sector_device.specs.Runs.{HoldsSince};
+ghost use Rattle.session.specs.Words.{device_of, machine_of};
+ghost use Rattle.playing.specs.Played.{PlayImage, HasPlayed};
+ghost use Rattle.gbkeep.specs.Playing.{IsPlayCause, IsPlayable, inputs_of_script, left_by, left_by_session};
+
+use crate::error::{PlayError, PlayRefused};
+use cartridge::Cartridge;
+use playing::play;
+use script::read_script;
+use sector_device::SectorDevice;
+use session::Session;
+use std::alloc::Global;
+use std::io::Write;
+
+/// Plays a script on the game that a device holds, and writes the picture of the last machine where it is wanted.
+///
+/// Refusals, in this order, each of which hands the device back: what is wrong with the image, what is wrong with the script or that
+/// its moves find no memory, both with nothing written; those of the play, and what it saved stays saved; that the picture could
+/// not be written.
+pub fn play_to_picture<D: SectorDevice, W: Write, P: Write>(
+    alloc: Global,
+    device: D,
+    rom: Vec<u8>,
+    script: &[u8],
+    report: &mut W,
+    out: Option<&mut P>,
+) -> Result<D, PlayRefused<D>>
+    ensures played { OnOk result ((D.disk device).honest → HasPlayed rom.items (D.disk device) (D.disk (left_by result)) (inputs_of_script script.now)) }
+    ensures images { (D.disk device).honest → HoldsSince (D.disk device) (D.disk (left_by result)) (PlayImage rom.items (D.disk device) (inputs_of_script script.now)) }
+    ensures playable { OnOk result (IsPlayable rom.items script.now) }
+    ensures cause { IfErr result (λ refused. IsPlayCause rom.items script.now device refused (W.contents report.old) (W.contents report.new) refused.why) }
+{
+    let session = match play_script(alloc, device, rom, script, report) {
+        Ok(session) => session,
+        Err(refused) => return Err(refused),
+    };
+    match out {
+        Some(out) => picture_of(session, out),
+        None => Ok(session.into_device()),
+    }
+}
+
+/// Plays a script, and leaves the session.
+fn play_script<D: SectorDevice, W: Write>(
+    alloc: Global,
+    device: D,
+    rom: Vec<u8>,
+    script: &[u8],
+    report: &mut W,
+) -> Result<Session<D>, PlayRefused<D>>
+    ensures played { OnOk result ((D.disk device).honest → HasPlayed rom.items (D.disk device) (D.disk (left_by_session result)) (inputs_of_script script.now)) }
+    ensures images { (D.disk device).honest → HoldsSince (D.disk device) (D.disk (left_by_session result)) (PlayImage rom.items (D.disk device) (inputs_of_script script.now)) }
+    ensures playable { OnOk result (IsPlayable rom.items script.now) }
+    ensures cause { IfErr result (λ refused. IsPlayCause rom.items script.now device refused (W.contents report.old) (W.contents report.new) refused.why) }
+{
+    let cartridge = match Cartridge::read(rom) {
+        Ok(cartridge) => cartridge,
+        Err(fault) => return Err(PlayRefused {
+            why: PlayError::Cart(fault),
+            device,
+        }),
+    };
+    let moves = match read_script(alloc, script) {
+        Ok(moves) => moves,
+        Err(fault) => return Err(PlayRefused {
+            why: PlayError::Script(fault),
+            device,
+        }),
+    };
+    match play(alloc, device, &cartridge, &moves, report) {
+        Ok(session) => Ok(session),
+        Err(refused) => Err(PlayRefused {
+            why: PlayError::Session(refused.why),
+            device: refused.device,
+        }),
+    }
+}
+
+/// Writes the picture of a session's machine, and leaves its device.
+fn picture_of<D: SectorDevice, P: Write>(
+    session: Session<D>,
+    out: &mut P,
+) -> Result<D, PlayRefused<D>>
+    ensures device { left_by result ≡ device_of session }
+    ensures picture { OnOk result (Appends (P.contents out.old) (P.contents out.new) (picture_text (machine_of session).processor.memory.picture.screen.rows)) }
+    ensures why { IfErr result (λ refused. refused.why ≡ PlayError.Picture) }
+    ensures part { OnErr result (AppendsProperPrefix (P.contents out.old) (P.contents out.new) (picture_text (machine_of session).processor.memory.picture.screen.rows)) }
+{
+    let written = session.machine().picture().write_pgm(out);
+    let device = session.into_device();
+    match written {
+        Ok(()) => Ok(device),
+        Err(_) => Err(PlayRefused {
+            why: PlayError::Picture,
+            device,
+        }),
+    }
+}

@@ -1,0 +1,119 @@
+//! The commands over save files.
+
+ghost use Rattle.gbkeep.specs.Program.{IsServed};
+
+use crate::bytes::{MOST_ROM, MOST_SCRIPT, file_bytes};
+use crate::fault::Fault;
+use crate::picture::play_to_picture;
+use cartridge::Cartridge;
+use command_line::Request;
+use exact_text::write_whole;
+use sector_device::FileDevice;
+use session::{SessionError, new_game, sectors_needed};
+use std::fs::File;
+use std::io::Write;
+use std::path::Path;
+use std::rt::Files;
+
+/// Makes a file of so many sectors and begins a game in it. Where that fails once the file is made, the file is left: it holds zero
+/// sectors, or what the failed call left of them, and `new` then needs another name.
+pub(crate) fn new<R: Files<File = File> + AllocGlobal, O: Write>(
+    rt: &R,
+    cart: &str,
+    save: &str,
+    sectors: u32,
+    out: &mut O,
+) -> Result<(), Fault>
+    ensures { IsServed (Request.New cart.entry save.entry sectors) result (O.contents out.old) (O.contents out.new) }
+{
+    let rom = match file_bytes(rt, cart, MOST_ROM) {
+        Ok(rom) => rom,
+        Err(fault) => return Err(fault),
+    };
+    let cartridge = match Cartridge::read(rom) {
+        Ok(cartridge) => cartridge,
+        Err(fault) => return Err(Fault::Cart(fault)),
+    };
+    let need = sectors_needed(&cartridge);
+    if u64::from(sectors) < need {
+        return Err(Fault::Session(SessionError::TooSmall { need }));
+    }
+    let device = match FileDevice::create(rt, Path::new(save), u64::from(sectors)) {
+        Ok(device) => device,
+        Err(fault) => return Err(Fault::Device(fault)),
+    };
+    if let Err(refused) = new_game(rt.alloc(), device, &cartridge) {
+        return Err(Fault::Session(refused.why));
+    }
+    match write_whole(out, b"begun 0\n") {
+        Ok(()) => Ok(()),
+        Err(_) => Err(Fault::Output),
+    }
+}
+
+/// Plays a script, with the report on `out`: each line goes out as it is written, so that one of a save comes only behind the save.
+pub(crate) fn play<R: Files<File = File> + AllocGlobal, O: Write>(
+    rt: &R,
+    cart: &str,
+    save: &str,
+    script: &str,
+    out: &mut O,
+) -> Result<(), Fault>
+    ensures { IsServed (Request.Play cart.entry save.entry script.entry) result (O.contents out.old) (O.contents out.new) }
+{
+    let rom = match file_bytes(rt, cart, MOST_ROM) {
+        Ok(rom) => rom,
+        Err(fault) => return Err(fault),
+    };
+    let device = match FileDevice::attach(rt, Path::new(save)) {
+        Ok(device) => device,
+        Err(fault) => return Err(Fault::Device(fault)),
+    };
+    let script = match file_bytes(rt, script, MOST_SCRIPT) {
+        Ok(script) => script,
+        Err(fault) => return Err(fault),
+    };
+    match play_to_picture(
+        rt.alloc(),
+        device,
+        rom,
+        script.as_slice(),
+        out,
+        None::<&mut File>,
+    ) {
+        Ok(_) => Ok(()),
+        Err(refused) => Err(Fault::of_play(refused.why)),
+    }
+}
+
+/// Plays an empty script, with the report on `out`, and writes the picture to a file, which is made or emptied before. It is refused where
+/// it is named as the save file is.
+pub(crate) fn frame<R: Files<File = File> + AllocGlobal, O: Write>(
+    rt: &R,
+    cart: &str,
+    save: &str,
+    picture: &str,
+    out: &mut O,
+) -> Result<(), Fault>
+    ensures { IsServed (Request.Frame cart.entry save.entry picture.entry) result (O.contents out.old) (O.contents out.new) }
+{
+    let rom = match file_bytes(rt, cart, MOST_ROM) {
+        Ok(rom) => rom,
+        Err(fault) => return Err(fault),
+    };
+    let device = match FileDevice::attach(rt, Path::new(save)) {
+        Ok(device) => device,
+        Err(fault) => return Err(Fault::Device(fault)),
+    };
+    // made or emptied, it would be the end of the game
+    if picture == save {
+        return Err(Fault::File);
+    }
+    let Ok(mut picture) = File::create(rt, picture) else {
+        return Err(Fault::File);
+    };
+    match play_to_picture(rt.alloc(), device, rom, b"", out, Some(&mut picture)) {
+        Ok(_) => Ok(()),
+        Err(refused) => Err(Fault::of_play(refused.why)),
+    }
+}

@@ -1,0 +1,3 @@
+pub mod PlayLaws
+pub mod MoveLaws
+pub mod ReportLaws

@@ -1,0 +1,63 @@
+use Rattle.std.proofs.Common.{◌++◌, ◌∷◌, [], List, ℕ, length, sym, ap, ◌∙◌, subst, arith, length-append}
+use Rattle.machine.specs.declared.input.Input.{Input}
+use Rattle.session.specs.Inputs.{entry_of}
+use Rattle.session.specs.Words.{device_of, machine_of, pending_of, acknowledged_of}
+use Rattle.playing.specs.Played.{Going, Stopped}
+use Rattle.playing.proofs.PlayLaws.{going_input, stopped_here, stopped_more, on_ok, on_err}
+use Rattle.playing.proofs.moves.give.Goals as goal
+
+pub returns-clause-going : goal.returns-clause-going
+returns-clause-going g c = λ rom from given played.
+    let was = c.args.session.now in
+    let now = c.input.new.self in
+    subst (λ d. Going rom (g.D.SectorDevice.disk (device_of was)) (g.D.SectorDevice.disk d) (acknowledged_of now) (pending_of now) (machine_of now) from (given ++ c.args.input ∷ [])) (sym c.input.ensures.device)
+    (subst (λ (n : ℕ). Going rom (g.D.SectorDevice.disk (device_of was)) (g.D.SectorDevice.disk (device_of was)) n (pending_of now) (machine_of now) from (given ++ c.args.input ∷ [])) (sym c.input.ensures.kept.0)
+    (going_input rom (g.D.SectorDevice.disk (device_of was)) (acknowledged_of was) (pending_of was) (pending_of now) (machine_of was) (machine_of now) from given c.args.input played
+    c.in_default.ensures.given c.in_default.ensures.machine (g.met.D.SectorDevice.only_now (device_of was))))
+
+pub returns-clause-whole : goal.returns-clause-whole
+returns-clause-whole g c =
+    let more = ap length c.in_default.ensures.pending in
+    let seen = ap (λ r. r.pending) c.counts.ensures in
+    (c.input.ensures.kept.1 ∙ c.requires.whole, omega (arith, more, seen, c.if-counts-eq3200.false, c.requires.few, length-append (pending_of c.args.session.now) (entry_of c.args.input ∷ [])))
+
+pub returns-then-counts-eq3200-clause-going : goal.returns-then-counts-eq3200-clause-going
+returns-then-counts-eq3200-clause-going g c =
+    on_ok c.save_line.result c.save_line.ensures.going
+    (λ next rom from given played.
+    let was = c.args.session.now in
+    let mid = c.input.new.self in
+    let now = c.save_line.new.session in
+    let given_now : List Input = given ++ c.args.input ∷ [] in
+    let there : Going rom (g.D.SectorDevice.disk (device_of was)) (g.D.SectorDevice.disk (device_of mid)) (acknowledged_of mid) (pending_of mid) (machine_of mid) from given_now =
+    subst (λ d. Going rom (g.D.SectorDevice.disk (device_of was)) (g.D.SectorDevice.disk d) (acknowledged_of mid) (pending_of mid) (machine_of mid) from given_now) (sym c.input.ensures.device)
+    (subst (λ (n : ℕ). Going rom (g.D.SectorDevice.disk (device_of was)) (g.D.SectorDevice.disk (device_of was)) n (pending_of mid) (machine_of mid) from given_now) (sym c.input.ensures.kept.0)
+    (going_input rom (g.D.SectorDevice.disk (device_of was)) (acknowledged_of was) (pending_of was) (pending_of mid) (machine_of was) (machine_of mid) from given c.args.input played
+    c.in_default.ensures.given c.in_default.ensures.machine (g.met.D.SectorDevice.only_now (device_of was)))) in
+    subst (λ d. Going rom (g.D.SectorDevice.disk d) (g.D.SectorDevice.disk (device_of now)) (acknowledged_of now) (pending_of now) (machine_of now) from given_now) c.input.ensures.device
+    (next rom from given_now there.played))
+
+pub returns-then-counts-eq3200-clause-stopped : goal.returns-then-counts-eq3200-clause-stopped
+returns-then-counts-eq3200-clause-stopped g c =
+    on_err c.save_line.result c.save_line.ensures.stopped
+    (λ next rom from given played.
+    let was = c.args.session.now in
+    let mid = c.input.new.self in
+    let now = c.save_line.new.session in
+    let given_now : List Input = given ++ c.args.input ∷ [] in
+    let there : Going rom (g.D.SectorDevice.disk (device_of was)) (g.D.SectorDevice.disk (device_of mid)) (acknowledged_of mid) (pending_of mid) (machine_of mid) from given_now =
+    subst (λ d. Going rom (g.D.SectorDevice.disk (device_of was)) (g.D.SectorDevice.disk d) (acknowledged_of mid) (pending_of mid) (machine_of mid) from given_now) (sym c.input.ensures.device)
+    (subst (λ (n : ℕ). Going rom (g.D.SectorDevice.disk (device_of was)) (g.D.SectorDevice.disk (device_of was)) n (pending_of mid) (machine_of mid) from given_now) (sym c.input.ensures.kept.0)
+    (going_input rom (g.D.SectorDevice.disk (device_of was)) (acknowledged_of was) (pending_of was) (pending_of mid) (machine_of was) (machine_of mid) from given c.args.input played
+    c.in_default.ensures.given c.in_default.ensures.machine (g.met.D.SectorDevice.only_now (device_of was)))) in
+    subst (λ d. Stopped rom (g.D.SectorDevice.disk d) (g.D.SectorDevice.disk (device_of now)) (acknowledged_of now) from given_now) c.input.ensures.device
+    (next rom from given_now there.played))
+
+pub returns-in-Err-clause-stopped : goal.returns-in-Err-clause-stopped
+returns-in-Err-clause-stopped g c = λ rom from given played.
+    let was = c.args.session.now in
+    let now = c.input.new.self in
+    subst (λ d. Stopped rom (g.D.SectorDevice.disk (device_of was)) (g.D.SectorDevice.disk d) (acknowledged_of now) from (given ++ c.args.input ∷ [])) (sym c.input.ensures.device)
+    (subst (λ (n : ℕ). Stopped rom (g.D.SectorDevice.disk (device_of was)) (g.D.SectorDevice.disk (device_of was)) n from (given ++ c.args.input ∷ [])) (sym c.input.ensures.kept.0)
+    (stopped_more rom (g.D.SectorDevice.disk (device_of was)) (g.D.SectorDevice.disk (device_of was)) (acknowledged_of was) from given (c.args.input ∷ [])
+    (stopped_here rom (g.D.SectorDevice.disk (device_of was)) (acknowledged_of was) (pending_of was) (machine_of was) from given played (g.met.D.SectorDevice.only_now (device_of was)))))

@@ -1,0 +1,73 @@
+use Rattle.std.proofs.Common.{inl, inr, [], length, ap, sym, subst, arith}
+use Rattle.sector_device.specs.Runs.{HoldsSince}
+use Rattle.session.specs.Stands.{Position}
+use Rattle.session.specs.Words.{device_of, machine_of, pending_of, acknowledged_of}
+use Rattle.session.proofs.Writes.{since_weaker}
+use Rattle.session.proofs.Beginnings.{since_then}
+use Rattle.playing.specs.Played.{IsPlayed, PlayImage, HasStopped}
+use Rattle.playing.specs.Report.{inputs_of_moves}
+use Rattle.playing.proofs.PlayLaws.{begun_played, all_saved}
+use Rattle.playing.proofs.whole.play.Goals as goal
+
+pub returns-in-Err-clause-images : goal.returns-in-Err-clause-images
+returns-in-Err-clause-images g c = λ honest. since_weaker (c.in-Err.ensures.images honest) (λ image stands. inl stands)
+
+pub returns-in-Ok-play_on-clause-played : goal.returns-in-Ok-play_on-clause-played
+returns-in-Ok-play_on-clause-played g c = λ honest.
+    let rom = c.args.cartridge.now in
+    let s = c.in-Ok.session in
+    let now = c.play_on.new.session in
+    let from : Position = record { count = acknowledged_of s; machine = machine_of s } in
+    let begun : IsPlayed rom (g.D.SectorDevice.disk (device_of s)) (acknowledged_of s) (pending_of s) (machine_of s) from [] =
+    begun_played rom (g.D.SectorDevice.disk (device_of s)) (acknowledged_of s) (pending_of s) (machine_of s) (c.in-Ok.ensures.honest.1 honest) c.in-Ok.ensures.begun.2 c.in-Ok.ensures.begun.0 (c.in-Ok.ensures.rests honest) in
+    let going = c.in-Ok-play_on.ensures.going rom from [] begun in
+    record {
+      from = from;
+      stood = c.in-Ok.ensures.stands honest;
+      rests = all_saved rom (g.D.SectorDevice.disk (device_of now)) (acknowledged_of now) (pending_of now) (machine_of now) from (inputs_of_moves c.args.moves.now) going.played c.in-Ok-play_on.ensures.saved.0;
+    }
+
+pub returns-in-Ok-play_on-clause-images : goal.returns-in-Ok-play_on-clause-images
+returns-in-Ok-play_on-clause-images g c = λ honest.
+    let rom = c.args.cartridge.now in
+    let s = c.in-Ok.session in
+    let from : Position = record { count = acknowledged_of s; machine = machine_of s } in
+    let begun : IsPlayed rom (g.D.SectorDevice.disk (device_of s)) (acknowledged_of s) (pending_of s) (machine_of s) from [] =
+    begun_played rom (g.D.SectorDevice.disk (device_of s)) (acknowledged_of s) (pending_of s) (machine_of s) (c.in-Ok.ensures.honest.1 honest) c.in-Ok.ensures.begun.2 c.in-Ok.ensures.begun.0 (c.in-Ok.ensures.rests honest) in
+    let going = c.in-Ok-play_on.ensures.going rom from [] begun in
+    since_then (since_weaker (c.in-Ok.ensures.images honest) (λ image stands. inl stands))
+    (since_weaker going.moments (λ image reaches. inr (record { from = from; stood = c.in-Ok.ensures.stands honest; reaches = reaches })))
+
+pub returns-in-Err-play_on-clause-stopped : goal.returns-in-Err-play_on-clause-stopped
+returns-in-Err-play_on-clause-stopped g c = λ honest.
+    let rom = c.args.cartridge.now in
+    let s = c.in-Ok.session in
+    let from : Position = record { count = acknowledged_of s; machine = machine_of s } in
+    let begun : IsPlayed rom (g.D.SectorDevice.disk (device_of s)) (acknowledged_of s) (pending_of s) (machine_of s) from [] =
+    begun_played rom (g.D.SectorDevice.disk (device_of s)) (acknowledged_of s) (pending_of s) (machine_of s) (c.in-Ok.ensures.honest.1 honest) c.in-Ok.ensures.begun.2 c.in-Ok.ensures.begun.0 (c.in-Ok.ensures.rests honest) in
+    let stopped = c.in-Err-play_on.ensures.stopped rom from [] begun in
+    inr (subst (λ d. HasStopped rom (g.D.SectorDevice.disk c.args.device) (g.D.SectorDevice.disk d) (inputs_of_moves c.args.moves.now)) (sym c.into_device.ensures.device)
+    (record {
+      from = from;
+      stood = c.in-Ok.ensures.stands honest;
+      acknowledged = acknowledged_of c.play_on.new.session;
+      images = λ image here. (stopped.least, stopped.acknowledged_is, stopped.images image here);
+    }))
+
+pub returns-in-Err-play_on-clause-images : goal.returns-in-Err-play_on-clause-images
+returns-in-Err-play_on-clause-images g c = λ honest.
+    let rom = c.args.cartridge.now in
+    let s = c.in-Ok.session in
+    let from : Position = record { count = acknowledged_of s; machine = machine_of s } in
+    let begun : IsPlayed rom (g.D.SectorDevice.disk (device_of s)) (acknowledged_of s) (pending_of s) (machine_of s) from [] =
+    begun_played rom (g.D.SectorDevice.disk (device_of s)) (acknowledged_of s) (pending_of s) (machine_of s) (c.in-Ok.ensures.honest.1 honest) c.in-Ok.ensures.begun.2 c.in-Ok.ensures.begun.0 (c.in-Ok.ensures.rests honest) in
+    let stopped = c.in-Err-play_on.ensures.stopped rom from [] begun in
+    subst (λ d. HoldsSince (g.D.SectorDevice.disk c.args.device) (g.D.SectorDevice.disk d) (PlayImage rom (g.D.SectorDevice.disk c.args.device) (inputs_of_moves c.args.moves.now))) (sym c.into_device.ensures.device)
+    (since_then (since_weaker (c.in-Ok.ensures.images honest) (λ image stands. inl stands))
+    (since_weaker stopped.moments (λ image reaches. inr (record { from = from; stood = c.in-Ok.ensures.stands honest; reaches = reaches }))))
+
+pub returns-in-Ok-play_on-clause-report : goal.returns-in-Ok-play_on-clause-report
+returns-in-Ok-play_on-clause-report g c =
+    let before = ap length c.in-Ok.ensures.begun.0 in
+    let behind = ap length c.in-Ok-play_on.ensures.saved.0 in
+    (acknowledged_of c.in-Ok.session, omega (arith, c.in-Ok-play_on.ensures.counts, before, behind), c.in-Ok-play_on.ensures.report c.in-Ok.ensures.begun.0)

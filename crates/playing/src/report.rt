@@ -1,0 +1,49 @@
+//! The lines of a report.
+ghost use Rattle.std.specs.Prelude.{IfSome, OnOk, ◌≡◌};
+ghost use Rattle.std.specs.Io.KnownBytes.{Appends};
+ghost use Rattle.playing.specs.Report.{resumed_line, saved_line};
+
+use arrayvec::ArrayString;
+use exact_text::{OutputFailed, write_whole};
+use std::fmt::Write as FormatWrite;
+use std::io::Write;
+
+fn resumed_text(count: u64) -> Option<ArrayString<32>>
+    ensures { IfSome result (λ text. text.bytes ≡ resumed_line count) }
+{
+    let mut text = ArrayString::new();
+    match writeln!(text, "resumed {count}") {
+        Ok(()) => Some(text),
+        Err(_) => None,
+    }
+}
+
+fn saved_text(count: u64) -> Option<ArrayString<32>>
+    ensures { IfSome result (λ text. text.bytes ≡ saved_line count) }
+{
+    let mut text = ArrayString::new();
+    match writeln!(text, "saved {count}") {
+        Ok(()) => Some(text),
+        Err(_) => None,
+    }
+}
+
+/// Writes that a session was taken up at this count.
+pub(crate) fn write_resumed<W: Write>(out: &mut W, count: u64) -> Result<(), OutputFailed>
+    ensures { OnOk result (Appends (W.contents out.old) (W.contents out.new) (resumed_line count)) }
+{
+    match resumed_text(count) {
+        Some(text) => write_whole(out, text.as_bytes()),
+        None => Err(OutputFailed),
+    }
+}
+
+/// Writes that this count is saved.
+pub(crate) fn write_saved<W: Write>(out: &mut W, count: u64) -> Result<(), OutputFailed>
+    ensures { OnOk result (Appends (W.contents out.old) (W.contents out.new) (saved_line count)) }
+{
+    match saved_text(count) {
+        Some(text) => write_whole(out, text.as_bytes()),
+        None => Err(OutputFailed),
+    }
+}

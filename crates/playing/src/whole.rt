@@ -1,0 +1,53 @@
+//! A whole play.
+ghost use Rattle.std.specs.Prelude.{◌≡◌, ◌⊎◌, ◌+◌, ℕ, [], length, false, IfOk, IfErr};
+ghost use Rattle.std.specs.Io.KnownBytes.{Appends};
+ghost use Rattle.sector_device.specs.Runs.{HoldsSince};
+ghost use Rattle.sector_log.specs.Content.{content, generation_in};
+ghost use Rattle.session.specs.Found.{IsResumeCause};
+ghost use Rattle.session.specs.Calls.{StandsAsBefore, faults_after};
+ghost use Rattle.session.specs.Words.{device_of, pending_of, acknowledged_of, is_broken, left_by};
+ghost use Rattle.playing.specs.Played.{PlayImage, HasPlayed, HasStopped, IsStop};
+ghost use Rattle.playing.specs.Report.{inputs_of_moves, report_of};
+
+use crate::moves::play_on;
+use cartridge::Cartridge;
+use script::Move;
+use sector_device::SectorDevice;
+use session::{Refused, Session, resume};
+use std::alloc::Global;
+use std::io::Write;
+
+/// Takes up the game on a device, writes `resumed N`, makes the moves, and writes `saved N` after each save: one at each `Save`, right
+/// after the input that makes 3,200 unsaved, and at the end if any is unsaved. N is the count of all inputs.
+///
+/// Refusals: those of `resume`, with nothing written to the report; then whichever is met first of `Worn`, `Device`, `CountFull` and
+/// `Output`. What was saved stays saved.
+pub fn play<D: SectorDevice, W: Write>(
+    alloc: Global,
+    device: D,
+    cartridge: &Cartridge,
+    moves: &[Move],
+    report: &mut W,
+) -> Result<Session<D>, Refused<D>>
+    ensures played { IfOk result (λ s. (D.disk device).honest → HasPlayed cartridge.now (D.disk device) (D.disk (device_of s)) (inputs_of_moves moves.now)) }
+    ensures stopped { IfErr result (λ refused. (D.disk device).honest →
+        HoldsSince (D.disk device) (D.disk refused.device) (StandsAsBefore cartridge.now (D.disk device)) ⊎ HasStopped cartridge.now (D.disk device) (D.disk refused.device) (inputs_of_moves moves.now)) }
+    ensures report { IfOk result (λ s. (count : ℕ) × (acknowledged_of s ≡ count + length (inputs_of_moves moves.now)) × Appends (W.contents report.old) (W.contents report.new) (report_of count moves.now)) }
+    ensures cause { IfErr result (λ refused. IsStop refused.why ⊎ ((D.disk device).honest → IsResumeCause cartridge.now (generation_in (D.disk device).sectors) (content (D.disk device).sectors) refused.why)) }
+    ensures faults_ok { IfOk result (λ s. (D.disk (device_of s)).faults ≡ (D.disk device).faults) }
+    ensures faults { IfErr result (λ refused. (D.disk refused.device).faults ≡ faults_after refused.why (D.disk device).faults) }
+    ensures whole { IfOk result (λ s. (pending_of s ≡ []) × (is_broken s ≡ false)) }
+    ensures images { (D.disk device).honest → HoldsSince (D.disk device) (D.disk (left_by result)) (PlayImage cartridge.now (D.disk device) (inputs_of_moves moves.now)) }
+{
+    let mut session = match resume(alloc, device, cartridge) {
+        Ok(session) => session,
+        Err(refused) => return Err(refused),
+    };
+    match play_on(&mut session, moves, report) {
+        Ok(()) => Ok(session),
+        Err(why) => Err(Refused {
+            why,
+            device: session.into_device(),
+        }),
+    }
+}

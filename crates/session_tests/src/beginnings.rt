@@ -1,0 +1,141 @@
+//! New games.
+use crate::common::{
+    begun, calls, cartridge, cartridge_of, clock_text, count, counts, fresh, game, has_bytes,
+    image, into_device, is_blank_from, left_by_new_game, other_cartridge, refused, resumed,
+    resumes_at, text_of,
+};
+use sector_device::MemoryDevice;
+use session::{SessionError, sectors_needed};
+use std::test::Fail;
+
+#[test]
+fn sectors_that_are_needed(rt: HostRuntime) -> Result<(), Fail> {
+    let alloc = rt.alloc();
+    for (kind, ram_code, want) in [(0x00, 0x00, 156), (0x10, 0x02, 188)] {
+        let cartridge = cartridge_of(alloc, kind, ram_code, b'A')?;
+        assert_eq!(rt; sectors_needed(&cartridge), want);
+        let few = fresh(alloc, want as usize - 1)?;
+        let (why, few) = left_by_new_game(alloc, few, &cartridge);
+        assert_eq!(rt; why, Some(SessionError::TooSmall { need: want }));
+        // It was synced, and nothing was written.
+        assert_eq!(rt; few.calls(), 1);
+        let session = begun(&rt, alloc, fresh(alloc, want as usize)?, &cartridge);
+        assert_eq!(rt; counts(&session), [0, 0, 0]);
+        resumes_at(
+            &rt,
+            alloc,
+            into_device(session),
+            &cartridge,
+            0,
+            &clock_text(alloc, &cartridge, 0)?,
+        )?;
+    }
+    Ok(())
+}
+
+#[test]
+fn a_new_game_is_the_first_generation(rt: HostRuntime) -> Result<(), Fail> {
+    let alloc = rt.alloc();
+    let cartridge = cartridge(alloc)?;
+    // A sync; 32 blank log sectors, 61 of the snapshot, a sync, the root and a sync.
+    let device = MemoryDevice::new(alloc, 188, 97)?;
+    let session = begun(&rt, alloc, device, &cartridge);
+    assert_eq!(rt; calls(&session), 97);
+    let text = text_of(alloc, session.machine())?;
+    let mut device = into_device(session);
+    let root = b"GBKPROOT\x02\x00\x00\x00\x01\x00\x00\x00\x00\x00\x00\x00";
+    has_bytes(&rt, &mut device, 1, 0, root);
+    has_bytes(&rt, &mut device, 1, 20, &cartridge.digest());
+    has_bytes(
+        &rt,
+        &mut device,
+        1,
+        52,
+        b"\x00\x00\x00\x00\x00\x00\x00\x00\x4f\x78\x00\x00",
+    );
+    is_blank_from(&rt, &mut device, 1, 64);
+    is_blank_from(&rt, &mut device, 0, 0);
+    is_blank_from(&rt, &mut device, 95, 0);
+    has_bytes(
+        &rt,
+        &mut device,
+        127,
+        0,
+        text.get(..512).unwrap_or(b"short".as_slice()),
+    );
+
+    let device = MemoryDevice::new(alloc, 188, 96)?;
+    let (why, device) = left_by_new_game(alloc, device, &cartridge);
+    assert_eq!(rt; why, Some(SessionError::Device));
+    assert_eq!(rt; device.calls(), 96);
+    Ok(())
+}
+
+#[test]
+fn a_new_game_replaces_that_of_another_rom(rt: HostRuntime) -> Result<(), Fail> {
+    let alloc = rt.alloc();
+    let ours = cartridge(alloc)?;
+    let other = other_cartridge(alloc)?;
+    let session = begun(&rt, alloc, game(&rt, alloc, &other, 5)?, &ours);
+    assert_eq!(rt; counts(&session), [0, 0, 0]);
+    let device = into_device(session);
+    let refusal = refused(&rt, alloc, device, &other);
+    assert_eq!(rt; refusal.why, SessionError::OtherCartridge);
+    resumes_at(
+        &rt,
+        alloc,
+        refusal.device,
+        &ours,
+        0,
+        &clock_text(alloc, &ours, 0)?,
+    )?;
+    Ok(())
+}
+
+/// Of a new game over one of 5 inputs, cut at any call, the old game or the new one is left; once it was begun only the new one.
+#[test]
+fn a_new_game_cut_anywhere_leaves_old_or_new(rt: HostRuntime) -> Result<(), Fail> {
+    let alloc = rt.alloc();
+    let cartridge = cartridge(alloc)?;
+    let old = game(&rt, alloc, &cartridge, 5)?;
+    let mut begun_after = None;
+    for k in 0..102 {
+        let mut device = old.image(alloc, &[])?;
+        device.fuse(k);
+        let (why, device) = left_by_new_game(alloc, device, &cartridge);
+        if why.is_none() && begun_after.is_none() {
+            begun_after = Some(k);
+        }
+        for keeps in [[false, false], [true, true], [true, false]] {
+            let left = count(&rt, alloc, image(alloc, &device, keeps)?, &cartridge);
+            assert!(rt; left == 0 || (left == 5 && why == Some(SessionError::Device)));
+        }
+    }
+    // A sync, two roots, a log sector; 93 sectors, a sync, the root and a sync.
+    assert_eq!(rt; begun_after, Some(100));
+    Ok(())
+}
+
+/// The same over another ROM's game: the one is found, or the other.
+#[test]
+fn a_cut_new_game_of_another_rom(rt: HostRuntime) -> Result<(), Fail> {
+    let alloc = rt.alloc();
+    let ours = cartridge(alloc)?;
+    let other = other_cartridge(alloc)?;
+    let old = game(&rt, alloc, &other, 5)?;
+    for k in 90..101 {
+        let mut device = old.image(alloc, &[])?;
+        device.fuse(k);
+        let (why, device) = left_by_new_game(alloc, device, &ours);
+        for keeps in [[false, false], [true, true]] {
+            let left = image(alloc, &device, keeps)?;
+            let is_new = why.is_none() || (keeps[0] && k > 97);
+            if is_new {
+                assert_eq!(rt; count(&rt, alloc, left, &ours), 0);
+            } else {
+                assert_eq!(rt; resumed(&rt, alloc, left, &other).counts().all, 5);
+            }
+        }
+    }
+    Ok(())
+}

@@ -1,0 +1,109 @@
+//! Resumes cut at any device call.
+use crate::common::{
+    begun, calls, cartridge, clock_text, fresh, game, give_input, has_bytes, image, into_device,
+    left_by_resume, put, resumed, resumes_at, settled, text_of,
+};
+use cartridge::Cartridge;
+use machine::Input;
+use sector_device::MemoryDevice;
+use session::SessionError;
+use std::alloc::Global;
+use std::process::Abort;
+use std::test::Fail;
+
+/// Cuts a resume after each number of calls, keeps each choice of the unsynced writes, and resumes again: the count and the machine
+/// are always these. Answers after how many calls it was first taken up.
+fn resume_cut_anywhere(
+    rt: &impl Abort,
+    alloc: Global,
+    cartridge: &Cartridge,
+    old: &MemoryDevice,
+    inputs: u64,
+    text: &[u8],
+) -> Result<Option<u64>, Fail> {
+    let mut taken_up = None;
+    for k in 0..163 {
+        let mut device = old.image(alloc, &[])?;
+        device.fuse(k);
+        let (why, device) = left_by_resume(alloc, device, cartridge);
+        match why {
+            None => {
+                if taken_up.is_none() {
+                    taken_up = Some(k);
+                }
+            }
+            Some(why) => assert_eq!(rt; why, SessionError::Device),
+        }
+        for keeps in [[false, false], [true, true], [true, false]] {
+            let left = image(alloc, &device, keeps)?;
+            resumes_at(rt, alloc, left, cartridge, inputs, text)?;
+        }
+    }
+    Ok(taken_up)
+}
+
+#[test]
+fn a_resume_cut_anywhere_loses_nothing(rt: HostRuntime) -> Result<(), Fail> {
+    let alloc = rt.alloc();
+    let cartridge = cartridge(alloc)?;
+    let old = game(&rt, alloc, &cartridge, 5)?;
+    let text = clock_text(alloc, &cartridge, 5)?;
+    let taken_up = resume_cut_anywhere(&rt, alloc, &cartridge, &old, 5, &text)?;
+    // It looks by a sync and 64 reads: two roots, a log sector and 61 of the snapshot. Then it makes 96 calls.
+    assert_eq!(rt; taken_up, Some(161));
+    Ok(())
+}
+
+#[test]
+fn a_resume_looks_and_writes_one_generation(rt: HostRuntime) -> Result<(), Fail> {
+    let alloc = rt.alloc();
+    let cartridge = cartridge(alloc)?;
+    let old = game(&rt, alloc, &cartridge, 5)?;
+    let session = resumed(&rt, alloc, old, &cartridge);
+    // A sync; 32 blank log sectors, 61 of the snapshot, a sync, the root and a sync.
+    assert_eq!(rt; calls(&session), 97);
+    Ok(())
+}
+
+/// The device of a game of the third generation of version 1, with 5 inputs before the snapshot and two in the log.
+fn version_one(
+    rt: &impl Abort,
+    alloc: Global,
+    cartridge: &Cartridge,
+) -> Result<MemoryDevice, Fail> {
+    let mut device = game(rt, alloc, cartridge, 0)?;
+    put(rt, &mut device, 1, 8, b"\x01\x00\x00\x00\x03");
+    put(rt, &mut device, 1, 52, b"\x05");
+    put(
+        rt,
+        &mut device,
+        95,
+        0,
+        b"GBL1\x00\x00\x02\x00\x00\x01\x00\x00\x00\x01\x10\x0e\x00\x00",
+    );
+    settled(rt, alloc, device)
+}
+
+#[test]
+fn version_one_is_taken_up(rt: HostRuntime) -> Result<(), Fail> {
+    let alloc = rt.alloc();
+    let cartridge = cartridge(alloc)?;
+    let mut session = begun(&rt, alloc, fresh(alloc, 188)?, &cartridge);
+    give_input(&rt, &mut session, Input::Frame(1));
+    give_input(&rt, &mut session, Input::Seconds(3600));
+    let text = text_of(alloc, session.machine())?;
+    let old = version_one(&rt, alloc, &cartridge)?;
+    let session = resumed(&rt, alloc, old.image(alloc, &[])?, &cartridge);
+    assert_eq!(rt; session.counts().all, 7);
+    let mut device = into_device(session);
+    has_bytes(
+        &rt,
+        &mut device,
+        0,
+        0,
+        b"GBKPROOT\x02\x00\x00\x00\x04\x00\x00\x00\x00\x00\x00\x00",
+    );
+    has_bytes(&rt, &mut device, 0, 52, b"\x07\x00\x00\x00\x00\x00\x00\x00");
+    resume_cut_anywhere(&rt, alloc, &cartridge, &old, 7, &text)?;
+    Ok(())
+}
