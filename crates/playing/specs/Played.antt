@@ -58,7 +58,7 @@ pub record HasPlayed (rom : List ℕ) (old now : DiskState) (given : List Input)
   pub stood : stands rom (content old.sectors) ≡ Some from
   pub rests : IsAtRest rom now (from.count + length given) [] (after from.machine given)
 
--- it stopped behind some of them, of which those that were acknowledged stand in each image that is left
+-- it stopped behind some of them, and there is a count that each image that is left reaches at least; which one is not said
 pub record HasStopped (rom : List ℕ) (old now : DiskState) (given : List Input) : Type 0 where
   pub from : Position
   pub stood : stands rom (content old.sectors) ≡ Some from
