@@ -14,6 +14,7 @@ help:
 	@echo 'make edits           tries every wrong body, 10 to 40 s each (CRATE=name for one crate)'
 	@echo 'make bench           proves the benchmarks: times, instructions a frame, device calls (20 minutes from nothing)'
 	@echo 'make compare         compares the program with a second one, in Python, on random ROMs (SECONDS=20 a kind)'
+	@echo 'make hostile         gives the program damaged files and wrong scripts, kills it, and looks what is left (SECONDS=20 a kind)'
 	@echo 'make test            the gate: proves everything from nothing, runs the tests and programs (an hour and a half)'
 
 ARGS ?= step data/rom.gb 2
@@ -54,8 +55,12 @@ SECONDS ?= 20
 compare: bin/gbkeep
 	python3 -B scripts/second_machine/compare.py bin/gbkeep $(SECONDS)
 
+hostile: bin/gbkeep
+	python3 -B scripts/second_storage/hostile.py bin/gbkeep $(SECONDS)
+
 test:
 	RT=$(RT) sh scripts/opened_has_no_append.sh
 	$(RT) ci
+	python3 -B scripts/second_storage/hostile.py $(PROGRAM)/out/gbkeep_program 4 1
 
-.PHONY: help run build install check edits bench compare test
+.PHONY: help run build install check edits bench compare hostile test

@@ -13,6 +13,3 @@ pub mod moves;
 pub use error::ScriptError;
 pub use lines::read_script;
 pub use moves::Move;
-
-#[cfg(test)]
-mod tests;

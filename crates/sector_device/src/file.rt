@@ -8,7 +8,7 @@ use crate::device::{DeviceFault, SectorDevice};
 use crate::file_record::FileRecord;
 use crate::replay::zero_sectors;
 use std::alloc::Global;
-use std::fs::{self, File, OpenOptions};
+use std::fs::{self, File, OpenOptions, TryLockError};
 use std::io;
 use std::os::unix::fs::FileExt;
 use std::path::{AsPath, Path};
@@ -17,6 +17,9 @@ use std::rt::Files;
 /// Sectors in a file. It keeps a copy of them in memory, with which each read is compared, so that a file that lost or
 /// changed what was written gives a fault and no wrong answer. It takes every fault of the file, and want of memory, as
 /// `Device`.
+///
+/// It holds an exclusive lock on the file for its life, so that a second one on the same file, of this process or another, is refused
+/// before anything is written. On a file system without locks there is none.
 ///
 /// What is left of the file after a stop is no fact that a program can know. The device is honest by a premise: that the
 /// file held, as it was opened, what the stop before had left of it, one of the images of that time.
@@ -165,6 +168,7 @@ fn new_file<R: Files<File = File>>(rt: &R, path: &str, size: u64) -> io::Result<
 fn make_durable<R: Files<File = File>>(rt: &R, file: &File, path: &str, size: u64) -> io::Result<()>
     ensures { OnOk result (size < 2 ^ 63) }
 {
+    lock_file(file)?;
     file.set_len(size)?;
     file.sync_all()?;
     sync_folder(rt, path)
@@ -178,9 +182,19 @@ fn sync_folder<R: Files<File = File>>(rt: &R, path: &str) -> io::Result<()> {
     File::open(rt, folder)?.sync_all()
 }
 
-/// The file, synced, and its size.
+/// Locks the file for as long as it is open, where no other open file holds a lock on it.
+fn lock_file(file: &File) -> io::Result<()> {
+    match file.try_lock() {
+        Err(TryLockError::WouldBlock) => Err(io::ErrorKind::WouldBlock.into()),
+        // a file system without locks: there is nothing to hold
+        Ok(()) | Err(TryLockError::Error(_)) => Ok(()),
+    }
+}
+
+/// The file, locked and synced, and its size.
 fn old_file<R: Files<File = File>>(rt: &R, path: &str) -> io::Result<(File, u64)> {
     let file = OpenOptions::new().read(true).write(true).open(rt, path)?;
+    lock_file(&file)?;
     file.sync_all()?;
     let size = file.metadata()?.len();
     Ok((file, size))

@@ -120,6 +120,7 @@ fn a_file_keeps_sectors(rt: HostRuntime) -> Result<(), Fail> {
     device.sync()?;
     assert_eq!(rt; three(&rt, &mut device)?, [0, 7, 0]);
     assert_eq!(rt; fs::metadata(&rt, path)?.len(), 1536);
+    drop(device);
     let mut again = FileDevice::attach(&rt, Path::new(path))?;
     assert_eq!(rt; three(&rt, &mut again)?, [0, 7, 0]);
     match FileDevice::create(&rt, Path::new(path), 3) {
@@ -132,6 +133,27 @@ fn a_file_keeps_sectors(rt: HostRuntime) -> Result<(), Fail> {
         Ok(_) => assert!(rt; false, "attached to nothing"),
         Err(fault) => assert_eq!(rt; fault, DeviceFault::Device),
     }
+    Ok(())
+}
+
+#[test]
+fn a_file_that_another_device_holds_is_refused(rt: HostRuntime) -> Result<(), Fail> {
+    let path = "held.save";
+    let mut device = FileDevice::create(&rt, Path::new(path), 3)?;
+    assert_eq!(rt;
+        FileDevice::attach(&rt, Path::new(path)).err(),
+        Some(DeviceFault::Device)
+    );
+    put(&rt, &mut device, 1, 7)?;
+    device.sync()?;
+    drop(device);
+    let mut device = FileDevice::attach(&rt, Path::new(path))?;
+    assert_eq!(rt;
+        FileDevice::attach(&rt, Path::new(path)).err(),
+        Some(DeviceFault::Device)
+    );
+    assert_eq!(rt; three(&rt, &mut device)?, [0, 7, 0]);
+    fs::remove_file(&rt, path)?;
     Ok(())
 }
 

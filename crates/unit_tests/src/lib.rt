@@ -13,6 +13,8 @@ mod lines;
 #[cfg(test)]
 mod pictures;
 #[cfg(test)]
+mod scripts;
+#[cfg(test)]
 mod text_written;
 #[cfg(test)]
 mod timers;

@@ -1,4 +1,4 @@
-use super::*;
+use script::{Move, ScriptError, read_script};
 use std::alloc::Global;
 use std::process::Abort;
 use std::test::Fail;

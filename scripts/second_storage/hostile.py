@@ -1,0 +1,362 @@
+"""Gives gbkeep damaged save files, wrong scripts and refused ROMs, kills it, and compares what it answers and leaves with save_files.py.
+
+usage: hostile.py GBKEEP SECONDS [SEED]    each kind for so many seconds, from a seed that it prints
+       hostile.py GBKEEP KIND SECONDS SEED  one kind
+
+Kinds: saves (random games, damaged in random places), scripts (random scripts, some of them wrong), bytes (arbitrary bytes as ROM,
+save file and script), kills (a play is killed at a random moment, and taken up again), holds (a save file that another process
+holds). The status is 1 where anything differs, where gbkeep dies by a signal, or where it takes longer than 10 seconds."""
+import fcntl, os, random, shutil, signal, subprocess, sys, tempfile, time
+import save_files as ref
+
+GB = os.path.abspath(sys.argv[1]) if len(sys.argv) > 1 else ''
+ROOM = tempfile.mkdtemp(prefix='hostile-')
+CART, SAVE, SCRIPT, OUT = (os.path.join(ROOM, name) for name in ('rom.gb', 'game.save', 'moves.script', 'out.pgm'))
+TYPES = {0x00: 2, 0x08: 2, 0x09: 2, 0x01: 4, 0x03: 4, 0x06: 4, 0x10: 4, 0x0F: 2, 0x13: 4, 0x1B: 4, 0x1E: 4}
+differences = 0
+
+
+def differs(kind, seed, what):
+    global differences
+    differences += 1
+    print('DIFFERS kind=%s seed=%d %s' % (kind, seed, what), flush=True)
+
+
+def gbkeep(*words):
+    """Status, output and errors; a status below 0 is a signal."""
+    done = subprocess.run([GB] + list(words), capture_output=True, timeout=10)
+    return done.returncode, done.stdout, done.stderr
+
+
+def put(path, data):
+    with open(path, 'wb') as file:
+        file.write(data)
+
+
+def get(path):
+    with open(path, 'rb') as file:
+        return file.read()
+
+
+def line(why):
+    return ('gbkeep: %s\n' % why).encode()
+
+
+# ---- what is played
+
+def random_rom(rnd):
+    kind = rnd.choice(sorted(TYPES))
+    rom = bytearray(TYPES[kind] * 16384)
+    code = rnd.choice([b'\x18\xfe', b'\x23\x18\xfd', b'\x76\x18\xfd', rnd.randbytes(64)])
+    rom[0x100:0x100 + len(code)] = code
+    rom[0x134:0x144] = rnd.randbytes(16)
+    rom[0x147] = kind
+    rom[0x149] = rnd.choice([0, 2, 3])
+    return bytes(rom)
+
+
+def random_script(rnd, most=4000):
+    lines, left = [], rnd.choice([0, 3, 30, 300, most])
+    while left > 0:
+        choice = rnd.random()
+        if choice < 0.35:
+            lines.append('frame %02x' % rnd.choice([0, 1, rnd.randrange(256)]))
+            left -= 1
+        elif choice < 0.6:
+            times = min(left, rnd.choice([1, 2, 83, 84, 85, 200, 3199, 3200, 3201]))
+            lines.append('frames %02X %d' % (rnd.choice([0, 1, rnd.randrange(256)]), times))
+            left -= times
+        elif choice < 0.85:
+            for _ in range(rnd.choice([1, 5, 90, 260])):
+                lines.append('seconds %d' % rnd.choice([0, 1, 60, 4294967295]))
+                left -= 1
+        elif choice < 0.95:
+            lines.append('save')
+        else:
+            lines.append('')
+    text = '\n'.join(lines)
+    return (text + rnd.choice(['', '\n'])).encode()
+
+
+WRONG = [b'frame', b'frame 1G', b'frame 001', b' frame 00', b'frame 00 ', b'frame  00', b'frames 00 0', b'frames 00 1000001', b'frames 00',
+         b'frames 00 +1', b'frames 00 00000000001', b'seconds -1', b'seconds 4294967296', b'seconds', b'seconds 1 1', b'save ', b'Save', b'wait',
+         b'\r', b'save\r', b'\0', b'frame\t00', b'\xff\xfe', b'frame 0x', b'seconds 0x10', b'frames 00 1 1', b' ', b'seconds 12345678901']
+
+
+def wrong_script(rnd):
+    lines = random_script(rnd, 30).split(b'\n')
+    for _ in range(rnd.choice([1, 1, 2])):
+        lines.insert(rnd.randrange(len(lines) + 1), rnd.choice(WRONG))
+    return b'\n'.join(lines)
+
+
+# ---- damage
+
+def damaged(rnd, image, cart, other):
+    """The image with something wrong, or nothing."""
+    image = bytearray(image)
+    root = ref.chosen_root(image)
+    first, size = ref.area_of(image, root['generation'])
+    slot = root['generation'] % 2
+
+    def flip(low, high):
+        if high > low:
+            image[rnd.randrange(low, high)] ^= 1 << rnd.randrange(8)
+
+    def set_root(**fields):
+        new = dict(root, **fields)
+        data = b'GBKPROOT' + new['version'].to_bytes(4, 'little') + new['generation'].to_bytes(8, 'little') + new['id']
+        data += new['base'].to_bytes(8, 'little') + new['length'].to_bytes(4, 'little')
+        at = (new['generation'] % 2) * 512
+        image[at:at + 512] = data + bytes(448)
+
+    def log_sector(index):
+        return (first + index) * 512
+
+    choice = rnd.randrange(17)
+    if choice == 0:
+        for _ in range(rnd.choice([1, 2, 40])):
+            flip(0, len(image))
+    elif choice == 1:
+        flip(slot * 512, slot * 512 + 64)
+    elif choice == 2:
+        flip(log_sector(0), log_sector(rnd.choice([1, 2, 32])))
+    elif choice == 3:
+        at = (first + 32) * 512
+        flip(at, at + 128)
+    elif choice == 4:
+        set_root(base=rnd.choice([ref.MOST, ref.MOST - 1, ref.MOST - 40, ref.MOST - 3200, 2 ** 63, 0]))
+    elif choice == 5:
+        generation = rnd.choice([ref.MOST, ref.MOST - 1, ref.MOST - 2, root['generation'] + 1, root['generation'] + 2, 0])
+        set_root(generation=generation)
+        if generation % 2 != slot:
+            there = image[first * 512:(first + size) * 512]
+            at = ref.area_of(image, generation)[0] * 512
+            image[at:at + len(there)] = there
+    elif choice == 6:
+        set_root(length=rnd.choice([0, 1, root['length'] - 1, root['length'] + 1, 40000, 2 ** 32 - 1, size * 512, (size - 32) * 512, (size - 32) * 512 + 1]))
+    elif choice == 7:
+        a, b = rnd.randrange(len(image) // 512) * 512, rnd.randrange(len(image) // 512) * 512
+        image[a:a + 512], image[b:b + 512] = image[b:b + 512], image[a:a + 512]
+    elif choice == 8:
+        image = image[:rnd.choice([0, 1, 511, 512, 513, 1024, 1536, len(image) - 512, len(image) - 1, rnd.randrange(len(image))])]
+    elif choice == 9:
+        image += bytes(rnd.choice([1, 512, 1024, 100 * 512]))
+    elif choice == 10:
+        at = rnd.randrange(len(image) // 512) * 512
+        image[at:at + 512] = rnd.choice([bytes(512), rnd.randbytes(512), b'\xff' * 512])
+    elif choice == 11:      # an entry of any kind
+        at = log_sector(rnd.randrange(2)) + 8 + 6 * rnd.randrange(84)
+        image[at:at + 6] = rnd.choice([b'\2\0\0\0\0\0', b'\0\0\0\0\0\0', b'\0\1' + (216000).to_bytes(4, 'little'), b'\0\1' + (216001).to_bytes(4, 'little'),
+                                       b'\1\1\0\0\0\1', b'\1\0\0\0\0\0', b'\0\7\1\0\0\0', rnd.randbytes(6)])
+    elif choice == 12:      # version 1, of the same or other entries
+        set_root(version=1)
+        codes = []
+        for _ in range(rnd.choice([0, 1, 99, 100, 101, 250])):
+            codes.append(rnd.choice([b'\0\1\0\0\0', b'\1' + rnd.randbytes(4), b'\0' + rnd.randbytes(1) + b'\0\0\0']))
+        if codes and rnd.random() < 0.3:
+            codes[rnd.randrange(len(codes))] = rnd.choice([b'\0\1\1\0\0', b'\2\0\0\0\0', rnd.randbytes(5)])
+        for index in range(32):
+            held = codes[index * 100:index * 100 + 100]
+            data = b'GBL1' + index.to_bytes(2, 'little') + len(held).to_bytes(2, 'little') + b''.join(held) if held else b''
+            image[log_sector(index):log_sector(index + 1)] = data + bytes(512 - len(data))
+    elif choice == 13:      # a field of the snapshot
+        at = (first + 32) * 512 + rnd.choice([at for at, size, legal in ref.fields_of(cart)])
+        image[at] = rnd.choice([0, 1, 0xFF, rnd.randrange(256)])
+    elif choice == 14:
+        set_root(id=rnd.choice([other.id, rnd.randbytes(32)]))
+    elif choice == 15:      # a log sector's number or index
+        at = log_sector(rnd.randrange(3))
+        image[at + rnd.choice([4, 6])] = rnd.choice([0, 1, 83, 84, 85, 100, 101, rnd.randrange(256)])
+    return bytes(image)
+
+
+def played(image, cart, script):
+    """Status, output, errors and the save file that a play leaves."""
+    game = ref.Game(image, cart)
+    try:
+        if len(image) % 512:
+            raise ref.Refused('device size %d' % len(image))
+        moves = ref.moves_of(script)
+        game.resume()
+        game.play(moves)
+    except ref.Refused as why:
+        return 1, game.report, line(why), game
+    return 0, game.report, b'', game
+
+
+def same_file(got, game):
+    want = bytearray(game.image)
+    if len(got) != len(want):
+        return False
+    for low, high in game.unknown:
+        if not ref.is_legal(got[low:high], game.cart):
+            return False
+        want[low:high] = got[low:high]
+    return got == bytes(want)
+
+
+def compare_play(kind, seed, image, cart, script, note=''):
+    """Plays it in both; answers whether they agree."""
+    put(SAVE, image)
+    put(SCRIPT, script)
+    status, out, err, game = played(image, cart, script)
+    got = gbkeep('play', CART, SAVE, SCRIPT)
+    left = get(SAVE)
+    good = got == (status, out, err) and same_file(left, game)
+    if not good:
+        differs(kind, seed, '%s wanted %r got %r, file %s' % (note, (status, out[-60:], err), (got[0], got[1][-60:], got[2]),
+                                                              'as wanted' if same_file(left, game) else 'differs'))
+    return good
+
+
+# ---- kinds
+
+def new_game(rnd, rom, cart):
+    put(CART, rom)
+    if os.path.exists(SAVE):
+        os.remove(SAVE)
+    sectors = ref.need_of(cart.length) + rnd.choice([0, 0, 1, 2, 31])
+    return sectors, gbkeep('new', CART, SAVE, str(sectors))
+
+
+def saves(rnd, seed):
+    rom = random_rom(rnd)
+    cart = ref.Cartridge(rom)
+    other = ref.Cartridge(random_rom(rnd))
+    sectors, got = new_game(rnd, rom, cart)
+    if got != (0, b'begun 0\n', b''):
+        return differs('saves', seed, 'new: %r' % (got,))
+    made = ref.Game(bytes(512 * sectors), cart)
+    made.begin(1, 0, None)
+    if not same_file(get(SAVE), made):
+        return differs('saves', seed, 'new leaves another file')
+    for _ in range(rnd.choice([1, 2, 3])):
+        if not compare_play('saves', seed, get(SAVE), cart, random_script(rnd), 'sound'):
+            return
+    sound = get(SAVE)
+    for turn in range(6):
+        if not compare_play('saves', seed, damaged(rnd, sound, cart, other), cart, random_script(rnd, 300), 'damage %d' % turn):
+            shutil.copy(SAVE, 'differs.save')
+            return
+        again = get(SAVE)
+        # what was taken up is taken up again, with the same snapshot
+        if gbkeep('frame', CART, SAVE, OUT)[0] == 0:
+            first = get(OUT)
+            compare_play('saves', seed, get(SAVE), cart, b'', 'again')
+            if gbkeep('frame', CART, SAVE, OUT)[0] != 0 or get(OUT) != first:
+                return differs('saves', seed, 'another picture')
+        elif get(SAVE) != again:
+            return differs('saves', seed, 'frame was refused and wrote')
+
+
+def scripts(rnd, seed):
+    rom = random_rom(rnd)
+    cart = ref.Cartridge(rom)
+    new_game(rnd, rom, cart)
+    for _ in range(5):
+        script = wrong_script(rnd) if rnd.random() < 0.7 else random_script(rnd)
+        if rnd.random() < 0.05:
+            script = b'\n' * rnd.choice([1048576, 1048577])
+        if not compare_play('scripts', seed, get(SAVE), cart, script):
+            return
+
+
+def arbitrary(rnd, seed):
+    """No answer is known but its form: one line on standard error where it refuses, and nothing done."""
+    rom = bytearray(random_rom(rnd))
+    for _ in range(rnd.choice([0, 1, 3])):
+        rom[rnd.randrange(0x134, 0x150)] = rnd.randrange(256)
+    rom = bytes(rom[:rnd.choice([0, 1, 0x7FFF, len(rom), len(rom)])]) + rnd.choice([b'', b'', b'\0', bytes(16384)])
+    save = rnd.randbytes(rnd.choice([0, 512, 1024, 80000, 512 * 200, 12345]))
+    if rnd.random() < 0.5:
+        save = b'GBKPROOT\2\0\0\0' + bytes(8) + save
+        save = save[:len(save) // 512 * 512]
+    script = rnd.randbytes(rnd.choice([0, 1, 50, 1000])) if rnd.random() < 0.5 else random_script(rnd, 30)
+    put(CART, rom), put(SAVE, save), put(SCRIPT, script)
+    for words in (('info', CART), ('list', CART, '%x' % rnd.randrange(65536), '9'), ('step', CART, '9'), ('play', CART, SAVE, SCRIPT), ('frame', CART, SAVE, OUT)):
+        status, out, err = gbkeep(*words)
+        if status == 0 and not err:
+            continue
+        if status != 1 or out or not err.startswith(b'gbkeep: ') or err.count(b'\n') != 1 or not err.endswith(b'\n') or get(SAVE) != save:
+            return differs('bytes', seed, '%s: %r' % (words[0], (status, out[-60:], err)))
+
+
+def kills(rnd, seed):
+    """What was told as saved before the kill is there at the next play, and no more than was given."""
+    rom = random_rom(rnd)
+    cart = ref.Cartridge(rom)
+    new_game(rnd, rom, cart)
+    told = given = 0
+    for _ in range(8):
+        script = b''.join(b'frames %02x %d\nseconds 3\nsave\n' % (rnd.randrange(256), rnd.choice([1, 7, 100])) for _ in range(60))
+        inputs = sum(len(ref.inputs_of(move)) for move in ref.moves_of(script))
+        put(SCRIPT, script)
+        play = subprocess.Popen([GB, 'play', CART, SAVE, SCRIPT], stdout=subprocess.PIPE, stderr=subprocess.PIPE)
+        time.sleep(rnd.random() * rnd.choice([0.002, 0.05, 0.3]))
+        play.send_signal(signal.SIGKILL)
+        out, err = play.communicate()
+        lines = out.split(b'\n')[:-1]
+        if err or play.returncode not in (0, -signal.SIGKILL):
+            return differs('kills', seed, 'status %d, %r' % (play.returncode, err))
+        counts = [int(one.split(b' ')[1]) for one in lines]
+        if counts and not told <= counts[0] <= given:
+            return differs('kills', seed, 'resumed at %d of %d given, %d told' % (counts[0], given, told))
+        given = (counts[0] if counts else given) + inputs
+        told = max([told] + counts)
+    put(SCRIPT, b'')
+    status, out, err = gbkeep('play', CART, SAVE, SCRIPT)
+    count = int(out.split()[1]) if status == 0 else -1
+    if not told <= count <= given or not compare_play('kills', seed, get(SAVE), cart, random_script(rnd, 300), 'at last'):
+        return differs('kills', seed, 'resumed at %d of %d given, %d told' % (count, given, told))
+
+
+def holds(rnd, seed):
+    """A save file that is held is refused, and not a byte of it changed."""
+    rom = random_rom(rnd)
+    cart = ref.Cartridge(rom)
+    new_game(rnd, rom, cart)
+    image = get(SAVE)
+    put(SCRIPT, b'frame 00\n')
+    with open(SAVE, 'rb+') as held:
+        fcntl.flock(held, fcntl.LOCK_EX)
+        for words in (('play', CART, SAVE, SCRIPT), ('frame', CART, SAVE, OUT)):
+            got = gbkeep(*words)
+            if got != (1, b'', b'gbkeep: device failed\n') or get(SAVE) != image:
+                return differs('holds', seed, '%s: %r' % (words[0], got))
+    if gbkeep('play', CART, SAVE, SCRIPT) != (0, b'resumed 0\nsaved 1\n', b''):
+        differs('holds', seed, 'refused when it is free again')
+
+
+KINDS = {'saves': saves, 'scripts': scripts, 'bytes': arbitrary, 'kills': kills, 'holds': holds}
+
+
+def run(kind, seconds, first):
+    start, seed, before = time.time(), first, differences
+    while time.time() - start < seconds:
+        try:
+            KINDS[kind](random.Random('%s-%d' % (kind, seed)), seed)
+        except subprocess.TimeoutExpired:
+            differs(kind, seed, 'takes longer than 10 seconds')
+        seed += 1
+    print('kind=%s seeds %d..%d differences=%d' % (kind, first, seed - 1, differences - before), flush=True)
+
+
+def main(words):
+    if len(words) in (1, 2):
+        first = int(words[1]) if len(words) == 2 else int(time.time())
+        for kind in KINDS:
+            run(kind, float(words[0]), first)
+    elif len(words) == 3 and words[0] in KINDS:
+        run(words[0], float(words[1]), int(words[2]))
+    else:
+        print(__doc__)
+        return 2
+    return 1 if differences else 0
+
+
+if __name__ == '__main__':
+    try:
+        sys.exit(main(sys.argv[2:]))
+    finally:
+        shutil.rmtree(ROOM)
