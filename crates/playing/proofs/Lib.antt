@@ -1,3 +1,5 @@
 pub mod PlayLaws
 pub mod MoveLaws
 pub mod ReportLaws
+pub mod Telling
+pub mod Stops

@@ -26,7 +26,7 @@ pub inputs_append : (first second : List Move) → inputs_of_moves (first ++ sec
 inputs_append [] second = refl
 inputs_append (m ∷ first) second = ap (λ (l : List Input). inputs_of_move m ++ l) (inputs_append first second) ∙ sym (append_assoc (inputs_of_move m) (inputs_of_moves first) (inputs_of_moves second))
 
-split : (moves : List Move) (i : ℕ) → take i moves ++ drop i moves ≡ moves
+pub split : (moves : List Move) (i : ℕ) → take i moves ++ drop i moves ≡ moves
 split moves zero = refl
 split [] (suc i) = refl
 split (m ∷ moves) (suc i) = ap (λ (l : List Move). m ∷ l) (split moves i)

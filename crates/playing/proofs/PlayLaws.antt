@@ -63,7 +63,7 @@ module _ (rom : List ℕ) (now : DiskState) (acknowledged : ℕ) (pending : List
       holds_since only (record { later = omega arith; each = λ t c le since. inl since }) (λ t c le since. since) (λ image here. reaches_none rom from played.saved given image (reaches_here image here))
 
   pub stopped_here : ((image : List (List ℕ)) → now.since now.moment image → now.image image) → Stopped rom now now acknowledged from given
-  stopped_here only = record { moments = since_here only; least = played.saved; acknowledged_is = played.acknowledged_is; images = reaches_here }
+  stopped_here only = record { honest = played.honest; moments = since_here only; least = played.saved; acknowledged_is = played.acknowledged_is; images = reaches_here }
 
   unsaved : length pending ≡ length given - played.saved
   unsaved = sym (length-map pending input_of) ∙ ap length played.pending_is ∙ length-drop played.saved given
@@ -103,11 +103,12 @@ module _ (rom : List ℕ) (now : DiskState) (acknowledged : ℕ) (pending : List
     }
 
     -- a save that failed
-    pub stopped_failed : (new : DiskState) (then : ℕ) → then ≡ acknowledged → ((t : ℕ) (c : List (List ℕ)) → t ≤ new.moment → new.image c → new.since t c)
+    pub stopped_failed : (new : DiskState) (then : ℕ) → new.honest → then ≡ acknowledged → ((t : ℕ) (c : List (List ℕ)) → t ≤ new.moment → new.image c → new.since t c)
         → HoldsSince now new (StandsWithin own (stands own (content now.sectors)) (inputs_of pending)) → Stopped rom now new then from given
-    stopped_failed new then then_is counts held =
+    stopped_failed new then honest then_is counts held =
         let all = since_save new held in
         record {
+          honest = honest;
           moments = since_weaker all (λ image w. reaches_none rom from played.saved given image (reaches image w));
           least = played.saved;
           acknowledged_is = then_is ∙ played.acknowledged_is;
@@ -144,6 +145,7 @@ going_nowhere rom now acknowledged pending machine from given played only =
 -- a stop behind what was given
 pub stopped_after : (rom : List ℕ) (old now : DiskState) (acknowledged : ℕ) (pending : List Entry) (machine : MachineState) (from : Position) (given : List Input) → Going rom old now acknowledged pending machine from given → Stopped rom old now acknowledged from given
 stopped_after rom old now acknowledged pending machine from given going = record {
+  honest = going.played.honest;
   moments = going.moments;
   least = going.played.saved;
   acknowledged_is = going.played.acknowledged_is;
@@ -165,6 +167,7 @@ on_err (Err e) p to = to p
 -- a stop before more inputs
 pub stopped_more : (rom : List ℕ) (old new : DiskState) (acknowledged : ℕ) (from : Position) (given more : List Input) → Stopped rom old new acknowledged from given → Stopped rom old new acknowledged from (given ++ more)
 stopped_more rom old new acknowledged from given more stopped = record {
+  honest = stopped.honest;
   moments = since_weaker stopped.moments (reaches_more rom from 0 given more);
   least = stopped.least;
   acknowledged_is = stopped.acknowledged_is;
@@ -180,6 +183,7 @@ going_then rom old mid new acknowledged pending machine from given more first se
 pub stopped_then : (rom : List ℕ) (old mid new : DiskState) (acknowledged : ℕ) (from : Position) (given more : List Input)
     → HoldsSince old mid (Reaches rom from 0 given) → Stopped rom mid new acknowledged from (given ++ more) → Stopped rom old new acknowledged from (given ++ more)
 stopped_then rom old mid new acknowledged from given more first second = record {
+  honest = second.honest;
   moments = since_then (since_weaker first (reaches_more rom from 0 given more)) second.moments;
   least = second.least;
   acknowledged_is = second.acknowledged_is;
@@ -201,7 +205,7 @@ going_on rom old mid new acknowledged pending machine from given first second = 
 pub stopped_on : (rom : List ℕ) (old mid new : DiskState) (acknowledged : ℕ) (from : Position) (given : List Input)
     → HoldsSince old mid (Reaches rom from 0 given) → Stopped rom mid new acknowledged from given → Stopped rom old new acknowledged from given
 stopped_on rom old mid new acknowledged from given first second =
-    record { moments = since_then first second.moments; least = second.least; acknowledged_is = second.acknowledged_is; images = second.images }
+    record { honest = second.honest; moments = since_then first second.moments; least = second.least; acknowledged_is = second.acknowledged_is; images = second.images }
 
 -- ---- whole plays
 

@@ -1,16 +1,20 @@
 -- How far a play has come from where it was taken up.
-use Rattle.std.specs.Prelude.{◌≡◌, ◌⊎◌, ◌≤◌, ◌+◌, ℕ, List, [], length, take, drop, Some, ⊤}
+use Rattle.std.specs.Prelude.{◌≡◌, ◌⊎◌, ◌≤◌, ◌+◌, ◌-◌, ◌^◌, ℕ, List, [], length, take, drop, Option, Some, ⊤}
+use Rattle.std.specs.Io.KnownBytes.{Keeps}
 use Rattle.machine.specs.Machine.{MachineState, after}
 use Rattle.machine.specs.declared.input.Input.{Input}
 use Rattle.sector_device.specs.DiskState.{DiskState, Settled}
 use Rattle.sector_device.specs.Runs.{HoldsSince}
-use Rattle.sector_log.specs.Content.{content}
+use Rattle.sector_log.specs.Content.{content, generation_in}
 use Rattle.sector_log.specs.declared.Entry.{Entry}
+use Rattle.script.specs.declared.moves.Move.{Move}
 use Rattle.session.specs.Calls.{IsAtRest, StandsAsBefore}
+use Rattle.session.specs.Found.{IsResumeCause}
 use Rattle.session.specs.Inputs.{inputs_of}
 use Rattle.session.specs.declared.error.SessionError.{SessionError}
 use Rattle.session.specs.declared.error.SessionError.TheVariants.{Memory, Device, NoSession, TooSmall, OtherCartridge, Damaged, Worn, Broken, SaveFirst, CountFull, Output}
 use Rattle.session.specs.Stands.{Position, stands}
+use Rattle.playing.specs.Report.{inputs_of_moves, report_lines, HasTold}
 
 -- the image stands for the first so many of these inputs from there, at least for `least` of them
 pub record Reaches (rom : List ℕ) (from : Position) (least : ℕ) (given : List Input) (image : List (List ℕ)) : Type 0 where
@@ -38,6 +42,7 @@ pub record Going (rom : List ℕ) (old now : DiskState) (acknowledged : ℕ) (pe
 
 -- from `old` on each image stood for some of these inputs, and each that is left stands at least for what was acknowledged
 pub record Stopped (rom : List ℕ) (old now : DiskState) (acknowledged : ℕ) (from : Position) (given : List Input) : Type 0 where
+  pub honest : now.honest
   pub moments : HoldsSince old now (Reaches rom from 0 given)
   pub least : ℕ
   pub acknowledged_is : acknowledged ≡ from.count + least
@@ -58,23 +63,52 @@ pub record HasPlayed (rom : List ℕ) (old now : DiskState) (given : List Input)
   pub stood : stands rom (content old.sectors) ≡ Some from
   pub rests : IsAtRest rom now (from.count + length given) [] (after from.machine given)
 
--- it stopped behind some of them, and there is a count that each image that is left reaches at least; which one is not said
-pub record HasStopped (rom : List ℕ) (old now : DiskState) (given : List Input) : Type 0 where
+-- this count and this machine are those behind all of these inputs, from what reads gave
+pub record HasReached (rom : List ℕ) (old : DiskState) (count : ℕ) (machine : MachineState) (given : List Input) : Type 0 where
   pub from : Position
   pub stood : stands rom (content old.sectors) ≡ Some from
-  pub acknowledged : ℕ
-  pub images : (image : List (List ℕ)) → now.image image → (least : ℕ) × (acknowledged ≡ from.count + least) × Reaches rom from least given image
+  pub count_is : count ≡ from.count + length given
+  pub machine_is : machine ≡ after from.machine given
 
--- why a play that was taken up stops: the generations used up, a failed call, too many inputs, or the report
-abbrev pub IsStop : SessionError → Type 0
-IsStop Worn = ⊤
-IsStop Device = ⊤
-IsStop CountFull = ⊤
-IsStop Output = ⊤
-IsStop Memory = ⊥
-IsStop NoSession = ⊥
-IsStop (TooSmall needed) = ⊥
-IsStop OtherCartridge = ⊥
-IsStop (Damaged damage) = ⊥
-IsStop Broken = ⊥
-IsStop SaveFirst = ⊥
+-- ---- a play that is refused
+
+-- It was not taken up: nothing was written to the report. Each image at each moment stands for what one stood for before, and unless
+-- a call failed it is one that stood before.
+pub record IsNotTakenUp (rom : List ℕ) (old now : DiskState) (why : SessionError) (before since : Option (List ℕ)) : Type 0 where
+  pub cause : old.honest → IsResumeCause rom (generation_in old.sectors) (content old.sectors) why
+  pub report : Keeps before since
+  pub images : old.honest → HoldsSince old now (StandsAsBefore rom old)
+  pub untouched : (why ≡ Device) ⊎ (old.honest → HoldsSince old now old.image)
+
+-- Why a play that was taken up stops: the generations used up, a failed call, more inputs in all than can be counted, or the report.
+abbrev pub IsStop : SessionError → (all : ℕ) → (now : DiskState) → Type 0
+IsStop Worn all now = now.honest → generation_in now.sectors ≡ 2 ^ 64 - 1
+IsStop Device all now = ⊤
+IsStop CountFull all now = 2 ^ 64 ≤ all
+IsStop Output all now = ⊤
+IsStop Memory all now = ⊥
+IsStop NoSession all now = ⊥
+IsStop (TooSmall needed) all now = ⊥
+IsStop OtherCartridge all now = ⊥
+IsStop (Damaged damage) all now = ⊥
+IsStop Broken all now = ⊥
+IsStop SaveFirst all now = ⊥
+
+-- it was taken up at this count, and each image that is left stands for the first of these inputs from there, at least up to the
+-- count that is saved
+pub record KeepsSaved (rom : List ℕ) (old now : DiskState) (count saved : ℕ) (given : List Input) : Type 0 where
+  pub from : Position
+  pub stood : stands rom (content old.sectors) ≡ Some from
+  pub count_is : count ≡ from.count
+  pub least : ℕ
+  pub saved_is : saved ≡ from.count + least
+  pub images : (image : List (List ℕ)) → now.image image → Reaches rom from least given image
+
+-- It was taken up, and stopped: the report is the front of a whole one, and each image that is left has all inputs up to each count
+-- that a line of it tells.
+pub record HasStopped (rom : List ℕ) (old now : DiskState) (moves : List Move) (why : SessionError) (before since : Option (List ℕ)) : Type 0 where
+  pub count : ℕ
+  pub saved : ℕ
+  pub cause : IsStop why (count + length (inputs_of_moves moves)) now
+  pub report : HasTold why saved (report_lines count moves) before since
+  pub images : old.honest → KeepsSaved rom old now count saved (inputs_of_moves moves)

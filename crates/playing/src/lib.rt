@@ -6,4 +6,5 @@ mod moves;
 mod report;
 mod whole;
 
+pub use report::write_resumed;
 pub use whole::play;

@@ -1,11 +1,11 @@
 //! Moves given to a session, saved where a save is due, and reported.
-ghost use Rattle.std.specs.Prelude.{◌≡◌, ◌↔◌, ◌<◌, ◌+◌, ◌++◌, ◌∷◌, ◌⊎◌, [], length, replicate, false, OnOk, OnErr, IfErr};
+ghost use Rattle.std.specs.Prelude.{◌≡◌, ◌<◌, ◌≤◌, ◌+◌, ◌++◌, ◌∷◌, [], length, replicate, false, OnOk, OnErr, IfErr};
 ghost use Rattle.std.specs.Io.KnownBytes.{Appends};
 ghost use Rattle.machine.specs.declared.input.Input.TheVariants.{Frame};
 ghost use Rattle.session.specs.Calls.{faults_after};
-ghost use Rattle.session.specs.Words.{device_of, machine_of, pending_of, acknowledged_of, is_broken};
+ghost use Rattle.session.specs.Words.{device_of, machine_of, rom_of, pending_of, acknowledged_of, is_broken};
 ghost use Rattle.playing.specs.Played.{IsPlayed, IsStop, Going, Stopped};
-ghost use Rattle.playing.specs.Report.{saved_line, line_due, unsaved_after, unsaved_behind, unsaved_behind_move, unsaved_behind_moves, lines_of_inputs, lines_of_move, lines_of_moves, report_of, inputs_of_move, inputs_of_moves};
+ghost use Rattle.playing.specs.Report.{saved_line, line_due, texts, unsaved_after, unsaved_behind, unsaved_behind_move, unsaved_behind_moves, lines_of_inputs, lines_of_move, lines_of_moves, report_lines, report_of, inputs_of_move, inputs_of_moves, HasTold};
 
 use crate::report::{write_resumed, write_saved};
 use machine::Input;
@@ -26,11 +26,14 @@ fn save_line<D: SectorDevice, W: Write>(
     ensures stopped { OnErr result ((rom : _) (from : _) (given : _) →
         IsPlayed rom (D.disk (device_of session.old)) (acknowledged_of session.old) (pending_of session.old) (machine_of session.old) from given →
         Stopped rom (D.disk (device_of session.old)) (D.disk (device_of session.new)) (acknowledged_of session.new) from given) }
-    ensures report { OnOk result (Appends (W.contents report.old) (W.contents report.new) (saved_line (acknowledged_of session.old + length (pending_of session.old)))) }
+    ensures report { OnOk result (Appends (W.contents report.old) (W.contents report.new) (texts (saved_line (acknowledged_of session.old + length (pending_of session.old)) ∷ []))) }
+    ensures told { IfErr result (λ why. HasTold why (acknowledged_of session.new) (saved_line (acknowledged_of session.old + length (pending_of session.old)) ∷ []) (W.contents report.old) (W.contents report.new)) }
     ensures saved { OnOk result ((acknowledged_of session.new ≡ acknowledged_of session.old + length (pending_of session.old)) × (pending_of session.new ≡ []) × (is_broken session.new ≡ false)) }
     ensures faults_ok { OnOk result ((D.disk (device_of session.new)).faults ≡ (D.disk (device_of session.old)).faults) }
     ensures faults { IfErr result (λ why. (D.disk (device_of session.new)).faults ≡ faults_after why (D.disk (device_of session.old)).faults) }
-    ensures cause { IfErr result IsStop }
+    ensures cause { IfErr result (λ why. IsStop why (acknowledged_of session.old + length (pending_of session.old)) (D.disk (device_of session.new))) }
+    ensures later { acknowledged_of session.old ≤ acknowledged_of session.new }
+    ensures rom { rom_of session.new ≡ rom_of session.old }
 {
     match session.save() {
         Ok(count) => match write_saved(report, count) {
@@ -56,11 +59,14 @@ fn give<D: SectorDevice, W: Write>(
         IsPlayed rom (D.disk (device_of session.old)) (acknowledged_of session.old) (pending_of session.old) (machine_of session.old) from given →
         Stopped rom (D.disk (device_of session.old)) (D.disk (device_of session.new)) (acknowledged_of session.new) from (given ++ input ∷ [])) }
     ensures whole { OnOk result ((is_broken session.new ≡ false) × (length (pending_of session.new) < 3200)) }
-    ensures report { OnOk result (Appends (W.contents report.old) (W.contents report.new) (line_due (length (pending_of session.old)) (acknowledged_of session.old + length (pending_of session.old) + 1))) }
+    ensures report { OnOk result (Appends (W.contents report.old) (W.contents report.new) (texts (line_due (length (pending_of session.old)) (acknowledged_of session.old + length (pending_of session.old) + 1)))) }
+    ensures told { IfErr result (λ why. HasTold why (acknowledged_of session.new) (line_due (length (pending_of session.old)) (acknowledged_of session.old + length (pending_of session.old) + 1)) (W.contents report.old) (W.contents report.new)) }
     ensures counts { OnOk result ((acknowledged_of session.new + length (pending_of session.new) ≡ acknowledged_of session.old + length (pending_of session.old) + 1) × (length (pending_of session.new) ≡ unsaved_after (length (pending_of session.old)))) }
     ensures faults_ok { OnOk result ((D.disk (device_of session.new)).faults ≡ (D.disk (device_of session.old)).faults) }
     ensures faults { IfErr result (λ why. (D.disk (device_of session.new)).faults ≡ faults_after why (D.disk (device_of session.old)).faults) }
-    ensures cause { IfErr result IsStop }
+    ensures cause { IfErr result (λ why. IsStop why (acknowledged_of session.old + length (pending_of session.old) + 1) (D.disk (device_of session.new))) }
+    ensures later { acknowledged_of session.old ≤ acknowledged_of session.new }
+    ensures rom { rom_of session.new ≡ rom_of session.old }
 {
     if let Err(why) = session.input(input) {
         return Err(why);
@@ -87,11 +93,14 @@ fn give_frames<D: SectorDevice, W: Write>(
         IsPlayed rom (D.disk (device_of session.old)) (acknowledged_of session.old) (pending_of session.old) (machine_of session.old) from given →
         Stopped rom (D.disk (device_of session.old)) (D.disk (device_of session.new)) (acknowledged_of session.new) from (given ++ replicate times (Frame buttons))) }
     ensures whole { OnOk result ((is_broken session.new ≡ false) × (length (pending_of session.new) < 3200)) }
-    ensures report { OnOk result (Appends (W.contents report.old) (W.contents report.new) (lines_of_inputs (acknowledged_of session.old + length (pending_of session.old)) (length (pending_of session.old)) (replicate times (Frame buttons)))) }
+    ensures report { OnOk result (Appends (W.contents report.old) (W.contents report.new) (texts (lines_of_inputs (acknowledged_of session.old + length (pending_of session.old)) (length (pending_of session.old)) (replicate times (Frame buttons))))) }
+    ensures told { IfErr result (λ why. HasTold why (acknowledged_of session.new) (lines_of_inputs (acknowledged_of session.old + length (pending_of session.old)) (length (pending_of session.old)) (replicate times (Frame buttons))) (W.contents report.old) (W.contents report.new)) }
     ensures counts { OnOk result ((acknowledged_of session.new + length (pending_of session.new) ≡ acknowledged_of session.old + length (pending_of session.old) + times) × (length (pending_of session.new) ≡ unsaved_behind (length (pending_of session.old)) (replicate times (Frame buttons)))) }
     ensures faults_ok { OnOk result ((D.disk (device_of session.new)).faults ≡ (D.disk (device_of session.old)).faults) }
     ensures faults { IfErr result (λ why. (D.disk (device_of session.new)).faults ≡ faults_after why (D.disk (device_of session.old)).faults) }
-    ensures cause { IfErr result IsStop }
+    ensures cause { IfErr result (λ why. IsStop why (acknowledged_of session.old + length (pending_of session.old) + times) (D.disk (device_of session.new))) }
+    ensures later { acknowledged_of session.old ≤ acknowledged_of session.new }
+    ensures rom { rom_of session.new ≡ rom_of session.old }
 {
     for _i in 0..times {
         if let Err(why) = give(session, Input::Frame(buttons), report) {
@@ -116,11 +125,14 @@ fn make_move<D: SectorDevice, W: Write>(
         IsPlayed rom (D.disk (device_of session.old)) (acknowledged_of session.old) (pending_of session.old) (machine_of session.old) from given →
         Stopped rom (D.disk (device_of session.old)) (D.disk (device_of session.new)) (acknowledged_of session.new) from (given ++ inputs_of_move one)) }
     ensures whole { OnOk result ((is_broken session.new ≡ false) × (length (pending_of session.new) < 3200)) }
-    ensures report { OnOk result (Appends (W.contents report.old) (W.contents report.new) (lines_of_move (acknowledged_of session.old + length (pending_of session.old)) (length (pending_of session.old)) one)) }
+    ensures report { OnOk result (Appends (W.contents report.old) (W.contents report.new) (texts (lines_of_move (acknowledged_of session.old + length (pending_of session.old)) (length (pending_of session.old)) one))) }
+    ensures told { IfErr result (λ why. HasTold why (acknowledged_of session.new) (lines_of_move (acknowledged_of session.old + length (pending_of session.old)) (length (pending_of session.old)) one) (W.contents report.old) (W.contents report.new)) }
     ensures counts { OnOk result ((acknowledged_of session.new + length (pending_of session.new) ≡ acknowledged_of session.old + length (pending_of session.old) + length (inputs_of_move one)) × (length (pending_of session.new) ≡ unsaved_behind_move (length (pending_of session.old)) one)) }
     ensures faults_ok { OnOk result ((D.disk (device_of session.new)).faults ≡ (D.disk (device_of session.old)).faults) }
     ensures faults { IfErr result (λ why. (D.disk (device_of session.new)).faults ≡ faults_after why (D.disk (device_of session.old)).faults) }
-    ensures cause { IfErr result IsStop }
+    ensures cause { IfErr result (λ why. IsStop why (acknowledged_of session.old + length (pending_of session.old) + length (inputs_of_move one)) (D.disk (device_of session.new))) }
+    ensures later { acknowledged_of session.old ≤ acknowledged_of session.new }
+    ensures rom { rom_of session.new ≡ rom_of session.old }
 {
     match one {
         Move::Frames { buttons, times } => give_frames(session, buttons, times, report),
@@ -144,11 +156,14 @@ fn make_moves<D: SectorDevice, W: Write>(
         IsPlayed rom (D.disk (device_of session.old)) (acknowledged_of session.old) (pending_of session.old) (machine_of session.old) from given →
         Stopped rom (D.disk (device_of session.old)) (D.disk (device_of session.new)) (acknowledged_of session.new) from (given ++ inputs_of_moves moves.now)) }
     ensures whole { OnOk result (is_broken session.new ≡ false) }
-    ensures report { OnOk result (Appends (W.contents report.old) (W.contents report.new) (lines_of_moves (acknowledged_of session.old + length (pending_of session.old)) (length (pending_of session.old)) moves.now)) }
+    ensures report { OnOk result (Appends (W.contents report.old) (W.contents report.new) (texts (lines_of_moves (acknowledged_of session.old + length (pending_of session.old)) (length (pending_of session.old)) moves.now))) }
+    ensures told { IfErr result (λ why. HasTold why (acknowledged_of session.new) (lines_of_moves (acknowledged_of session.old + length (pending_of session.old)) (length (pending_of session.old)) moves.now) (W.contents report.old) (W.contents report.new)) }
     ensures counts { OnOk result ((acknowledged_of session.new + length (pending_of session.new) ≡ acknowledged_of session.old + length (pending_of session.old) + length (inputs_of_moves moves.now)) × (length (pending_of session.new) ≡ unsaved_behind_moves (length (pending_of session.old)) moves.now)) }
     ensures faults_ok { OnOk result ((D.disk (device_of session.new)).faults ≡ (D.disk (device_of session.old)).faults) }
     ensures faults { IfErr result (λ why. (D.disk (device_of session.new)).faults ≡ faults_after why (D.disk (device_of session.old)).faults) }
-    ensures cause { IfErr result IsStop }
+    ensures cause { IfErr result (λ why. IsStop why (acknowledged_of session.old + length (pending_of session.old) + length (inputs_of_moves moves.now)) (D.disk (device_of session.new))) }
+    ensures later { acknowledged_of session.old ≤ acknowledged_of session.new }
+    ensures rom { rom_of session.new ≡ rom_of session.old }
 {
     for one in moves {
         if let Err(why) = make_move(session, *one, report) {
@@ -175,9 +190,12 @@ pub(crate) fn play_on<D: SectorDevice, W: Write>(
     ensures saved { OnOk result ((pending_of session.new ≡ []) × (is_broken session.new ≡ false)) }
     ensures counts { OnOk result (acknowledged_of session.new + length (pending_of session.new) ≡ acknowledged_of session.old + length (pending_of session.old) + length (inputs_of_moves moves.now)) }
     ensures report { pending_of session.old ≡ [] → OnOk result (Appends (W.contents report.old) (W.contents report.new) (report_of (acknowledged_of session.old) moves.now)) }
+    ensures told { pending_of session.old ≡ [] → IfErr result (λ why. HasTold why (acknowledged_of session.new) (report_lines (acknowledged_of session.old) moves.now) (W.contents report.old) (W.contents report.new)) }
     ensures faults_ok { OnOk result ((D.disk (device_of session.new)).faults ≡ (D.disk (device_of session.old)).faults) }
     ensures faults { IfErr result (λ why. (D.disk (device_of session.new)).faults ≡ faults_after why (D.disk (device_of session.old)).faults) }
-    ensures cause { IfErr result IsStop }
+    ensures cause { IfErr result (λ why. IsStop why (acknowledged_of session.old + length (pending_of session.old) + length (inputs_of_moves moves.now)) (D.disk (device_of session.new))) }
+    ensures later { acknowledged_of session.old ≤ acknowledged_of session.new }
+    ensures rom { rom_of session.new ≡ rom_of session.old }
 {
     if let Err(_) = write_resumed(report, session.counts().all) {
         return Err(SessionError::Output);

@@ -1,6 +1,7 @@
 //! The lines of a report.
-ghost use Rattle.std.specs.Prelude.{IfSome, OnOk, ◌≡◌};
+ghost use Rattle.std.specs.Prelude.{IfSome, OnOk, OnErr, ◌≡◌};
 ghost use Rattle.std.specs.Io.KnownBytes.{Appends};
+ghost use Rattle.exact_text.specs.Written.{AppendsProperPrefix};
 ghost use Rattle.playing.specs.Report.{resumed_line, saved_line};
 
 use arrayvec::ArrayString;
@@ -9,7 +10,7 @@ use std::fmt::Write as FormatWrite;
 use std::io::Write;
 
 fn resumed_text(count: u64) -> Option<ArrayString<32>>
-    ensures { IfSome result (λ text. text.bytes ≡ resumed_line count) }
+    ensures { IfSome result (λ text. text.bytes ≡ (resumed_line count).text) }
 {
     let mut text = ArrayString::new();
     match writeln!(text, "resumed {count}") {
@@ -19,7 +20,7 @@ fn resumed_text(count: u64) -> Option<ArrayString<32>>
 }
 
 fn saved_text(count: u64) -> Option<ArrayString<32>>
-    ensures { IfSome result (λ text. text.bytes ≡ saved_line count) }
+    ensures { IfSome result (λ text. text.bytes ≡ (saved_line count).text) }
 {
     let mut text = ArrayString::new();
     match writeln!(text, "saved {count}") {
@@ -28,9 +29,10 @@ fn saved_text(count: u64) -> Option<ArrayString<32>>
     }
 }
 
-/// Writes that a session was taken up at this count.
-pub(crate) fn write_resumed<W: Write>(out: &mut W, count: u64) -> Result<(), OutputFailed>
-    ensures { OnOk result (Appends (W.contents out.old) (W.contents out.new) (resumed_line count)) }
+/// Writes the line `resumed N`, that a session was taken up at this count.
+pub fn write_resumed<W: Write>(out: &mut W, count: u64) -> Result<(), OutputFailed>
+    ensures ok { OnOk result (Appends (W.contents out.old) (W.contents out.new) (resumed_line count).text) }
+    ensures err { OnErr result (AppendsProperPrefix (W.contents out.old) (W.contents out.new) (resumed_line count).text) }
 {
     match resumed_text(count) {
         Some(text) => write_whole(out, text.as_bytes()),
@@ -40,7 +42,8 @@ pub(crate) fn write_resumed<W: Write>(out: &mut W, count: u64) -> Result<(), Out
 
 /// Writes that this count is saved.
 pub(crate) fn write_saved<W: Write>(out: &mut W, count: u64) -> Result<(), OutputFailed>
-    ensures { OnOk result (Appends (W.contents out.old) (W.contents out.new) (saved_line count)) }
+    ensures ok { OnOk result (Appends (W.contents out.old) (W.contents out.new) (saved_line count).text) }
+    ensures err { OnErr result (AppendsProperPrefix (W.contents out.old) (W.contents out.new) (saved_line count).text) }
 {
     match saved_text(count) {
         Some(text) => write_whole(out, text.as_bytes()),

@@ -2,11 +2,9 @@
 ghost use Rattle.std.specs.Prelude.{◌≡◌, ◌⊎◌, ◌+◌, ℕ, [], length, false, IfOk, IfErr};
 ghost use Rattle.std.specs.Io.KnownBytes.{Appends};
 ghost use Rattle.sector_device.specs.Runs.{HoldsSince};
-ghost use Rattle.sector_log.specs.Content.{content, generation_in};
-ghost use Rattle.session.specs.Found.{IsResumeCause};
-ghost use Rattle.session.specs.Calls.{StandsAsBefore, faults_after};
-ghost use Rattle.session.specs.Words.{device_of, pending_of, acknowledged_of, is_broken, left_by};
-ghost use Rattle.playing.specs.Played.{PlayImage, HasPlayed, HasStopped, IsStop};
+ghost use Rattle.session.specs.Calls.{faults_after};
+ghost use Rattle.session.specs.Words.{device_of, machine_of, rom_of, pending_of, acknowledged_of, is_broken, left_by};
+ghost use Rattle.playing.specs.Played.{PlayImage, HasPlayed, HasReached, IsNotTakenUp, HasStopped};
 ghost use Rattle.playing.specs.Report.{inputs_of_moves, report_of};
 
 use crate::moves::play_on;
@@ -21,7 +19,8 @@ use std::io::Write;
 /// after the input that makes 3,200 unsaved, and at the end if any is unsaved. N is the count of all inputs.
 ///
 /// Refusals: those of `resume`, with nothing written to the report; then whichever is met first of `Worn`, `Device`, `CountFull` and
-/// `Output`. What was saved stays saved.
+/// `Output`. What was saved stays saved: the report then has the first of its lines, and behind them a part of the next at `Output`
+/// alone, and each image that is left has all inputs up to each N that they tell.
 pub fn play<D: SectorDevice, W: Write>(
     alloc: Global,
     device: D,
@@ -29,15 +28,23 @@ pub fn play<D: SectorDevice, W: Write>(
     moves: &[Move],
     report: &mut W,
 ) -> Result<Session<D>, Refused<D>>
+    // at Ok
     ensures played { IfOk result (λ s. (D.disk device).honest → HasPlayed cartridge.now (D.disk device) (D.disk (device_of s)) (inputs_of_moves moves.now)) }
-    ensures stopped { IfErr result (λ refused. (D.disk device).honest →
-        HoldsSince (D.disk device) (D.disk refused.device) (StandsAsBefore cartridge.now (D.disk device)) ⊎ HasStopped cartridge.now (D.disk device) (D.disk refused.device) (inputs_of_moves moves.now)) }
+    ensures reached { IfOk result (λ s. (D.disk device).honest → HasReached cartridge.now (D.disk device) (acknowledged_of s) (machine_of s) (inputs_of_moves moves.now)) }
     ensures report { IfOk result (λ s. (count : ℕ) × (acknowledged_of s ≡ count + length (inputs_of_moves moves.now)) × Appends (W.contents report.old) (W.contents report.new) (report_of count moves.now)) }
-    ensures cause { IfErr result (λ refused. IsStop refused.why ⊎ ((D.disk device).honest → IsResumeCause cartridge.now (generation_in (D.disk device).sectors) (content (D.disk device).sectors) refused.why)) }
+    ensures whole { IfOk result (λ s. (pending_of s ≡ []) × (is_broken s ≡ false) × (rom_of s ≡ cartridge.now)) }
+
+    // where it is refused: not taken up, or stopped behind that
+    ensures refused { IfErr result (λ refused.
+        IsNotTakenUp cartridge.now (D.disk device) (D.disk refused.device) refused.why (W.contents report.old) (W.contents report.new)
+        ⊎ HasStopped cartridge.now (D.disk device) (D.disk refused.device) moves.now refused.why (W.contents report.old) (W.contents report.new)) }
+
+    // at each moment
+    ensures images { (D.disk device).honest → HoldsSince (D.disk device) (D.disk (left_by result)) (PlayImage cartridge.now (D.disk device) (inputs_of_moves moves.now)) }
+
+    ensures honest { (D.disk device).honest → (D.disk (left_by result)).honest }
     ensures faults_ok { IfOk result (λ s. (D.disk (device_of s)).faults ≡ (D.disk device).faults) }
     ensures faults { IfErr result (λ refused. (D.disk refused.device).faults ≡ faults_after refused.why (D.disk device).faults) }
-    ensures whole { IfOk result (λ s. (pending_of s ≡ []) × (is_broken s ≡ false)) }
-    ensures images { (D.disk device).honest → HoldsSince (D.disk device) (D.disk (left_by result)) (PlayImage cartridge.now (D.disk device) (inputs_of_moves moves.now)) }
 {
     let mut session = match resume(alloc, device, cartridge) {
         Ok(session) => session,

@@ -6,7 +6,7 @@ ghost use Rattle.machine.specs.Machine.{applied};
 ghost use Rattle.snapshot.specs.Text.{text_length};
 ghost use Rattle.snapshot.specs.Legal.{IsMachineOf};
 ghost use Rattle.sector_device.specs.Runs.{HoldsSince};
-ghost use Rattle.sector_log.specs.Content.{need, content};
+ghost use Rattle.sector_log.specs.Content.{need, content, generation_in};
 ghost use Rattle.sector_log.specs.Inputs.{is_input, fits};
 ghost use Rattle.sector_log.specs.Words.{device_of as device_of_store, is_broken as is_broken_store, id_of, entries_of};
 ghost use Rattle.session.specs.Calls.{IsAtRest, IsSaved, IsSaveCause, input_answer, faults_after};
@@ -152,6 +152,7 @@ impl<D: SectorDevice> Session<D> {
         // what it answers
         ensures ok { IfOk result (λ all. (all ≡ acknowledged_of self.old + length (pending_of self.old)) × (acknowledged_of self.new ≡ all) × (pending_of self.new ≡ []) × (is_broken self.old ≡ false) × (is_broken self.new ≡ false)) }
         ensures cause { IfErr result (λ why. IsSaveCause why (is_broken self.old) (fits (log_in self.old) (pending_of self.old)) (generation_in_use self.old)) }
+        ensures worn { IfErr result (λ why. why ≡ SessionError.Worn → (D.disk (device_of self.new)).honest → generation_in (D.disk (device_of self.new)).sectors ≡ 2 ^ 64 - 1) }
         ensures unchanged { IfErr result (λ why. (why ≡ SessionError.Device) ⊎ IsUnchanged self.old self.new) }
         ensures refused { OnErr result ((pending_of self.new ≡ pending_of self.old) × (acknowledged_of self.new ≡ acknowledged_of self.old)) }
         ensures broken { (is_broken self.new ≡ true) ↔ ((is_broken self.old ≡ true) ⊎ IsErrOf result SessionError.Device) }

@@ -1,8 +1,13 @@
-use Rattle.std.proofs.Common.{◌++◌, ◌∷◌, [], List, ℕ, length, sym, ap, ◌∙◌, subst, arith, length-append}
+use Rattle.std.proofs.Common.{◌≡◌, ◌+◌, ◌++◌, ◌∷◌, [], List, ℕ, length, sym, ap, ◌∙◌, subst, arith, length-append}
 use Rattle.machine.specs.declared.input.Input.{Input}
 use Rattle.session.specs.Inputs.{entry_of}
-use Rattle.session.specs.Words.{device_of, machine_of, pending_of, acknowledged_of}
+use Rattle.session.specs.Words.{device_of, machine_of, pending_of, acknowledged_of, is_broken}
 use Rattle.playing.specs.Played.{Going, Stopped}
+use Rattle.playing.specs.Played.{IsStop}
+use Rattle.playing.specs.Report.{saved_line, line_due}
+use Rattle.playing.proofs.ReportLaws.{line_is_due}
+use Rattle.playing.proofs.Telling.{told_by, told_nothing}
+use Rattle.playing.proofs.Stops.{if_err, input_refused, full_not_output, full_stops}
 use Rattle.playing.proofs.PlayLaws.{going_input, stopped_here, stopped_more, on_ok, on_err}
 use Rattle.playing.proofs.moves.give.Goals as goal
 
@@ -61,3 +66,36 @@ returns-in-Err-clause-stopped g c = λ rom from given played.
     (subst (λ (n : ℕ). Stopped rom (g.D.SectorDevice.disk (device_of was)) (g.D.SectorDevice.disk (device_of was)) n from (given ++ c.args.input ∷ [])) (sym c.input.ensures.kept.0)
     (stopped_more rom (g.D.SectorDevice.disk (device_of was)) (g.D.SectorDevice.disk (device_of was)) (acknowledged_of was) from given (c.args.input ∷ [])
     (stopped_here rom (g.D.SectorDevice.disk (device_of was)) (acknowledged_of was) (pending_of was) (machine_of was) from given played (g.met.D.SectorDevice.only_now (device_of was)))))
+
+pub returns-in-Err-clause-told : goal.returns-in-Err-clause-told
+returns-in-Err-clause-told g c =
+    let was = c.args.session.now in
+    let full = input_refused c.in-Err.why (is_broken was) (length (pending_of was)) (acknowledged_of was + length (pending_of was)) c.requires.whole c.requires.few c.in-Err.ensures.answer in
+    told_nothing c.in-Err.why (acknowledged_of c.input.new.self) (line_due (length (pending_of was)) (acknowledged_of was + length (pending_of was) + 1)) (g.W.Write.contents c.args.report.now)
+    (full_not_output c.in-Err.why full.0)
+
+pub returns-in-Err-clause-cause : goal.returns-in-Err-clause-cause
+returns-in-Err-clause-cause g c =
+    let was = c.args.session.now in
+    let full = input_refused c.in-Err.why (is_broken was) (length (pending_of was)) (acknowledged_of was + length (pending_of was)) c.requires.whole c.requires.few c.in-Err.ensures.answer in
+    full_stops c.in-Err.why (acknowledged_of was + length (pending_of was) + 1) (g.D.SectorDevice.disk (device_of c.input.new.self)) full.0 (omega (arith, full.1))
+
+pub returns-then-counts-eq3200-clause-told : goal.returns-then-counts-eq3200-clause-told
+returns-then-counts-eq3200-clause-told g c =
+    let was = c.args.session.now in
+    let mid = c.input.new.self in
+    let more : length (pending_of mid) ≡ length (pending_of was) + 1 = ap length c.in_default.ensures.pending ∙ length-append (pending_of was) (entry_of c.args.input ∷ []) in
+    let seen : c.counts.result.pending ≡ length (pending_of mid) = ap (λ r. r.pending) c.counts.ensures in
+    let due : length (pending_of was) + 1 ≡ 3200 = omega (arith, more, seen, c.if-counts-eq3200.true) in
+    let all : acknowledged_of mid + length (pending_of mid) ≡ acknowledged_of was + length (pending_of was) + 1 = omega (arith, more, c.input.ensures.kept.0) in
+    let line : saved_line (acknowledged_of mid + length (pending_of mid)) ∷ [] ≡ line_due (length (pending_of was)) (acknowledged_of was + length (pending_of was) + 1) =
+    ap (λ (n : ℕ). saved_line n ∷ []) all ∙ sym (line_is_due (length (pending_of was)) (acknowledged_of was + length (pending_of was) + 1) due) in
+    if_err c.save_line.result c.save_line.ensures.told (λ why told. told_by line told)
+
+pub returns-then-counts-eq3200-clause-cause : goal.returns-then-counts-eq3200-clause-cause
+returns-then-counts-eq3200-clause-cause g c =
+    let was = c.args.session.now in
+    let mid = c.input.new.self in
+    let more : length (pending_of mid) ≡ length (pending_of was) + 1 = ap length c.in_default.ensures.pending ∙ length-append (pending_of was) (entry_of c.args.input ∷ []) in
+    let all : acknowledged_of mid + length (pending_of mid) ≡ acknowledged_of was + length (pending_of was) + 1 = omega (arith, more, c.input.ensures.kept.0) in
+    if_err c.save_line.result c.save_line.ensures.cause (λ why stop. subst (λ (n : ℕ). IsStop why n (g.D.SectorDevice.disk (device_of c.save_line.new.session))) all stop)

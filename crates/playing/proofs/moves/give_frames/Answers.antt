@@ -1,11 +1,13 @@
-use Rattle.std.proofs.Common.{◌≡◌, ◌+◌, ◌-◌, ◌++◌, ◌∷◌, [], List, ℕ, length, replicate, refl, sym, ap, subst, ◌∙◌, arith}
+use Rattle.std.proofs.Common.{◌≡◌, ◌≤◌, ◌+◌, ◌-◌, ◌++◌, ◌∷◌, [], List, ℕ, length, replicate, refl, sym, ap, subst, ◌∙◌, arith}
 use Rattle.machine.specs.declared.input.Input.{Input}
 use Rattle.machine.specs.declared.input.Input.TheVariants.{Frame}
 use Rattle.session.specs.Words.{device_of, machine_of, pending_of, acknowledged_of}
 use Rattle.std.specs.Io.KnownBytes.{Appends}
-use Rattle.exact_text.proofs.Writes.{appends_nothing, appends_twice}
-use Rattle.playing.specs.Report.{unsaved_after, line_due, lines_of_inputs, unsaved_behind}
-use Rattle.playing.proofs.ReportLaws.{frames_unsaved, frames_lines}
+use Rattle.exact_text.proofs.Writes.{appends_nothing}
+use Rattle.playing.specs.Report.{Line, texts, unsaved_after, line_due, lines_of_inputs, unsaved_behind}
+use Rattle.playing.proofs.ReportLaws.{appends_lines, frames_unsaved, frames_lines}
+use Rattle.playing.proofs.Telling.{told_frames}
+use Rattle.playing.proofs.Stops.{stops_among}
 use Rattle.playing.proofs.MoveLaws.{frames_next, frames_all}
 use Rattle.playing.proofs.PlayLaws.{going_nowhere, going_then, going_by, stopped_then, stopped_more, stopped_by}
 use Rattle.playing.proofs.moves.give_frames.Goals as goal
@@ -18,6 +20,8 @@ loop-i-init g c = record {
   counts = omega arith;
   unsaved = refl;
   report = appends_nothing (g.W.Write.contents c.args.report.now);
+  later = omega arith;
+  rom = refl;
   going = λ rom from given played.
       let first = c.args.session.now in
       going_nowhere rom (g.D.SectorDevice.disk (device_of first)) (acknowledged_of first) (pending_of first) (machine_of first) from given played (g.met.D.SectorDevice.only_now (device_of first));
@@ -45,11 +49,13 @@ loop-i-preserved g c = record {
   report =
       let first = c.args.session.now in
       let there = c.loop-i.session in
-      subst (Appends (g.W.Write.contents c.args.report.now) (g.W.Write.contents c.give.new.report))
+      subst (λ (l : List Line). Appends (g.W.Write.contents c.args.report.now) (g.W.Write.contents c.give.new.report) (texts l))
       (frames_lines (acknowledged_of first + length (pending_of first)) (length (pending_of first)) (Frame c.args.buttons) c.loop-i._i (acknowledged_of there + length (pending_of there)) (length (pending_of there)) c.loop-i.invariant.counts c.loop-i.invariant.unsaved)
-      (appends_twice (g.W.Write.contents c.args.report.now) (g.W.Write.contents c.loop-i.report) (g.W.Write.contents c.give.new.report)
+      (appends_lines (g.W.Write.contents c.args.report.now) (g.W.Write.contents c.loop-i.report) (g.W.Write.contents c.give.new.report)
       (lines_of_inputs (acknowledged_of first + length (pending_of first)) (length (pending_of first)) (replicate c.loop-i._i (Frame c.args.buttons)))
       (line_due (length (pending_of there)) (acknowledged_of there + length (pending_of there) + 1)) c.loop-i.invariant.report c.in_default.ensures.report);
+  later = omega (arith, c.give.ensures.later, c.loop-i.invariant.later);
+  rom = c.give.ensures.rom ∙ c.loop-i.invariant.rom;
   going = λ rom from given played.
       let first = g.D.SectorDevice.disk (device_of c.args.session.now) in
       let there = g.D.SectorDevice.disk (device_of c.loop-i.session) in
@@ -70,9 +76,24 @@ pub returns-clause-report : goal.returns-clause-report
 returns-clause-report g c =
     let first = c.args.session.now in
     let all : c.loop-i._i ≡ c.args.times = omega (arith, c.loop-i-test.false, c.loop-i.auto._i-end) in
-    subst (λ (n : ℕ). Appends (g.W.Write.contents c.args.report.now) (g.W.Write.contents c.loop-i.report) (lines_of_inputs (acknowledged_of first + length (pending_of first)) (length (pending_of first)) (replicate n (Frame c.args.buttons)))) all c.loop-i.invariant.report
+    subst (λ (n : ℕ). Appends (g.W.Write.contents c.args.report.now) (g.W.Write.contents c.loop-i.report) (texts (lines_of_inputs (acknowledged_of first + length (pending_of first)) (length (pending_of first)) (replicate n (Frame c.args.buttons))))) all c.loop-i.invariant.report
 
 pub returns-clause-counts : goal.returns-clause-counts
 returns-clause-counts g c =
     let all : c.loop-i._i ≡ c.args.times = omega (arith, c.loop-i-test.false, c.loop-i.auto._i-end) in
     (omega (arith, c.loop-i.invariant.counts, all), c.loop-i.invariant.unsaved ∙ ap (λ (n : ℕ). unsaved_behind (length (pending_of c.args.session.now)) (replicate n (Frame c.args.buttons))) all)
+
+pub returns-in-Err-clause-told : goal.returns-in-Err-clause-told
+returns-in-Err-clause-told g c =
+    let first = c.args.session.now in
+    let there = c.loop-i.session in
+    told_frames c.in-Err.why (acknowledged_of there) (acknowledged_of c.give.new.session) (acknowledged_of first + length (pending_of first)) (length (pending_of first)) (Frame c.args.buttons) c.loop-i._i c.args.times
+    (acknowledged_of there + length (pending_of there)) (length (pending_of there)) (g.W.Write.contents c.args.report.now) (g.W.Write.contents c.loop-i.report) (g.W.Write.contents c.give.new.report)
+    c.loop-i-test.true c.loop-i.invariant.counts c.loop-i.invariant.unsaved refl c.loop-i.invariant.report c.give.ensures.later c.in-Err.ensures.told
+
+pub returns-in-Err-clause-cause : goal.returns-in-Err-clause-cause
+returns-in-Err-clause-cause g c =
+    let first = c.args.session.now in
+    let there = c.loop-i.session in
+    let fewer : acknowledged_of there + length (pending_of there) + 1 ≤ acknowledged_of first + length (pending_of first) + c.args.times = omega (arith, c.loop-i.invariant.counts, c.loop-i-test.true) in
+    stops_among c.in-Err.why (acknowledged_of there + length (pending_of there) + 1) (acknowledged_of first + length (pending_of first) + c.args.times) (g.D.SectorDevice.disk (device_of c.give.new.session)) fewer c.in-Err.ensures.cause

@@ -1,10 +1,10 @@
-use Rattle.std.proofs.Common.{◌≡◌, ◌<◌, ◌+◌, ◌++◌, List, ℕ, length, take, false}
+use Rattle.std.proofs.Common.{◌≡◌, ◌<◌, ◌≤◌, ◌+◌, ◌++◌, List, ℕ, length, take, false}
 use Rattle.machine.specs.declared.input.Input.{Input}
 use Rattle.session.specs.Stands.{Position}
-use Rattle.session.specs.Words.{device_of, machine_of, pending_of, acknowledged_of, is_broken}
+use Rattle.session.specs.Words.{device_of, machine_of, rom_of, pending_of, acknowledged_of, is_broken}
 use Rattle.playing.specs.Played.{IsPlayed, Going}
 use Rattle.std.specs.Io.KnownBytes.{Appends}
-use Rattle.playing.specs.Report.{inputs_of_moves, unsaved_behind_moves, lines_of_moves}
+use Rattle.playing.specs.Report.{inputs_of_moves, unsaved_behind_moves, lines_of_moves, texts}
 use Rattle.playing.proofs.moves.make_moves.Given as goal
 
 -- the moves so far were made
@@ -18,7 +18,9 @@ invariant-loop-one g l =
       faults : (g.D.SectorDevice.disk (device_of now)).faults ≡ (g.D.SectorDevice.disk (device_of first)).faults;
       counts : acknowledged_of now + length (pending_of now) ≡ acknowledged_of first + length (pending_of first) + length (inputs_of_moves (take l.one-index l.moves));
       unsaved : length (pending_of now) ≡ unsaved_behind_moves (length (pending_of first)) (take l.one-index l.moves);
-      report : Appends (g.W.Write.contents l.initial.report) (g.W.Write.contents l.report) (lines_of_moves (acknowledged_of first + length (pending_of first)) (length (pending_of first)) (take l.one-index l.moves));
+      report : Appends (g.W.Write.contents l.initial.report) (g.W.Write.contents l.report) (texts (lines_of_moves (acknowledged_of first + length (pending_of first)) (length (pending_of first)) (take l.one-index l.moves)));
+      later : acknowledged_of first ≤ acknowledged_of now;
+      rom : rom_of now ≡ rom_of first;
       going : (rom : List ℕ) (from : Position) (given : List Input) → IsPlayed rom (g.D.SectorDevice.disk (device_of first)) (acknowledged_of first) (pending_of first) (machine_of first) from given →
           Going rom (g.D.SectorDevice.disk (device_of first)) (g.D.SectorDevice.disk (device_of now)) (acknowledged_of now) (pending_of now) (machine_of now) from (given ++ inputs_of_moves (take l.one-index l.moves));
     }

@@ -1,11 +1,12 @@
-use Rattle.std.proofs.Common.{inl, inr, [], length, ap, sym, subst, arith}
+use Rattle.std.proofs.Common.{◌≡◌, ◌+◌, ℕ, inl, inr, [], length, ap, sym, refl, subst, arith}
 use Rattle.sector_device.specs.Runs.{HoldsSince}
 use Rattle.session.specs.Stands.{Position}
 use Rattle.session.specs.Words.{device_of, machine_of, pending_of, acknowledged_of}
 use Rattle.session.proofs.Writes.{since_weaker}
 use Rattle.session.proofs.Beginnings.{since_then}
-use Rattle.playing.specs.Played.{IsPlayed, PlayImage, HasStopped}
+use Rattle.playing.specs.Played.{IsPlayed, IsStop, PlayImage, HasStopped}
 use Rattle.playing.specs.Report.{inputs_of_moves}
+use Rattle.playing.proofs.Telling.{keeps_same}
 use Rattle.playing.proofs.PlayLaws.{begun_played, all_saved}
 use Rattle.playing.proofs.whole.play.Goals as goal
 
@@ -38,21 +39,49 @@ returns-in-Ok-play_on-clause-images g c = λ honest.
     since_then (since_weaker (c.in-Ok.ensures.images honest) (λ image stands. inl stands))
     (since_weaker going.moments (λ image reaches. inr (record { from = from; stood = c.in-Ok.ensures.stands honest; reaches = reaches })))
 
-pub returns-in-Err-play_on-clause-stopped : goal.returns-in-Err-play_on-clause-stopped
-returns-in-Err-play_on-clause-stopped g c = λ honest.
+pub returns-in-Err-clause-refused : goal.returns-in-Err-clause-refused
+returns-in-Err-clause-refused g c =
+    inl (record { cause = c.in-Err.ensures.cause; report = keeps_same (g.W.Write.contents c.args.report.now); images = c.in-Err.ensures.images; untouched = c.in-Err.ensures.untouched })
+
+pub returns-in-Err-play_on-clause-refused : goal.returns-in-Err-play_on-clause-refused
+returns-in-Err-play_on-clause-refused g c =
     let rom = c.args.cartridge.now in
     let s = c.in-Ok.session in
+    let now = c.play_on.new.session in
+    let moves = c.args.moves.now in
+    let from : Position = record { count = acknowledged_of s; machine = machine_of s } in
+    let none : acknowledged_of s + length (pending_of s) + length (inputs_of_moves moves) ≡ acknowledged_of s + length (inputs_of_moves moves) = omega (arith, ap length c.in-Ok.ensures.begun.0) in
+    let why = c.in-Err-play_on.why in
+    let stays = sym c.into_device.ensures.device in
+    inr (subst (λ d. HasStopped rom (g.D.SectorDevice.disk c.args.device) (g.D.SectorDevice.disk d) moves why (g.W.Write.contents c.args.report.now) (g.W.Write.contents c.play_on.new.report)) stays
+    (record {
+      count = acknowledged_of s;
+      saved = acknowledged_of now;
+      cause = subst (λ (n : ℕ). IsStop why n (g.D.SectorDevice.disk (device_of now))) none c.in-Err-play_on.ensures.cause;
+      report = c.in-Err-play_on.ensures.told c.in-Ok.ensures.begun.0;
+      images = λ honest.
+          let begun : IsPlayed rom (g.D.SectorDevice.disk (device_of s)) (acknowledged_of s) (pending_of s) (machine_of s) from [] =
+          begun_played rom (g.D.SectorDevice.disk (device_of s)) (acknowledged_of s) (pending_of s) (machine_of s) (c.in-Ok.ensures.honest.1 honest) c.in-Ok.ensures.begun.2 c.in-Ok.ensures.begun.0 (c.in-Ok.ensures.rests honest) in
+          let stopped = c.in-Err-play_on.ensures.stopped rom from [] begun in
+          record { from = from; stood = c.in-Ok.ensures.stands honest; count_is = refl; least = stopped.least; saved_is = stopped.acknowledged_is; images = stopped.images };
+    }))
+
+pub returns-in-Ok-play_on-clause-reached : goal.returns-in-Ok-play_on-clause-reached
+returns-in-Ok-play_on-clause-reached g c = λ honest.
+    let rom = c.args.cartridge.now in
+    let s = c.in-Ok.session in
+    let now = c.play_on.new.session in
     let from : Position = record { count = acknowledged_of s; machine = machine_of s } in
     let begun : IsPlayed rom (g.D.SectorDevice.disk (device_of s)) (acknowledged_of s) (pending_of s) (machine_of s) from [] =
     begun_played rom (g.D.SectorDevice.disk (device_of s)) (acknowledged_of s) (pending_of s) (machine_of s) (c.in-Ok.ensures.honest.1 honest) c.in-Ok.ensures.begun.2 c.in-Ok.ensures.begun.0 (c.in-Ok.ensures.rests honest) in
-    let stopped = c.in-Err-play_on.ensures.stopped rom from [] begun in
-    inr (subst (λ d. HasStopped rom (g.D.SectorDevice.disk c.args.device) (g.D.SectorDevice.disk d) (inputs_of_moves c.args.moves.now)) (sym c.into_device.ensures.device)
-    (record {
+    let before = ap length c.in-Ok.ensures.begun.0 in
+    let behind = ap length c.in-Ok-play_on.ensures.saved.0 in
+    record {
       from = from;
       stood = c.in-Ok.ensures.stands honest;
-      acknowledged = acknowledged_of c.play_on.new.session;
-      images = λ image here. (stopped.least, stopped.acknowledged_is, stopped.images image here);
-    }))
+      count_is = omega (arith, c.in-Ok-play_on.ensures.counts, before, behind);
+      machine_is = (c.in-Ok-play_on.ensures.going rom from [] begun).played.machine_is;
+    }
 
 pub returns-in-Err-play_on-clause-images : goal.returns-in-Err-play_on-clause-images
 returns-in-Err-play_on-clause-images g c = λ honest.
@@ -71,3 +100,21 @@ returns-in-Ok-play_on-clause-report g c =
     let before = ap length c.in-Ok.ensures.begun.0 in
     let behind = ap length c.in-Ok-play_on.ensures.saved.0 in
     (acknowledged_of c.in-Ok.session, omega (arith, c.in-Ok-play_on.ensures.counts, before, behind), c.in-Ok-play_on.ensures.report c.in-Ok.ensures.begun.0)
+
+pub returns-in-Ok-play_on-clause-honest : goal.returns-in-Ok-play_on-clause-honest
+returns-in-Ok-play_on-clause-honest g c = λ honest.
+    let rom = c.args.cartridge.now in
+    let s = c.in-Ok.session in
+    let from : Position = record { count = acknowledged_of s; machine = machine_of s } in
+    let begun : IsPlayed rom (g.D.SectorDevice.disk (device_of s)) (acknowledged_of s) (pending_of s) (machine_of s) from [] =
+    begun_played rom (g.D.SectorDevice.disk (device_of s)) (acknowledged_of s) (pending_of s) (machine_of s) (c.in-Ok.ensures.honest.1 honest) c.in-Ok.ensures.begun.2 c.in-Ok.ensures.begun.0 (c.in-Ok.ensures.rests honest) in
+    (c.in-Ok-play_on.ensures.going rom from [] begun).played.honest
+
+pub returns-in-Err-play_on-clause-honest : goal.returns-in-Err-play_on-clause-honest
+returns-in-Err-play_on-clause-honest g c = λ honest.
+    let rom = c.args.cartridge.now in
+    let s = c.in-Ok.session in
+    let from : Position = record { count = acknowledged_of s; machine = machine_of s } in
+    let begun : IsPlayed rom (g.D.SectorDevice.disk (device_of s)) (acknowledged_of s) (pending_of s) (machine_of s) from [] =
+    begun_played rom (g.D.SectorDevice.disk (device_of s)) (acknowledged_of s) (pending_of s) (machine_of s) (c.in-Ok.ensures.honest.1 honest) c.in-Ok.ensures.begun.2 c.in-Ok.ensures.begun.0 (c.in-Ok.ensures.rests honest) in
+    subst (λ d. (g.D.SectorDevice.disk d).honest) (sym c.into_device.ensures.device) (c.in-Err-play_on.ensures.stopped rom from [] begun).honest

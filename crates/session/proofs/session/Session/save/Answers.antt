@@ -1,9 +1,11 @@
-use Rattle.std.proofs.Common.{rules, Ok, Err, ◌≡◌, ◌≤◌, ◌<◌, ◌+◌, ◌^◌, [], ℕ, List, false, true, refl, inl, inr, ⊎_elim, sym, ap, ◌∙◌, subst, arith, length, drop}
+use Rattle.std.proofs.Common.{rules, Ok, Err, ◌≡◌, ◌≤◌, ◌<◌, ◌+◌, ◌-◌, ◌^◌, [], ℕ, false, true, refl, inl, inr, ⊎_elim, sym, ap, ◌∙◌, subst, arith, length, drop}
 use Rattle.std.proofs.lemmas.Bool.Decides.{nat_tests}
-use Rattle.sector_log.specs.Content.{need}
+use Rattle.sector_log.specs.Content.{need, generation_in, last_generation}
 use Rattle.sector_log.specs.Inputs.{fits}
 use Rattle.sector_log.specs.Words.{device_of as device_of_store, is_broken as is_broken_store, entries_of, generation_of, id_of}
+use Rattle.session.specs.Calls.{IsSaveCause}
 use Rattle.session.specs.Resting.{Rests}
+use Rattle.session.specs.declared.error.SessionError.{SessionError}
 use Rattle.session.specs.declared.error.SessionError.TheVariants.{Device}
 use Rattle.session.proofs.Beginnings.{machine_of_rom}
 use Rattle.session.proofs.Saving.{rests_after, saved_after, within_after, nothing_within, nothing_rests, none_left, buffer_length}
@@ -124,3 +126,16 @@ returns-in-Err-clause-images g c = λ whole honest.
 pub returns-in-Err-clause-unchanged : goal.returns-in-Err-clause-unchanged
 returns-in-Err-clause-unchanged g c =
     ⊎_elim inl (λ same. inr (record { device = ap device_of_store same; machine = refl; pending = refl; acknowledged = refl; broken = ap is_broken_store same; log = ap entries_of same; generation = ap generation_of same })) c.in-Err.ensures.unchanged
+
+pub returns-in-Err-clause-worn : goal.returns-in-Err-clause-worn
+returns-in-Err-clause-worn g c = λ worn honest_now.
+    let self = c.args.self.now in
+    let whole : is_broken_store self.store ≡ false = sym c.is_broken.ensures ∙ c.if-is_broken.false in
+    ⊎_elim
+    (λ (device : c.in-Err.why ≡ Device). absurd (cc))
+    (λ same.
+    let honest = c.write_pending.ensures.honest.0 honest_now in
+    let cause = subst (λ (why : SessionError). IsSaveCause why false (fits (entries_of self.store) c.deref.result.now) (generation_of self.store)) worn c.in-Err.ensures.cause in
+    let there = self.store.stored whole honest in
+    subst (λ s. generation_in (g.D.SectorDevice.disk (device_of_store s)).sectors ≡ 2 ^ 64 - 1) (sym same) (ap last_generation there.chosen_is ∙ cause.2))
+    c.in-Err.ensures.unchanged

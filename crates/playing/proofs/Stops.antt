@@ -1,0 +1,71 @@
+-- Why a play stops.
+use Rattle.std.proofs.Common.{◌≡◌, ◌==◌, ℕ, ◌≤◌, ◌<◌, ◌-◌, ◌^◌, Bool, false, true, inl, inr, ◌⊎◌, ⊎_elim, if◌then◌else◌, Result, Ok, Err, refl, sym, subst, arith}
+use Rattle.std.specs.Prelude.{IfErr}
+use Rattle.std.proofs.lemmas.Bool.{eqb-true}
+use Rattle.sector_device.specs.DiskState.{DiskState}
+use Rattle.sector_log.specs.Content.{generation_in}
+use Rattle.session.specs.Calls.{IsSaveCause, input_answer}
+use Rattle.session.specs.declared.error.SessionError.{SessionError}
+use Rattle.session.specs.declared.error.SessionError.TheVariants.{Memory, Device, NoSession, TooSmall, OtherCartridge, Damaged, Worn, Broken, SaveFirst, CountFull, Output}
+use Rattle.playing.specs.Played.{IsStop}
+
+pub if_err : {T E : Type 0} (r : Result T E) {P Q : E → Type 0} → IfErr r P → ((e : E) → P e → Q e) → IfErr r Q
+if_err (Ok x) p to = tt
+if_err (Err e) p to = to e p
+
+-- ---- a save that is refused
+
+pub save_not_output : (why : SessionError) (broken fits : Bool) (generation : ℕ) → IsSaveCause why broken fits generation → why ≡ Output → ⊥
+save_not_output why broken fits generation cause is = subst (λ (w : SessionError). IsSaveCause w broken fits generation) is cause
+
+pub save_stops : (why : SessionError) (broken fits : Bool) (generation all : ℕ) (now : DiskState) → broken ≡ false → IsSaveCause why broken fits generation → (why ≡ Worn → now.honest → generation_in now.sectors ≡ 2 ^ 64 - 1) → IsStop why all now
+save_stops Memory broken fits generation all now whole cause worn = absurd cause
+save_stops Device broken fits generation all now whole cause worn = tt
+save_stops NoSession broken fits generation all now whole cause worn = absurd cause
+save_stops (TooSmall needed) broken fits generation all now whole cause worn = absurd cause
+save_stops OtherCartridge broken fits generation all now whole cause worn = absurd cause
+save_stops (Damaged damage) broken fits generation all now whole cause worn = absurd cause
+save_stops Worn broken fits generation all now whole cause worn = worn refl
+save_stops Broken broken fits generation all now whole cause worn = cc
+save_stops SaveFirst broken fits generation all now whole cause worn = absurd cause
+save_stops CountFull broken fits generation all now whole cause worn = absurd cause
+save_stops Output broken fits generation all now whole cause worn = absurd cause
+
+-- ---- an input that is refused
+
+abbrev answer_of : (most full : Bool) → Result (Unit {0}) SessionError
+answer_of most full = if most then Err SaveFirst else (if full then Err CountFull else Ok tt)
+
+refused_by : (why : SessionError) (most full : Bool) → Err why ≡ answer_of most full → (most ≡ true) ⊎ ((why ≡ CountFull) × (full ≡ true))
+refused_by why true full answer = inl refl
+refused_by why false true answer = inr (cc, refl)
+refused_by why false false answer = absurd (cc)
+
+-- an input is refused only at the greatest count
+pub input_refused : (why : SessionError) (broken : Bool) (pending all : ℕ) → broken ≡ false → pending < 3200 → Err why ≡ input_answer broken pending all → (why ≡ CountFull) × (all ≡ 2 ^ 64 - 1)
+input_refused why broken pending all whole few answer =
+    ⊎_elim
+    (λ (most : (pending == 3200) ≡ true). let e = eqb-true pending 3200 most in absurd (omega (arith, e, few)))
+    (λ (full : (why ≡ CountFull) × ((all == 2 ^ 64 - 1) ≡ true)). (full.0, eqb-true all (2 ^ 64 - 1) full.1))
+    (refused_by why (pending == 3200) (all == 2 ^ 64 - 1) (subst (λ (b : Bool). Err why ≡ input_answer b pending all) whole answer))
+
+pub full_not_output : (why : SessionError) → why ≡ CountFull → why ≡ Output → ⊥
+full_not_output why full is = cc
+
+pub full_stops : (why : SessionError) (all : ℕ) (now : DiskState) → why ≡ CountFull → 2 ^ 64 ≤ all → IsStop why all now
+full_stops why all now full least = subst (λ (w : SessionError). IsStop w all now) (sym full) least
+
+-- ---- among more inputs
+
+pub stops_among : (why : SessionError) (less all : ℕ) (now : DiskState) → less ≤ all → IsStop why less now → IsStop why all now
+stops_among CountFull less all now more stop = omega arith
+stops_among Worn less all now more stop = stop
+stops_among Device less all now more stop = stop
+stops_among Output less all now more stop = stop
+stops_among Memory less all now more stop = stop
+stops_among NoSession less all now more stop = stop
+stops_among (TooSmall needed) less all now more stop = stop
+stops_among OtherCartridge less all now more stop = stop
+stops_among (Damaged damage) less all now more stop = stop
+stops_among Broken less all now more stop = stop
+stops_among SaveFirst less all now more stop = stop
