@@ -5,7 +5,8 @@ usage: compare.py GBKEEP SECONDS            each kind of ROM for so many seconds
        compare.py GBKEEP KIND SEED show     one seed; a mismatch is followed to its first step, and the ROM is kept
 
 Kinds: raw (random bytes with a valid header), prog (random programs), proglong (the same, to a million steps), refuse
-(headers and lengths that are to be refused, among others), list. The status is 1 where anything differs."""
+(headers and lengths that are to be refused, among others), list, trace (random programs and bytes: new, play of a short
+script of frames and seconds, trace of 1,024 steps, line by line; 200 of them at most). The status is 1 where anything differs."""
 import os, random, shutil, subprocess, sys, tempfile, time
 import reference as ref
 
@@ -751,6 +752,57 @@ def list_rom(rnd):
     return rom
 
 
+def moves_for(rnd):
+    """A few frames and seconds: pairs of a button byte or a number of seconds and how often."""
+    buttons = [0, 0, 0, 0x01, 0x10, 0x80, 0xFF, rnd.randrange(256)]
+    moves = []
+    for _ in range(rnd.choice([0, 1, 1, 2, 3])):
+        if rnd.random() < 0.3: moves.append(('seconds', rnd.choice([0, 1, 59, 60, 3600, 86400, rnd.randrange(200000)])))
+        else: moves.append(('frames', rnd.choice(buttons), rnd.randrange(1, 3)))
+    return moves
+
+
+def compare_trace(kind, seed, rom, rnd):
+    """A new game, a few moves, and the next 1,024 steps, which are not saved."""
+    with open(TMP, 'wb') as f: f.write(rom)
+    stats['roms'] += 1
+    save, script, nothing = ROOM + '/save', ROOM + '/script', os.devnull
+    if os.path.exists(save): os.remove(save)
+    sectors = int(ref.info_text(rom).split('sectors ')[1])
+    moves = moves_for(rnd)
+    m = ref.Machine(rom)
+    lines, inputs = [], 0
+    for move in moves:
+        if move[0] == 'seconds':
+            for _ in range(move[1]): m.second()
+            inputs += 1
+            lines.append('seconds %d' % move[1])
+        else:
+            for _ in range(move[2]): m.frame(move[1])
+            inputs += move[2]
+            lines.append('frames %02X %d' % move[1:])
+    with open(script, 'w') as f: f.write('\n'.join(lines))
+    want = [(('new', TMP, save, str(sectors)), 'begun 0\n'),
+            (('play', TMP, save, script), 'resumed 0\n' + ('saved %d\n' % inputs if inputs else '')),
+            (('trace', TMP, save, '1024'), 'resumed %d\n' % inputs + ''.join(m.trace_line() for _ in range(1024)))]
+    if rnd.random() < 0.2:      # the steps were not saved
+        want.append((('play', TMP, save, nothing), 'resumed %d\n' % inputs))
+    for words, text in want:
+        code, out, err = gb(*words)
+        out = out.decode('latin-1')
+        if (code, out, err) != (0, text, b''):
+            pairs = list(zip(text.splitlines(), out.splitlines()))
+            at = next((i for i, (a, b) in enumerate(pairs) if a != b), len(pairs))
+            report(kind, seed, '%s, moves %r: status %d err %r, line %d: want %r got %r'
+                   % (words[0], lines, code, err, at, text.splitlines()[at:at + 1], out.splitlines()[at:at + 1]))
+            return False
+        if words[0] == 'trace':
+            for line in text.splitlines()[1:]:
+                what = line.split()[0] if line[0] in 'wi' else 'instruction'
+                cov[what] = cov.get(what, 0) + 1
+    return True
+
+
 def run(kind, first, seconds, most):
     start = time.time()
     seed = first
@@ -769,6 +821,8 @@ def run(kind, first, seconds, most):
         elif kind == 'proglong':
             rom = prog_rom(rnd)
             compare_steps(kind, seed, rom, rnd, rnd.choice([300000, 1000000]))
+        elif kind == 'trace':
+            compare_trace(kind, seed, prog_rom(rnd) if rnd.random() < 0.8 else raw_rom(rnd), rnd)
         elif kind == 'refuse':
             compare_texts(kind, seed, refuse_rom(rnd), rnd)
         elif kind == 'list':
@@ -790,7 +844,7 @@ def run(kind, first, seconds, most):
 def main(words):
     if len(words) == 1:
         first = int(time.time())
-        for kind in ('raw', 'prog', 'proglong', 'refuse', 'list'):
+        for kind in ('raw', 'prog', 'proglong', 'refuse', 'list', 'trace'):
             run(kind, first, float(words[0]), 10**9)
     elif len(words) == 3 and words[2] == 'show':
         run(words[0], int(words[1]), 1e9, 1)

@@ -1,6 +1,7 @@
 """A second machine, without pixels, written from the rules and tables that docs/MACHINE.md restates, by somebody who had
 not seen the emulator's code, definitions or documents. Simple and literal, one M-cycle after the other: it is what
-`make compare` compares with."""
+`make compare` compares with. Joypad, frames, seconds of the clock and the lines of a trace were added later, from docs/MACHINE.md,
+by somebody who had read of the code only the debugger and the program."""
 import sys
 
 # ---------------------------------------------------------------- header
@@ -147,14 +148,18 @@ def text(b):
     return 1, 'RST %02X' % (8 * y)
 
 
+def list_line(addr, b):
+    length, t = text(b)
+    return '%04X %-6s %s\n' % (addr, ''.join('%02X' % v for v in b[:length]), t)
+
+
 def list_text(rom, addr, count):
     m = Machine(rom)
     out = []
     for _ in range(count):
         b = [m.read((addr + i) & 0xFFFF, peek=True) for i in range(3)]
-        length, t = text(b)
-        out.append('%04X %-6s %s\n' % (addr, ''.join('%02X' % v for v in b[:length]), t))
-        addr = (addr + length) & 0xFFFF
+        out.append(list_line(addr, b))
+        addr = (addr + text(b)[0]) & 0xFFFF
     return ''.join(out)
 
 # ---------------------------------------------------------------- machine
@@ -189,6 +194,8 @@ class Machine:
         self.ie = 0
         self.iflag = 0x01
         self.p1 = 0x00
+        self.buttons = 0x00
+        self.overrun = 0
         # timer
         self.counter = 0xAB00
         self.tima = 0
@@ -348,7 +355,7 @@ class Machine:
         if a < 0xFF00: return 0
         if a == 0xFFFF: return self.ie
         if a >= 0xFF80: return self.hram[a - 0xFF80]
-        if a == 0xFF00: return 0xC0 | self.p1 | 0x0F
+        if a == 0xFF00: return 0xC0 | self.p1 | self.nibble()
         if a == 0xFF01: return self.sb
         if a == 0xFF02: return 0x7E | self.sc
         if a == 0xFF04: return self.counter >> 8
@@ -384,7 +391,10 @@ class Machine:
         elif a < 0xFF00: pass
         elif a == 0xFFFF: self.ie = v
         elif a >= 0xFF80: self.hram[a - 0xFF80] = v
-        elif a == 0xFF00: self.p1 = v & 0x30
+        elif a == 0xFF00:
+            old = self.nibble()
+            self.p1 = v & 0x30
+            self.joypad(old)
         elif a == 0xFF01: self.sb = v
         elif a == 0xFF02:
             self.sc = v & 0x81
@@ -423,6 +433,49 @@ class Machine:
         elif a == 0xFF49: self.obp1 = v
         elif a == 0xFF4A: self.wy = v
         elif a == 0xFF4B: self.wx = v
+
+    # ---- joypad
+    def nibble(self):
+        """The low bits of P1: 0 where a selected button is pressed."""
+        pressed = 0
+        if not self.p1 & 0x10: pressed |= self.buttons & 15     # Down, Up, Left, Right
+        if not self.p1 & 0x20: pressed |= self.buttons >> 4     # Start, Select, B, A
+        return 15 - pressed
+
+    def joypad(self, old):
+        if old & ~self.nibble(): self.iflag |= 16
+
+    def set_buttons(self, buttons):
+        old = self.nibble()
+        self.buttons = buttons
+        self.joypad(old)
+
+    # ---- inputs
+    def frame(self, buttons):
+        self.set_buttons(buttons)
+        passed = self.overrun
+        while passed < 17556:
+            before = self.cycles
+            self.step()
+            passed += self.cycles - before
+        self.overrun = passed - 17556
+
+    def second(self):
+        c = self.live
+        if self.kind != 'MBC3+clock' or c[4] & 0x40:
+            return
+        # a register beyond its range grows by 1, and does not pass on
+        for i, (last, width) in enumerate(((59, 64), (59, 64), (23, 32))):
+            if c[i] != last:
+                c[i] = (c[i] + 1) % width
+                return
+            c[i] = 0
+        day = c[3] + 256 * (c[4] & 1) + 1
+        if day == 512:
+            day = 0
+            c[4] |= 0x80
+        c[3] = day % 256
+        c[4] = c[4] & 0xFE | day // 256
 
     # ---- units
     def timer_signal(self):
@@ -500,6 +553,8 @@ class Machine:
         return hi * 256 + lo
 
     def step(self):
+        if self.stopped and not self.locked and self.nibble() != 15:
+            self.stopped = False
         if self.locked or self.stopped:
             self.ticks(1)
             self.what = 'wait'
@@ -537,6 +592,15 @@ class Machine:
             self.ime = 1
             self.enable = False
         self.ticks(n)
+
+    def trace_line(self):
+        """Makes a step and gives its line."""
+        pc = self.pc
+        # with `repeat` the opcode fetch does not advance PC
+        places = (0, 0, 1) if self.repeat else (0, 1, 2)
+        b = [self.read((pc + i) & 0xFFFF) for i in places]
+        self.step()
+        return self.what + '\n' if self.what else list_line(pc, b)
 
     def n8(self):
         v = self.read(self.pc)
@@ -940,6 +1004,9 @@ def main(argv):
             for _ in range(int(argv[3])):
                 m.step()
             out = m.registers()
+        elif argv[1] == 'trace':
+            m = Machine(rom)
+            out = ''.join(m.trace_line() for _ in range(int(argv[3])))
     except Refused as e:
         sys.stderr.write('gbkeep: %s\n' % e)
         return 1

@@ -48,6 +48,12 @@ pub enum Request<'a> {
         save: &'a str,
         out: &'a str,
     },
+    /// Prints the next `count` steps, 1 to 1,024, of the game in a file.
+    Trace {
+        cart: &'a str,
+        save: &'a str,
+        count: u32,
+    },
 }
 
 /// The request that the words make, of which the first is the program's own name.
@@ -94,6 +100,11 @@ fn named_request<'a>(name: &str, values: &ArgMatches<'a>) -> Option<Request<'a>>
             cart,
             save: values.get_str("SAVE")?,
             out: values.get_str("OUT")?,
+        }),
+        "trace" => Some(Request::Trace {
+            cart,
+            save: values.get_str("SAVE")?,
+            count: between(1, 1_024, values.get_one("COUNT")?)?,
         }),
         _ => None,
     }

@@ -12,6 +12,7 @@ pub fn command<'a>(alloc: Global) -> Result<Command<'a>, AllocError> {
     let new = new(alloc)?;
     let play = play(alloc)?;
     let frame = frame(alloc)?;
+    let trace = trace(alloc)?;
     Command::new(alloc, NAME)
         .about("A Game Boy emulator whose every function is proved to meet its contract")
         .bin_name(NAME)?
@@ -21,7 +22,8 @@ pub fn command<'a>(alloc: Global) -> Result<Command<'a>, AllocError> {
         .subcommand(step)?
         .subcommand(new)?
         .subcommand(play)?
-        .subcommand(frame)
+        .subcommand(frame)?
+        .subcommand(trace)
 }
 
 fn word<'a>(alloc: Global, name: &'a str, help: &'a str) -> Arg<'a> {
@@ -93,4 +95,16 @@ fn frame<'a>(alloc: Global) -> Result<Command<'a>, AllocError> {
         "Takes up a game and writes its picture to a file",
     )?
     .arg(word(alloc, "OUT", "The file for the picture, as plain PGM"))
+}
+
+fn trace<'a>(alloc: Global) -> Result<Command<'a>, AllocError> {
+    let count = word(alloc, "COUNT", "How many steps").value_parser(value_parser!(u32).range(
+        1..=1_024,
+    ));
+    over_save(
+        alloc,
+        "trace",
+        "Takes up a game and prints its next steps, which are not saved",
+    )?
+    .arg(count)
 }

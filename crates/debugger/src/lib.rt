@@ -13,6 +13,3 @@ pub use debugger::Debugger;
 pub use exact_text::OutputFailed;
 pub use stepped::write_stepped;
 pub use stop::Stop;
-
-#[cfg(test)]
-mod tests;

@@ -1,5 +1,7 @@
 -- A play that was not begun, and why one was refused.
-use Rattle.std.proofs.Common.{inl, refl, ℕ, List, Option}
+use Rattle.std.proofs.Common.{◌≡◌, ◌∙◌, ◌⊎◌, ◌+◌, inl, inr, refl, sym, ap, subst, ℕ, List, [], length, Option, Ok, arith}
+use Rattle.std.specs.Io.KnownBytes.{Appends}
+use Rattle.machine.specs.Machine.{MachineState, after}
 use Rattle.machine.specs.declared.input.Input.{Input}
 use Rattle.cartridge.specs.Accepted.{IsAccepted}
 use Rattle.sector_device.specs.DiskState.{DiskState}
@@ -7,23 +9,88 @@ use Rattle.sector_device.specs.Runs.{HoldsSince}
 use Rattle.session.specs.declared.error.SessionError.{SessionError}
 use Rattle.session.proofs.Beginnings.{since_now}
 use Rattle.session.proofs.Writes.{since_weaker}
-use Rattle.playing.specs.Played.{PlayImage}
+use Rattle.playing.specs.Played.{PlayImage, HasReached, IsNotTakenUp, HasStopped}
+use Rattle.playing.specs.Report.{inputs_of_moves, report_of}
+use Rattle.script.specs.Script.{moves_from, moves_of}
+use Rattle.script.specs.declared.moves.Move.{Move}
 use Rattle.command_line.specs.declared.Request.{Request}
 use Rattle.gbkeep.specs.declared.error.PlayError.{PlayError}
 use Rattle.gbkeep.specs.declared.error.PlayError.TheVariants.{Cart, Script, Session, Picture}
 use Rattle.gbkeep.specs.declared.error.PlayRefused.{PlayRefused}
-use Rattle.gbkeep.specs.Playing.{IsPlayCause}
+use Rattle.gbkeep.specs.Playing.{HasReported, IsLastMachine, IsPlayable, IsPlayCause, moves_in, moves_read}
 use Rattle.gbkeep.specs.Program.{IsRefused, fault_of_play}
-use Rattle.gbkeep.specs.Request.{HasAddress, HasScript, IsGameRefused}
+use Rattle.gbkeep.specs.Request.{HasAddress, HasScript, IsCutShort, IsGameRefused, IsOutputRefused, IsReported, OfAScript}
 
 -- no call of the device
 pub nothing_played : (rom : List ℕ) (now : DiskState) (given : List Input) → ((image : List (List ℕ)) → now.since now.moment image → now.image image) → HoldsSince now now (PlayImage rom now given)
 nothing_played rom now given only = since_weaker (since_now now only) (λ image stood. inl (record { before = image; stood = stood; is = refl }))
 
-pub play_refused : {D : Type 0} (request : Request) (rom script : List ℕ) (before : D) (refused : PlayRefused D) (old new : Option (List ℕ)) (why : PlayError)
-    → HasAddress request → HasScript request → ((fault : SessionError) → IsAccepted rom → IsGameRefused request fault old new)
-    → IsPlayCause rom script before refused old new why → IsRefused request (fault_of_play why) old new
-play_refused request rom script before refused old new (Cart fault) address plays game cause = (address, cause.2, (rom, cause.0))
-play_refused request rom script before refused old new (Script fault) address plays game cause = (plays, cause.3, (script, cause.1))
-play_refused request rom script before refused old new (Session fault) address plays game cause = game fault cause.0
-play_refused request rom script before refused old new Picture address plays game cause = (address, (rom, cause.0))
+-- the report of a play that came to its end, and the machine behind it
+pub reported : (cart rom script : List ℕ) (moves : List Move) (start : DiskState) (all : ℕ) (machine : MachineState) (old new : Option (List ℕ))
+    → cart ≡ rom → moves_of script ≡ Ok moves
+    → ((count : ℕ) × (all ≡ count + length (inputs_of_moves moves)) × Appends old new (report_of count moves))
+    → (start.honest → HasReached cart start all machine (inputs_of_moves moves)) → HasReported rom script start old new
+reported cart rom script moves start all machine old new same read said reached = record {
+  count = said.0;
+  report = subst (λ (m : List Move). Appends old new (report_of said.0 m)) (sym (ap moves_read read)) said.2;
+  counted = λ honest.
+      let there = subst (λ (r : List ℕ). HasReached r start all machine (inputs_of_moves moves)) same (reached honest) in
+      let counts : said.0 ≡ there.from.count = omega (arith, said.1, there.count_is) in
+      (there.from, there.stood, counts);
+}
+
+pub last_machine : (cart rom script : List ℕ) (moves : List Move) (start : DiskState) (all : ℕ) (machine : MachineState)
+    → cart ≡ rom → moves_of script ≡ Ok moves
+    → (start.honest → HasReached cart start all machine (inputs_of_moves moves)) → IsLastMachine rom script start machine
+last_machine cart rom script moves start all machine same read reached = record {
+  reached = λ honest.
+      let there = subst (λ (r : List ℕ). HasReached r start all machine (inputs_of_moves moves)) same (reached honest) in
+      let last = subst (λ (m : List Move). machine ≡ after there.from.machine (inputs_of_moves m)) (sym (ap moves_read read)) there.machine_is in
+      (there.from, there.stood, last);
+}
+
+cut_short : (rom : List ℕ) (start now : DiskState) (moves : List Move) (why : SessionError) (old new : Option (List ℕ))
+    → IsNotTakenUp rom start now why old new ⊎ HasStopped rom start now moves why old new → IsCutShort moves why old new
+cut_short rom start now moves why old new (inl begun) = inl begun.report
+cut_short rom start now moves why old new (inr stopped) = inr (stopped.count, stopped.saved, stopped.report)
+
+whole_report : (rom script : List ℕ) (start : DiskState) (old new : Option (List ℕ)) → HasReported rom script start old new → IsReported (moves_in script) old new
+whole_report rom script start old new reported = record { count = reported.count; report = reported.report }
+
+pub no_moves : moves_in [] ≡ []
+unfolding moves_from
+no_moves = refl
+
+pub play_done : (rom script : List ℕ) (start : DiskState) (old new : Option (List ℕ)) → IsPlayable rom script → HasReported rom script start old new
+    → IsAccepted rom × OfAScript (λ moves. IsReported moves old new)
+play_done rom script start old new playable reported = (playable.cartridge, (script, playable.moves, whole_report rom script start old new reported))
+
+pub frame_done : (rom script : List ℕ) (start : DiskState) (old new : Option (List ℕ)) → script ≡ [] → IsPlayable rom script → HasReported rom script start old new
+    → IsAccepted rom × IsReported [] old new
+frame_done rom script start old new none playable reported =
+    (playable.cartridge, subst (λ (moves : List Move). IsReported moves old new) (ap moves_in none ∙ no_moves) (whole_report rom script start old new reported))
+
+-- why a request is refused whose game was played
+pub play_refused : {D : Type 0} (request : Request) (rom script : List ℕ) (before : D) (refused : PlayRefused D) (start now : DiskState) (old new : Option (List ℕ)) (why : PlayError)
+    → HasAddress request → HasScript request
+    → ((fault : SessionError) → IsPlayable rom script → IsCutShort (moves_in script) fault old new → IsGameRefused request fault old new)
+    → (IsPlayable rom script → IsReported (moves_in script) old new → IsOutputRefused request old new)
+    → IsPlayCause rom script before refused start now old new why → IsRefused request (fault_of_play why) old new
+play_refused request rom script before refused start now old new (Cart fault) address plays game output cause = (address, cause.2, (rom, cause.0))
+play_refused request rom script before refused start now old new (Script fault) address plays game output cause = (plays, cause.3, (script, cause.1))
+play_refused request rom script before refused start now old new (Session fault) address plays game output cause =
+    game fault cause.0 (cut_short rom start now (moves_in script) fault old new cause.1)
+play_refused request rom script before refused start now old new Picture address plays game output cause =
+    (address, output cause.0 (whole_report rom script start old new cause.1))
+
+-- and one that plays no moves
+pub empty_refused : {D : Type 0} (request : Request) (rom script : List ℕ) (before : D) (refused : PlayRefused D) (start now : DiskState) (old new : Option (List ℕ)) (why : PlayError)
+    → script ≡ [] → HasAddress request → HasScript request
+    → ((fault : SessionError) → IsAccepted rom → IsCutShort [] fault old new → IsGameRefused request fault old new)
+    → (IsAccepted rom → IsReported [] old new → IsOutputRefused request old new)
+    → IsPlayCause rom script before refused start now old new why → IsRefused request (fault_of_play why) old new
+empty_refused request rom script before refused start now old new why none address plays game output cause =
+    let empty = ap moves_in none ∙ no_moves in
+    play_refused request rom script before refused start now old new why address plays
+    (λ fault playable cut. game fault playable.cartridge (subst (λ (moves : List Move). IsCutShort moves fault old new) empty cut))
+    (λ playable report. output playable.cartridge (subst (λ (moves : List Move). IsReported moves old new) empty report)) cause

@@ -1,6 +1,7 @@
+pub mod Info
 pub mod Line
 pub mod StepLine
-pub mod Listing
 pub mod Playing
+pub mod Tracing
 pub mod Request
 pub mod Program

@@ -1,45 +1,84 @@
 -- What `play_to_picture` leaves, and when it refuses.
-use Rattle.std.specs.Prelude.{◌≡◌, ℕ, List, [], Option, Some, Result, Ok, Err, IsOk}
-use Rattle.std.specs.Io.KnownBytes.{Keeps}
+use Rattle.std.specs.Prelude.{◌≡◌, ◌⊎◌, ℕ, List, [], Option, Some, Result, Ok, Err, IsOk}
+use Rattle.std.specs.Io.KnownBytes.{Appends, Keeps}
+use Rattle.exact_text.specs.Written.{AppendsProperPrefix}
 use Rattle.cartridge.specs.Accepted.{IsAccepted, refusal_of}
+use Rattle.machine.specs.Machine.{MachineState, after}
 use Rattle.machine.specs.declared.input.Input.{Input}
+use Rattle.picture_unit.specs.Pgm.{picture_text}
 use Rattle.script.specs.Script.{moves_of, IsRefused as IsScriptRefused}
 use Rattle.script.specs.declared.moves.Move.{Move}
+use Rattle.sector_device.specs.DiskState.{DiskState}
 use Rattle.sector_device.specs.declared.device.SectorDevice.{Ghosts}
+use Rattle.sector_log.specs.Content.{content}
+use Rattle.session.specs.Stands.{Position, stands}
 use Rattle.session.specs.Words.{device_of}
+use Rattle.session.specs.declared.error.SessionError.{SessionError}
 use Rattle.session.specs.declared.session.Session.{Session as PlaySession}
-use Rattle.playing.specs.Report.{inputs_of_moves}
+use Rattle.playing.specs.Played.{IsNotTakenUp, HasStopped}
+use Rattle.playing.specs.Report.{inputs_of_moves, report_of}
 use Rattle.gbkeep.specs.declared.error.PlayError.{PlayError}
 use Rattle.gbkeep.specs.declared.error.PlayError.TheVariants.{Cart, Script, Session, Picture}
 use Rattle.gbkeep.specs.declared.error.PlayRefused.{PlayRefused}
 
-abbrev pub inputs_read : Result (List Move) ℕ → List Input
-inputs_read (Ok moves) = inputs_of_moves moves
-inputs_read (Err number) = []
+abbrev pub moves_read : Result (List Move) ℕ → List Move
+moves_read (Ok moves) = moves
+moves_read (Err number) = []
 
--- the inputs of a script; none where it has a wrong line
+-- the moves of a script, and their inputs; none where it has a wrong line
+abbrev pub moves_in : List ℕ → List Move
+moves_in script = moves_read (moves_of script)
+
 abbrev pub inputs_of_script : List ℕ → List Input
-inputs_of_script script = inputs_read (moves_of script)
+inputs_of_script script = inputs_of_moves (moves_in script)
+
+-- both are accepted
+pub record IsPlayable (rom script : List ℕ) : Type 0 where
+  pub cartridge : IsAccepted rom
+  pub moves : IsOk (moves_of script)
 
 -- the device that a call leaves
 abbrev pub left_by : {D : Type 0} → Result D (PlayRefused D) → D
 left_by (Ok device) = device
 left_by (Err refused) = refused.device
 
--- Why ROM and script are not played to the end, with the device at the call's start and at its return, and the report before
--- and since: the first rule of a cartridge that the image breaks; the script is refused, of a cartridge that is none; and
--- nothing was touched or written then. Or the play or the picture ended, and both were accepted.
-abbrev pub IsPlayCause : {D : Type 0} → (rom script : List ℕ) → (before : D) → PlayRefused D → (old new : Option (List ℕ)) → PlayError → Type 0
-IsPlayCause rom script before refused old new (Cart fault) = (refusal_of rom ≡ Some fault) × (refused.device ≡ before) × Keeps old new
-IsPlayCause rom script before refused old new (Script fault) =
-    IsAccepted rom × IsScriptRefused script fault × (refused.device ≡ before) × Keeps old new
-IsPlayCause rom script before refused old new (Session fault) = IsAccepted rom × IsOk (moves_of script)
-IsPlayCause rom script before refused old new Picture = IsAccepted rom × IsOk (moves_of script)
+-- the whole report of the script's moves went out; if the device is honest, from the count that reads stood for
+pub record HasReported (rom script : List ℕ) (old : DiskState) (before since : Option (List ℕ)) : Type 0 where
+  pub count : ℕ
+  pub report : Appends before since (report_of count (moves_in script))
+  pub counted : old.honest → (from : Position) × (stands rom (content old.sectors) ≡ Some from) × (count ≡ from.count)
 
--- both are accepted
-pub record IsPlayable (rom script : List ℕ) : Type 0 where
-  pub cartridge : IsAccepted rom
-  pub moves : IsOk (moves_of script)
+-- a machine; if the device is honest, the one behind all inputs of the script, from what reads gave
+pub record IsLastMachine (rom script : List ℕ) (old : DiskState) (machine : MachineState) : Type 0 where
+  pub reached : old.honest → (from : Position) × (stands rom (content old.sectors) ≡ Some from) × (machine ≡ after from.machine (inputs_of_script script))
+
+-- the picture of the last machine went out
+pub record HasDrawn (rom script : List ℕ) (old : DiskState) (before since : Option (List ℕ)) : Type 0 where
+  pub machine : MachineState
+  pub is_last : IsLastMachine rom script old machine
+  pub drawn : Appends before since (picture_text machine.processor.memory.picture.screen.rows)
+
+-- what of the picture went out at a refusal: a proper prefix where that failed, else nothing
+abbrev pub HasDrawnPart : (rom script : List ℕ) → DiskState → (before since : Option (List ℕ)) → PlayError → Type 0
+HasDrawnPart rom script old before since (Cart fault) = Keeps before since
+HasDrawnPart rom script old before since (Script fault) = Keeps before since
+HasDrawnPart rom script old before since (Session fault) = Keeps before since
+HasDrawnPart rom script old before since Picture =
+    (machine : MachineState) × IsLastMachine rom script old machine × AppendsProperPrefix before since (picture_text machine.processor.memory.picture.screen.rows)
+
+-- it was not taken up, with nothing written; or it stopped on the way, with its report cut short
+abbrev pub IsPlayEnd : (rom script : List ℕ) → (old now : DiskState) → SessionError → (before since : Option (List ℕ)) → Type 0
+IsPlayEnd rom script old now why before since = IsNotTakenUp rom old now why before since ⊎ HasStopped rom old now (moves_in script) why before since
+
+-- Why ROM and script are not played to the end, with the device and its images at the call's start and at its return, and the report
+-- before and since: the first rule of a cartridge that the image breaks; the script is refused, of a cartridge that is accepted; and
+-- nothing was touched or written then. Or the play ended, or the picture could not be written behind the whole report.
+abbrev pub IsPlayCause : {D : Type 0} → (rom script : List ℕ) → (before : D) → PlayRefused D → (start now : DiskState) → (old new : Option (List ℕ)) → PlayError → Type 0
+IsPlayCause rom script before refused start now old new (Cart fault) = (refusal_of rom ≡ Some fault) × (refused.device ≡ before) × Keeps old new
+IsPlayCause rom script before refused start now old new (Script fault) =
+    IsAccepted rom × IsScriptRefused script fault × (refused.device ≡ before) × Keeps old new
+IsPlayCause rom script before refused start now old new (Session fault) = IsPlayable rom script × IsPlayEnd rom script start now fault old new
+IsPlayCause rom script before refused start now old new Picture = IsPlayable rom script × HasReported rom script start old new
 
 -- the device that a play leaves before its picture
 module _ {D : Type 0} {disk : Ghosts D} where

@@ -2,7 +2,7 @@
 use Rattle.std.specs.Prelude.{◌≡◌, ◌≤◌, ◌↔◌, ◌≢◌, ◌⊎◌, ℕ, List, codes, Option, None, Some, Result, Ok, Err, ⊤, Bool, true, false}
 use Rattle.std.specs.Io.KnownBytes.{Appends, Keeps}
 use Rattle.exact_text.specs.Written.{AppendsProperPrefix}
-use Rattle.cartridge.specs.Accepted.{IsAccepted, refusal_of}
+use Rattle.cartridge.specs.Accepted.{refusal_of}
 use Rattle.clap.specs.Values.{kind_of}
 use Rattle.clap.specs.declared.error.kind.ErrorKind.{ErrorKind}
 use Rattle.clap.specs.declared.error.kind.ErrorKind.TheVariants.{DisplayHelp, DisplayVersion, OutOfMemory}
@@ -14,10 +14,12 @@ use Rattle.gbkeep.specs.declared.asked.Asked.TheVariants.{Command, Help, Misuse,
 use Rattle.gbkeep.specs.declared.error.StepError.TheVariants.{Cart as StepCart, Memory as StepMemory, Output as StepOutput}
 use Rattle.gbkeep.specs.declared.error.PlayError.{PlayError}
 use Rattle.gbkeep.specs.declared.error.PlayError.TheVariants.{Cart as PlayCart, Script as PlayScript, Session as PlaySession, Picture as PlayPicture}
+use Rattle.gbkeep.specs.declared.error.TraceError.{TraceError}
+use Rattle.gbkeep.specs.declared.error.TraceError.TheVariants.{Cart as TraceCart, Session as TraceSession, Memory as TraceMemory, Output as TraceOutput}
 use Rattle.gbkeep.specs.declared.fault.Fault.{Fault}
 use Rattle.gbkeep.specs.declared.fault.Fault.TheVariants.{Cart, Step, Memory, File, Output, Address, Word, Device, Script, Session}
 use Rattle.script.specs.Script.{IsRefused as IsScriptRefused}
-use Rattle.gbkeep.specs.Request.{HasAddress, HasSave, HasScript, IsDone, IsGameRefused, printed}
+use Rattle.gbkeep.specs.Request.{HasAddress, HasSave, HasScript, IsDone, IsGameRefused, IsOutputRefused, printed}
 use Rattle.gbkeep.specs.StepLine.{Refuses}
 
 abbrev pub status_of : Fault → ℕ
@@ -38,6 +40,13 @@ fault_of_play (PlayCart fault) = Cart fault
 fault_of_play (PlayScript fault) = Script fault
 fault_of_play (PlaySession fault) = Session fault
 fault_of_play PlayPicture = Output
+
+-- and what a trace that was refused is
+abbrev pub fault_of_trace : TraceError → Fault
+fault_of_trace (TraceCart fault) = Cart fault
+fault_of_trace (TraceSession fault) = Session fault
+fault_of_trace TraceMemory = Memory
+fault_of_trace TraceOutput = Output
 
 -- its line on standard error; None for a fault of the cartridge, of a save file, of a script, or of a game that is too large
 -- for its file or damaged, whose text no definition gives
@@ -80,7 +89,7 @@ IsRefused request (Cart fault) old new = HasAddress request × Keeps old new × 
 IsRefused request (Step fault) old new = HasAddress request × ((rom : List ℕ) × Refuses rom (printed request rom) old new fault)
 IsRefused request Memory old new = HasAddress request × Keeps old new
 IsRefused request File old new = HasAddress request × Keeps old new
-IsRefused request Output old new = HasAddress request × ((rom : List ℕ) × IsAccepted rom)
+IsRefused request Output old new = HasAddress request × IsOutputRefused request old new
 IsRefused request Address old new = (¬ (HasAddress request)) × Keeps old new
 IsRefused request Word old new = ⊥
 IsRefused request (Device fault) old new = HasSave request × Keeps old new

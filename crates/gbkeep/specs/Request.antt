@@ -1,18 +1,27 @@
 -- What a request wants of a ROM, and when the program has done it.
-use Rattle.std.specs.Prelude.{◌≤◌, ℕ, List, [], codes, length, Option}
+use Rattle.std.specs.Prelude.{◌⊎◌, ◌≤◌, ℕ, List, [], codes, length, Option, IsOk}
 use Rattle.std.specs.Str.Parse.{IsNumeral, digits_value}
 use Rattle.std.specs.Io.KnownBytes.{Appends, Keeps}
+use Rattle.exact_text.specs.Written.{AppendsProperPrefix}
 use Rattle.cartridge.specs.Accepted.{IsAccepted}
 use Rattle.cartridge.specs.Header.{ram_length_of}
 use Rattle.command_line.specs.declared.Request.{Request}
-use Rattle.command_line.specs.declared.Request.TheVariants.{Info, List as Listing, Step, New, Play, Frame}
+use Rattle.command_line.specs.declared.Request.TheVariants.{Info, List as Listing, Step, New, Play, Frame, Trace}
 use Rattle.machine.specs.Machine.{start}
+use Rattle.snapshot.specs.Legal.{IsMachineOf}
 use Rattle.snapshot.specs.Text.{text_length}
 use Rattle.sector_log.specs.Content.{need}
+use Rattle.script.specs.Script.{moves_of}
+use Rattle.script.specs.declared.moves.Move.{Move}
 use Rattle.session.specs.declared.error.SessionError.{SessionError}
 use Rattle.session.specs.Found.{IsNewGameCause}
-use Rattle.gbkeep.specs.Listing.{lines_from}
+use Rattle.session.specs.Stands.{Position}
+use Rattle.playing.specs.Report.{report_lines, report_of, HasTold}
+use Rattle.debugger.specs.Listing.{lines_from}
+use Rattle.gbkeep.specs.Info.{info_of}
+use Rattle.gbkeep.specs.Playing.{moves_in}
 use Rattle.gbkeep.specs.StepLine.{line_after}
+use Rattle.gbkeep.specs.Tracing.{trace_text}
 
 -- one to four hexadecimal digits
 abbrev pub IsAddress : List ℕ → Type 0
@@ -26,21 +35,40 @@ HasAddress (Step cart count) = Unit {0}
 HasAddress (New cart save sectors) = Unit {0}
 HasAddress (Play cart save script) = Unit {0}
 HasAddress (Frame cart save out) = Unit {0}
+HasAddress (Trace cart save count) = Unit {0}
 
--- what it prints of a ROM; nothing is said of the lines of `info` and of the report of a play
+-- what it prints of a ROM; not here the report of a play and a trace, which are of a game of the ROM
 abbrev pub printed : Request → List ℕ → List ℕ
-printed (Info cart) rom = []
+printed (Info cart) rom = info_of rom
 printed (Listing cart address count) rom = lines_from (start rom) (digits_value 16 address.now) count
 printed (Step cart count) rom = line_after rom count
 printed (New cart save sectors) rom = codes "begun 0\n"
 printed (Play cart save script) rom = []
 printed (Frame cart save out) rom = []
+printed (Trace cart save count) rom = []
+
+-- a count of inputs and a machine of this ROM, of which the text of a trace has P
+abbrev pub OfATrace : (rom : List ℕ) → (steps : ℕ) → (List ℕ → Type 0) → Type 0
+OfATrace rom steps P = (from : Position) × IsMachineOf rom from.machine × P (trace_text from.count from.machine steps)
+
+-- the whole report of these moves, from some count on
+pub record IsReported (moves : List Move) (old new : Option (List ℕ)) : Type 0 where
+  pub count : ℕ
+  pub report : Appends old new (report_of count moves)
+
+-- nothing of the report of these moves went out, or it was cut short
+abbrev pub IsCutShort : List Move → SessionError → Option (List ℕ) → Option (List ℕ) → Type 0
+IsCutShort moves why old new = Keeps old new ⊎ ((count saved : ℕ) × HasTold why saved (report_lines count moves) old new)
+
+-- the moves of some script, of which P holds
+abbrev pub OfAScript : (List Move → Type 0) → Type 0
+OfAScript P = (script : List ℕ) × IsOk (moves_of script) × P (moves_in script)
 
 -- it was done on this ROM
 abbrev pub IsDoneOn : List ℕ → Request → Option (List ℕ) → Option (List ℕ) → Type 0
-IsDoneOn rom (Info cart) old new = IsAccepted rom
-IsDoneOn rom (Play cart save script) old new = IsAccepted rom
-IsDoneOn rom (Frame cart save out) old new = IsAccepted rom
+IsDoneOn rom (Play cart save script) old new = IsAccepted rom × OfAScript (λ moves. IsReported moves old new)
+IsDoneOn rom (Frame cart save out) old new = IsAccepted rom × IsReported [] old new
+IsDoneOn rom (Trace cart save count) old new = IsAccepted rom × OfATrace rom count (Appends old new)
 IsDoneOn rom (New cart save sectors) old new =
     IsAccepted rom × (need (text_length (ram_length_of rom)) ≤ sectors) × Appends old new (printed (New cart save sectors) rom)
 IsDoneOn rom request old new = IsAccepted rom × HasAddress request × Appends old new (printed request rom)
@@ -57,6 +85,7 @@ HasSave (Step cart count) = ⊥
 HasSave (New cart save sectors) = Unit {0}
 HasSave (Play cart save script) = Unit {0}
 HasSave (Frame cart save out) = Unit {0}
+HasSave (Trace cart save count) = Unit {0}
 
 -- it plays a script, which is empty where it names none
 abbrev pub HasScript : Request → Type 0
@@ -64,10 +93,17 @@ HasScript (Play cart save script) = Unit {0}
 HasScript (Frame cart save out) = Unit {0}
 HasScript request = ⊥
 
--- why no game is begun, and then nothing went out; or a play ended, of a ROM that is accepted
+-- why no game is begun or taken up to be traced, and then nothing went out; or why a play ended, and then its report was cut short
 abbrev pub IsGameRefused : Request → SessionError → Option (List ℕ) → Option (List ℕ) → Type 0
 IsGameRefused (New cart save sectors) why old new =
     Keeps old new × ((rom : List ℕ) × IsAccepted rom × IsNewGameCause (text_length (ram_length_of rom)) sectors why)
-IsGameRefused (Play cart save script) why old new = (rom : List ℕ) × IsAccepted rom
-IsGameRefused (Frame cart save out) why old new = (rom : List ℕ) × IsAccepted rom
+IsGameRefused (Play cart save script) why old new = (rom : List ℕ) × IsAccepted rom × OfAScript (λ moves. IsCutShort moves why old new)
+IsGameRefused (Frame cart save out) why old new = (rom : List ℕ) × IsAccepted rom × IsCutShort [] why old new
+IsGameRefused (Trace cart save count) why old new = Keeps old new × ((rom : List ℕ) × IsAccepted rom)
 IsGameRefused request why old new = ⊥
+
+-- the output failed on a ROM that is accepted; of a trace a proper prefix of its text went out, and before a picture the whole report
+abbrev pub IsOutputRefused : Request → Option (List ℕ) → Option (List ℕ) → Type 0
+IsOutputRefused (Trace cart save count) old new = (rom : List ℕ) × IsAccepted rom × OfATrace rom count (AppendsProperPrefix old new)
+IsOutputRefused (Frame cart save out) old new = (rom : List ℕ) × IsAccepted rom × IsReported [] old new
+IsOutputRefused request old new = (rom : List ℕ) × IsAccepted rom

@@ -3,6 +3,7 @@
 ghost use Rattle.std.specs.Prelude.{◌≡◌, ◌⊎◌, IfErr};
 
 use crate::fault::Fault;
+use std::alloc::Global;
 use std::fs::File;
 use std::io;
 use std::io::Read;
@@ -14,16 +15,30 @@ pub(crate) const MOST_ROM: u64 = 0x80_0000;
 /// A script is read up to this many bytes and one.
 pub(crate) const MOST_SCRIPT: u64 = 0x10_0000;
 
-/// The bytes of a file, and of a longer one the first `most` and one more.
-pub(crate) fn file_bytes<R: Files + AllocGlobal>(
+/// The bytes of the file at this path, as `bytes_of` gives them.
+pub(crate) fn file_bytes<R: Files<File = File> + AllocGlobal>(
     rt: &R,
     path: &str,
     most: u64,
 ) -> Result<Vec<u8>, Fault>
     ensures { IfErr result (λ fault. (fault ≡ Fault.File) ⊎ (fault ≡ Fault.Memory)) }
 {
-    let file = File::open(rt, path).map_err(|_| Fault::File)?;
-    let mut bytes = Vec::new(rt.alloc());
+    let file = open_file(rt, path)?;
+    bytes_of(rt.alloc(), file, most)
+}
+
+/// Opens a file to read it.
+pub(crate) fn open_file<R: Files<File = File>>(rt: &R, path: &str) -> Result<File, Fault>
+    ensures { IfErr result (λ fault. fault ≡ Fault.File) }
+{
+    File::open(rt, path).map_err(|_| Fault::File)
+}
+
+/// The bytes of a file, and of a longer one the first `most` and one more.
+pub(crate) fn bytes_of(alloc: Global, file: File, most: u64) -> Result<Vec<u8>, Fault>
+    ensures { IfErr result (λ fault. (fault ≡ Fault.File) ⊎ (fault ≡ Fault.Memory)) }
+{
+    let mut bytes = Vec::new(alloc);
     match file.take(most.saturating_add(1)).read_to_end(&mut bytes) {
         Ok(_) => Ok(bytes),
         Err(error) if error.kind() == io::ErrorKind::OutOfMemory => Err(Fault::Memory),

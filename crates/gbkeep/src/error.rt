@@ -43,3 +43,28 @@ pub struct PlayRefused<D: SectorDevice> {
     /// As it was, where the cartridge or the script is refused; else as the play left it.
     pub device: D,
 }
+
+/// Why `trace_lines` did not write all of its text.
+#[derive(Clone, Copy, Debug, PartialEq, Eq, Error)]
+pub enum TraceError {
+    /// The image is no cartridge.
+    #[error(transparent)]
+    Cart(CartError),
+    /// The game could not be taken up.
+    #[error(transparent)]
+    Session(SessionError),
+    /// There is no memory for the machine that is stepped.
+    #[error("no memory")]
+    Memory,
+    /// A write failed or took no byte: a proper prefix of the text went out.
+    #[error("output failed")]
+    Output,
+}
+
+/// A refusal that hands the device back.
+#[derive(Drop)]
+pub struct TraceRefused<D: SectorDevice> {
+    pub why: TraceError,
+    /// As it was, where the cartridge is refused; else as taking the game up left it.
+    pub device: D,
+}

@@ -1,9 +1,9 @@
 //! Why the program does not do what it is asked to.
 
 ghost use Rattle.std.specs.Prelude.{◌≡◌, Some};
-ghost use Rattle.gbkeep.specs.Program.{HasLine, fault_of_play, line_of, status_of};
+ghost use Rattle.gbkeep.specs.Program.{HasLine, fault_of_play, fault_of_trace, line_of, status_of};
 
-use crate::error::{PlayError, StepError};
+use crate::error::{PlayError, StepError, TraceError};
 use cartridge::CartError;
 use exact_text::write_whole;
 use script::ScriptError;
@@ -45,6 +45,18 @@ impl Fault {
             PlayError::Script(why) => Fault::Script(why),
             PlayError::Session(why) => Fault::Session(why),
             PlayError::Picture => Fault::Output,
+        }
+    }
+
+    /// What a trace that was refused is for the program.
+    pub(crate) fn of_trace(why: TraceError) -> Fault
+        ensures { result ≡ fault_of_trace why }
+    {
+        match why {
+            TraceError::Cart(why) => Fault::Cart(why),
+            TraceError::Session(why) => Fault::Session(why),
+            TraceError::Memory => Fault::Memory,
+            TraceError::Output => Fault::Output,
         }
     }
 

@@ -15,9 +15,12 @@ mod picture;
 pub mod program;
 mod saves;
 mod steps;
+mod trace;
 
-pub use error::{PlayError, PlayRefused, StepError};
+pub use error::{PlayError, PlayRefused, StepError, TraceError, TraceRefused};
+pub use info::info_lines;
 pub use listing::list_lines;
-pub use picture::play_to_picture;
+pub use picture::{play_and_draw, play_to_picture};
 pub use program::{run, run_program};
 pub use steps::step_line;
+pub use trace::trace_lines;

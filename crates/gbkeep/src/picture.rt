@@ -1,13 +1,13 @@
 //! From ROM and script bytes to a report, a device and a picture.
 
-ghost use Rattle.std.specs.Prelude.{◌≡◌, IfErr, OnOk, OnErr};
+ghost use Rattle.std.specs.Prelude.{◌≡◌, ◌≢◌, IfOk, IfErr, OnOk, OnErr};
 ghost use Rattle.std.specs.Io.KnownBytes.{Appends};
 ghost use Rattle.exact_text.specs.Written.{AppendsProperPrefix};
 ghost use Rattle.picture_unit.specs.Pgm.{picture_text};
 ghost use Rattle.sector_device.specs.Runs.{HoldsSince};
 ghost use Rattle.session.specs.Words.{device_of, machine_of};
 ghost use Rattle.playing.specs.Played.{PlayImage, HasPlayed};
-ghost use Rattle.gbkeep.specs.Playing.{IsPlayCause, IsPlayable, inputs_of_script, left_by, left_by_session};
+ghost use Rattle.gbkeep.specs.Playing.{HasDrawn, HasDrawnPart, HasReported, IsLastMachine, IsPlayCause, IsPlayable, inputs_of_script, left_by, left_by_session};
 
 use crate::error::{PlayError, PlayRefused};
 use cartridge::Cartridge;
@@ -22,7 +22,7 @@ use std::io::Write;
 ///
 /// Refusals, in this order, each of which hands the device back: what is wrong with the image, what is wrong with the script or that
 /// its moves find no memory, both with nothing written; those of the play, and what it saved stays saved; that the picture could
-/// not be written.
+/// not be written. Of the picture `play_and_draw` says what goes out: no clause can name what is written through an `Option`.
 pub fn play_to_picture<D: SectorDevice, W: Write, P: Write>(
     alloc: Global,
     device: D,
@@ -34,15 +34,38 @@ pub fn play_to_picture<D: SectorDevice, W: Write, P: Write>(
     ensures played { OnOk result ((D.disk device).honest → HasPlayed rom.items (D.disk device) (D.disk (left_by result)) (inputs_of_script script.now)) }
     ensures images { (D.disk device).honest → HoldsSince (D.disk device) (D.disk (left_by result)) (PlayImage rom.items (D.disk device) (inputs_of_script script.now)) }
     ensures playable { OnOk result (IsPlayable rom.items script.now) }
-    ensures cause { IfErr result (λ refused. IsPlayCause rom.items script.now device refused (W.contents report.old) (W.contents report.new) refused.why) }
+    ensures report { OnOk result (HasReported rom.items script.now (D.disk device) (W.contents report.old) (W.contents report.new)) }
+    ensures cause { IfErr result (λ refused. IsPlayCause rom.items script.now device refused (D.disk device) (D.disk refused.device) (W.contents report.old) (W.contents report.new) refused.why) }
 {
-    let session = match play_script(alloc, device, rom, script, report) {
-        Ok(session) => session,
-        Err(refused) => return Err(refused),
-    };
-    match out {
-        Some(out) => picture_of(session, out),
-        None => Ok(session.into_device()),
+    if let Some(out) = out {
+        return play_and_draw(alloc, device, rom, script, report, out);
+    }
+    match play_script(alloc, device, rom, script, report) {
+        Ok(session) => Ok(session.into_device()),
+        Err(refused) => Err(refused),
+    }
+}
+
+/// `play_to_picture` with a picture.
+pub fn play_and_draw<D: SectorDevice, W: Write, P: Write>(
+    alloc: Global,
+    device: D,
+    rom: Vec<u8>,
+    script: &[u8],
+    report: &mut W,
+    out: &mut P,
+) -> Result<D, PlayRefused<D>>
+    ensures played { OnOk result ((D.disk device).honest → HasPlayed rom.items (D.disk device) (D.disk (left_by result)) (inputs_of_script script.now)) }
+    ensures images { (D.disk device).honest → HoldsSince (D.disk device) (D.disk (left_by result)) (PlayImage rom.items (D.disk device) (inputs_of_script script.now)) }
+    ensures playable { OnOk result (IsPlayable rom.items script.now) }
+    ensures report { OnOk result (HasReported rom.items script.now (D.disk device) (W.contents report.old) (W.contents report.new)) }
+    ensures cause { IfErr result (λ refused. IsPlayCause rom.items script.now device refused (D.disk device) (D.disk refused.device) (W.contents report.old) (W.contents report.new) refused.why) }
+    ensures picture { OnOk result (HasDrawn rom.items script.now (D.disk device) (P.contents out.old) (P.contents out.new)) }
+    ensures part { IfErr result (λ refused. HasDrawnPart rom.items script.now (D.disk device) (P.contents out.old) (P.contents out.new) refused.why) }
+{
+    match play_script(alloc, device, rom, script, report) {
+        Ok(session) => picture_of(session, out),
+        Err(refused) => Err(refused),
     }
 }
 
@@ -57,7 +80,10 @@ fn play_script<D: SectorDevice, W: Write>(
     ensures played { OnOk result ((D.disk device).honest → HasPlayed rom.items (D.disk device) (D.disk (left_by_session result)) (inputs_of_script script.now)) }
     ensures images { (D.disk device).honest → HoldsSince (D.disk device) (D.disk (left_by_session result)) (PlayImage rom.items (D.disk device) (inputs_of_script script.now)) }
     ensures playable { OnOk result (IsPlayable rom.items script.now) }
-    ensures cause { IfErr result (λ refused. IsPlayCause rom.items script.now device refused (W.contents report.old) (W.contents report.new) refused.why) }
+    ensures report { OnOk result (HasReported rom.items script.now (D.disk device) (W.contents report.old) (W.contents report.new)) }
+    ensures cause { IfErr result (λ refused. IsPlayCause rom.items script.now device refused (D.disk device) (D.disk refused.device) (W.contents report.old) (W.contents report.new) refused.why) }
+    ensures last { IfOk result (λ s. IsLastMachine rom.items script.now (D.disk device) (machine_of s)) }
+    ensures undrawn { IfErr result (λ refused. refused.why ≢ PlayError.Picture) }
 {
     let cartridge = match Cartridge::read(rom) {
         Ok(cartridge) => cartridge,

@@ -6,11 +6,10 @@ ghost use Rattle.gbkeep.specs.Program.{Ends, HasEnded, IsReading, IsServed, Keep
 use crate::asked::{Asked, address_of, asked_by};
 use crate::bytes::{MOST_ROM, file_bytes};
 use crate::fault::{DONE, Fault, NOT_UNDERSTOOD, report};
-use crate::info::write_info;
+use crate::info::info_lines;
 use crate::listing::list_lines;
-use crate::saves::{frame, new, play};
+use crate::saves::{frame, new, play, trace};
 use crate::steps::step_line;
-use cartridge::Cartridge;
 use clap::Error;
 use command_line::Request;
 use std::convert::AsStr;
@@ -126,6 +125,7 @@ fn serve<R: Files<File = File> + AllocGlobal, O: Write>(
             save,
             out: picture,
         } => frame(rt, cart, save, picture, out),
+        Request::Trace { cart, save, count } => trace(rt, cart, save, count, out),
     }
 }
 
@@ -140,13 +140,9 @@ fn info<R: Files<File = File> + AllocGlobal, O: Write>(
         Ok(rom) => rom,
         Err(fault) => return Err(fault),
     };
-    let cartridge = match Cartridge::read(rom) {
-        Ok(cartridge) => cartridge,
-        Err(fault) => return Err(Fault::Cart(fault)),
-    };
-    match write_info(out, &cartridge) {
+    match info_lines(rom, out) {
         Ok(()) => Ok(()),
-        Err(_) => Err(Fault::Output),
+        Err(fault) => Err(Fault::Step(fault)),
     }
 }
 

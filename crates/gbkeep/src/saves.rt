@@ -2,9 +2,10 @@
 
 ghost use Rattle.gbkeep.specs.Program.{IsServed};
 
-use crate::bytes::{MOST_ROM, MOST_SCRIPT, file_bytes};
+use crate::bytes::{MOST_ROM, MOST_SCRIPT, bytes_of, file_bytes, open_file};
 use crate::fault::Fault;
 use crate::picture::play_to_picture;
+use crate::trace::trace_lines;
 use cartridge::Cartridge;
 use command_line::Request;
 use exact_text::write_whole;
@@ -115,5 +116,33 @@ pub(crate) fn frame<R: Files<File = File> + AllocGlobal, O: Write>(
     match play_to_picture(rt.alloc(), device, rom, b"", out, Some(&mut picture)) {
         Ok(_) => Ok(()),
         Err(refused) => Err(Fault::of_play(refused.why)),
+    }
+}
+
+/// Takes up the game in a file and prints its next steps, which are not saved. Both files are opened before either is read.
+pub(crate) fn trace<R: Files<File = File> + AllocGlobal, O: Write>(
+    rt: &R,
+    cart: &str,
+    save: &str,
+    count: u32,
+    out: &mut O,
+) -> Result<(), Fault>
+    ensures { IsServed (Request.Trace cart.entry save.entry count) result (O.contents out.old) (O.contents out.new) }
+{
+    let cart = match open_file(rt, cart) {
+        Ok(cart) => cart,
+        Err(fault) => return Err(fault),
+    };
+    let device = match FileDevice::attach(rt, Path::new(save)) {
+        Ok(device) => device,
+        Err(fault) => return Err(Fault::Device(fault)),
+    };
+    let rom = match bytes_of(rt.alloc(), cart, MOST_ROM) {
+        Ok(rom) => rom,
+        Err(fault) => return Err(fault),
+    };
+    match trace_lines(rt.alloc(), device, rom, count, out) {
+        Ok(_) => Ok(()),
+        Err(refused) => Err(Fault::of_trace(refused.why)),
     }
 }

@@ -1,9 +1,13 @@
-//! Runs of the whole program over real files, and how its words are read.
+//! Runs of the whole program over real files, how its words are read, and steps of a debugger.
 #![tactic(auto)]
 
+#[cfg(test)]
+mod debuggers;
 #[cfg(test)]
 mod runs;
 #[cfg(test)]
 mod saves;
+#[cfg(test)]
+mod traces;
 #[cfg(test)]
 mod words;

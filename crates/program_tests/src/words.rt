@@ -64,6 +64,17 @@ fn reads_each_command(rt: HostRuntime) -> Result<(), Fail> {
             out: "a.pgm"
         })
     );
+    assert_eq!(rt;
+        request_of(
+            alloc,
+            ["gbkeep", "trace", "a.gb", "a.save", "1024"].as_slice()
+        )?,
+        Some(Request::Trace {
+            cart: "a.gb",
+            save: "a.save",
+            count: 1024
+        })
+    );
     Ok(())
 }
 
@@ -93,6 +104,15 @@ fn does_not_understand_what_is_out_of_range(rt: HostRuntime) {
         status(alloc, ["gbkeep", "new", "a", "b", "65537"].as_slice()),
         2
     );
+    assert_eq!(rt;
+        status(alloc, ["gbkeep", "trace", "a", "b", "0"].as_slice()),
+        2
+    );
+    assert_eq!(rt;
+        status(alloc, ["gbkeep", "trace", "a", "b", "1025"].as_slice()),
+        2
+    );
+    assert_eq!(rt; status(alloc, ["gbkeep", "trace", "a", "b"].as_slice()), 2);
     assert_eq!(rt; status(alloc, ["gbkeep", "play", "a", "b"].as_slice()), 2);
     assert_eq!(rt; status(alloc, ["gbkeep", "frame", "a", "b"].as_slice()), 2);
     assert_eq!(rt; status(alloc, ["gbkeep", "step", "a"].as_slice()), 2);

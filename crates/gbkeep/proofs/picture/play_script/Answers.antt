@@ -1,7 +1,19 @@
 use Rattle.gbkeep.specs.Playing.{inputs_of_script}
-use Rattle.gbkeep.proofs.Plays.{nothing_played}
+use Rattle.std.proofs.Common.{◌∙◌, ap, sym, Ok}
+use Rattle.session.specs.Words.{acknowledged_of, machine_of}
+use Rattle.gbkeep.proofs.Plays.{nothing_played, reported, last_machine}
 use Rattle.gbkeep.proofs.picture.play_script.Goals as goal
 
 pub returns-in-Err-clause-images : goal.returns-in-Err-clause-images
 returns-in-Err-clause-images g c =
     λ honest. nothing_played c.args.rom.items (g.D.SectorDevice.disk c.args.device) (inputs_of_script c.args.script.now) (g.met.D.SectorDevice.only_now c.args.device)
+
+pub returns-in-Ok-play-clause-report : goal.returns-in-Ok-play-clause-report
+returns-in-Ok-play-clause-report g c =
+    reported _ _ _ c.deref.result.now _ (acknowledged_of c.in-Ok-play.session) (machine_of c.in-Ok-play.session) _ _ c.in-Ok.ensures.image
+    (c.in-Ok-read_script.ensures.moves ∙ ap Ok (sym c.deref.ensures.value)) c.in-Ok-play.ensures.report c.in-Ok-play.ensures.reached
+
+pub returns-in-Ok-play-clause-last : goal.returns-in-Ok-play-clause-last
+returns-in-Ok-play-clause-last g c =
+    last_machine _ _ _ c.deref.result.now _ (acknowledged_of c.in-Ok-play.session) (machine_of c.in-Ok-play.session) c.in-Ok.ensures.image
+    (c.in-Ok-read_script.ensures.moves ∙ ap Ok (sym c.deref.ensures.value)) c.in-Ok-play.ensures.reached

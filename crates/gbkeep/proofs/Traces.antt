@@ -1,0 +1,103 @@
+-- The text of a trace, which is written line by line, and why there is none.
+use Rattle.std.proofs.Common.{◌≡◌, ℕ, suc, ◌+◌, ◌-◌, ◌<◌, ◌≤◌, List, [], ◌++◌, Option, Some, Result, Ok, Err, ◌∙◌, ap, length, take, subst, sym, arith}
+use Rattle.std.specs.Prelude.{Bool, true, false, is_err, IfOk, IfSome, OnErr, OnOk}
+use Rattle.std.specs.Result.{result_ok}
+use Rattle.std.proofs.Math.Seq.{take-append_seam}
+use Rattle.std.specs.Io.KnownBytes.{Appends, Keeps}
+use Rattle.cartridge.specs.Accepted.{IsAccepted}
+use Rattle.exact_text.specs.Written.{AppendsProperPrefix}
+use Rattle.snapshot.specs.Legal.{IsMachineOf}
+use Rattle.sector_device.specs.DiskState.{DiskState}
+use Rattle.sector_log.specs.Content.{content}
+use Rattle.session.specs.Calls.{IsAtRest}
+use Rattle.session.specs.Stands.{Position, stands}
+use Rattle.session.specs.declared.error.SessionError.{SessionError}
+use Rattle.command_line.specs.declared.Request.{Request}
+use Rattle.machine.specs.Rules.{Rules}
+use Rattle.machine.specs.Steps.{step_of, after_steps}
+use Rattle.machine.specs.declared.processor.Processor.{Processor}
+use Rattle.debugger.specs.Report.{line_of}
+use Rattle.debugger.proofs.Lines.{IsWrittenBut, none_written}
+use Rattle.gbkeep.specs.declared.error.TraceError.{TraceError}
+use Rattle.gbkeep.specs.declared.error.TraceError.TheVariants.{Cart, Session, Memory, Output}
+use Rattle.gbkeep.specs.declared.error.TraceRefused.{TraceRefused}
+use Rattle.gbkeep.specs.Program.{IsRefused, fault_of_trace}
+use Rattle.gbkeep.specs.Request.{HasAddress, IsGameRefused, IsOutputRefused, OfATrace}
+use Rattle.gbkeep.specs.Tracing.{HasStopped, HasTraced, IsTakenUp, IsTraceCause, IsUnwritten, step_lines, trace_text}
+
+pub none_stepped : {M : Type 0} (rules : Rules M) (count : ℕ) (p : Processor M) (old : Option (List ℕ))
+    → IsWrittenBut (step_lines rules (count - 0) p) (step_lines rules count p) old old
+none_stepped rules count p old =
+    let all : count - 0 ≡ count = omega arith in
+    subst (λ (n : ℕ). IsWrittenBut (step_lines rules n p) (step_lines rules count p) old old) (sym all) (none_written (step_lines rules count p) old)
+
+-- what is left begins with the line of the next step
+pub next_step : {M : Type 0} (rules : Rules M) (count i : ℕ) (p : Processor M) → i < count
+    → step_lines rules (count - i) p ≡ line_of (step_of rules p).stepped.what ++ step_lines rules (count - (i + 1)) (after_steps rules 1 p)
+unfolding step_lines after_steps
+next_step rules count i p below =
+    let left : count - i ≡ suc (count - (i + 1)) = omega arith in
+    ap (λ (n : ℕ). step_lines rules n p) left
+
+pub no_step_left : {M : Type 0} (rules : Rules M) (count i : ℕ) (p : Processor M) → count ≤ i → step_lines rules (count - i) p ≡ []
+unfolding step_lines
+no_step_left rules count i p ended =
+    let left : count - i ≡ 0 = omega arith in
+    ap (λ (n : ℕ). step_lines rules n p) left
+
+-- ---- for the program
+
+pub traced_text : (rom : List ℕ) (before now : DiskState) (steps : ℕ) (old new : Option (List ℕ)) → HasTraced rom before now steps old new → OfATrace rom steps (Appends old new)
+traced_text rom before now steps old new traced = (traced.from, traced.taken_up.of_rom, traced.written)
+
+pub stopped_text : (rom : List ℕ) (before now : DiskState) (steps : ℕ) (old new : Option (List ℕ)) → HasStopped rom before now steps old new → OfATrace rom steps (AppendsProperPrefix old new)
+stopped_text rom before now steps old new stopped = (stopped.from, stopped.taken_up.of_rom, stopped.written)
+
+pub trace_refused : {D : Type 0} (request : Request) (rom : List ℕ) (steps : ℕ) (device : D) (refused : TraceRefused D) (before now : DiskState) (old new : Option (List ℕ)) (why : TraceError)
+    → HasAddress request → ((fault : SessionError) → Keeps old new → IsAccepted rom → IsGameRefused request fault old new)
+    → (IsAccepted rom → OfATrace rom steps (AppendsProperPrefix old new) → IsOutputRefused request old new)
+    → IsTraceCause rom steps device refused before now old new why → IsRefused request (fault_of_trace why) old new
+trace_refused request rom steps device refused before now old new (Cart fault) address game output cause = (address, cause.2, (rom, cause.0))
+trace_refused request rom steps device refused before now old new (Session fault) address game output cause = game fault cause.1 cause.0
+trace_refused request rom steps device refused before now old new Memory address game output cause = (address, cause.1)
+trace_refused request rom steps device refused before now old new Output address game output cause = (address, output cause.0 (stopped_text rom before now steps old new cause.1))
+
+-- ---- answers without their errors
+
+pub ok_of_some : {T E : Type 0} (r : Result T E) (x : T) (P : T → Type 0) → result_ok r ≡ Some x → IfOk r P → P x
+ok_of_some (Ok y) x P is p = let same : y ≡ x = cc in subst P same p
+ok_of_some (Err e) x P is p = absurd (cc)
+
+pub some_of_ok : {T E : Type 0} (r : Result T E) {P Q : T → Type 0} → IfOk r P → ((x : T) → P x → Q x) → IfSome (result_ok r) Q
+some_of_ok (Ok x) p to = to x p
+some_of_ok (Err e) p to = tt
+
+pub on_ok_of : {T E : Type 0} (r : Result T E) {b : Bool} {P : Type 0} → b ≡ is_err r → b ≡ false → OnOk r P → P
+on_ok_of (Ok x) is fine p = p
+on_ok_of (Err e) is fine p = absurd (cc)
+
+pub on_err_of : {T E : Type 0} (r : Result T E) {b : Bool} {P : Type 0} → b ≡ is_err r → b ≡ true → OnErr r P → P
+on_err_of (Ok x) is failed p = absurd (cc)
+on_err_of (Err e) is failed p = p
+
+-- ---- a game that was taken up
+
+pub taken_up : (rom image : List ℕ) (old now : DiskState) (from : Position) → image ≡ rom → IsMachineOf image from.machine
+    → (old.honest → stands image (content old.sectors) ≡ Some from) → (old.honest → IsAtRest image now from.count [] from.machine) → IsTakenUp rom old now from
+taken_up rom image old now from is of stood rests =
+    subst (λ (r : List ℕ). IsTakenUp r old now from) is (record { of_rom = of; stood = stood; rests = rests })
+
+pub trace_cause : {D : Type 0} (rom image : List ℕ) (steps : ℕ) (device : D) (refused : TraceRefused D) (old now : DiskState) (from : Position) (before since : Option (List ℕ)) (why : TraceError)
+    → IsAccepted rom → (IsMachineOf image from.machine → IsTakenUp rom old now from)
+    → IsUnwritten image from.machine (trace_text from.count from.machine steps) before since why → IsTraceCause rom steps device refused old now before since why
+trace_cause rom image steps device refused old now from before since (Cart fault) accepted taken unwritten = absurd unwritten
+trace_cause rom image steps device refused old now from before since (Session fault) accepted taken unwritten = absurd unwritten
+trace_cause rom image steps device refused old now from before since Memory accepted taken unwritten = (accepted, unwritten)
+trace_cause rom image steps device refused old now from before since Output accepted taken unwritten =
+    (accepted, record { from = from; taken_up = taken unwritten.0; written = unwritten.1 })
+
+-- ---- a buffer
+
+-- a buffer that a call filled has what the call left in it
+pub filled : (out raw : List ℕ) (n : ℕ) → n ≡ length out → take n (out ++ raw) ≡ out
+filled out raw n size = ap (λ (k : ℕ). take k (out ++ raw)) size ∙ take-append_seam out raw

@@ -1,0 +1,16 @@
+use Rattle.std.proofs.Common.{subst, sym, Result, Ok, Err}
+use Rattle.std.specs.Prelude.{OnOk}
+use Rattle.playing.specs.Played.{HasPlayed}
+use Rattle.gbkeep.specs.Playing.{inputs_of_script}
+use Rattle.gbkeep.proofs.picture.play_and_draw.Goals as goal
+
+on_ok : {T E : Type 0} (r : Result T E) {P : Type 0} → P → OnOk r P
+on_ok (Ok x) p = p
+on_ok (Err e) p = tt
+
+pub returns-in-Ok-clause-played : goal.returns-in-Ok-clause-played
+returns-in-Ok-clause-played g c =
+    on_ok c.picture_of.result
+    (λ honest.
+    subst (λ (d : g.row.D.Denot). HasPlayed c.args.rom.items (g.D.SectorDevice.disk c.args.device) (g.D.SectorDevice.disk d) (inputs_of_script c.args.script.now))
+    (sym c.picture_of.ensures.device) (c.in-Ok.ensures.played honest))

@@ -1,0 +1,40 @@
+use Rattle.std.proofs.Common.{◌≡◌, ap, length, refl, subst, sym, arith, ℕ}
+use Rattle.std.specs.Io.KnownBytes.{Appends}
+use Rattle.machine.specs.Machine.{MachineState}
+use Rattle.snapshot.specs.Legal.{IsMachineOf}
+use Rattle.session.specs.Stands.{Position}
+use Rattle.session.specs.Words.{acknowledged_of, device_of, machine_of}
+use Rattle.session.specs.declared.session.Counts.{Counts}
+use Rattle.gbkeep.specs.Tracing.{HasTraced, IsTraceCause, IsUnwritten, trace_text}
+use Rattle.gbkeep.proofs.Traces.{taken_up, trace_cause}
+use Rattle.gbkeep.proofs.trace.trace_lines.Goals as goal
+
+pub returns-in-Ok-written-clause-traced : goal.returns-in-Ok-written-clause-traced
+returns-in-Ok-written-clause-traced g c =
+    let s = c.in-Ok-resume.session in
+    let from : Position = record { count = acknowledged_of s; machine = machine_of s } in
+    let all_is : c.counts-inputs.result.all ≡ acknowledged_of s = omega (arith, ap (λ (n : Counts). n.all) c.counts-inputs.ensures, ap length c.in-Ok-resume.ensures.begun.0) in
+    subst (λ (d : g.row.D.Denot). HasTraced c.args.rom.items (g.D.SectorDevice.disk c.args.device) (g.D.SectorDevice.disk d) c.args.count (g.W.Write.contents c.args.out.now) (g.W.Write.contents c.write_trace-written.new.out))
+    (sym c.into_device-device.ensures.device)
+    (record {
+      from = from;
+      taken_up = taken_up c.args.rom.items c.in-Ok.cartridge (g.D.SectorDevice.disk c.args.device) (g.D.SectorDevice.disk (device_of s)) from c.in-Ok.ensures.image
+          (subst (λ (m : MachineState). IsMachineOf c.in-Ok.cartridge m) c.machine.ensures c.in-Ok-written.ensures.ok.0)
+          c.in-Ok-resume.ensures.stands c.in-Ok-resume.ensures.rests;
+      written = subst (λ (n : ℕ). Appends (g.W.Write.contents c.args.out.now) (g.W.Write.contents c.write_trace-written.new.out) (trace_text n (machine_of s) c.args.count)) all_is
+          (subst (λ (m : MachineState). Appends (g.W.Write.contents c.args.out.now) (g.W.Write.contents c.write_trace-written.new.out) (trace_text c.counts-inputs.result.all m c.args.count)) c.machine.ensures c.in-Ok-written.ensures.ok.1);
+    })
+
+pub returns-clause-cause : goal.returns-clause-cause
+returns-clause-cause g c =
+    let s = c.in-Ok-resume.session in
+    let from : Position = record { count = acknowledged_of s; machine = machine_of s } in
+    let all_is : c.counts-inputs.result.all ≡ acknowledged_of s = omega (arith, ap (λ (n : Counts). n.all) c.counts-inputs.ensures, ap length c.in-Ok-resume.ensures.begun.0) in
+    subst (λ (d : g.row.D.Denot). IsTraceCause c.args.rom.items c.args.count c.args.device (record { why = c.in-Err-written.why; device = d }) (g.D.SectorDevice.disk c.args.device) (g.D.SectorDevice.disk d) (g.W.Write.contents c.args.out.now) (g.W.Write.contents c.write_trace-written.new.out) c.in-Err-written.why)
+    (sym c.into_device-device.ensures.device)
+    (trace_cause c.args.rom.items c.in-Ok.cartridge c.args.count c.args.device (record { why = c.in-Err-written.why; device = device_of s }) (g.D.SectorDevice.disk c.args.device) (g.D.SectorDevice.disk (device_of s)) from
+    (g.W.Write.contents c.args.out.now) (g.W.Write.contents c.write_trace-written.new.out) c.in-Err-written.why (c.in-Ok.ensures.accepted.0 refl)
+    (λ of. taken_up c.args.rom.items c.in-Ok.cartridge (g.D.SectorDevice.disk c.args.device) (g.D.SectorDevice.disk (device_of s)) from c.in-Ok.ensures.image of
+    c.in-Ok-resume.ensures.stands c.in-Ok-resume.ensures.rests)
+    (subst (λ (n : ℕ). IsUnwritten c.in-Ok.cartridge (machine_of s) (trace_text n (machine_of s) c.args.count) (g.W.Write.contents c.args.out.now) (g.W.Write.contents c.write_trace-written.new.out) c.in-Err-written.why) all_is
+    (subst (λ (m : MachineState). IsUnwritten c.in-Ok.cartridge m (trace_text c.counts-inputs.result.all m c.args.count) (g.W.Write.contents c.args.out.now) (g.W.Write.contents c.write_trace-written.new.out) c.in-Err-written.why) c.machine.ensures c.in-Err-written.ensures.err)))

@@ -1,0 +1,33 @@
+use Rattle.std.proofs.Common.{subst}
+use Rattle.std.specs.Io.KnownBytes.{Appends}
+use Rattle.exact_text.specs.Written.{AppendsProperPrefix}
+use Rattle.exact_text.proofs.Writes.{appends_twice, whole_then_prefix, prefix_of_longer}
+use Rattle.machine.specs.Bus.{bus_rules}
+use Rattle.machine.specs.Machine.{MachineState}
+use Rattle.playing.specs.Report.{resumed_line}
+use Rattle.gbkeep.specs.Tracing.{step_lines}
+use Rattle.gbkeep.proofs.Traces.{on_err_of, on_ok_of}
+use Rattle.gbkeep.proofs.trace.write_trace.Goals as goal
+
+pub returns-then-is_err-clause-err : goal.returns-then-is_err-clause-err
+returns-then-is_err-clause-err g c = (
+  c.in-Some.ensures.1,
+  prefix_of_longer _ _ (resumed_line c.args.inputs).text (step_lines bus_rules c.args.count c.args.machine.now.processor)
+      (on_err_of c.write_resumed.result (c.is_err.ensures.value) c.if-is_err.true c.write_resumed.ensures.err),
+)
+
+pub returns-in-Ok-clause-ok : goal.returns-in-Ok-clause-ok
+returns-in-Ok-clause-ok g c = (
+  c.in-Some.ensures.1,
+  appends_twice (g.W.Write.contents c.args.out.now) (g.W.Write.contents c.write_resumed.new.out) (g.W.Write.contents c.write_steps.new.out) (resumed_line c.args.inputs).text (step_lines bus_rules c.args.count c.args.machine.now.processor)
+      (on_ok_of c.write_resumed.result c.is_err.ensures.value c.if-is_err.false c.write_resumed.ensures.ok)
+      (subst (λ (m : MachineState). Appends (g.W.Write.contents c.write_resumed.new.out) (g.W.Write.contents c.write_steps.new.out) (step_lines bus_rules c.args.count m.processor)) c.in-Some.ensures.0 c.in-Ok.ensures.ok),
+)
+
+pub returns-clause-err : goal.returns-clause-err
+returns-clause-err g c = (
+  c.in-Some.ensures.1,
+  whole_then_prefix (g.W.Write.contents c.args.out.now) (g.W.Write.contents c.write_resumed.new.out) (g.W.Write.contents c.write_steps.new.out) (resumed_line c.args.inputs).text (step_lines bus_rules c.args.count c.args.machine.now.processor)
+      (on_ok_of c.write_resumed.result c.is_err.ensures.value c.if-is_err.false c.write_resumed.ensures.ok)
+      (subst (λ (m : MachineState). AppendsProperPrefix (g.W.Write.contents c.write_resumed.new.out) (g.W.Write.contents c.write_steps.new.out) (step_lines bus_rules c.args.count m.processor)) c.in-Some.ensures.0 c.in-Err.ensures.err),
+)

@@ -1,0 +1,124 @@
+//! The next steps of a game.
+
+ghost use Rattle.std.specs.Prelude.{◌≡◌, IfErr, IfSome, OnErr, OnOk};
+ghost use Rattle.std.specs.Io.KnownBytes.{Appends};
+ghost use Rattle.cartridge.specs.Accepted.{IsAccepted};
+ghost use Rattle.exact_text.specs.Written.{AppendsProperPrefix};
+ghost use Rattle.machine.specs.Bus.{bus_rules};
+ghost use Rattle.snapshot.specs.Legal.{IsMachineOf};
+ghost use Rattle.sector_device.specs.Runs.{HoldsSince};
+ghost use Rattle.session.specs.Calls.{StandsAsBefore};
+ghost use Rattle.session.specs.Resting.{IsOfItsRom};
+ghost use Rattle.gbkeep.specs.Tracing.{HasTraced, IsTraceCause, IsUnwritten, faults_after_trace, left_by, step_lines, trace_text};
+
+use crate::error::{TraceError, TraceRefused};
+use cartridge::Cartridge;
+use debugger::{Debugger, write_stepped};
+use exact_text::OutputFailed;
+use machine::Machine;
+use playing::write_resumed;
+use sector_device::SectorDevice;
+use session::resume;
+use snapshot::{decode, encode, length};
+use std::alloc::Global;
+use std::io::Write;
+
+/// Takes up the game that a device holds, and writes `resumed N`, N the count of its inputs, and a line for each of the next
+/// `count` steps of its machine: that of the instruction as in a listing, `wait`, or `interrupt` and the vector. The steps are
+/// not saved: the device is left as taking the game up leaves it.
+///
+/// Refusals, in this order, each of which hands the device back: what is wrong with the image; why the game can't be taken up; no
+/// memory for the machine that is stepped, all with nothing written; that the text could not be written, of which a proper prefix
+/// went out.
+pub fn trace_lines<D: SectorDevice, W: Write>(
+    alloc: Global,
+    device: D,
+    rom: Vec<u8>,
+    count: u32,
+    out: &mut W,
+) -> Result<D, TraceRefused<D>>
+    ensures accepted { OnOk result (IsAccepted rom.items) }
+    ensures traced { OnOk result (HasTraced rom.items (D.disk device) (D.disk (left_by result)) count (W.contents out.old) (W.contents out.new)) }
+    ensures images { (D.disk device).honest → HoldsSince (D.disk device) (D.disk (left_by result)) (StandsAsBefore rom.items (D.disk device)) }
+    ensures cause { IfErr result (λ refused. IsTraceCause rom.items count device refused (D.disk device) (D.disk refused.device) (W.contents out.old) (W.contents out.new) refused.why) }
+    ensures faults_ok { OnOk result ((D.disk (left_by result)).faults ≡ (D.disk device).faults) }
+    ensures faults { IfErr result (λ refused. (D.disk refused.device).faults ≡ faults_after_trace refused.why (D.disk device).faults) }
+{
+    let cartridge = match Cartridge::read(rom) {
+        Ok(cartridge) => cartridge,
+        Err(fault) => return Err(TraceRefused {
+            why: TraceError::Cart(fault),
+            device,
+        }),
+    };
+    let session = match resume(alloc, device, &cartridge) {
+        Ok(session) => session,
+        Err(refused) => return Err(TraceRefused {
+            why: TraceError::Session(refused.why),
+            device: refused.device,
+        }),
+    };
+    let inputs = session.counts().all;
+    let written = write_trace(alloc, inputs, session.machine(), &cartridge, count, out);
+    let device = session.into_device();
+    match written {
+        Ok(()) => Ok(device),
+        Err(why) => Err(TraceRefused { why, device }),
+    }
+}
+
+/// Writes the text of a trace. `Err`: `Memory`, with nothing written, or `Output`.
+fn write_trace<W: Write>(
+    alloc: Global,
+    inputs: u64,
+    machine: &Machine,
+    cartridge: &Cartridge,
+    count: u32,
+    out: &mut W,
+) -> Result<(), TraceError>
+    requires rom { machine.now.processor.memory.banks.rom ≡ cartridge.now }
+    requires own { IsOfItsRom machine.now }
+    ensures ok { OnOk result (IsMachineOf cartridge.now machine.now × Appends (W.contents out.old) (W.contents out.new) (trace_text inputs machine.now count)) }
+    ensures err { IfErr result (IsUnwritten cartridge.now machine.now (trace_text inputs machine.now count) (W.contents out.old) (W.contents out.new)) }
+{
+    let Some(mut debugger) = debugger_of(alloc, machine, cartridge) else {
+        return Err(TraceError::Memory);
+    };
+    if write_resumed(out, inputs).is_err() {
+        return Err(TraceError::Output);
+    }
+    match write_steps(&mut debugger, count, out) {
+        Ok(()) => Ok(()),
+        Err(_) => Err(TraceError::Output),
+    }
+}
+
+/// A debugger of the same machine again, so that a session keeps its own. `None`: there is no memory for it.
+fn debugger_of(alloc: Global, machine: &Machine, cartridge: &Cartridge) -> Option<Debugger>
+    requires rom { machine.now.processor.memory.banks.rom ≡ cartridge.now }
+    requires own { IsOfItsRom machine.now }
+    ensures { IfSome result (λ d. (d.machine ≡ machine.now) × IsMachineOf cartridge.now machine.now) }
+{
+    let mut text = vec![in alloc; 0u8; length(cartridge.ram_length())].ok()?;
+    encode(machine, &mut text);
+    let copy = decode(alloc, &text, cartridge).ok()?;
+    Debugger::new(alloc, copy, 1).ok()
+}
+
+/// Makes so many steps, and writes the line of each.
+fn write_steps<W: Write>(
+    debugger: &mut Debugger,
+    count: u32,
+    out: &mut W,
+) -> Result<(), OutputFailed>
+    ensures ok { OnOk result (Appends (W.contents out.old) (W.contents out.new) (step_lines bus_rules count debugger.old.machine.processor)) }
+    ensures err { OnErr result (AppendsProperPrefix (W.contents out.old) (W.contents out.new) (step_lines bus_rules count debugger.old.machine.processor)) }
+{
+    for _i in 0..count {
+        let stepped = debugger.step();
+        if let Err(fault) = write_stepped(&stepped, out) {
+            return Err(fault);
+        }
+    }
+    Ok(())
+}

@@ -1,0 +1,161 @@
+//! Cartridges, devices and rounds of the tests. These have no contract, so that a test's proof does not follow the numbers.
+use cartridge::Cartridge;
+use machine::{Input, Machine, Region};
+use script::Move;
+use sector_device::{MemoryDevice, SectorDevice};
+use session::{Refused, new_game};
+use snapshot::{encode, length};
+use std::alloc::Global;
+use std::process::Abort;
+use std::test::Fail;
+use whole_lives::{Lived, Round, RoundEnd, live};
+
+/// The display is turned off. Then what the buttons select is added to C in a loop, so that each frame leaves another machine.
+const PROGRAM: [u8; 45] = [
+    0x3E, 0x00, 0xE0, 0x40, 0x3E, 0x20, 0xE0, 0x00, 0xF0, 0x00, 0x81, 0x4F, 0x08, 0x00, 0xC0, 0x08,
+    0x00, 0xC0, 0x08, 0x00, 0xC0, 0x08, 0x00, 0xC0, 0x08, 0x00, 0xC0, 0x08, 0x00, 0xC0, 0x08, 0x00,
+    0xC0, 0x08, 0x00, 0xC0, 0x08, 0x00, 0xC0, 0x08, 0x00, 0xC0, 0x23, 0x18, 0xDB,
+];
+
+/// A cartridge of 32 KiB with a clock and 8 KiB of RAM: a session of it needs 188 sectors.
+pub(crate) fn cartridge(alloc: Global) -> Result<Cartridge, Fail> {
+    let mut rom = vec![in alloc; 0u8; 0x8000]?;
+    set(&mut rom, 0x147, 0x10);
+    set(&mut rom, 0x149, 0x02);
+    for (index, byte) in PROGRAM.iter().enumerate() {
+        set(&mut rom, 0x100usize.saturating_add(index), *byte);
+    }
+    Cartridge::read(rom).map_err(|_| Fail::from("no cartridge"))
+}
+
+fn set(bytes: &mut [u8], at: usize, value: u8) {
+    if let Some(place) = bytes.get_mut(at) {
+        *place = value;
+    }
+}
+
+/// A new game on 188 sectors, with room to record so many writes and syncs from its end on.
+pub(crate) fn new_device(
+    rt: &impl Abort,
+    alloc: Global,
+    cartridge: &Cartridge,
+    room: usize,
+) -> Result<MemoryDevice, Fail> {
+    let device = MemoryDevice::new(alloc, 188, room)?;
+    let Ok(session) = new_game(alloc, device, cartridge) else {
+        panic!(rt; "not begun");
+    };
+    Ok(session.into_device().image(alloc, &[])?)
+}
+
+/// A game of the third generation of version 1, with 5 inputs before the snapshot of the machine at power-on, and two in the log: a frame with
+/// button 0 and an hour.
+pub(crate) fn version_one(
+    rt: &impl Abort,
+    alloc: Global,
+    cartridge: &Cartridge,
+) -> Result<MemoryDevice, Fail> {
+    let mut device = new_device(rt, alloc, cartridge, 1000)?;
+    put(rt, &mut device, 1, 8, b"\x01\x00\x00\x00\x03");
+    put(rt, &mut device, 1, 52, b"\x05");
+    put(
+        rt,
+        &mut device,
+        95,
+        0,
+        b"GBL1\x00\x00\x02\x00\x00\x01\x00\x00\x00\x01\x10\x0e\x00\x00",
+    );
+    assert!(rt; device.sync().is_ok());
+    Ok(device.image(alloc, &[])?)
+}
+
+fn put(rt: &impl Abort, device: &mut MemoryDevice, at: u64, from: usize, bytes: &[u8]) {
+    let mut whole = [0; 512];
+    assert!(rt; at < device.count());
+    assert!(rt; device.read(at, &mut whole).is_ok());
+    assert!(rt; from < 512);
+    for (place, byte) in whole[from..].iter_mut().zip(bytes) {
+        *place = *byte;
+    }
+    assert!(rt; at < device.count());
+    assert!(rt; device.write(at, &whole).is_ok());
+}
+
+/// The snapshot of a machine.
+pub(crate) fn text_of(alloc: Global, machine: &Machine) -> Result<Vec<u8>, Fail> {
+    let ram = machine.store(Region::CartRam).len();
+    if ram > 131_072 {
+        return Err(Fail::from("too much RAM"));
+    }
+    let mut text = vec![in alloc; 0u8; length(ram)]?;
+    encode(machine, &mut text);
+    Ok(text)
+}
+
+pub(crate) fn apply(machine: &mut Machine, input: Input) {
+    machine.apply(input);
+}
+
+/// Frames with no button and with button 0 pressed, in turn, a move each.
+pub(crate) fn add_alternating(moves: &mut Vec<Move>, count: u8) -> Result<(), Fail> {
+    for i in 0..count {
+        moves.push(Move::Frames {
+            buttons: i % 2,
+            times: 1,
+        })?;
+    }
+    Ok(())
+}
+
+pub(crate) fn round(
+    alloc: Global,
+    moves: &[Move],
+    calls: u64,
+    kept: &[bool],
+) -> Result<Round, Fail> {
+    Ok(Round {
+        moves: Vec::from_slice(alloc, moves)?,
+        calls,
+        kept: Vec::from_slice(alloc, kept)?,
+    })
+}
+
+pub(crate) fn lived(
+    rt: &impl Abort,
+    alloc: Global,
+    device: MemoryDevice,
+    cartridge: &Cartridge,
+    rounds: &[Round],
+) -> Lived {
+    match live(alloc, device, cartridge, rounds) {
+        Ok(lived) => lived,
+        Err(_) => panic!(rt; "the life was refused"),
+    }
+}
+
+pub(crate) fn refused(
+    rt: &impl Abort,
+    alloc: Global,
+    device: MemoryDevice,
+    cartridge: &Cartridge,
+    rounds: &[Round],
+) -> Refused<MemoryDevice> {
+    match live(alloc, device, cartridge, rounds) {
+        Ok(_) => panic!(rt; "the life was not refused"),
+        Err(refused) => refused,
+    }
+}
+
+/// The count at the end of a life of one round, and how the round ended.
+pub(crate) fn one_round(
+    rt: &impl Abort,
+    alloc: Global,
+    device: MemoryDevice,
+    cartridge: &Cartridge,
+    round: Round,
+) -> Result<(RoundEnd, u64), Fail> {
+    let rounds = vec![in alloc; round]?;
+    let lived = lived(rt, alloc, device, cartridge, &rounds);
+    assert_eq!(rt; lived.rounds.len(), 1);
+    Ok((lived.rounds[0], lived.session.counts().all))
+}

@@ -1,0 +1,9 @@
+//! Worked values on whole lives, through `live`: rounds cut at any call with any writes kept.
+#![tactic(auto)]
+
+#[cfg(test)]
+mod common;
+#[cfg(test)]
+mod long;
+#[cfg(test)]
+mod rounds;

@@ -1,0 +1,73 @@
+-- A device that stands for something is not refused for what it holds.
+use Rattle.std.proofs.Common.{◌≡◌, ℕ, List, length, true, Option, Some, None, refl, sym, ap, ◌∙◌, arith}
+use Rattle.std.proofs.lemmas.Bool.{and_parts, eqb-true}
+use Rattle.std.proofs.lemmas.Slice.Eq.{bytes_eq-Decides}
+use Rattle.std.proofs.lemmas.List.Elements.{All-contains}
+use Rattle.std.proofs.lemmas.List.Sums.{AllPass-from_list_all}
+use Rattle.sha2.specs.Sha256.{sha256}
+use Rattle.cartridge.specs.Header.{ram_length_of}
+use Rattle.snapshot.specs.Legal.{IsRefusal}
+use Rattle.snapshot.specs.Table.{is_legal, table_of}
+use Rattle.snapshot.specs.Text.{text_length}
+use Rattle.snapshot.specs.declared.error.SnapError.{SnapError}
+use Rattle.snapshot.specs.declared.error.SnapError.TheVariants.{SnapLength, Field, Memory as NoMemory}
+use Rattle.snapshot.specs.declared.field.SnapshotField.{SnapshotField}
+use Rattle.sector_log.specs.Content.{ImageContent, Body}
+use Rattle.sector_log.specs.declared.found.Content.{Content}
+use Rattle.session.specs.Found.{IsWhole, IsResumeCause, IsDamaged}
+use Rattle.session.specs.Stands.{Position, is_snapshot, stands}
+use Rattle.session.specs.declared.error.Damage.{Damage}
+use Rattle.session.specs.declared.error.Damage.TheVariants.{Count, Snapshot, Entry}
+use Rattle.session.specs.declared.error.SessionError.{SessionError}
+use Rattle.session.specs.declared.error.SessionError.TheVariants.{Memory, Device, NoSession, TooSmall, OtherCartridge, Damaged, Worn, Broken, SaveFirst, CountFull, Output}
+use Rattle.session.proofs.StandsLaws.{Soundness, soundness, standing}
+use Rattle.whole_lives.specs.Refusals.{IsSoundStop}
+
+no_refusal : (rom bytes : List ℕ) (error : SnapError) → is_snapshot rom bytes ≡ true → IsRefusal rom bytes error → ¬ (error ≡ NoMemory) → ⊥
+no_refusal rom bytes (SnapLength n) sound refused other = refused.1 (eqb-true (length bytes) (text_length (ram_length_of rom)) (and_parts _ _ sound).0)
+no_refusal rom bytes (Field offset) sound refused other =
+    let legal : is_legal refused.1.field bytes ≡ true =
+    All-contains (λ (x : SnapshotField). is_legal x bytes ≡ true) (table_of rom) refused.1.field (AllPass-from_list_all (λ (x : SnapshotField). is_legal x bytes) (table_of rom) (and_parts _ _ sound).1) refused.1.listed in
+    let illegal = refused.1.illegal in
+    absurd (cc)
+no_refusal rom bytes NoMemory sound refused other = other refl
+
+sound_whole : {rom : List ℕ} {held : Option ImageContent} {position : Position} {P : Content → Body → Type 0} → stands rom held ≡ Some position → (w : IsWhole held P) → Soundness rom w.header w.body
+sound_whole {rom} {held} {position} {P} is w = soundness rom w.header w.body (standing rom w.header w.body position (sym (ap (stands rom) w.is) ∙ is)).sound
+
+nothing_stands : (rom : List ℕ) (held : Option ImageContent) (position : Position) → stands rom held ≡ Some position → held ≡ None → ⊥
+unfolding stands
+nothing_stands rom held position is none = let no : None ≡ Some position = ap (stands rom) (sym none) ∙ is in absurd (cc)
+
+short_stands : (rom : List ℕ) (held : Option ImageContent) (header : Content) (position : Position) → stands rom held ≡ Some position → held ≡ Some (record { header = header; body = None }) → ⊥
+unfolding stands
+short_stands rom held header position is short = let no : None ≡ Some position = ap (stands rom) (sym short) ∙ is in absurd (cc)
+
+damaged_stands : (rom : List ℕ) (held : Option ImageContent) (position : Position) (damage : Damage) → stands rom held ≡ Some position → IsDamaged rom held damage → ⊥
+damaged_stands rom held position Count is damaged =
+    let sound = sound_whole is damaged in
+    omega (arith, sound.count, damaged.holds.1)
+damaged_stands rom held position (Snapshot error) is damaged =
+    let sound = sound_whole is damaged in
+    no_refusal rom damaged.body.blob error sound.snapshot damaged.holds.1 damaged.holds.2
+damaged_stands rom held position (Entry index) is damaged =
+    let sound = sound_whole is damaged in
+    let none = sound.inputs in
+    let some = damaged.holds.1 in
+    absurd (cc)
+
+-- why a game that stands for a position is not taken up
+pub sound_stop : (rom : List ℕ) (generation : ℕ) (held : Option ImageContent) (position : Position) (why : SessionError) → stands rom held ≡ Some position → IsResumeCause rom generation held why → IsSoundStop why
+sound_stop rom generation held position Memory is cause = tt
+sound_stop rom generation held position Device is cause = tt
+sound_stop rom generation held position NoSession is cause = nothing_stands rom held position is cause
+sound_stop rom generation held position (TooSmall n) is cause = short_stands rom held cause.header position is cause.is
+sound_stop rom generation held position OtherCartridge is cause =
+    let sound = sound_whole is cause in
+    cause.holds ((bytes_eq-Decides cause.header.id (sha256 rom)).0 sound.id)
+sound_stop rom generation held position (Damaged damage) is cause = damaged_stands rom held position damage is cause
+sound_stop rom generation held position Worn is cause = tt
+sound_stop rom generation held position Broken is cause = cause
+sound_stop rom generation held position SaveFirst is cause = cause
+sound_stop rom generation held position CountFull is cause = absurd cause
+sound_stop rom generation held position Output is cause = cause

@@ -1,0 +1,3 @@
+pub mod RoundLaws
+pub mod LifeLaws
+pub mod CauseLaws

@@ -1,0 +1,153 @@
+-- Lives, and one round more.
+use Rattle.std.proofs.Common.{◌≡◌, ℕ, zero, suc, ◌+◌, ◌<◌, ◌≤◌, List, [], ◌∷◌, ◌++◌, length, take, get_or, Option, Some, None, refl, sym, ap, ◌∙◌, subst, arith, length-append}
+use Rattle.std.specs.List.{All}
+use Rattle.std.proofs.Math.Seq.{take-suc}
+use Rattle.std.proofs.lemmas.List.{length-take-le, take_all}
+use Rattle.machine.specs.Machine.{MachineState, after}
+use Rattle.machine.specs.declared.input.Input.{Input}
+use Rattle.sector_device.specs.DiskState.{DiskState}
+use Rattle.sector_device.specs.Memory.{MemoryState, memory_disk}
+use Rattle.sector_device.specs.Runs.{HoldsSince}
+use Rattle.sector_log.specs.Content.{content}
+use Rattle.session.specs.Calls.{StandsAsBefore}
+use Rattle.session.specs.Stands.{Position, stands}
+use Rattle.session.proofs.StandsLaws.{after_append, after_none}
+use Rattle.whole_lives.proofs.RoundLaws.{stood_before, stands_here}
+use Rattle.whole_lives.specs.Lives.{inputs_of_round, IsRoundBy, IsRound, IsLife, HasLived, LeavesLife, LeavesSomeLife}
+use Rattle.whole_lives.specs.Laws.{survivors_of, survivors, IsTakenUpFrom, NeverFalls, NoLifeLosesWhatWasSaved}
+use Rattle.whole_lives.specs.Rounds.{LeavesRound}
+use Rattle.whole_lives.specs.declared.rounds.Round.{Round}
+use Rattle.whole_lives.specs.declared.rounds.RoundEnd.{RoundEnd}
+
+-- ---- one round more
+
+-- the greatest count known to be saved behind these ends
+abbrev pub known_behind : ℕ → List RoundEnd → ℕ
+known_behind known [] = known
+known_behind known (end ∷ ends) = known_behind end.saved ends
+
+pub known_push : (known : ℕ) (ends : List RoundEnd) (end : RoundEnd) → known_behind known (ends ++ end ∷ []) ≡ end.saved
+known_push known [] end = refl
+known_push known (e ∷ ends) end = known_push e.saved ends end
+
+life_push : (rounds : List Round) (ends : List RoundEnd) (known : ℕ) (first next last : Position) (round : Round) (end : RoundEnd)
+    → IsLife rounds ends known first next → IsRound (inputs_of_round round) end (known_behind known ends) next last → IsLife (rounds ++ round ∷ []) (ends ++ end ∷ []) known first last
+life_push [] [] known first next last round end life more = (last, subst (λ (p : Position). IsRound (inputs_of_round round) end known p last) life more, refl)
+life_push [] (e ∷ ends) known first next last round end life more = absurd life
+life_push (r ∷ rounds) [] known first next last round end life more = absurd life
+life_push (r ∷ rounds) (e ∷ ends) known first next last round end life more =
+    (life.0, life.1, life_push rounds ends e.saved life.0 next last round end life.2 more)
+
+pub lived_nothing : (rom : List ℕ) (now : DiskState) → LeavesLife rom now now [] []
+lived_nothing rom now = λ last stood. record { first = last; stood = stood; life = refl }
+
+-- a life, and one round after it
+pub lived_more : (rom : List ℕ) (old mid now : DiskState) (rounds : List Round) (ends : List RoundEnd) (round : Round) (end : RoundEnd) (known : ℕ) → known ≡ known_behind 0 ends
+    → LeavesLife rom old mid rounds ends → LeavesRound rom mid now (inputs_of_round round) end known → LeavesLife rom old now (rounds ++ round ∷ []) (ends ++ end ∷ [])
+lived_more rom old mid now rounds ends round end known is before more = λ last stood.
+    let one = more last stood in
+    let lived = before one.first one.stood in
+    record {
+      first = lived.first;
+      stood = lived.stood;
+      life = life_push rounds ends 0 lived.first one.first last round end lived.life (subst (λ (k : ℕ). IsRound (inputs_of_round round) end k one.first last) is one.round);
+    }
+
+-- the same of the first so many rounds
+pub lived_next : (rom : List ℕ) (old mid now : DiskState) (rounds : List Round) (i : ℕ) (d : Round) (ends : List RoundEnd) (end : RoundEnd) (known : ℕ) → i < length rounds → known ≡ known_behind 0 ends
+    → LeavesLife rom old mid (take i rounds) ends → LeavesRound rom mid now (inputs_of_round (get_or rounds i d)) end known → LeavesLife rom old now (take (i + 1) rounds) (ends ++ end ∷ [])
+lived_next rom old mid now rounds i d ends end known less is before more =
+    let next : suc i ≡ i + 1 = omega arith in
+    subst (λ (l : List Round). LeavesLife rom old now l (ends ++ end ∷ [])) (sym (take-suc rounds i d less) ∙ ap (λ (k : ℕ). take k rounds) next)
+    (lived_more rom old mid now (take i rounds) ends (get_or rounds i d) end known is before more)
+
+-- the game is taken up behind the last round
+pub lived_to : (rom : List ℕ) (old : DiskState) (left : MemoryState) (rounds : List Round) (ends : List RoundEnd) (last : Position) → LeavesLife rom old (memory_disk left) rounds ends
+    → stands rom (content (memory_disk left).sectors) ≡ Some last → HasLived rom old rounds ends last
+lived_to rom old left rounds ends last lived is = lived last (stands_here rom left last is)
+
+-- or not, which ends the life
+pub lived_until : (rom : List ℕ) (old : DiskState) (left now : MemoryState) (rounds : List Round) (ends : List RoundEnd) → LeavesLife rom old (memory_disk left) rounds ends
+    → HoldsSince (memory_disk left) (memory_disk now) (StandsAsBefore rom (memory_disk left)) → LeavesSomeLife rom old (memory_disk now) rounds
+lived_until rom old left now rounds ends lived held =
+    let all : take (length rounds) rounds ≡ rounds = take_all (length rounds) rounds (omega arith) in
+    record {
+      done = length rounds;
+      ends = ends;
+      leaves = λ last here. subst (λ (l : List Round). HasLived rom old l ends last) (sym all) (lived last (stood_before rom left now last held here));
+    }
+
+-- ---- what is kept in a life
+
+-- one round
+record RoundSurvives (round : Round) (resumed : Option ℕ) (saved known : ℕ) (first last : Position) : Type 0 where
+  kept : ℕ
+  count_is : last.count ≡ first.count + length (survivors_of round resumed kept)
+  machine_is : last.machine ≡ after first.machine (survivors_of round resumed kept)
+  saved_is : saved ≤ last.count
+  taken_up : IsTakenUpFrom known resumed
+  rises : known ≤ saved
+
+round_survives : (round : Round) (resumed : Option ℕ) (saved known : ℕ) (first last : Position) → known ≤ first.count → IsRoundBy (inputs_of_round round) resumed saved known first last → RoundSurvives round resumed saved known first last
+round_survives round None saved known first last less by = record {
+  kept = 0;
+  count_is = ap (λ (p : Position). p.count) by.0 ∙ (let e : first.count ≡ first.count + 0 = omega arith in e);
+  machine_is = ap (λ (p : Position). p.machine) by.0 ∙ sym (after_none first.machine);
+  saved_is = omega (arith, by.1, ap (λ (p : Position). p.count) by.0, less);
+  taken_up = tt;
+  rises = omega (arith, by.1);
+}
+round_survives round (Some count) saved known first last less by =
+    let size : length (take by.kept (inputs_of_round round)) ≡ by.kept = length-take-le by.kept (inputs_of_round round) (omega (arith, by.were_kept, by.were_given)) in
+    record {
+      kept = by.kept;
+      count_is = omega (arith, by.count_is, size);
+      machine_is = by.machine_is;
+      saved_is = omega (arith, by.keeps_saved, by.count_is);
+      taken_up = omega (arith, by.resumed_is, less);
+      rises = omega (arith, by.saved_at_least, less);
+    }
+
+saved_first : (end : RoundEnd) (ends : List RoundEnd) (n : ℕ) → end.saved ≤ n → All (λ e. e.saved ≤ n) ends → All (λ e. e.saved ≤ n) (end ∷ ends)
+saved_first end ends n one all zero d less = one
+saved_first end ends n one all (suc k) d less = all k d (omega (arith, less))
+
+-- from any count that was known to be saved
+record Surviving (rounds : List Round) (ends : List RoundEnd) (known : ℕ) (first last : Position) : Type 0 where
+  kept : List ℕ
+  each : length kept ≡ length rounds
+  count_is : last.count ≡ first.count + length (survivors rounds ends kept)
+  machine_is : last.machine ≡ after first.machine (survivors rounds ends kept)
+  saved : All (λ end. end.saved ≤ last.count) ends
+  never_falls : NeverFalls known ends
+
+survives : (rounds : List Round) (ends : List RoundEnd) (known : ℕ) (first last : Position) → known ≤ first.count → IsLife rounds ends known first last → Surviving rounds ends known first last
+survives [] [] known first last less life = record {
+  kept = [];
+  each = refl;
+  count_is = ap (λ (p : Position). p.count) life ∙ (let e : first.count ≡ first.count + 0 = omega arith in e);
+  machine_is = ap (λ (p : Position). p.machine) life ∙ sym (after_none first.machine);
+  saved = λ k d no. absurd (omega (arith, no));
+  never_falls = tt;
+}
+survives [] (e ∷ ends) known first last less life = absurd life
+survives (r ∷ rounds) [] known first last less life = absurd life
+survives (r ∷ rounds) (e ∷ ends) known first last less life =
+    let next = life.0 in
+    let one = round_survives r e.resumed e.saved known first next less life.1 in
+    let rest = survives rounds ends e.saved next last one.saved_is life.2 in
+    let these : List Input = survivors_of r e.resumed one.kept in
+    let those : List Input = survivors rounds ends rest.kept in
+    record {
+      kept = one.kept ∷ rest.kept;
+      each = ap suc rest.each;
+      count_is = omega (arith, one.count_is, rest.count_is, length-append these those);
+      machine_is = rest.machine_is ∙ ap (λ (m : MachineState). after m those) one.machine_is ∙ after_append first.machine these those;
+      saved = saved_first e ends last.count (omega (arith, one.saved_is, rest.count_is)) rest.saved;
+      never_falls = (one.taken_up, one.rises, rest.never_falls);
+    }
+
+pub keeps_what_was_saved : NoLifeLosesWhatWasSaved
+keeps_what_was_saved rounds ends first last life =
+    let s = survives rounds ends 0 first last (omega arith) life in
+    record { kept = s.kept; each = s.each; count_is = s.count_is; machine_is = s.machine_is; saved = s.saved; never_falls = s.never_falls }

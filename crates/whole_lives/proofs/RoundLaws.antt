@@ -1,0 +1,246 @@
+-- What a round leaves: missed, played and cut.
+use Rattle.std.proofs.Common.{◌≡◌, ◌⊎◌, inl, inr, ⊎_elim, ℕ, ◌+◌, ◌-◌, ◌^◌, ◌≤◌, ◌<◌, List, [], ◌∷◌, ◌++◌, length, take, Bool, false, Option, Some, None, refl, sym, ap, ◌∙◌, subst, arith}
+use Rattle.std.proofs.lemmas.Bool.{cases_lt}
+use Rattle.machine.specs.Machine.{MachineState, after, applied}
+use Rattle.machine.specs.declared.input.Input.{Input}
+use Rattle.sector_device.specs.DiskState.{DiskState, next_count}
+use Rattle.sector_device.specs.Memory.{MemoryState, memory_disk, image_of}
+use Rattle.sector_device.specs.MemoryDevice.{memory}
+use Rattle.sector_device.specs.RecordLaws.{counts_last, only_last, reads_image}
+use Rattle.sector_device.specs.Runs.{HoldsSince}
+use Rattle.sector_device.specs.declared.memory.MemoryDevice.{MemoryDevice}
+use Rattle.sector_log.specs.Content.{ImageContent, content}
+use Rattle.sector_log.specs.declared.Entry.{Entry}
+use Rattle.session.specs.Calls.{StandsAsBefore, faults_after}
+use Rattle.session.specs.Inputs.{inputs_of}
+use Rattle.session.specs.Stands.{Position, stands}
+use Rattle.session.specs.declared.error.SessionError.{SessionError}
+use Rattle.session.specs.declared.error.SessionError.TheVariants.{Memory, Device, NoSession, TooSmall, OtherCartridge, Damaged, Worn, Broken, SaveFirst, CountFull, Output}
+use Rattle.session.specs.Found.{IsResumeCause}
+use Rattle.playing.specs.Played.{IsPlayed, Stopped}
+use Rattle.playing.proofs.PlayLaws.{reaches_here, reaches_more, played_more}
+use Rattle.whole_lives.specs.Lives.{StandsFor, EachStands}
+use Rattle.whole_lives.specs.Refusals.{IsLifeStop, IsSoundStop, CountsLifeFaults}
+use Rattle.whole_lives.specs.Rounds.{Leaves, LeavesRound, IsRoundStop}
+use Rattle.whole_lives.specs.declared.rounds.RoundEnd.{RoundEnd}
+
+-- ---- moves
+
+pub leaves_stopped : (rom : List ℕ) (old now : DiskState) (acknowledged : ℕ) (from : Position) (given : List Input) → Stopped rom old now acknowledged from given → Leaves rom now acknowledged from given
+leaves_stopped rom old now acknowledged from given stopped = record { least = stopped.least; acknowledged_is = stopped.acknowledged_is; images = stopped.images }
+
+pub leaves_more : (rom : List ℕ) (now : DiskState) (acknowledged : ℕ) (from : Position) (given more : List Input) → Leaves rom now acknowledged from given → Leaves rom now acknowledged from (given ++ more)
+leaves_more rom now acknowledged from given more left = record {
+  least = left.least;
+  acknowledged_is = left.acknowledged_is;
+  images = λ image here. reaches_more rom from left.least given more image (left.images image here);
+}
+
+pub leaves_played : (rom : List ℕ) (now : DiskState) (acknowledged : ℕ) (pending : List Entry) (machine : MachineState) (from : Position) (given : List Input) → IsPlayed rom now acknowledged pending machine from given → Leaves rom now acknowledged from given
+leaves_played rom now acknowledged pending machine from given played = record {
+  least = played.saved;
+  acknowledged_is = played.acknowledged_is;
+  images = reaches_here rom now acknowledged pending machine from given played;
+}
+
+pub leaves_by : {rom : List ℕ} {now : DiskState} {acknowledged : ℕ} {from : Position} {given given' : List Input} → given ≡ given' → Leaves rom now acknowledged from given → Leaves rom now acknowledged from given'
+leaves_by {rom} {now} {acknowledged} {from} {given} {given'} same left = subst (Leaves rom now acknowledged from) same left
+
+pub played_by : {rom : List ℕ} {now : DiskState} {acknowledged : ℕ} {pending : List Entry} {machine : MachineState} {from : Position} {given given' : List Input}
+    → given ≡ given' → IsPlayed rom now acknowledged pending machine from given → IsPlayed rom now acknowledged pending machine from given'
+played_by {rom} {now} {acknowledged} {pending} {machine} {from} {given} {given'} same played = subst (IsPlayed rom now acknowledged pending machine from) same played
+
+-- one more input
+module _ {D : Type 0} (disk : D → DiskState) (rom : List ℕ) (was now : D) (acknowledged then : ℕ) where
+  pub played_input : (pending more : List Entry) (machine after_it : MachineState) (from : Position) (given : List Input) (input : Input) → now ≡ was → then ≡ acknowledged
+      → inputs_of more ≡ inputs_of pending ++ input ∷ [] → after_it ≡ applied input machine → IsPlayed rom (disk was) acknowledged pending machine from given → IsPlayed rom (disk now) then more after_it from (given ++ input ∷ [])
+  played_input pending more machine after_it from given input same count_is more_is is played =
+      subst (λ (d : D). IsPlayed rom (disk d) then more after_it from (given ++ input ∷ [])) (sym same)
+      (subst (λ (n : ℕ). IsPlayed rom (disk was) n more after_it from (given ++ input ∷ [])) (sym count_is)
+      (played_more rom (disk was) acknowledged pending machine from given played more after_it input more_is is))
+
+  -- that was refused
+  pub leaves_input : (pending : List Entry) (machine : MachineState) (from : Position) (given more : List Input) → now ≡ was → then ≡ acknowledged
+      → IsPlayed rom (disk was) acknowledged pending machine from given → Leaves rom (disk now) then from (given ++ more)
+  leaves_input pending machine from given more same count_is played =
+      subst (λ (d : D). Leaves rom (disk d) then from (given ++ more)) (sym same)
+      (subst (λ (n : ℕ). Leaves rom (disk was) n from (given ++ more)) (sym count_is)
+      (leaves_more rom (disk was) acknowledged from given more (leaves_played rom (disk was) acknowledged pending machine from given played)))
+
+-- ---- one round
+
+-- each image that is left is what a cut of a round that was played leaves
+pub round_played : (rom : List ℕ) (old now : DiskState) (from : Position) (resumed acknowledged known : ℕ) (inputs : List Input)
+    → StandsFor rom old from → resumed ≡ from.count → Leaves rom now acknowledged from inputs → LeavesRound rom old now inputs (record { resumed = Some resumed; saved = acknowledged }) known
+round_played rom old now from resumed acknowledged known inputs stood resumed_is left = λ last here.
+    let reached = left.images here.image here.stood in
+    let both : Some last ≡ Some (record { count = from.count + reached.count; machine = after from.machine (take reached.count inputs) }) = sym here.is ∙ reached.is in
+    let last_is : last ≡ record { count = from.count + reached.count; machine = after from.machine (take reached.count inputs) } = cc in
+    record {
+      first = from;
+      stood = stood;
+      round = record {
+        resumed_is = resumed_is;
+        given = length inputs;
+        were_given = omega arith;
+        saved_at_least = omega (arith, left.acknowledged_is);
+        saved_at_most = omega (arith, left.acknowledged_is, reached.at_least, reached.within);
+        kept = reached.count;
+        were_kept = reached.within;
+        keeps_saved = omega (arith, left.acknowledged_is, reached.at_least);
+        count_is = ap (λ (p : Position). p.count) last_is;
+        machine_is = ap (λ (p : Position). p.machine) last_is;
+      };
+    }
+
+module _ (m : MemoryState) where
+  pub only : (image : List (List ℕ)) → (memory_disk m).since (memory_disk m).moment image → (memory_disk m).image image
+  only image since = only_last m.at_start m.recorded image since
+
+  pub counts : (t : ℕ) (image : List (List ℕ)) → t ≤ (memory_disk m).moment → (memory_disk m).image image → (memory_disk m).since t image
+  counts t image le now = counts_last m.at_start m.recorded t image le now
+
+  pub reads : (memory_disk m).image (memory_disk m).sectors
+  reads = reads_image m.at_start m.recorded
+
+-- what resuming leaves, where it is refused, stood before
+pub stood_before : (rom : List ℕ) (old new : MemoryState) (position : Position) → HoldsSince (memory_disk old) (memory_disk new) (StandsAsBefore rom (memory_disk old)) → StandsFor rom (memory_disk new) position → StandsFor rom (memory_disk old) position
+stood_before rom old new position held here =
+    let before = held.each here.image (counts new (memory_disk old).moment here.image held.moments.later here.stood) in
+    record { image = before.before; stood = before.stood; is = sym before.is ∙ here.is }
+
+pub round_missed : (rom : List ℕ) (old new : MemoryState) (known : ℕ) (inputs : List Input) → HoldsSince (memory_disk old) (memory_disk new) (StandsAsBefore rom (memory_disk old))
+    → LeavesRound rom (memory_disk old) (memory_disk new) inputs (record { resumed = None; saved = known }) known
+round_missed rom old new known inputs held = λ last here. record { first = last; stood = stood_before rom old new last held here; round = (refl, refl) }
+
+-- what reads give is what the game is taken up from
+pub stands_here : (rom : List ℕ) (m : MemoryState) (position : Position) → stands rom (content (memory_disk m).sectors) ≡ Some position → StandsFor rom (memory_disk m) position
+stands_here rom m position is = record { image = (memory_disk m).sectors; stood = reads m; is = is }
+
+-- a cut leaves an image
+pub cut_image : (old new : MemoryState) (kept : List Bool) (room faults : ℕ)
+    → new ≡ record { at_start = image_of old kept; recorded = []; room = room; fuse = None; blown = false; fails_in = 0; keeps = false; faults = faults }
+    → (image : List (List ℕ)) → (memory_disk new).image image → (memory_disk old).image image
+cut_image old new kept room faults is image here =
+    let fresh : MemoryState = record { at_start = image_of old kept; recorded = []; room = room; fuse = None; blown = false; fails_in = 0; keeps = false; faults = faults } in
+    let there : (memory_disk fresh).image image = subst (λ (m : MemoryState). (memory_disk m).image image) is here in
+    (kept, there.1)
+
+-- what a round leaves, a cut of it leaves
+pub round_cut : (rom : List ℕ) (first : DiskState) (old new : MemoryState) (inputs : List Input) (end : RoundEnd) (known : ℕ) → ((image : List (List ℕ)) → (memory_disk new).image image → (memory_disk old).image image)
+    → LeavesRound rom first (memory_disk old) inputs end known → LeavesRound rom first (memory_disk new) inputs end known
+round_cut rom first old new inputs end known to left = λ last here. left last (record { image = here.image; stood = to here.image here.stood; is = here.is })
+
+-- a round that was played, by the words of the calls that played it
+pub round_ended : (rom : List ℕ) (first now : MemoryState) (machine : MachineState) (count resumed saved acknowledged known : ℕ) (inputs : List Input)
+    → stands rom (content (memory_disk first).sectors) ≡ Some (record { count = count; machine = machine }) → resumed ≡ count → saved ≡ acknowledged
+    → Leaves rom (memory_disk now) acknowledged (record { count = count; machine = machine }) inputs → LeavesRound rom (memory_disk first) (memory_disk now) inputs (record { resumed = Some resumed; saved = saved }) known
+round_ended rom first now machine count resumed saved acknowledged known inputs stood resumed_is saved_is left =
+    let from : Position = record { count = count; machine = machine } in
+    subst (λ (n : ℕ). LeavesRound rom (memory_disk first) (memory_disk now) inputs (record { resumed = Some resumed; saved = n }) known) (sym saved_is)
+    (round_played rom (memory_disk first) (memory_disk now) from resumed acknowledged known inputs (stands_here rom first from stood) resumed_is left)
+
+-- the same device and the same end
+pub round_moved : (rom : List ℕ) (first : DiskState) (inputs : List Input) (known : ℕ) (old new : MemoryDevice) (end end' : RoundEnd) → new ≡ old → end' ≡ end
+    → LeavesRound rom first (memory_disk (memory old)) inputs end known → LeavesRound rom first (memory_disk (memory new)) inputs end' known
+round_moved rom first inputs known old new end end' same end_is left =
+    subst (λ (d : MemoryDevice). LeavesRound rom first (memory_disk (memory d)) inputs end' known) (sym same)
+    (subst (λ (e : RoundEnd). LeavesRound rom first (memory_disk (memory old)) inputs e known) (sym end_is) left)
+
+-- a fuse changes no image
+pub round_fused : (rom : List ℕ) (old fused : MemoryState) (now : DiskState) (inputs : List Input) (end : RoundEnd) (known : ℕ) → memory_disk fused ≡ memory_disk old
+    → LeavesRound rom (memory_disk fused) now inputs end known → LeavesRound rom (memory_disk old) now inputs end known
+round_fused rom old fused now inputs end known same left = subst (λ (d : DiskState). LeavesRound rom d now inputs end known) same left
+
+-- ---- each image
+
+pub each_before : (rom : List ℕ) (old new : MemoryState) → HoldsSince (memory_disk old) (memory_disk new) (StandsAsBefore rom (memory_disk old)) → EachStands rom (memory_disk old) → EachStands rom (memory_disk new)
+each_before rom old new held each = λ image here.
+    let before = held.each image (counts new (memory_disk old).moment image held.moments.later here) in
+    let stood = each before.before before.stood in
+    (stood.0, before.is ∙ stood.1)
+
+pub each_left : (rom : List ℕ) (now : DiskState) (acknowledged : ℕ) (from : Position) (given : List Input) → Leaves rom now acknowledged from given → EachStands rom now
+each_left rom now acknowledged from given left = λ image here.
+    let reached = left.images image here in
+    (record { count = from.count + reached.count; machine = after from.machine (take reached.count given) }, reached.is)
+
+pub each_moved : (rom : List ℕ) (old new : MemoryDevice) → new ≡ old → EachStands rom (memory_disk (memory old)) → EachStands rom (memory_disk (memory new))
+each_moved rom old new same each = subst (λ (d : MemoryDevice). EachStands rom (memory_disk (memory d))) (sym same) each
+
+pub each_fused : (rom : List ℕ) (old fused : MemoryState) → memory_disk fused ≡ memory_disk old → EachStands rom (memory_disk old) → EachStands rom (memory_disk fused)
+each_fused rom old fused same each = subst (λ (d : DiskState). EachStands rom d) (sym same) each
+
+-- ---- faults
+
+device_counted : (old new : ℕ) → old < 2 ^ 64 → new ≡ next_count old → (old < new) ⊎ (new ≡ 2 ^ 64 - 1)
+device_counted old new fits is = elim (cases_lt old (2 ^ 64 - 1)) [ inl lt ↦ inl (omega (arith, is)) | inr le ↦ inr (omega (arith, is)) ]
+
+pub least_after : (why : SessionError) (old new : ℕ) → old < 2 ^ 64 → new ≡ faults_after why old → old ≤ new
+least_after Device old new fits is = omega (arith, is)
+least_after Memory old new fits is = omega (arith, is)
+least_after NoSession old new fits is = omega (arith, is)
+least_after (TooSmall n) old new fits is = omega (arith, is)
+least_after OtherCartridge old new fits is = omega (arith, is)
+least_after (Damaged d) old new fits is = omega (arith, is)
+least_after Worn old new fits is = omega (arith, is)
+least_after Broken old new fits is = omega (arith, is)
+least_after SaveFirst old new fits is = omega (arith, is)
+least_after CountFull old new fits is = omega (arith, is)
+least_after Output old new fits is = omega (arith, is)
+
+-- after calls that forgot no fault, one that was refused
+pub counts_refusal : (why : SessionError) (first old new : ℕ) → first ≤ old → old < 2 ^ 64 → new ≡ faults_after why old → CountsLifeFaults first new why
+counts_refusal why first old new less fits is = record {
+  kept = omega (arith, least_after why old new fits is);
+  counted = λ device.
+      let more : (old < new) ⊎ (new ≡ 2 ^ 64 - 1) = device_counted old new fits (is ∙ ap (λ (w : SessionError). faults_after w old) device) in
+      ⊎_elim (λ above. inl (omega arith)) (λ top. inr top) more;
+}
+
+pub counts_later : (why : SessionError) (first old new : ℕ) → first ≤ old → CountsLifeFaults old new why → CountsLifeFaults first new why
+counts_later why first old new less counts = record {
+  kept = omega (arith, counts.kept);
+  counted = λ device. ⊎_elim (λ above. inl (omega arith)) (λ top. inr top) (counts.counted device);
+}
+
+-- ---- causes
+
+pub resume_stop : (rom : List ℕ) (generation : ℕ) (held : Option ImageContent) (why : SessionError) → IsResumeCause rom generation held why → IsLifeStop why
+resume_stop rom generation held Memory cause = tt
+resume_stop rom generation held Device cause = tt
+resume_stop rom generation held NoSession cause = tt
+resume_stop rom generation held (TooSmall n) cause = tt
+resume_stop rom generation held OtherCartridge cause = tt
+resume_stop rom generation held (Damaged d) cause = tt
+resume_stop rom generation held Worn cause = tt
+resume_stop rom generation held Broken cause = cause
+resume_stop rom generation held SaveFirst cause = cause
+resume_stop rom generation held CountFull cause = absurd cause
+resume_stop rom generation held Output cause = cause
+
+pub moves_stop : (why : SessionError) → IsRoundStop why → IsLifeStop why
+moves_stop Memory cause = tt
+moves_stop Device cause = tt
+moves_stop NoSession cause = tt
+moves_stop (TooSmall n) cause = tt
+moves_stop OtherCartridge cause = tt
+moves_stop (Damaged d) cause = tt
+moves_stop Worn cause = tt
+moves_stop CountFull cause = tt
+moves_stop Broken cause = cause
+moves_stop SaveFirst cause = cause
+moves_stop Output cause = cause
+
+pub moves_sound_stop : (why : SessionError) → IsRoundStop why → IsSoundStop why
+moves_sound_stop Memory cause = tt
+moves_sound_stop Device cause = tt
+moves_sound_stop Worn cause = tt
+moves_sound_stop CountFull cause = tt
+moves_sound_stop NoSession cause = cause
+moves_sound_stop (TooSmall n) cause = cause
+moves_sound_stop OtherCartridge cause = cause
+moves_sound_stop (Damaged d) cause = cause
+moves_sound_stop Broken cause = cause
+moves_sound_stop SaveFirst cause = cause
+moves_sound_stop Output cause = cause

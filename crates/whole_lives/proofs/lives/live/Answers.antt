@@ -1,0 +1,29 @@
+use Rattle.sector_device.specs.Memory.{memory_disk}
+use Rattle.sector_device.specs.MemoryDevice.{memory}
+use Rattle.sector_log.specs.Content.{content, generation_in}
+use Rattle.session.specs.Words.{machine_of, acknowledged_of}
+use Rattle.whole_lives.proofs.CauseLaws.{sound_stop}
+use Rattle.whole_lives.proofs.LifeLaws.{lived_to, lived_until}
+use Rattle.whole_lives.proofs.RoundLaws.{reads, each_before}
+use Rattle.whole_lives.proofs.lives.live.Goals as goal
+
+pub returns-in-Ok-resume-clause-lived : goal.returns-in-Ok-resume-clause-lived
+returns-in-Ok-resume-clause-lived c =
+    let s = c.in-Ok-resume.session in
+    lived_to c.args.cartridge.now (memory_disk (memory c.args.device)) (memory c.in-Ok.lived.0) c.args.rounds.now c.in-Ok.lived.1.items
+    (record { count = acknowledged_of s; machine = machine_of s }) c.in-Ok.ensures.lived (c.in-Ok-resume.ensures.stands tt)
+
+pub returns-in-Err-resume-clause-left : goal.returns-in-Err-resume-clause-left
+returns-in-Err-resume-clause-left c =
+    lived_until c.args.cartridge.now (memory_disk (memory c.args.device)) (memory c.in-Ok.lived.0) (memory c.in-Err-resume.refused.device) c.args.rounds.now c.in-Ok.lived.1.items
+    c.in-Ok.ensures.lived (c.in-Err-resume.ensures.images tt)
+
+pub returns-in-Err-resume-clause-sound : goal.returns-in-Err-resume-clause-sound
+returns-in-Err-resume-clause-sound c = λ each.
+    let sectors = (memory_disk (memory c.in-Ok.lived.0)).sectors in
+    let here = c.in-Ok.ensures.stand each sectors (reads (memory c.in-Ok.lived.0)) in
+    sound_stop c.args.cartridge.now (generation_in sectors) (content sectors) here.0 c.in-Err-resume.refused.why here.1 (c.in-Err-resume.ensures.cause tt)
+
+pub returns-in-Err-resume-clause-kept : goal.returns-in-Err-resume-clause-kept
+returns-in-Err-resume-clause-kept c = λ each.
+    each_before c.args.cartridge.now (memory c.in-Ok.lived.0) (memory c.in-Err-resume.refused.device) (c.in-Err-resume.ensures.images tt) (c.in-Ok.ensures.stand each)

@@ -1,0 +1,46 @@
+use Rattle.std.proofs.Common.{◌++◌, ◌∷◌, [], length, ap, ◌∙◌, arith, length-append}
+use Rattle.session.specs.Inputs.{entry_of}
+use Rattle.session.specs.Words.{device_of, machine_of, pending_of, acknowledged_of}
+use Rattle.playing.proofs.PlayLaws.{on_ok, on_err}
+use Rattle.whole_lives.proofs.RoundLaws.{played_input, leaves_input}
+use Rattle.whole_lives.proofs.moves.give.Goals as goal
+
+pub returns-clause-played : goal.returns-clause-played
+returns-clause-played g c = λ rom from given played.
+    let was = c.args.session.now in
+    let now = c.input.new.self in
+    played_input g.D.SectorDevice.disk rom (device_of was) (device_of now) (acknowledged_of was) (acknowledged_of now) (pending_of was) (pending_of now) (machine_of was) (machine_of now) from given c.args.input
+    c.input.ensures.device c.input.ensures.kept.0 c.in_default.ensures.given c.in_default.ensures.machine played
+
+pub returns-clause-whole : goal.returns-clause-whole
+returns-clause-whole g c =
+    let more = ap length c.in_default.ensures.pending in
+    let seen = ap (λ r. r.pending) c.counts.ensures in
+    (c.input.ensures.kept.1 ∙ c.requires.whole, omega (arith, more, seen, c.if-counts-eq3200.false, c.requires.few, length-append (pending_of c.args.session.now) (entry_of c.args.input ∷ [])))
+
+pub returns-then-counts-eq3200-clause-played : goal.returns-then-counts-eq3200-clause-played
+returns-then-counts-eq3200-clause-played g c =
+    on_ok c.save.result c.save.ensures.played
+    (λ next rom from given played.
+    let was = c.args.session.now in
+    let mid = c.input.new.self in
+    next rom from (given ++ c.args.input ∷ [])
+    (played_input g.D.SectorDevice.disk rom (device_of was) (device_of mid) (acknowledged_of was) (acknowledged_of mid) (pending_of was) (pending_of mid) (machine_of was) (machine_of mid) from given c.args.input
+    c.input.ensures.device c.input.ensures.kept.0 c.in_default.ensures.given c.in_default.ensures.machine played))
+
+pub returns-then-counts-eq3200-clause-stopped : goal.returns-then-counts-eq3200-clause-stopped
+returns-then-counts-eq3200-clause-stopped g c =
+    on_err c.save.result c.save.ensures.stopped
+    (λ next rom from given played.
+    let was = c.args.session.now in
+    let mid = c.input.new.self in
+    next rom from (given ++ c.args.input ∷ [])
+    (played_input g.D.SectorDevice.disk rom (device_of was) (device_of mid) (acknowledged_of was) (acknowledged_of mid) (pending_of was) (pending_of mid) (machine_of was) (machine_of mid) from given c.args.input
+    c.input.ensures.device c.input.ensures.kept.0 c.in_default.ensures.given c.in_default.ensures.machine played))
+
+pub returns-in-Err-clause-stopped : goal.returns-in-Err-clause-stopped
+returns-in-Err-clause-stopped g c = λ rom from given played.
+    let was = c.args.session.now in
+    let now = c.input.new.self in
+    leaves_input g.D.SectorDevice.disk rom (device_of was) (device_of now) (acknowledged_of was) (acknowledged_of now) (pending_of was) (machine_of was) from given (c.args.input ∷ [])
+    c.input.ensures.device c.input.ensures.kept.0 played

@@ -1,0 +1,20 @@
+use Rattle.std.proofs.Common.{◌≡◌, ◌<◌, ◌++◌, List, ℕ, length, replicate, false}
+use Rattle.machine.specs.declared.input.Input.{Input}
+use Rattle.machine.specs.declared.input.Input.TheVariants.{Frame}
+use Rattle.session.specs.Stands.{Position}
+use Rattle.session.specs.Words.{device_of, machine_of, pending_of, acknowledged_of, is_broken}
+use Rattle.playing.specs.Played.{IsPlayed}
+use Rattle.whole_lives.proofs.moves.give_frames.Given as goal
+
+-- the frames so far were given
+abbrev pub invariant-loop-i : goal.invariant-loop-i
+invariant-loop-i g l =
+    let first = l.initial.session in
+    let now = l.session in
+    record {
+      whole : is_broken now ≡ false;
+      few : length (pending_of now) < 3200;
+      faults : (g.D.SectorDevice.disk (device_of now)).faults ≡ (g.D.SectorDevice.disk (device_of first)).faults;
+      played : (rom : List ℕ) (from : Position) (given : List Input) → IsPlayed rom (g.D.SectorDevice.disk (device_of first)) (acknowledged_of first) (pending_of first) (machine_of first) from given →
+          IsPlayed rom (g.D.SectorDevice.disk (device_of now)) (acknowledged_of now) (pending_of now) (machine_of now) from (given ++ replicate l._i (Frame l.buttons));
+    }

@@ -1,0 +1,194 @@
+use Rattle.std.proofs.Common.{◌≡◌, ◌≤◌, ℕ, [], length, Some, None, refl, sym, ap, ◌∙◌, subst, arith}
+use Rattle.sector_device.specs.Memory.{memory_disk}
+use Rattle.sector_device.specs.MemoryDevice.{memory}
+use Rattle.sector_device.specs.declared.memory.MemoryDevice.{MemoryDevice}
+use Rattle.sector_log.specs.Content.{content, generation_in}
+use Rattle.session.specs.Stands.{Position}
+use Rattle.session.specs.Words.{device_of, machine_of, pending_of, acknowledged_of}
+use Rattle.session.specs.declared.error.SessionError.{SessionError}
+use Rattle.session.proofs.Beginnings.{if_ok, if_err}
+use Rattle.playing.specs.Played.{IsPlayed}
+use Rattle.playing.specs.Report.{inputs_of_moves}
+use Rattle.playing.proofs.PlayLaws.{begun_played}
+use Rattle.whole_lives.specs.Refusals.{IsLifeStop, IsSoundStop, CountsLifeFaults}
+use Rattle.whole_lives.specs.Rounds.{Leaves, LeavesRound}
+use Rattle.whole_lives.specs.declared.rounds.RoundEnd.{RoundEnd}
+use Rattle.whole_lives.proofs.CauseLaws.{sound_stop}
+use Rattle.whole_lives.proofs.RoundLaws.{round_missed, round_moved, round_ended, each_before, each_left, each_moved, leaves_played, least_after, counts_refusal, moves_stop, moves_sound_stop, reads}
+use Rattle.whole_lives.proofs.rounds.play_until_blown.Goals as goal
+
+-- ---- not taken up
+
+pub returns-in-Err-clause-leaves : goal.returns-in-Err-clause-leaves
+returns-in-Err-clause-leaves c =
+    let rom = c.args.cartridge.now in
+    let inputs = inputs_of_moves c.args.moves.now in
+    let end : RoundEnd = record { resumed = None; saved = c.args.known } in
+    if_ok c.ended_by.result c.ended_by.ensures.ended
+    (λ r is. round_moved rom (memory_disk (memory c.args.device)) inputs c.args.known c.in-Err.refused.device r.0 end r.1 is.0 is.1
+    (round_missed rom (memory c.args.device) (memory c.in-Err.refused.device) c.args.known inputs (c.in-Err.ensures.images tt)))
+
+pub returns-in-Err-clause-refused : goal.returns-in-Err-clause-refused
+returns-in-Err-clause-refused c =
+    let rom = c.args.cartridge.now in
+    let inputs = inputs_of_moves c.args.moves.now in
+    let end : RoundEnd = record { resumed = None; saved = c.args.known } in
+    if_err c.ended_by.result c.ended_by.ensures.refused
+    (λ r is. (
+      end,
+      round_moved rom (memory_disk (memory c.args.device)) inputs c.args.known c.in-Err.refused.device r.device end end is.0 refl
+          (round_missed rom (memory c.args.device) (memory c.in-Err.refused.device) c.args.known inputs (c.in-Err.ensures.images tt)),
+    ))
+
+pub returns-in-Err-clause-stand : goal.returns-in-Err-clause-stand
+returns-in-Err-clause-stand c =
+    let rom = c.args.cartridge.now in
+    if_ok c.ended_by.result c.ended_by.ensures.ended
+    (λ r is each. each_moved rom c.in-Err.refused.device r.0 is.0 (each_before rom (memory c.args.device) (memory c.in-Err.refused.device) (c.in-Err.ensures.images tt) each))
+
+pub returns-in-Err-clause-sound : goal.returns-in-Err-clause-sound
+returns-in-Err-clause-sound c =
+    let rom = c.args.cartridge.now in
+    let sectors = (memory_disk (memory c.args.device)).sectors in
+    if_err c.ended_by.result c.ended_by.ensures.refused
+    (λ r is each.
+    let here = each sectors (reads (memory c.args.device)) in
+    subst (λ (why : SessionError). IsSoundStop why) (sym is.1) (sound_stop rom (generation_in sectors) (content sectors) here.0 c.in-Err.refused.why here.1 (c.in-Err.ensures.cause tt)))
+
+-- ---- played
+
+pub returns-in-Ok-made-clause-leaves : goal.returns-in-Ok-made-clause-leaves
+returns-in-Ok-made-clause-leaves c =
+    let rom = c.args.cartridge.now in
+    let s = c.in-Ok.session in
+    let now = c.make_moves-made.new.session in
+    let inputs = inputs_of_moves c.args.moves.now in
+    let from : Position = record { count = acknowledged_of s; machine = machine_of s } in
+    let begun : IsPlayed rom (memory_disk (memory (device_of s))) (acknowledged_of s) (pending_of s) (machine_of s) from [] =
+    begun_played rom (memory_disk (memory (device_of s))) (acknowledged_of s) (pending_of s) (machine_of s) tt c.in-Ok.ensures.begun.2 c.in-Ok.ensures.begun.0 (c.in-Ok.ensures.rests tt) in
+    let left : Leaves rom (memory_disk (memory (device_of now))) (acknowledged_of now) from inputs =
+    leaves_played rom (memory_disk (memory (device_of now))) (acknowledged_of now) (pending_of now) (machine_of now) from inputs (c.in-Ok-made.ensures.played rom from [] begun) in
+    let all = ap (λ r. r.all) c.counts-resumed.ensures in
+    let none = ap length c.in-Ok.ensures.begun.0 in
+    round_ended rom (memory c.args.device) (memory c.into_device-device.result) (machine_of s) (acknowledged_of s) c.counts-resumed.result.all c.counts.result.acknowledged (acknowledged_of now) c.args.known inputs
+    (c.in-Ok.ensures.stands tt) (omega (arith, all, none)) (ap (λ r. r.acknowledged) c.counts.ensures)
+    (subst (λ (d : MemoryDevice). Leaves rom (memory_disk (memory d)) (acknowledged_of now) from inputs) (sym c.into_device-device.ensures.device) left)
+
+pub returns-in-Ok-made-clause-stand : goal.returns-in-Ok-made-clause-stand
+returns-in-Ok-made-clause-stand c = λ each.
+    let rom = c.args.cartridge.now in
+    let s = c.in-Ok.session in
+    let now = c.make_moves-made.new.session in
+    let inputs = inputs_of_moves c.args.moves.now in
+    let from : Position = record { count = acknowledged_of s; machine = machine_of s } in
+    let begun : IsPlayed rom (memory_disk (memory (device_of s))) (acknowledged_of s) (pending_of s) (machine_of s) from [] =
+    begun_played rom (memory_disk (memory (device_of s))) (acknowledged_of s) (pending_of s) (machine_of s) tt c.in-Ok.ensures.begun.2 c.in-Ok.ensures.begun.0 (c.in-Ok.ensures.rests tt) in
+    let left : Leaves rom (memory_disk (memory (device_of now))) (acknowledged_of now) from inputs =
+    leaves_played rom (memory_disk (memory (device_of now))) (acknowledged_of now) (pending_of now) (machine_of now) from inputs (c.in-Ok-made.ensures.played rom from [] begun) in
+    each_moved rom (device_of now) c.into_device-device.result c.into_device-device.ensures.device (each_left rom (memory_disk (memory (device_of now))) (acknowledged_of now) from inputs left)
+
+-- ---- stopped
+
+pub returns-in-Err-made-clause-leaves : goal.returns-in-Err-made-clause-leaves
+returns-in-Err-made-clause-leaves c =
+    let rom = c.args.cartridge.now in
+    let s = c.in-Ok.session in
+    let now = c.make_moves-made.new.session in
+    let inputs = inputs_of_moves c.args.moves.now in
+    let from : Position = record { count = acknowledged_of s; machine = machine_of s } in
+    let begun : IsPlayed rom (memory_disk (memory (device_of s))) (acknowledged_of s) (pending_of s) (machine_of s) from [] =
+    begun_played rom (memory_disk (memory (device_of s))) (acknowledged_of s) (pending_of s) (machine_of s) tt c.in-Ok.ensures.begun.2 c.in-Ok.ensures.begun.0 (c.in-Ok.ensures.rests tt) in
+    let left : Leaves rom (memory_disk (memory (device_of now))) (acknowledged_of now) from inputs = c.in-Err-made.ensures.stopped rom from [] begun in
+    let all = ap (λ r. r.all) c.counts-resumed.ensures in
+    let none = ap length c.in-Ok.ensures.begun.0 in
+    let end : RoundEnd = record { resumed = Some c.counts-resumed.result.all; saved = c.counts.result.acknowledged } in
+    let ended : LeavesRound rom (memory_disk (memory c.args.device)) (memory_disk (memory c.into_device-device.result)) inputs end c.args.known =
+    round_ended rom (memory c.args.device) (memory c.into_device-device.result) (machine_of s) (acknowledged_of s) c.counts-resumed.result.all c.counts.result.acknowledged (acknowledged_of now) c.args.known inputs
+    (c.in-Ok.ensures.stands tt) (omega (arith, all, none)) (ap (λ r. r.acknowledged) c.counts.ensures)
+    (subst (λ (d : MemoryDevice). Leaves rom (memory_disk (memory d)) (acknowledged_of now) from inputs) (sym c.into_device-device.ensures.device) left) in
+    if_ok c.ended_by-in-Err-made.result c.ended_by-in-Err-made.ensures.ended
+    (λ r is. round_moved rom (memory_disk (memory c.args.device)) inputs c.args.known c.into_device-device.result r.0 end r.1 is.0 is.1 ended)
+
+pub returns-in-Err-made-clause-refused : goal.returns-in-Err-made-clause-refused
+returns-in-Err-made-clause-refused c =
+    let rom = c.args.cartridge.now in
+    let s = c.in-Ok.session in
+    let now = c.make_moves-made.new.session in
+    let inputs = inputs_of_moves c.args.moves.now in
+    let from : Position = record { count = acknowledged_of s; machine = machine_of s } in
+    let begun : IsPlayed rom (memory_disk (memory (device_of s))) (acknowledged_of s) (pending_of s) (machine_of s) from [] =
+    begun_played rom (memory_disk (memory (device_of s))) (acknowledged_of s) (pending_of s) (machine_of s) tt c.in-Ok.ensures.begun.2 c.in-Ok.ensures.begun.0 (c.in-Ok.ensures.rests tt) in
+    let left : Leaves rom (memory_disk (memory (device_of now))) (acknowledged_of now) from inputs = c.in-Err-made.ensures.stopped rom from [] begun in
+    let all = ap (λ r. r.all) c.counts-resumed.ensures in
+    let none = ap length c.in-Ok.ensures.begun.0 in
+    let end : RoundEnd = record { resumed = Some c.counts-resumed.result.all; saved = c.counts.result.acknowledged } in
+    let ended : LeavesRound rom (memory_disk (memory c.args.device)) (memory_disk (memory c.into_device-device.result)) inputs end c.args.known =
+    round_ended rom (memory c.args.device) (memory c.into_device-device.result) (machine_of s) (acknowledged_of s) c.counts-resumed.result.all c.counts.result.acknowledged (acknowledged_of now) c.args.known inputs
+    (c.in-Ok.ensures.stands tt) (omega (arith, all, none)) (ap (λ r. r.acknowledged) c.counts.ensures)
+    (subst (λ (d : MemoryDevice). Leaves rom (memory_disk (memory d)) (acknowledged_of now) from inputs) (sym c.into_device-device.ensures.device) left) in
+    if_err c.ended_by-in-Err-made.result c.ended_by-in-Err-made.ensures.refused
+    (λ r is. (end, round_moved rom (memory_disk (memory c.args.device)) inputs c.args.known c.into_device-device.result r.device end end is.0 refl ended))
+
+pub returns-in-Err-made-clause-cause : goal.returns-in-Err-made-clause-cause
+returns-in-Err-made-clause-cause c =
+    if_err c.ended_by-in-Err-made.result c.ended_by-in-Err-made.ensures.refused
+    (λ r is. subst (λ (why : SessionError). IsLifeStop why) (sym is.1) (moves_stop c.in-Err-made.why c.in-Err-made.ensures.cause))
+
+pub returns-in-Err-made-clause-stand : goal.returns-in-Err-made-clause-stand
+returns-in-Err-made-clause-stand c =
+    let rom = c.args.cartridge.now in
+    let s = c.in-Ok.session in
+    let now = c.make_moves-made.new.session in
+    let inputs = inputs_of_moves c.args.moves.now in
+    let from : Position = record { count = acknowledged_of s; machine = machine_of s } in
+    let begun : IsPlayed rom (memory_disk (memory (device_of s))) (acknowledged_of s) (pending_of s) (machine_of s) from [] =
+    begun_played rom (memory_disk (memory (device_of s))) (acknowledged_of s) (pending_of s) (machine_of s) tt c.in-Ok.ensures.begun.2 c.in-Ok.ensures.begun.0 (c.in-Ok.ensures.rests tt) in
+    let left : Leaves rom (memory_disk (memory (device_of now))) (acknowledged_of now) from inputs = c.in-Err-made.ensures.stopped rom from [] begun in
+    if_ok c.ended_by-in-Err-made.result c.ended_by-in-Err-made.ensures.ended
+    (λ r is each. each_moved rom (device_of now) r.0 (is.0 ∙ c.into_device-device.ensures.device) (each_left rom (memory_disk (memory (device_of now))) (acknowledged_of now) from inputs left))
+
+pub returns-in-Err-made-clause-sound : goal.returns-in-Err-made-clause-sound
+returns-in-Err-made-clause-sound c =
+    if_err c.ended_by-in-Err-made.result c.ended_by-in-Err-made.ensures.refused
+    (λ r is each. subst (λ (why : SessionError). IsSoundStop why) (sym is.1) (moves_sound_stop c.in-Err-made.why c.in-Err-made.ensures.cause))
+
+pub returns-in-Err-made-clause-faults_ok : goal.returns-in-Err-made-clause-faults_ok
+returns-in-Err-made-clause-faults_ok c =
+    let s = c.in-Ok.session in
+    let now = c.make_moves-made.new.session in
+    let grown : (device_of s).faults ≤ (device_of now).faults = least_after c.in-Err-made.why (device_of s).faults (device_of now).faults (device_of s).faults_fit c.in-Err-made.ensures.faults in
+    if_ok c.ended_by-in-Err-made.result c.ended_by-in-Err-made.ensures.ended
+    (λ r is.
+    let moved : r.0.faults ≡ (device_of now).faults = ap (λ (d : MemoryDevice). d.faults) (is.0 ∙ c.into_device-device.ensures.device) in
+    omega (arith, grown, moved, c.in-Ok.ensures.faults_ok))
+
+pub returns-in-Err-made-clause-faults : goal.returns-in-Err-made-clause-faults
+returns-in-Err-made-clause-faults c =
+    let s = c.in-Ok.session in
+    let now = c.make_moves-made.new.session in
+    let first = c.args.device.faults in
+    let counted : CountsLifeFaults first (device_of now).faults c.in-Err-made.why =
+    counts_refusal c.in-Err-made.why first (device_of s).faults (device_of now).faults (omega (arith, c.in-Ok.ensures.faults_ok)) (device_of s).faults_fit c.in-Err-made.ensures.faults in
+    if_err c.ended_by-in-Err-made.result c.ended_by-in-Err-made.ensures.refused
+    (λ r is.
+    let moved : r.device.faults ≡ (device_of now).faults = ap (λ (d : MemoryDevice). d.faults) (is.0 ∙ c.into_device-device.ensures.device) in
+    subst (λ (why : SessionError). CountsLifeFaults first r.device.faults why) (sym is.1) (subst (λ (n : ℕ). CountsLifeFaults first n c.in-Err-made.why) (sym moved) counted))
+
+pub returns-in-Err-clause-kept : goal.returns-in-Err-clause-kept
+returns-in-Err-clause-kept c =
+    let rom = c.args.cartridge.now in
+    if_err c.ended_by.result c.ended_by.ensures.refused
+    (λ r is each. each_moved rom c.in-Err.refused.device r.device is.0 (each_before rom (memory c.args.device) (memory c.in-Err.refused.device) (c.in-Err.ensures.images tt) each))
+
+pub returns-in-Err-made-clause-kept : goal.returns-in-Err-made-clause-kept
+returns-in-Err-made-clause-kept c =
+    let rom = c.args.cartridge.now in
+    let s = c.in-Ok.session in
+    let now = c.make_moves-made.new.session in
+    let inputs = inputs_of_moves c.args.moves.now in
+    let from : Position = record { count = acknowledged_of s; machine = machine_of s } in
+    let begun : IsPlayed rom (memory_disk (memory (device_of s))) (acknowledged_of s) (pending_of s) (machine_of s) from [] =
+    begun_played rom (memory_disk (memory (device_of s))) (acknowledged_of s) (pending_of s) (machine_of s) tt c.in-Ok.ensures.begun.2 c.in-Ok.ensures.begun.0 (c.in-Ok.ensures.rests tt) in
+    let left : Leaves rom (memory_disk (memory (device_of now))) (acknowledged_of now) from inputs = c.in-Err-made.ensures.stopped rom from [] begun in
+    if_err c.ended_by-in-Err-made.result c.ended_by-in-Err-made.ensures.refused
+    (λ r is each. each_moved rom (device_of now) r.device (is.0 ∙ c.into_device-device.ensures.device) (each_left rom (memory_disk (memory (device_of now))) (acknowledged_of now) from inputs left))

@@ -1,0 +1,44 @@
+-- Laws of lives, which public functions state.
+use Rattle.std.specs.Prelude.{◌≡◌, ◌≤◌, ◌+◌, ℕ, List, [], ◌∷◌, ◌++◌, length, take, Option, Some, None, ⊤}
+use Rattle.std.specs.List.{All}
+use Rattle.machine.specs.Machine.{after}
+use Rattle.machine.specs.declared.input.Input.{Input}
+use Rattle.session.specs.Stands.{Position}
+use Rattle.whole_lives.specs.Lives.{IsLife, inputs_of_round}
+use Rattle.whole_lives.specs.declared.rounds.Round.{Round}
+use Rattle.whole_lives.specs.declared.rounds.RoundEnd.{RoundEnd}
+
+-- the first so many of a round's inputs, none where it was not taken up
+abbrev pub survivors_of : Round → (resumed : Option ℕ) → (kept : ℕ) → List Input
+survivors_of round None kept = []
+survivors_of round (Some count) kept = take kept (inputs_of_round round)
+
+-- those of each round, one round behind the other
+abbrev pub survivors : List Round → List RoundEnd → (kept : List ℕ) → List Input
+survivors [] ends kept = []
+survivors (round ∷ rounds) [] kept = []
+survivors (round ∷ rounds) (end ∷ ends) [] = []
+survivors (round ∷ rounds) (end ∷ ends) (k ∷ kept) = survivors_of round end.resumed k ++ survivors rounds ends kept
+
+-- a round was taken up at no less than this count, if it was
+abbrev pub IsTakenUpFrom : (known : ℕ) → (resumed : Option ℕ) → Type 0
+IsTakenUpFrom known None = ⊤
+IsTakenUpFrom known (Some count) = known ≤ count
+
+-- no round is taken up at less than what was known to be saved before it, and what is known does not fall
+abbrev pub NeverFalls : (known : ℕ) → List RoundEnd → Type 0
+NeverFalls known [] = ⊤
+NeverFalls known (end ∷ ends) = IsTakenUpFrom known end.resumed × (known ≤ end.saved) × NeverFalls end.saved ends
+
+-- the life ends behind exactly the inputs that survived, and none that was saved is missing, at its end or on the way
+pub record KeepsWhatWasSaved (rounds : List Round) (ends : List RoundEnd) (first last : Position) : Type 0 where
+  -- how many of each round's inputs survived
+  pub kept : List ℕ
+  pub each : length kept ≡ length rounds
+  pub count_is : last.count ≡ first.count + length (survivors rounds ends kept)
+  pub machine_is : last.machine ≡ after first.machine (survivors rounds ends kept)
+  pub saved : All (λ end. end.saved ≤ last.count) ends
+  pub never_falls : NeverFalls 0 ends
+
+abbrev pub NoLifeLosesWhatWasSaved : Type 0
+NoLifeLosesWhatWasSaved = (rounds : List Round) (ends : List RoundEnd) (first last : Position) → IsLife rounds ends 0 first last → KeepsWhatWasSaved rounds ends first last

@@ -1,0 +1,4 @@
+pub mod Lives
+pub mod Refusals
+pub mod Rounds
+pub mod Laws

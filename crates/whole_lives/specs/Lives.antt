@@ -1,0 +1,73 @@
+-- What a life of a save file is, whatever was cut in it.
+use Rattle.std.specs.Prelude.{◌≡◌, ◌≤◌, ◌+◌, ℕ, List, [], ◌∷◌, length, take, Option, Some, None}
+use Rattle.machine.specs.Machine.{after}
+use Rattle.machine.specs.declared.input.Input.{Input}
+use Rattle.sector_device.specs.DiskState.{DiskState}
+use Rattle.sector_log.specs.Content.{content}
+use Rattle.session.specs.Stands.{Position, stands}
+use Rattle.playing.specs.Report.{inputs_of_moves}
+use Rattle.whole_lives.specs.declared.rounds.Round.{Round}
+use Rattle.whole_lives.specs.declared.rounds.RoundEnd.{RoundEnd}
+
+-- the inputs of a round's moves
+abbrev pub inputs_of_round : Round → List Input
+inputs_of_round round = inputs_of_moves round.moves.items
+
+-- A round that was taken up at the first position, with this count. The first `given` of its inputs were given, and so many were known
+-- to be saved. The cut kept the first `kept` of those that were given, and with them all that were saved.
+pub record IsPlayedRound (inputs : List Input) (resumed saved : ℕ) (first last : Position) : Type 0 where
+  pub resumed_is : resumed ≡ first.count
+  pub given : ℕ
+  pub were_given : given ≤ length inputs
+  pub saved_at_least : first.count ≤ saved
+  pub saved_at_most : saved ≤ first.count + given
+  pub kept : ℕ
+  pub were_kept : kept ≤ given
+  pub keeps_saved : saved ≤ first.count + kept
+  pub count_is : last.count ≡ first.count + kept
+  pub machine_is : last.machine ≡ after first.machine (take kept inputs)
+
+-- a round that was cut before it was taken up changes nothing
+abbrev pub IsRoundBy : (inputs : List Input) → (resumed : Option ℕ) → (saved known : ℕ) → (first last : Position) → Type 0
+IsRoundBy inputs None saved known first last = (last ≡ first) × (saved ≡ known)
+IsRoundBy inputs (Some count) saved known first last = IsPlayedRound inputs count saved first last
+
+-- a round ends so, where `known` was the greatest count known to be saved
+abbrev pub IsRound : (inputs : List Input) → RoundEnd → (known : ℕ) → (first last : Position) → Type 0
+IsRound inputs end known first last = IsRoundBy inputs end.resumed end.saved known first last
+
+-- one end for each round, in order; each round begins where the one before it ended
+abbrev pub IsLife : List Round → List RoundEnd → (known : ℕ) → (first last : Position) → Type 0
+IsLife [] [] known first last = last ≡ first
+IsLife [] (end ∷ ends) known first last = ⊥
+IsLife (round ∷ rounds) [] known first last = ⊥
+IsLife (round ∷ rounds) (end ∷ ends) known first last =
+    (next : Position) × IsRound (inputs_of_round round) end known first next × IsLife rounds ends end.saved next last
+
+-- ---- on a device
+
+-- some image of the device stands for this position
+pub record StandsFor (rom : List ℕ) (now : DiskState) (position : Position) : Type 0 where
+  pub image : List (List ℕ)
+  pub stood : now.image image
+  pub is : stands rom (content image) ≡ Some position
+
+-- a life leads to this position from one that some image of the device stood for, where nothing was known to be saved
+pub record HasLived (rom : List ℕ) (old : DiskState) (rounds : List Round) (ends : List RoundEnd) (last : Position) : Type 0 where
+  pub first : Position
+  pub stood : StandsFor rom old first
+  pub life : IsLife rounds ends 0 first last
+
+-- whatever position an image stands for that is left, a life leads to it
+abbrev pub LeavesLife : (rom : List ℕ) → (old now : DiskState) → List Round → List RoundEnd → Type 0
+LeavesLife rom old now rounds ends = (last : Position) → StandsFor rom now last → HasLived rom old rounds ends last
+
+-- so it is, for the first so many of the rounds
+pub record LeavesSomeLife (rom : List ℕ) (old now : DiskState) (rounds : List Round) : Type 0 where
+  pub done : ℕ
+  pub ends : List RoundEnd
+  pub leaves : LeavesLife rom old now (take done rounds) ends
+
+-- each image of the device stands for a position
+abbrev pub EachStands : (rom : List ℕ) → DiskState → Type 0
+EachStands rom now = (image : List (List ℕ)) → now.image image → (position : Position) × (stands rom (content image) ≡ Some position)

@@ -1,0 +1,12 @@
+//! Whole lives of a save file: any number of rounds of play, each cut at any device call with any of the unsynced writes kept.
+//!
+//! What a life is, in the words of a save file's history, is the definition `IsLife` in `specs/Lives.antt`.
+#![tactic(auto)]
+
+pub mod laws;
+mod lives;
+mod moves;
+mod rounds;
+
+pub use lives::live;
+pub use rounds::{Lived, Round, RoundEnd};

@@ -1,0 +1,131 @@
+//! One round of a life: a game taken up, played, and cut.
+ghost use Rattle.std.specs.Prelude.{◌≡◌, ◌≤◌, ◌⊎◌, ◌<◌, ◌-◌, ◌^◌, Some, None, true, IfOk, IfErr};
+ghost use Rattle.playing.specs.Report.{inputs_of_moves};
+ghost use Rattle.sector_device.specs.Memory.{memory_disk};
+ghost use Rattle.sector_device.specs.MemoryDevice.{memory};
+ghost use Rattle.whole_lives.specs.Lives.{inputs_of_round, EachStands};
+ghost use Rattle.whole_lives.specs.Refusals.{IsLifeStop, IsSoundStop, CountsLifeFaults};
+ghost use Rattle.whole_lives.specs.Rounds.{LeavesRound};
+ghost use Rattle.whole_lives.specs.declared.rounds.RoundEnd.{RoundEnd};
+
+use crate::moves::make_moves;
+use cartridge::Cartridge;
+use script::Move;
+use sector_device::MemoryDevice;
+use session::{Refused, Session, SessionError, resume};
+use std::alloc::Global;
+
+/// One round of a life, and how it is cut.
+#[derive(Drop)]
+pub struct Round {
+    /// What is played.
+    pub moves: Vec<Move>,
+    /// How many device calls pass before the cut.
+    pub calls: u64,
+    /// Which of the writes since the last successful sync the cut keeps: a missing choice is false, a further one is ignored.
+    pub kept: Vec<bool>,
+}
+
+/// How a round ended.
+#[derive(Clone, Copy, Debug, PartialEq, Eq)]
+pub struct RoundEnd {
+    /// The count at which the game was taken up, or that it was cut before.
+    pub resumed: Option<u64>,
+    /// The greatest count known to be saved so far, in all rounds.
+    pub saved: u64,
+}
+
+/// A life that came to its end.
+#[derive(Drop)]
+pub struct Lived {
+    /// How each round ended.
+    pub rounds: Vec<RoundEnd>,
+    /// The game as it was taken up behind the last round.
+    pub session: Session<MemoryDevice>,
+}
+
+/// Ends a round by a refusal of its fuse. Any other refusal ends the life.
+fn ended_by(
+    refused: Refused<MemoryDevice>,
+    end: RoundEnd,
+) -> Result<(MemoryDevice, RoundEnd), Refused<MemoryDevice>>
+    ensures ended { IfOk result (λ r. (r.0 ≡ refused.device) × (r.1 ≡ end) × (refused.why ≡ SessionError.Device) × ((memory refused.device).blown ≡ true)) }
+    ensures refused { IfErr result (λ r. (r.device ≡ refused.device) × (r.why ≡ refused.why)) }
+{
+    if refused.why == SessionError::Device && refused.device.blown() {
+        return Ok((refused.device, end));
+    }
+    Err(refused)
+}
+
+/// Takes up a game and makes the moves, until they are made or the fuse is blown.
+fn play_until_blown(
+    alloc: Global,
+    device: MemoryDevice,
+    cartridge: &Cartridge,
+    moves: &[Move],
+    known: u64,
+) -> Result<(MemoryDevice, RoundEnd), Refused<MemoryDevice>>
+    ensures leaves { IfOk result (λ r. LeavesRound cartridge.now (memory_disk (memory device)) (memory_disk (memory r.0)) (inputs_of_moves moves.now) r.1 known) }
+    ensures refused { IfErr result (λ refused. (end : RoundEnd) × LeavesRound cartridge.now (memory_disk (memory device)) (memory_disk (memory refused.device)) (inputs_of_moves moves.now) end known) }
+    ensures cause { IfErr result (λ refused. IsLifeStop refused.why) }
+    ensures stand { IfOk result (λ r. EachStands cartridge.now (memory_disk (memory device)) → EachStands cartridge.now (memory_disk (memory r.0))) }
+    ensures sound { IfErr result (λ refused. EachStands cartridge.now (memory_disk (memory device)) → IsSoundStop refused.why) }
+    ensures kept { IfErr result (λ refused. EachStands cartridge.now (memory_disk (memory device)) → EachStands cartridge.now (memory_disk (memory refused.device))) }
+    ensures faults_ok { IfOk result (λ r. (memory device).faults ≤ (memory r.0).faults) }
+    ensures faults { IfErr result (λ refused. CountsLifeFaults (memory device).faults (memory refused.device).faults refused.why) }
+{
+    let mut session = match resume(alloc, device, cartridge) {
+        Ok(session) => session,
+        Err(refused) => {
+            let end = RoundEnd {
+                resumed: None,
+                saved: known,
+            };
+            return ended_by(refused, end);
+        }
+    };
+    let resumed = session.counts().all;
+    let made = make_moves(&mut session, moves);
+    let end = RoundEnd {
+        resumed: Some(resumed),
+        saved: session.counts().acknowledged,
+    };
+    let device = session.into_device();
+    match made {
+        Ok(()) => Ok((device, end)),
+        Err(why) => ended_by(Refused { why, device }, end),
+    }
+}
+
+/// One round: the fuse is set, the game is taken up and played, and the power is cut.
+pub(crate) fn one_round(
+    alloc: Global,
+    device: MemoryDevice,
+    cartridge: &Cartridge,
+    round: &Round,
+    known: u64,
+) -> Result<(MemoryDevice, RoundEnd), Refused<MemoryDevice>>
+    ensures leaves { IfOk result (λ r. LeavesRound cartridge.now (memory_disk (memory device)) (memory_disk (memory r.0)) (inputs_of_round round.now) r.1 known) }
+    ensures refused { IfErr result (λ refused. (end : RoundEnd) × LeavesRound cartridge.now (memory_disk (memory device)) (memory_disk (memory refused.device)) (inputs_of_round round.now) end known) }
+    ensures cause { IfErr result (λ refused. IsLifeStop refused.why) }
+    ensures stand { IfOk result (λ r. EachStands cartridge.now (memory_disk (memory device)) → EachStands cartridge.now (memory_disk (memory r.0))) }
+    ensures sound { IfErr result (λ refused. EachStands cartridge.now (memory_disk (memory device)) → IsSoundStop refused.why) }
+    ensures kept { IfErr result (λ refused. EachStands cartridge.now (memory_disk (memory device)) → EachStands cartridge.now (memory_disk (memory refused.device))) }
+    ensures faults_ok { IfOk result (λ r. (memory device).faults ≤ (memory r.0).faults) }
+    ensures faults { IfErr result (λ refused. CountsLifeFaults (memory device).faults (memory refused.device).faults refused.why) }
+{
+    let mut device = device;
+    device.fuse(round.calls);
+    let (device, end) = match play_until_blown(alloc, device, cartridge, &round.moves, known) {
+        Ok(ended) => ended,
+        Err(refused) => return Err(refused),
+    };
+    match device.image(alloc, &round.kept) {
+        Ok(image) => Ok((image, end)),
+        Err(_) => Err(Refused {
+            why: SessionError::Memory,
+            device,
+        }),
+    }
+}
