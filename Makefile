@@ -9,7 +9,7 @@ help:
 	@echo 'make run             runs the program on a small ROM, before any proof (a minute)'
 	@echo 'make run ARGS="..."  runs it on other words, as ARGS="info data/rom.gb", over files of $(PROGRAM)'
 	@echo 'make build           proves the program and leaves it at bin/gbkeep (20 minutes from nothing)'
-	@echo 'make install         puts bin/gbkeep into PREFIX/bin (PREFIX=$(PREFIX))'
+	@echo 'make install         puts bin/gbkeep, its man page and its completion below PREFIX (PREFIX=$(PREFIX))'
 	@echo 'make check           while editing: proves what changed, seconds a crate (CRATE=name for one crate)'
 	@echo 'make edits           tries every wrong body, 10 to 40 s each (CRATE=name for one crate)'
 	@echo 'make bench           proves the benchmarks: times, instructions a frame, device calls (20 minutes from nothing)'
@@ -31,6 +31,8 @@ build: bin/gbkeep
 
 install: bin/gbkeep
 	install -D -m 755 bin/gbkeep $(DESTDIR)$(PREFIX)/bin/gbkeep
+	install -D -m 644 docs/gbkeep.1 $(DESTDIR)$(PREFIX)/share/man/man1/gbkeep.1
+	install -D -m 644 completions/gbkeep.bash $(DESTDIR)$(PREFIX)/share/bash-completion/completions/gbkeep
 
 check:
 ifdef CRATE
@@ -60,6 +62,7 @@ hostile: bin/gbkeep
 
 test:
 	RT=$(RT) sh scripts/opened_has_no_append.sh
+	python3 -B scripts/front_door.py
 	$(RT) ci
 	python3 -B scripts/second_storage/hostile.py $(PROGRAM)/out/gbkeep_program 4 1
 
