@@ -15,7 +15,7 @@ help:
 	@echo 'make bench           proves the benchmarks: times, instructions a frame, device calls (20 minutes from nothing)'
 	@echo 'make compare         compares the program with a second one, in Python, on random ROMs (SECONDS=20 a kind)'
 	@echo 'make hostile         gives the program damaged files and wrong scripts, kills it, and looks what is left (SECONDS=20 a kind)'
-	@echo 'make test            the gate: proves everything from nothing, runs the tests and programs (an hour and a half)'
+	@echo 'make test            the gate: proves everything from nothing, runs the tests and programs (two hours)'
 
 ARGS ?= step data/rom.gb 2
 
