@@ -10,7 +10,7 @@ const ROUNDS: u32 = 5;
 const FRAMES: u32 = 600;
 
 /// Sums in a loop that never waits.
-const BUSY: [(usize, &[u8]); 1] = [(
+pub(crate) const BUSY: [(usize, &[u8]); 1] = [(
     0x100,
     &[
         0x06, 0x03, 0x80, 0x04, 0xa9, 0x4f, 0xcb, 0x11, 0x23, 0x18, 0xf7,

@@ -5,6 +5,7 @@
 
 mod best;
 mod counting;
+mod debugging;
 mod frames;
 mod lines;
 mod rom;
@@ -26,6 +27,16 @@ fn main(rt: HostRuntime) -> io::Result<()> {
                 _ => frames::time(&rt),
             }
         }
+        Some("steps") => {
+            let call = words.next();
+            let count = words.next();
+            match (call.as_deref(), count.as_deref()) {
+                (Some(call), Some(count)) => {
+                    debugging::step(&rt, call, count.parse().unwrap_or(1))
+                }
+                _ => usage(&rt),
+            }
+        }
         Some("lines") => lines::time(&rt),
         Some("units") => units::time(&rt),
         Some("snapshots") => snapshots::time(&rt),
@@ -37,6 +48,9 @@ fn main(rt: HostRuntime) -> io::Result<()> {
 fn usage(rt: &HostRuntime) -> io::Result<()> {
     println!(rt; "bench frames: frames a second of three small ROMs")?;
     println!(rt; "bench frames ROM COUNT: plays busy, scrolling or halting once")?;
+    println!(rt;
+        "bench steps CALL COUNT: steps of the busy loop, once, by run_steps or run_until with 8 breakpoints"
+    )?;
     println!(rt; "bench lines: lines of the picture by tile rows and pixel by pixel")?;
     println!(rt;
         "bench units: M-cycles of picture, timer and serial port, at once and one by one"

@@ -1,4 +1,5 @@
 pub mod History
 pub mod Listing
+pub mod Marks
 pub mod Run
 pub mod Report

@@ -4,6 +4,7 @@ ghost use Rattle.std.specs.Prelude.{◌≡◌, ◌≤◌, ◌↔◌, IfErr, IfOk
 ghost use Rattle.std.specs.Io.KnownBytes.{Appends};
 ghost use Rattle.std.specs.List.{Contains};
 ghost use Rattle.exact_text.specs.Written.{AppendsProperPrefix};
+ghost use Rattle.debugger.specs.Marks.{AreMarked};
 
 use crate::listing::write_lines;
 use crate::stop::Stop;
@@ -75,9 +76,10 @@ impl Debugger {
     {
         // the history is within its size, so a run of no step leaves it as it is
         prove!(self.history.len() <= self.history.capacity());
+        let marks = marks_of(breaks);
         for made in 0..limit {
             let pc = self.machine.registers().pc;
-            if made > 0 && is_break(breaks, pc) {
+            if made > 0 && is_break(&marks, breaks, pc) {
                 return Stop::Break(pc);
             }
             let _ = self.step();
@@ -129,8 +131,21 @@ impl Debugger {
     }
 }
 
-fn is_break(breaks: &[u16], pc: u16) -> bool
+/// Marks the low byte of each break, so that most steps look at no more than one mark.
+fn marks_of(breaks: &[u16]) -> [bool; 256]
+    ensures { AreMarked result breaks.now }
+{
+    let mut marks = [false; 256];
+    for at in breaks {
+        marks[usize::from(*at % 256)] = true;
+    }
+    marks
+}
+
+#[inline(always)]
+fn is_break(marks: &[bool; 256], breaks: &[u16], pc: u16) -> bool
+    requires { AreMarked marks.now breaks.now }
     ensures { IsTrue result ↔ Contains breaks.now pc }
 {
-    breaks.contains(&pc)
+    marks[usize::from(pc % 256)] && breaks.contains(&pc)
 }

@@ -38,8 +38,21 @@ fn step(machine: &mut Machine) -> Stepped {
     machine.step()
 }
 
+fn byte_at(machine: &Machine, address: u16) -> u8 {
+    machine.peek(address)
+}
+
 fn frame(machine: &mut Machine, buttons: u8) {
     machine.frame(buttons);
+}
+
+fn is_blank(machine: &Machine) -> bool {
+    for y in 0..144 {
+        if machine.picture().row(y) != [0; 160].as_slice() {
+            return false;
+        }
+    }
+    true
 }
 
 fn set_registers(machine: &mut Machine, pc: u16, sp: u16) {
@@ -98,13 +111,10 @@ fn a_frame_of_jumps(rt: HostRuntime) -> Result<(), Fail> {
     frame(&mut machine, 0);
     assert_eq!(rt; machine.registers().pc, 0x0100);
     assert_eq!(rt; machine.overrun(), 0);
-    assert_eq!(rt; machine.peek(0xff04), 0xbd);
-    assert_eq!(rt; machine.peek(0xff44), 0x00);
-    assert_eq!(rt; machine.peek(0xff0f), 0xe1);
-    for y in 0..144 {
-        let blank = machine.picture().row(y).iter().all(|shade| *shade == 0);
-        assert!(rt; blank);
-    }
+    assert_eq!(rt; byte_at(&machine, 0xff04), 0xbd);
+    assert_eq!(rt; byte_at(&machine, 0xff44), 0x00);
+    assert_eq!(rt; byte_at(&machine, 0xff0f), 0xe1);
+    assert!(rt; is_blank(&machine));
     Ok(())
 }
 
@@ -119,10 +129,13 @@ fn interrupts_are_dispatched(rt: HostRuntime) -> Result<(), Fail> {
     assert_eq!(rt; stepped.cycles, 5);
     let registers = machine.registers();
     assert_eq!(rt; (registers.pc, registers.sp), (0x0050, 0xcffe));
-    assert_eq!(rt; (machine.peek(0xcfff), machine.peek(0xcffe)), (0xc1, 0x23));
+    assert_eq!(rt;
+        (byte_at(&machine, 0xcfff), byte_at(&machine, 0xcffe)),
+        (0xc1, 0x23)
+    );
     let state = machine.state();
     assert!(rt; !state.state.ime && !state.state.enable);
-    assert_eq!(rt; machine.peek(0xff0f), 0xe0);
+    assert_eq!(rt; byte_at(&machine, 0xff0f), 0xe0);
     Ok(())
 }
 
@@ -159,7 +172,10 @@ fn interrupts_are_enabled_behind_the_next_instruction(rt: HostRuntime) -> Result
     let third = step(&mut machine);
     assert_eq!(rt; third.what, What::Dispatch(0x40));
     assert_eq!(rt; machine.registers().pc, 0x0040);
-    assert_eq!(rt; (machine.peek(0xfffd), machine.peek(0xfffc)), (0xc0, 0x02));
+    assert_eq!(rt;
+        (byte_at(&machine, 0xfffd), byte_at(&machine, 0xfffc)),
+        (0xc0, 0x02)
+    );
     Ok(())
 }
 
@@ -182,7 +198,7 @@ fn an_undefined_opcode_locks(rt: HostRuntime) -> Result<(), Fail> {
 fn a_stop_ends_with_a_button(rt: HostRuntime) -> Result<(), Fail> {
     let mut machine = machine_at_c000(rt.alloc(), &[0x10, 0x00, 0x3c])?;
     let _ = step(&mut machine);
-    assert_eq!(rt; machine.peek(0xff04), 0x00);
+    assert_eq!(rt; byte_at(&machine, 0xff04), 0x00);
     let waited = step(&mut machine);
     assert_eq!(rt; waited.what, What::Wait);
     press(&mut machine, 0x01);
