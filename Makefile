@@ -15,6 +15,7 @@ help:
 	@echo 'make bench           proves the benchmarks: times, instructions a frame, device calls (20 minutes from nothing)'
 	@echo 'make compare         compares the program with a second one, in Python, on random ROMs (SECONDS=20 a kind)'
 	@echo 'make hostile         gives the program damaged files and wrong scripts, kills it, and looks what is left (SECONDS=20 a kind)'
+	@echo 'make memory          refuses each allocation of each command in turn (a minute; needs a C compiler)'
 	@echo 'make test            the gate: proves everything from nothing, runs the tests and programs (two hours)'
 
 ARGS ?= step data/rom.gb 2
@@ -61,10 +62,14 @@ compare: bin/gbkeep
 hostile: bin/gbkeep
 	python3 -B scripts/second_storage/hostile.py bin/gbkeep $(SECONDS)
 
+memory: bin/gbkeep
+	python3 -B scripts/refused_memory/refused_memory.py bin/gbkeep
+
 test:
 	RT=$(RT) sh scripts/opened_has_no_append.sh
 	python3 -B scripts/front_door.py
+	python3 -B scripts/refusals.py
 	$(RT) ci
 	python3 -B scripts/second_storage/hostile.py $(PROGRAM)/out/gbkeep_program 4 1
 
-.PHONY: help run build install check edits bench compare hostile test
+.PHONY: help run build install check edits bench compare hostile memory test
