@@ -15,6 +15,7 @@ help:
 	@echo 'make bench           proves the benchmarks: times, instructions a frame, device calls (20 minutes from nothing)'
 	@echo 'make compare         compares the program with a second one, in Python, on random ROMs (SECONDS=20 a kind)'
 	@echo 'make hostile         gives the program damaged files and wrong scripts, kills it, and looks what is left (SECONDS=20 a kind)'
+	@echo 'make demo            plays a minute of the demo cartridge and leaves bin/demo.sav, bin/demo.pgm and bin/demo.png (a second)'
 	@echo 'make memory          refuses each allocation of each command in turn (a minute; needs a C compiler)'
 	@echo 'make test            the gate: proves everything from nothing, runs the tests and programs (two hours)'
 
@@ -62,6 +63,13 @@ compare: bin/gbkeep
 hostile: bin/gbkeep
 	python3 -B scripts/second_storage/hostile.py bin/gbkeep $(SECONDS)
 
+demo: bin/gbkeep
+	rm -f bin/demo.sav
+	bin/gbkeep new examples/demo/demo.gb bin/demo.sav 284
+	bin/gbkeep play examples/demo/demo.gb bin/demo.sav examples/demo/tour.txt
+	bin/gbkeep frame examples/demo/demo.gb bin/demo.sav bin/demo.pgm
+	python3 -B scripts/png.py bin/demo.pgm bin/demo.png
+
 memory: bin/gbkeep
 	python3 -B scripts/refused_memory/refused_memory.py bin/gbkeep
 
@@ -71,5 +79,6 @@ test:
 	python3 -B scripts/refusals.py
 	$(RT) ci
 	python3 -B scripts/second_storage/hostile.py $(PROGRAM)/out/gbkeep_program 4 1
+	python3 -B examples/demo/check.py $(PROGRAM)/out/gbkeep_program
 
-.PHONY: help run build install check edits bench compare hostile memory test
+.PHONY: help run build install check edits bench compare hostile demo memory test

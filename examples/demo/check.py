@@ -1,0 +1,65 @@
+"""Assembles the demo cartridge, plays its tour, and reads the line below the field from the picture.
+
+usage: check.py GBKEEP
+
+The status is 1 where demo.gb is not what demo.asm gives, where the tour's report is not the written one, or where the picture doesn't
+show the score that the tour was made for: each coin lies where the cartridge's random numbers put it."""
+import re
+import subprocess
+import sys
+import tempfile
+from pathlib import Path
+
+sys.path.insert(0, str(Path(__file__).parent))
+from assemble import Assembler
+
+HERE = Path(__file__).resolve().parent
+LETTERS = '0123456789 BCEORST'
+LINE = 'SCORE 56 BEST 56 T02'
+
+
+def glyphs(source):
+    """The first tiles of the source, each as the 64 values of a picture."""
+    rows = re.findall(r'tile (".*")', source)[:len(LETTERS)]
+    return {tuple(3 - '.-+#'.index(dot) for dot in re.sub('[", ]', '', row)): letter for row, letter in zip(rows, LETTERS)}
+
+
+def status_line(picture, known):
+    values = [int(word) for word in picture.split()[4:]]
+    tile = lambda column: tuple(values[160 * y + 8 * column + x] for y in range(136, 144) for x in range(8))
+    return ''.join(known.get(tile(column), '?') for column in range(20))
+
+
+def report_of(script):
+    """What a play of a new game has to tell."""
+    count, told, pending = 0, ['resumed 0'], 0
+    for line in script.splitlines():
+        given = int(line.split()[2]) if line.startswith('frames') else 0
+        count, pending = count + given, pending + given
+        if line == 'save':
+            told.append(f'saved {count}')
+            pending = 0
+    return '\n'.join(told + ([f'saved {count}'] if pending else [])) + '\n'
+
+
+def main():
+    source, tour = (HERE / 'demo.asm').read_text(), (HERE / 'tour.txt').read_text()
+    if Assembler().assemble(source) != (HERE / 'demo.gb').read_bytes():
+        print('demo.gb is not what demo.asm gives: run assemble.py')
+        return 1
+    with tempfile.TemporaryDirectory(prefix='demo-') as room:
+        def gbkeep(*words):
+            return subprocess.run([sys.argv[1], words[0], HERE / 'demo.gb', f'{room}/demo.sav', *words[1:]], capture_output=True, text=True, check=True).stdout
+        gbkeep('new', '284')
+        report = gbkeep('play', HERE / 'tour.txt')
+        gbkeep('frame', f'{room}/demo.pgm')
+        shown = status_line(Path(f'{room}/demo.pgm').read_text(), glyphs(source))
+    if (report, shown) != (report_of(tour), LINE):
+        print(f'the tour of the demo cartridge ends with {report.splitlines()[-1]!r} and shows {shown!r}')
+        return 1
+    print(f'demo cartridge: {shown}')
+    return 0
+
+
+if __name__ == '__main__':
+    sys.exit(main())
