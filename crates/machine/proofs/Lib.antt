@@ -5,3 +5,5 @@ pub mod Disabling
 pub mod Lowest
 pub mod Runs
 pub mod Waiting
+pub mod PlainSteps
+pub mod UsualStates

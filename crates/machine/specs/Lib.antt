@@ -9,3 +9,4 @@ pub mod Machine
 pub mod MachineStores
 pub mod MachineLaws
 pub mod Waiting
+pub mod Plain

@@ -3,6 +3,7 @@
 ghost use Rattle.std.specs.Prelude.{◌≡◌, ◌<◌, ◌≤◌};
 ghost use Rattle.machine.specs.Waiting.{within};
 
+use crate::opcodes::IN_FRAME;
 use crate::processor::Processor;
 use crate::step::What;
 use memory_map::Bus;
@@ -18,6 +19,7 @@ impl Processor<Bus> {
     ghost use Rattle.machine.specs.Bus.{bus_rules};
     ghost use Rattle.machine.specs.Machine.{frame_of, steps_until};
     ghost use Rattle.machine.specs.Waiting.{Waits};
+    ghost use Rattle.machine.specs.Plain.{IsPlain};
 
     /// Steps until a frame's M-cycles have passed, `overrun` of them before, and says how many more did.
     pub(crate) fn run_frame(&mut self, overrun: u8) -> u8
@@ -33,10 +35,43 @@ impl Processor<Bus> {
         (passed - FRAME) as u8
     }
 
+    /// Steps in a frame of which so many M-cycles have passed. Says how many have passed then.
+    #[inline(always)]
+    fn go_on(&mut self, passed: u32) -> u32
+        requires { passed < 17556 }
+        ensures run { steps_until bus_rules 17556 result self.new ≡ steps_until bus_rules 17556 passed self.old }
+        ensures more { passed < result }
+        ensures few { result < 17562 }
+    {
+        if self.is_plain() {
+            return self.run_plain_steps(passed);
+        }
+        self.step_and_wait(passed)
+    }
+
+    /// The same, while the next step is plain.
+    #[inline(always)]
+    fn run_plain_steps(&mut self, passed: u32) -> u32
+        requires below { passed < 17556 }
+        requires plain { IsPlain bus_rules self.old }
+        ensures run { steps_until bus_rules 17556 result self.new ≡ steps_until bus_rules 17556 passed self.old }
+        ensures more { passed < result }
+        ensures few { result < 17562 }
+    {
+        let mut passed = passed;
+        let mut goes_on = true;
+        while goes_on && passed < FRAME {
+            let (cycles, is_plain) = self.run_plainly::<IN_FRAME>();
+            passed += u32::from(cycles);
+            goes_on = is_plain;
+        }
+        passed
+    }
+
     /// A step in a frame of which so many M-cycles have passed, and behind a wait those that surely follow it. Says how
     /// many M-cycles have passed then.
-    #[inline]
-    fn go_on(&mut self, passed: u32) -> u32
+    #[inline(never)]
+    fn step_and_wait(&mut self, passed: u32) -> u32
         requires { passed < 17556 }
         ensures run { steps_until bus_rules 17556 result self.new ≡ steps_until bus_rules 17556 passed self.old }
         ensures more { passed < result }

@@ -49,12 +49,14 @@ impl<M: Memory> Processor<M> {
     }
 
     /// The byte behind the opcode.
+    #[inline(always)]
     pub(crate) fn low(&self) -> u8
         ensures { result ≡ low_at M.rules self.now }
     {
         self.memory.read(self.second())
     }
 
+    #[inline(always)]
     fn high(&self) -> u8
         ensures { result ≡ high_at M.rules self.now }
     {
@@ -62,6 +64,7 @@ impl<M: Memory> Processor<M> {
     }
 
     /// The two bytes behind the opcode, the low one first.
+    #[inline(always)]
     pub(crate) fn word(&self) -> u16
         ensures { result ≡ word_of (low_at M.rules self.now) (high_at M.rules self.now) }
     {

@@ -1,7 +1,8 @@
 //! One instruction by its opcode. The last arm of each match is its last opcode, the only one that the others leave.
 
-ghost use Rattle.std.specs.Prelude.{◌≡◌, ◌<◌, ◌≤◌, ◌%◌, ◌/◌};
+ghost use Rattle.std.specs.Prelude.{◌≡◌, ◌<◌, ◌≤◌, ◌%◌, ◌/◌, true};
 ghost use Rattle.machine.specs.Opcodes.{instruction_at, begun_and_executed, cycles_with};
+ghost use Rattle.machine.specs.Plain.{IsUsual};
 ghost use Rattle.opcode_table.specs.Table.{bit_instruction};
 ghost use Rattle.opcode_table.specs.Operands.{operand8_of, shift_of};
 ghost use Rattle.opcode_table.specs.declared.instruction.Instr.{Instr};
@@ -13,24 +14,53 @@ use opcode_table::{
     StackRegister16,
 };
 
+/// The opcode of STOP.
+const STOP: u8 = 0x10;
+
+/// The opcode of HALT.
+const HALT: u8 = 0x76;
+
+/// Instructions that are run by a step of any kind.
+pub(crate) const APART: u8 = 0;
+
+/// Those of plain steps in a frame.
+pub(crate) const IN_FRAME: u8 = 1;
+
+/// Those of plain steps that are counted.
+pub(crate) const COUNTED: u8 = 2;
+
 impl<M: Memory> Processor<M> {
-    /// Does the instruction at PC, of which this is the opcode, and answers its M-cycles.
+    /// Does the instruction at PC, of which this is the opcode. Answers its M-cycles, and whether the next one may begin
+    /// as plainly as this one did, but for an interrupt. WAY names the caller: the code for each is made apart, so that it
+    /// can stand in the caller's loop.
     #[inline(always)]
-    pub(crate) fn run_opcode(&mut self, opcode: u8) -> u8
+    pub(crate) fn run_opcode<const WAY: u8>(&mut self, opcode: u8) -> (u8, bool)
+        ensures after { self.new ≡ begun_and_executed M.rules (instruction_at M.rules opcode self.old) self.old }
+        ensures cycles { result.0 ≡ cycles_with (instruction_at M.rules opcode self.old) self.old.registers.flags }
+        ensures usual { result.1 ≡ true → IsUsual self.old.state → IsUsual self.new.state }
+    {
+        match opcode {
+            0x00..=0x3f => (self.run_load_or_step::<WAY>(opcode), opcode != STOP),
+            0x40..=0x7f => (self.run_load_of_opcode::<WAY>(opcode), opcode != HALT),
+            0x80..=0xbf => (self.run_operation_of_opcode::<WAY>(opcode), true),
+            _ => {
+                let cycles = self.run_jump_or_stack::<WAY>(opcode);
+                (cycles, !self.state.locked && !self.state.enable)
+            }
+        }
+    }
+
+    #[inline(never)]
+    pub(crate) fn run_opcode_apart(&mut self, opcode: u8) -> u8
         ensures after { self.new ≡ begun_and_executed M.rules (instruction_at M.rules opcode self.old) self.old }
         ensures cycles { result ≡ cycles_with (instruction_at M.rules opcode self.old) self.old.registers.flags }
     {
-        match opcode {
-            0x00..=0x3f => self.run_load_or_step(opcode),
-            0x40..=0x7f => self.run_load_of_opcode(opcode),
-            0x80..=0xbf => self.run_operation_of_opcode(opcode),
-            _ => self.run_jump_or_stack(opcode),
-        }
+        self.run_opcode::<APART>(opcode).0
     }
 
     /// Opcodes 00 to 3F.
     #[tactic(auto, unfolding(opcode_table::specs::Table::instruction_of, opcode_table::specs::Table::loads_and_steps))]
-    fn run_load_or_step(&mut self, opcode: u8) -> u8
+    fn run_load_or_step<const WAY: u8>(&mut self, opcode: u8) -> u8
         requires { opcode < 64 }
         ensures after { self.new ≡ begun_and_executed M.rules (instruction_at M.rules opcode self.old) self.old }
         ensures cycles { result ≡ cycles_with (instruction_at M.rules opcode self.old) self.old.registers.flags }
@@ -105,7 +135,7 @@ impl<M: Memory> Processor<M> {
 
     /// Opcodes 40 to 7F.
     #[tactic(auto, unfolding(opcode_table::specs::Table::instruction_of))]
-    fn run_load_of_opcode(&mut self, opcode: u8) -> u8
+    fn run_load_of_opcode<const WAY: u8>(&mut self, opcode: u8) -> u8
         requires from { 64 ≤ opcode }
         requires below { opcode < 128 }
         ensures after { self.new ≡ begun_and_executed M.rules (instruction_at M.rules opcode self.old) self.old }
@@ -181,7 +211,7 @@ impl<M: Memory> Processor<M> {
 
     /// Opcodes 80 to BF.
     #[tactic(auto, unfolding(opcode_table::specs::Table::instruction_of))]
-    fn run_operation_of_opcode(&mut self, opcode: u8) -> u8
+    fn run_operation_of_opcode<const WAY: u8>(&mut self, opcode: u8) -> u8
         requires from { 128 ≤ opcode }
         requires below { opcode < 192 }
         ensures after { self.new ≡ begun_and_executed M.rules (instruction_at M.rules opcode self.old) self.old }
@@ -257,7 +287,7 @@ impl<M: Memory> Processor<M> {
 
     /// Opcodes C0 to FF.
     #[tactic(auto, unfolding(opcode_table::specs::Table::instruction_of, opcode_table::specs::Table::jumps_and_stack))]
-    fn run_jump_or_stack(&mut self, opcode: u8) -> u8
+    fn run_jump_or_stack<const WAY: u8>(&mut self, opcode: u8) -> u8
         requires { 192 ≤ opcode }
         ensures after { self.new ≡ begun_and_executed M.rules (instruction_at M.rules opcode self.old) self.old }
         ensures cycles { result ≡ cycles_with (instruction_at M.rules opcode self.old) self.old.registers.flags }
@@ -331,6 +361,7 @@ impl<M: Memory> Processor<M> {
     }
 
     /// Does the instruction behind an opcode CB, and answers its M-cycles.
+    #[inline(never)]
     fn run_bit_opcode(&mut self, byte: u8) -> u8
         ensures after { self.new ≡ begun_and_executed M.rules (bit_instruction (byte / 64) (byte % 8) (byte / 8 % 8)) self.old }
         ensures cycles { result ≡ cycles_with (bit_instruction (byte / 64) (byte % 8) (byte / 8 % 8)) self.old.registers.flags }

@@ -1,6 +1,6 @@
 //! One step of the processor.
 
-ghost use Rattle.std.specs.Prelude.{◌≡◌, ◌<◌, ◌≤◌, ◌+◌, ◌*◌, true};
+ghost use Rattle.std.specs.Prelude.{◌≡◌, ◌<◌, ◌≤◌, ◌+◌, ◌*◌, ◌==◌, ◌&&◌, not, true};
 ghost use Rattle.machine.specs.RegisterOperations.{next_address};
 
 use crate::memory::Memory;
@@ -44,6 +44,7 @@ impl<M: Memory> Processor<M> {
     ghost use Rattle.machine.specs.Steps.{step_of, after_stop, resumed, ran, dispatched, waited, begun, settled, decoded_at, second_address, byte_at, lowest_interrupt};
     ghost use Rattle.std.specs.Prelude.{[], ◌∷◌, ℕ};
     ghost use Rattle.opcode_table.specs.Table.{instruction_of};
+    ghost use Rattle.machine.specs.Plain.{IsPlain};
 
     fn wait(&mut self) -> Stepped
         ensures after { self.new ≡ (waited M.rules self.old).after }
@@ -115,7 +116,7 @@ impl<M: Memory> Processor<M> {
         let pc = self.registers.pc;
         let enable = self.state.enable;
         let bytes = self.fetch();
-        let cycles = self.run_opcode(bytes[0]);
+        let cycles = self.run_opcode_apart(bytes[0]);
         self.settle(enable, bytes[0]);
         self.memory.pass(cycles);
         Stepped {
@@ -126,6 +127,41 @@ impl<M: Memory> Processor<M> {
             }),
             cycles,
         }
+    }
+
+    /// Whether the next step is an instruction that begins with neither `enable` nor `repeat`.
+    #[inline(always)]
+    pub(crate) fn is_plain(&self) -> bool
+        ensures { result ≡ true → IsPlain M.rules self.now }
+    {
+        if self.state.locked || self.state.stopped || self.state.halted {
+            return false;
+        }
+        if self.state.enable || self.state.repeat {
+            return false;
+        }
+        !self.is_interrupted()
+    }
+
+    #[inline(always)]
+    fn is_interrupted(&self) -> bool
+        ensures { result ≡ (self.now.state.ime && not (M.rules.shared self.now.memory == 0)) }
+    {
+        self.state.ime && self.memory.shared() != 0
+    }
+
+    /// A step that is plain: says how many M-cycles passed in it, and whether the next one is plain.
+    #[inline(always)]
+    pub(crate) fn run_plainly<const WAY: u8>(&mut self) -> (u8, bool)
+        requires { IsPlain M.rules self.old }
+        ensures after { self.new ≡ (step_of M.rules self.old).after }
+        ensures cycles { result.0 ≡ (step_of M.rules self.old).stepped.cycles }
+        ensures plain { result.1 ≡ true → IsPlain M.rules self.new }
+    {
+        let opcode = self.memory.read(self.registers.pc);
+        let (cycles, usual) = self.run_opcode::<WAY>(opcode);
+        self.memory.pass(cycles);
+        (cycles, usual && !self.is_interrupted())
     }
 
     #[inline(always)]

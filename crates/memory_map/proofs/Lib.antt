@@ -4,4 +4,5 @@ pub mod NextBusEvent
 pub mod JoypadLines
 pub mod PictureWrites
 pub mod QuietTicks
+pub mod QuietCycles
 pub mod SameCartridge

@@ -17,13 +17,13 @@ use Rattle.memory_map.specs.State.{BusState}
 use Rattle.memory_map.specs.Ticks.{tick_timer, tick_serial, tick_picture, tick, copied_byte, copies, happens}
 
 -- where no copy is going on, each unit goes its own way
-abbrev apart : ℕ → BusState → BusState
+abbrev pub apart : ℕ → BusState → BusState
 apart n b = record b { timer = iterate timer.tick n b.timer; serial = iterate serial.tick n b.serial; picture = iterate picture.tick n b.picture }
 
 abbrev each : BusState → BusState
 each b = record b { timer = timer.tick b.timer; serial = serial.tick b.serial; picture = picture.tick b.picture }
 
-ticks_apart : (n : ℕ) (b : BusState) → 160 ≤ b.control.dma_copied → iterate tick n b ≡ apart n b
+pub ticks_apart : (n : ℕ) (b : BusState) → 160 ≤ b.control.dma_copied → iterate tick n b ≡ apart n b
 ticks_apart n b h =
     iterate-same (λ (b : BusState). 160 ≤ b.control.dma_copied) tick each (λ b p. p)
     (λ b p. ap (λ t. tick_picture (cond t (copied_byte (tick_serial (tick_timer b))) (tick_serial (tick_timer b)))) (le-ltb _ _ p)) n b h

@@ -5,3 +5,4 @@ pub mod Bus
 pub mod Ticks
 pub mod Stores
 pub mod Laws
+pub mod Quiet

@@ -1,4 +1,4 @@
-ghost use Rattle.std.specs.Prelude.{◌≡◌, IfOk, vec_len, slice_index, if◌then◌else◌};
+ghost use Rattle.std.specs.Prelude.{◌≡◌, ◌<◌, IfOk, vec_len, slice_index, if◌then◌else◌};
 
 mod clock;
 mod registers;
@@ -32,11 +32,15 @@ pub struct Bus {
     hram: [u8; 127],
     sound: [u8; 48],
     control: Control,
+    // In so many M-cycles nothing changes but the timer's counter and the M-cycle of the line. What may end that sets it to 0.
+    quiet: u8,
+    // False only where IE and IF share no bit.
+    may_interrupt: bool,
 }
 
 impl Model for Bus {
-    ghost use Rattle.std.specs.Prelude.{◌≡◌, length};
-    ghost use Rattle.memory_map.specs.State.{BusState, IsLegalControl};
+    ghost use Rattle.memory_map.specs.State.{BusState};
+    ghost use Rattle.memory_map.specs.Quiet.{IsSound};
 
     ghost Value = { BusState };
 
@@ -51,7 +55,16 @@ impl Model for Bus {
       control = b.control;
     } };
 
-    ghost invariant = { λ b. (length b.wram.items ≡ 8192) × IsLegalControl b.control };
+    ghost invariant = { λ b. IsSound b.quiet b.may_interrupt (record {
+      timer = record { timer = b.timer; requested = b.timer_requested };
+      serial = record { serial = b.serial; requested = b.serial_requested };
+      picture = record { screen = b.picture; vblank = b.vblank_requested; stat = b.stat_requested };
+      banks = b.banks;
+      wram = b.wram.items;
+      hram = b.hram;
+      sound = b.sound;
+      control = b.control;
+    }) };
 }
 
 #[tactic(auto, unfolding(crate::specs::State::zeros))]
@@ -103,6 +116,8 @@ impl Bus {
             hram: hram_at_power_on(),
             sound: sound_at_power_on(),
             control: Control::at_power_on(),
+            quiet: 0,
+            may_interrupt: true,
         })
     }
 
@@ -115,6 +130,9 @@ impl Bus {
     {
         if address < 0x8000 {
             return self.banks.read(address);
+        }
+        if address >= 0xc000 && address < 0xe000 {
+            return self.wram[usize::from(address - 0xc000)];
         }
         self.read_place(address)
     }
@@ -152,14 +170,14 @@ impl Bus {
     {
         match Place::of(address) {
             Place::Cartridge(address) => self.banks.write(address, value),
-            Place::Vram(offset) => self.picture.write_vram(offset, value),
+            Place::Vram(offset) => self.write_vram(offset, value),
             Place::Wram(offset) => self.write_wram(offset, value),
             Place::Oam(offset) => self.write_oam(offset, value),
             Place::Unused => {}
             Place::Sound(offset) => self.write_sound(offset, value),
             Place::Register(address) => self.write_register(address, value),
             Place::Hram(offset) => self.write_hram(offset, value),
-            Place::InterruptEnable => self.control.ie = value,
+            Place::InterruptEnable => self.write_ie(value),
         }
     }
 
@@ -169,6 +187,7 @@ impl Bus {
         ensures { self.new ≡ buttons_set buttons self.old }
     {
         let select = self.control.p1_select;
+        self.may_interrupt = true;
         self.control.set_joypad(select, buttons);
     }
 
@@ -216,6 +235,21 @@ impl Bus {
         }
     }
 
+    #[tactic(auto, unfolding(picture_unit::specs::Stores::vram_written))]
+    fn write_vram(&mut self, offset: u16, value: u8)
+        ensures { self.new ≡ (if is_closed self.old (Place.Vram offset) then self.old else stored_at (Place.Vram offset) value self.old) }
+    {
+        self.quiet = 0;
+        self.picture.write_vram(offset, value);
+    }
+
+    fn write_ie(&mut self, value: u8)
+        ensures { self.new ≡ stored_at Place.InterruptEnable value self.old }
+    {
+        self.may_interrupt = true;
+        self.control.ie = value;
+    }
+
     fn write_wram(&mut self, offset: u16, value: u8)
         ensures { self.new ≡ stored_at (Place.Wram offset) value self.old }
     {
@@ -258,6 +292,7 @@ impl Bus {
         if self.control.dma_copied < 160 {
             return;
         }
+        self.quiet = 0;
         self.picture.write_oam(offset, value);
     }
 }

@@ -55,7 +55,7 @@ with_falls-suc f s h m =
     let e = reload f s.timer.tma m in
     grind (arith, nat_tests)
 
-with_falls-zero : (s : TimerAndRequest) → s.timer.tima < 256 → with_falls zero s ≡ s
+pub with_falls-zero : (s : TimerAndRequest) → s.timer.tima < 256 → with_falls zero s ≡ s
 with_falls-zero s h = grind (arith, nat_tests)
 
 grown-grown : (n : ℕ) (s : TimerAndRequest) → grown n (grown 1 s) ≡ grown (suc n) s

@@ -90,6 +90,27 @@ impl Timer {
         self.count_falls(falls)
     }
 
+    /// That many M-cycles pass of those that `quiet` answers: the counter grows, and nothing else is done.
+    #[inline]
+    pub fn count(&mut self, cycles: u8)
+        ensures counter { self.new ≡ record self.old { counter = (self.old.counter + 4 * cycles) % 65536 } }
+        ensures legal { IsLegalTimer self.old }
+    {
+        self.state.counter = self.state.counter.wrapping_add(4 * u16::from(cycles));
+    }
+
+    /// A number of M-cycles, at most 255, in which the signal does not fall: all of them while TAC stops the timer.
+    pub fn quiet(&self) -> u8
+        ensures still { falls_in self.now.tac self.now.counter result ≡ 0 }
+        ensures legal { IsLegalTimer self.now }
+    {
+        if self.state.tac < 4 {
+            255
+        } else {
+            (self.cycles_to_fall() - 1) as u8
+        }
+    }
+
     /// After how many M-cycles the signal falls next; None while TAC stops the timer.
     pub fn due(&self) -> Option<u32>
         ensures { IsNextEvent tick signal_falls (unrequested self.now) result }

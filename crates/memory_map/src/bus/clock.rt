@@ -2,6 +2,7 @@ ghost use Rattle.std.specs.Prelude.{◌≡◌, ◌<◌};
 ghost use Rattle.std.specs.Fn.{iterate};
 ghost use Rattle.repeated_steps.specs.NextEvent.{IsNextEvent, earlier};
 ghost use Rattle.memory_map.specs.Ticks.{tick, tick_timer, tick_serial, tick_dma_and_picture, tick_picture, copied_byte, happens};
+ghost use Rattle.memory_map.specs.Quiet.{AreQuiet};
 
 use super::Bus;
 
@@ -11,9 +12,45 @@ impl Bus {
     pub fn pass(&mut self, cycles: u32)
         ensures { self.new ≡ iterate tick cycles self.old }
     {
+        if cycles > u32::from(self.quiet) {
+            return self.pass_by_units(cycles);
+        }
+        let cycles = cycles as u8;
+        self.quiet -= cycles;
+        self.timer.count(cycles);
+        self.picture.move_on(cycles);
+    }
+
+    #[inline(never)]
+    fn pass_by_units(&mut self, cycles: u32)
+        ensures { self.new ≡ iterate tick cycles self.old }
+    {
         self.pass_timer(cycles);
         self.pass_serial(cycles);
         self.pass_dma_and_picture(cycles);
+        self.look_ahead();
+    }
+
+    /// Finds how many M-cycles are quiet, and whether IE and IF share a bit.
+    fn look_ahead(&mut self)
+        ensures { self.new ≡ self.old }
+    {
+        let quiet = self.quiet_cycles();
+        let shared = self.control.ie & self.interrupt_flag();
+        self.quiet = quiet;
+        self.may_interrupt = shared != 0;
+    }
+
+    fn quiet_cycles(&self) -> u8
+        ensures { AreQuiet result self.now.control.dma_copied self.now.timer.timer self.now.serial.serial.cycles_left self.now.picture.screen.state }
+    {
+        if self.control.dma_copied < 160 {
+            return 0;
+        }
+        if self.serial.state().cycles_left > 0 {
+            return 0;
+        }
+        self.timer.quiet().min(self.picture.quiet())
     }
 
     /// After how many M-cycles the next event comes: a byte of a copy, a fall of the timer's signal, the end of a
@@ -36,6 +73,8 @@ impl Bus {
         ensures ticks { self.new ≡ iterate tick_timer cycles self.old }
         ensures dma_page { self.old.control.dma < 256 }
     {
+        self.quiet = 0;
+        self.may_interrupt = true;
         let requests = self.timer.pass(cycles);
         self.timer_requested |= requests.bits != 0;
     }
@@ -44,6 +83,8 @@ impl Bus {
     fn pass_serial(&mut self, cycles: u32)
         ensures { self.new ≡ iterate tick_serial cycles self.old }
     {
+        self.quiet = 0;
+        self.may_interrupt = true;
         let requests = self.serial.pass(cycles);
         self.serial_requested |= requests.bits != 0;
     }
@@ -77,6 +118,8 @@ impl Bus {
     fn pass_picture(&mut self, cycles: u32)
         ensures { self.new ≡ iterate tick_picture cycles self.old }
     {
+        self.quiet = 0;
+        self.may_interrupt = true;
         let requests = self.picture.pass(cycles);
         self.vblank_requested |= requests.vblank;
         self.stat_requested |= requests.stat;
@@ -92,6 +135,7 @@ impl Bus {
         let page = if page < 0xe0 { page } else { page - 0x20 };
         let source = 256 * u16::from(page) + u16::from(self.control.dma_copied);
         let byte = self.peek(source);
+        self.quiet = 0;
         self.picture.copy_to_oam(self.control.dma_copied, byte);
         self.control.dma_copied += 1;
     }

@@ -13,6 +13,9 @@ impl Bus {
     pub fn shared(&self) -> u8
         ensures { result ≡ shared self.now }
     {
+        if !self.may_interrupt {
+            return 0;
+        }
         self.control.ie & self.interrupt_flag()
     }
 
@@ -20,6 +23,7 @@ impl Bus {
     pub fn acknowledge(&mut self, bit: u8)
         ensures { self.new ≡ acknowledged bit self.old }
     {
+        self.may_interrupt = true;
         match bit {
             0 => self.vblank_requested = false,
             1 => self.stat_requested = false,
@@ -45,6 +49,7 @@ impl Bus {
     pub(super) fn set_interrupt_flag(&mut self, value: u8)
         ensures { self.new ≡ with_interrupt_flag value self.old }
     {
+        self.may_interrupt = true;
         self.vblank_requested = value / 1 % 2 == 1;
         self.stat_requested = value / 2 % 2 == 1;
         self.timer_requested = value / 4 % 2 == 1;
@@ -77,13 +82,17 @@ impl Bus {
         match address {
             0xff00 => self.write_p1(value),
             0xff01 => self.serial.write_sb(value),
-            0xff02 => self.serial.write_sc(value),
+            0xff02 => {
+                self.quiet = 0;
+                self.serial.write_sc(value);
+            }
             0xff04 => self.write_div(),
             0xff05 => self.timer.write_tima(value),
             0xff06 => self.timer.write_tma(value),
             0xff07 => self.write_tac(value),
             0xff0f => self.set_interrupt_flag(value),
             0xff46 => {
+                self.quiet = 0;
                 self.control.dma = value;
                 self.control.dma_copied = 0;
             }
@@ -94,6 +103,7 @@ impl Bus {
     fn write_p1(&mut self, value: u8)
         ensures { self.new ≡ record self.old { control = joypad_set (select_bits value) self.old.control.buttons self.old.control } }
     {
+        self.may_interrupt = true;
         let buttons = self.control.buttons;
         self.control.set_joypad(select_bits(value), buttons);
     }
@@ -101,6 +111,8 @@ impl Bus {
     fn write_div(&mut self)
         ensures { self.new ≡ record self.old { timer = with_counter_and_tac 0 self.old.timer.timer.tac self.old.timer } }
     {
+        self.quiet = 0;
+        self.may_interrupt = true;
         let requests = self.timer.write_div();
         self.timer_requested |= requests.bits != 0;
     }
@@ -108,6 +120,8 @@ impl Bus {
     fn write_tac(&mut self, value: u8)
         ensures { self.new ≡ record self.old { timer = with_counter_and_tac self.old.timer.timer.counter (value % 8) self.old.timer } }
     {
+        self.quiet = 0;
+        self.may_interrupt = true;
         let requests = self.timer.write_tac(value);
         self.timer_requested |= requests.bits != 0;
     }
@@ -115,6 +129,8 @@ impl Bus {
     fn write_picture(&mut self, address: u16, value: u8)
         ensures { self.new ≡ record self.old { picture = picture_register_written address value self.old.picture } }
     {
+        self.quiet = 0;
+        self.may_interrupt = true;
         self.stat_requested |= self.picture.write_register(address, value);
     }
 }

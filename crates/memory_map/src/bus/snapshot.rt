@@ -34,6 +34,8 @@ impl Bus {
         requires { AreLegalFor self.old.banks state.now }
         ensures { self.new ≡ with_registers state.now self.old }
     {
+        self.quiet = 0;
+        self.may_interrupt = true;
         self.timer.restore(&state.timer);
         self.serial.restore(&state.serial);
         self.picture.restore(&state.picture);
@@ -69,9 +71,15 @@ impl Bus {
         ensures { self.new ≡ region_filled region bytes.now self.old }
     {
         match region {
-            Region::Vram => self.picture.fill(PictureRegion::Vram, bytes),
+            Region::Vram => {
+                self.quiet = 0;
+                self.picture.fill(PictureRegion::Vram, bytes);
+            }
             Region::Wram => self.wram.as_mut_slice().copy_from_slice(bytes),
-            Region::Oam => self.picture.fill(PictureRegion::Oam, bytes),
+            Region::Oam => {
+                self.quiet = 0;
+                self.picture.fill(PictureRegion::Oam, bytes);
+            }
             Region::Hram => self.hram.copy_from_slice(bytes),
             Region::Sound => self.sound.copy_from_slice(bytes),
             Region::CartRam => self.banks.fill(bytes),

@@ -1,8 +1,8 @@
-ghost use Rattle.std.specs.Prelude.{◌≡◌, ◌<◌, true};
+ghost use Rattle.std.specs.Prelude.{◌≡◌, ◌<◌, ◌+◌, true};
 ghost use Rattle.std.specs.Fn.{iterate};
 ghost use Rattle.repeated_steps.specs.NextEvent.{IsNextEvent};
 ghost use Rattle.picture_unit.specs.Picture.{unrequested, is_on, tick, ticks, is_entry, line_drawn, drawn};
-ghost use Rattle.picture_unit.specs.PictureJump.{next_entry, skipped, with_requests};
+ghost use Rattle.picture_unit.specs.PictureJump.{next_entry, skipped, with_requests, AreQuiet};
 
 use super::Picture;
 use crate::state::PictureRequests;
@@ -28,7 +28,27 @@ impl Picture {
         }
     }
 
-    /// The same, M-cycle by M-cycle: what `pass` is compared with.
+    /// That many M-cycles pass of those that `quiet` answers: the M-cycle of the line grows, and nothing else is done.
+    /// Condition: the line has as many M-cycles left.
+    #[inline]
+    pub fn move_on(&mut self, cycles: u8)
+        requires { 0 < cycles → self.old.state.m_cycle + cycles < 114 }
+        ensures { self.new ≡ record self.old { state = record self.old.state { m_cycle = self.old.state.m_cycle + cycles } } }
+    {
+        self.quiet = 0;
+        self.state.m_cycle += cycles;
+    }
+
+    /// A number of M-cycles in which no line, mode 3 or mode 0 is entered and the STAT signal does not rise.
+    #[inline]
+    pub fn quiet(&self) -> u8
+        ensures quiet { AreQuiet result self.now.state }
+        ensures line { self.now.state.m_cycle + result < 114 }
+    {
+        self.quiet
+    }
+
+    /// The same as `pass`, M-cycle by M-cycle: what `pass` is compared with.
     #[tactic(auto, unfolding(crate::specs::Picture::unrequested))]
     pub fn pass_plainly(&mut self, cycles: u32) -> PictureRequests
         ensures picture { self.new ≡ (ticks cycles self.old).screen }

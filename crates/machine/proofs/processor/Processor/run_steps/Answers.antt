@@ -7,4 +7,4 @@ loop-i-init g c = after_steps-zero g.M.Memory.rules c.args.self.now
 
 pub loop-i-preserved : goal.loop-i-preserved
 loop-i-preserved g c =
-    c.step.ensures.after ∙ after_steps-add_one g.M.Memory.rules c.loop-i._i c.args.self.now c.loop-i.self c.loop-i.invariant
+    c.make_step.ensures ∙ after_steps-add_one g.M.Memory.rules c.loop-i._i c.args.self.now c.loop-i.self c.loop-i.invariant

@@ -1,10 +1,33 @@
-use Rattle.std.proofs.Common.{ap, ◌∙◌}
+use Rattle.std.proofs.Common.{◌≤◌, ◌+◌, ◌*◌, ◌%◌, ap, ◌∙◌, arith}
 use Rattle.std.specs.Fn.{iterate}
-use Rattle.memory_map.specs.Ticks.{tick_serial, tick_dma_and_picture}
-use Rattle.memory_map.proofs.Together.{together}
+use Rattle.timer_unit.specs.declared.timer.TimerState.{TimerState}
+use Rattle.picture_unit.specs.Picture.{Screen}
+use Rattle.memory_map.specs.Ticks.{tick}
+use Rattle.memory_map.specs.contracts.bus.Bus.{the_view}
+use Rattle.memory_map.proofs.QuietCycles.{quiet_pass, quiet_after}
 use Rattle.memory_map.proofs.bus.Bus.pass.Goals as goal
+
+pub move_on-requires : goal.move_on-requires
+move_on-requires c = λ some. let line = c.self.invariant.quiet.line (omega (arith, c.from.ensures)) in omega (arith, c.from.ensures)
+
+pub invariant_of-self : goal.invariant_of-self
+invariant_of-self c =
+    let b = the_view c.self.inside in
+    let le : c.args.cycles ≤ c.self.inside.quiet = omega (arith, c.from.ensures) in
+    record {
+      wram = c.self.invariant.wram;
+      control = c.self.invariant.control;
+      quiet =
+          rw (c.count.ensures.counter, c.move_on.ensures)
+          (quiet_after c.self.inside.quiet c.args.cycles b.control.dma_copied b.timer.timer b.serial.serial.cycles_left b.picture.screen.state le c.count.ensures.legal.counter c.self.invariant.quiet);
+      calm = c.self.invariant.calm;
+    }
 
 pub returns : goal.returns
 returns c =
-    c.pass_dma_and_picture.ensures ∙ ap (iterate tick_dma_and_picture c.args.cycles) (c.pass_serial.ensures ∙ ap (iterate tick_serial c.args.cycles) c.pass_timer.ensures.ticks)
-    ∙ together c.args.cycles c.args.self.now c.pass_timer.ensures.dma_page
+    let b = the_view c.self.inside in
+    let le : c.args.cycles ≤ c.self.inside.quiet = omega (arith, c.from.ensures) in
+    ap (λ (t : TimerState). record b { timer = record b.timer { timer = t }; picture = record b.picture { screen = c.move_on.new.self } }) c.count.ensures.counter
+    ∙ ap (λ (s : Screen). record b { timer = record b.timer { timer = record b.timer.timer { counter = (b.timer.timer.counter + 4 * c.args.cycles) % 65536 } }; picture = record b.picture { screen = s } }) c.move_on.ensures
+    ∙ quiet_pass c.self.inside.quiet c.args.cycles b le c.count.ensures.legal c.self.invariant.quiet
+    ∙ ap (iterate tick c.args.cycles) c.self.view_is

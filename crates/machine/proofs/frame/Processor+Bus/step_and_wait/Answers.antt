@@ -1,7 +1,7 @@
 use Rattle.std.proofs.Common.{◌+◌, ap, ◌∙◌, arith}
 use Rattle.machine.specs.declared.step.Stepped.{Stepped}
 use Rattle.machine.proofs.Waiting.{stepped_on, waited_on}
-use Rattle.machine.proofs.frame.Processor+Bus.go_on.Goals as goal
+use Rattle.machine.proofs.frame.Processor+Bus.step_and_wait.Goals as goal
 
 pub returns-in_default : goal.returns-in_default
 returns-in_default c =

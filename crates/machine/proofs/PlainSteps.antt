@@ -1,0 +1,45 @@
+-- A plain step is its instruction.
+use Rattle.std.proofs.Common.{◌≡◌, ◌∙◌, ℕ, Bool, true, false, cond, refl, sym, ap}
+use Rattle.std.specs.Prelude.{◌&&◌, ◌==◌, ◌%◌, not}
+use Rattle.machine.specs.Rules.{Rules}
+use Rattle.machine.specs.Steps.{Step, step_of, after_stop, resumed, dispatched, ran, waited, passing, settled, byte_at}
+use Rattle.machine.specs.Opcodes.{instruction_at, begun_and_executed, cycles_with}
+use Rattle.machine.specs.Plain.{IsPlain}
+use Rattle.machine.specs.declared.processor.Processor.{Processor}
+
+abbrev on_of : {M : Type 0} → Bool → Processor M → Processor M
+on_of b p = record p { state = record p.state { stopped = b } }
+
+abbrev going_of : {M : Type 0} → Bool → Processor M → Processor M
+going_of b p = record p { state = record p.state { halted = b } }
+
+pub plain_step : {M : Type 0} (r : Rules M) (p : Processor M) → IsPlain r p → step_of r p ≡ ran r p
+unfolding step_of
+plain_step r p plain =
+    ap (λ b. cond b (waited r p) (cond (p.state.stopped && r.value_at p.memory 0xFF00 % 16 == 15) (waited r p) (after_stop r (on_of false p)))) plain.usual.locked
+    ∙ ap (λ b. cond (b && r.value_at p.memory 0xFF00 % 16 == 15) (waited r p) (after_stop r (on_of false p))) plain.usual.stopped
+    ∙ ap (λ b. after_stop r (on_of b p)) (sym plain.usual.stopped)
+    ∙ ap (λ b. cond (b && r.shared p.memory == 0) (waited r p) (resumed r (going_of false p))) plain.usual.halted
+    ∙ ap (λ b. resumed r (going_of b p)) (sym plain.usual.halted)
+    ∙ ap (λ b. cond b (dispatched r p) (ran r p)) plain.uninterrupted
+
+abbrev opcode_at : {M : Type 0} → Rules M → Processor M → ℕ
+opcode_at r p = byte_at r p.registers.pc p
+
+-- what is known of an instruction that ran by its opcode, and of the M-cycles that passed behind it
+pub plainly_after : {M : Type 0} (r : Rules M) (opcode cycles : ℕ) (p q : Processor M) (memory : M) → IsPlain r p → opcode ≡ opcode_at r p
+    → q ≡ begun_and_executed r (instruction_at r opcode p) p → cycles ≡ cycles_with (instruction_at r opcode p) p.registers.flags
+    → memory ≡ r.passed q.memory cycles → record q { memory = memory } ≡ (step_of r p).after
+plainly_after {M} r opcode cycles p q memory plain e f g h =
+    let i = instruction_at r (opcode_at r p) p in
+    ap (λ (m : M). record q { memory = m }) h
+    ∙ ap (passing r cycles) f
+    ∙ ap (λ (n : ℕ). passing r n (begun_and_executed r (instruction_at r opcode p) p)) g
+    ∙ ap (λ (o : ℕ). passing r (cycles_with (instruction_at r o p) p.registers.flags) (begun_and_executed r (instruction_at r o p) p)) e
+    ∙ ap (λ (b : Bool). passing r (cycles_with i p.registers.flags) (settled b i (begun_and_executed r i p))) (sym plain.usual.enable)
+    ∙ sym (ap (λ (s : Step M). s.after) (plain_step r p plain))
+
+pub plainly_cycles : {M : Type 0} (r : Rules M) (opcode cycles : ℕ) (p : Processor M) → IsPlain r p → opcode ≡ opcode_at r p
+    → cycles ≡ cycles_with (instruction_at r opcode p) p.registers.flags → cycles ≡ (step_of r p).stepped.cycles
+plainly_cycles {M} r opcode cycles p plain e g =
+    g ∙ ap (λ (o : ℕ). cycles_with (instruction_at r o p) p.registers.flags) e ∙ sym (ap (λ (s : Step M). s.stepped.cycles) (plain_step r p plain))

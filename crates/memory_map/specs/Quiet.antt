@@ -1,0 +1,24 @@
+-- M-cycles in which nothing changes but the timer's counter and the M-cycle of the line, for private functions alone.
+use Rattle.std.specs.Prelude.{◌≡◌, ℕ, ◌+◌, ◌<◌, ◌≤◌, Bool, false, length}
+use Rattle.timer_unit.specs.declared.timer.TimerState.{TimerState}
+use Rattle.timer_unit.specs.TimerJump.{falls_in}
+use Rattle.picture_unit.specs.declared.state.PictureState.{PictureState}
+use Rattle.picture_unit.specs.PictureJump as picture
+use Rattle.memory_map.specs.State.{BusState, IsLegalControl}
+use Rattle.memory_map.specs.Bus.{shared}
+
+-- In the next n M-cycles, if any, no byte is copied, the timer's signal does not fall, no transfer runs, no entry to a line, to mode 3 or to
+-- mode 0 comes and the STAT signal does not rise. `copied` bytes of a copy are made, and `left` M-cycles of a transfer are left.
+pub record AreQuiet (n copied : ℕ) (t : TimerState) (left : ℕ) (p : PictureState) : Type 0 where
+  pub copy : 0 < n → 160 ≤ copied
+  pub timer : 0 < n → falls_in t.tac t.counter n ≡ 0
+  pub serial : 0 < n → left ≡ 0
+  pub line : 0 < n → p.m_cycle + n < 114
+  pub picture : picture.AreQuiet n p
+
+-- what is known of a bus beside its value: how many M-cycles are quiet, and whether IE and IF may share a bit
+pub record IsSound (cycles : ℕ) (may_interrupt : Bool) (b : BusState) : Type 0 where
+  pub wram : length b.wram ≡ 8192
+  pub control : IsLegalControl b.control
+  pub quiet : AreQuiet cycles b.control.dma_copied b.timer.timer b.serial.serial.cycles_left b.picture.screen.state
+  pub calm : may_interrupt ≡ false → shared b ≡ 0
