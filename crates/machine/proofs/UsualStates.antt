@@ -11,7 +11,7 @@ use Rattle.opcode_table.specs.declared.instruction.Instr.TheVariants.{Nop, Store
 use Rattle.machine.specs.Rules.{Rules}
 use Rattle.machine.specs.RegisterOperations.{condition_holds}
 use Rattle.machine.specs.Execution.{executed, with_operand, with_flags, jumped_relative, returned, called, at_pc}
-use Rattle.machine.specs.Opcodes.{instruction_at, begun_and_executed, low_at, high_at}
+use Rattle.machine.specs.Opcodes.{instruction_at, executed_behind, low_at, high_at}
 use Rattle.machine.specs.Plain.{IsUsual}
 use Rattle.machine.specs.declared.processor.Processor.{Processor}
 use Rattle.machine.specs.declared.processor.ProcessorState.{ProcessorState}
@@ -130,18 +130,18 @@ unfolding instruction_of loads_and_steps jumps_and_stack
 low_opcodes b c = refl
 
 pub usual_behind : {M : Type 0} (r : Rules M) (o : ℕ) (p q : Processor M) → o < 192 → (o == 0x10) ≡ false → (o == 0x76) ≡ false
-    → q ≡ begun_and_executed r (instruction_at r o p) p → IsUsual p.state → IsUsual q.state
+    → q ≡ executed_behind r (instruction_at r o p) p → IsUsual p.state → IsUsual q.state
 usual_behind {M} r o p q below no_stop no_halt e usual =
     let i = instruction_at r o p in
     let table = agree_below_at (λ k. changes_state (instruction_of k (low_at r p) (high_at r p))) (λ k. k == 0x10 || k == 0x76) 192 o (low_opcodes (low_at r p) (high_at r p)) below in
     let kept : changes_state i ≡ false = table ∙ ap (λ (t : Bool). t || o == 0x76) no_stop ∙ no_halt in
-    let same : q.state ≡ record p.state { repeat = false } = ap (λ (s : Processor M). s.state) e ∙ state_kept r i _ kept in
+    let same : q.state ≡ p.state = ap (λ (s : Processor M). s.state) e ∙ state_kept r i _ kept in
     record {
       locked = ap (λ (s : ProcessorState). s.locked) same ∙ usual.locked;
       stopped = ap (λ (s : ProcessorState). s.stopped) same ∙ usual.stopped;
       halted = ap (λ (s : ProcessorState). s.halted) same ∙ usual.halted;
       enable = ap (λ (s : ProcessorState). s.enable) same ∙ usual.enable;
-      repeat = ap (λ (s : ProcessorState). s.repeat) same;
+      repeat = ap (λ (s : ProcessorState). s.repeat) same ∙ usual.repeat;
     }
 
 choice_goes : (t : Bool) (i j : Instr) → waits_then i ≡ false → waits_then j ≡ false → waits_then (if t then i else j) ≡ false
@@ -172,7 +172,7 @@ high_goes o b c from below =
     cases (o == 0xCB) refl (table ∙ none)
 
 pub usual_behind_jump : {M : Type 0} (r : Rules M) (o : ℕ) (p q : Processor M) → 192 ≤ o → o < 256 → q.state.locked ≡ false → q.state.enable ≡ false
-    → q ≡ begun_and_executed r (instruction_at r o p) p → IsUsual p.state → IsUsual q.state
+    → q ≡ executed_behind r (instruction_at r o p) p → IsUsual p.state → IsUsual q.state
 usual_behind_jump {M} r o p q from below unlocked none e usual =
     let i = instruction_at r o p in
     let on = goes_on_in r i _ (high_goes o (low_at r p) (high_at r p) from below) (changes_state i) refl in
@@ -181,5 +181,5 @@ usual_behind_jump {M} r o p q from below unlocked none e usual =
       stopped = ap (λ (s : Processor M). s.state.stopped) e ∙ on.stopped ∙ usual.stopped;
       halted = ap (λ (s : Processor M). s.state.halted) e ∙ on.halted ∙ usual.halted;
       enable = none;
-      repeat = ap (λ (s : Processor M). s.state.repeat) e ∙ on.repeat;
+      repeat = ap (λ (s : Processor M). s.state.repeat) e ∙ on.repeat ∙ usual.repeat;
     }

@@ -1,6 +1,6 @@
 //! Frames of the processor over the bus.
 
-ghost use Rattle.std.specs.Prelude.{◌≡◌, ◌<◌, ◌≤◌};
+ghost use Rattle.std.specs.Prelude.{◌≡◌, ◌<◌, ◌≤◌, true};
 ghost use Rattle.machine.specs.Waiting.{within};
 
 use crate::opcodes::IN_FRAME;
@@ -59,13 +59,28 @@ impl Processor<Bus> {
         ensures few { result < 17562 }
     {
         let mut passed = passed;
-        let mut goes_on = true;
-        while goes_on && passed < FRAME {
-            let (cycles, is_plain) = self.run_plainly::<IN_FRAME>();
-            passed += u32::from(cycles);
-            goes_on = is_plain;
+        while passed < FRAME {
+            let (now, is_plain) = self.run_plain_step(passed);
+            passed = now;
+            if !is_plain {
+                return passed;
+            }
         }
         passed
+    }
+
+    /// A plain step. Says how many M-cycles of the frame have passed then, and whether the next step is plain.
+    #[inline(always)]
+    fn run_plain_step(&mut self, passed: u32) -> (u32, bool)
+        requires below { passed < 17556 }
+        requires plain { IsPlain bus_rules self.old }
+        ensures run { steps_until bus_rules 17556 result.0 self.new ≡ steps_until bus_rules 17556 passed self.old }
+        ensures more { passed < result.0 }
+        ensures few { result.0 < 17562 }
+        ensures plain { result.1 ≡ true → IsPlain bus_rules self.new }
+    {
+        let (cycles, is_plain) = self.run_plainly::<IN_FRAME>();
+        (passed + u32::from(cycles), is_plain)
     }
 
     /// A step in a frame of which so many M-cycles have passed, and behind a wait those that surely follow it. Says how

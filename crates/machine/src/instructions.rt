@@ -1,8 +1,8 @@
-//! What each instruction does from its opcode on, and its M-cycles.
+//! What each instruction does once its opcode is taken, and its M-cycles.
 
 ghost use Rattle.std.specs.Prelude.{◌≡◌, ◌<◌, ◌+◌, ◌*◌, if◌then◌else◌};
-ghost use Rattle.machine.specs.Steps.{begun, second_address};
-ghost use Rattle.machine.specs.Opcodes.{low_at, high_at, begun_and_executed, cycles_with};
+ghost use Rattle.machine.specs.Steps.{second_address};
+ghost use Rattle.machine.specs.Opcodes.{low_at, high_at, past, executed_behind, cycles_with};
 ghost use Rattle.opcode_table.specs.Table.{word_of};
 ghost use Rattle.opcode_table.specs.Timing.{is_in_memory};
 ghost use Rattle.opcode_table.specs.declared.instruction.Instr.{Instr};
@@ -48,22 +48,22 @@ impl<M: Memory> Processor<M> {
         }
     }
 
-    /// The byte behind the opcode.
+    /// The byte at PC.
     #[inline(always)]
     pub(crate) fn low(&self) -> u8
         ensures { result ≡ low_at M.rules self.now }
     {
-        self.memory.read(self.second())
+        self.memory.read(self.registers.pc)
     }
 
     #[inline(always)]
     fn high(&self) -> u8
         ensures { result ≡ high_at M.rules self.now }
     {
-        self.memory.read(self.second().wrapping_add(1))
+        self.memory.read(self.registers.pc.wrapping_add(1))
     }
 
-    /// The two bytes behind the opcode, the low one first.
+    /// The two bytes at PC, the low one first.
     #[inline(always)]
     pub(crate) fn word(&self) -> u16
         ensures { result ≡ word_of (low_at M.rules self.now) (high_at M.rules self.now) }
@@ -72,32 +72,30 @@ impl<M: Memory> Processor<M> {
     }
 
     #[inline(always)]
-    fn begin(&mut self, length: u8)
+    fn move_past(&mut self, length: u8)
         requires { 0 < length }
-        ensures { self.new ≡ begun length self.old }
+        ensures { self.new ≡ past length self.old }
     {
-        let second = self.second();
-        self.registers.pc = second.wrapping_add(u16::from(length - 1));
-        self.state.repeat = false;
+        self.registers.pc = self.registers.pc.wrapping_add(u16::from(length - 1));
     }
 
     /// NOP
     #[inline(always)]
     pub(crate) fn run_nop(&mut self) -> u8
-        ensures after { self.new ≡ begun_and_executed M.rules Instr.Nop self.old }
+        ensures after { self.new ≡ executed_behind M.rules Instr.Nop self.old }
         ensures cycles { result ≡ cycles_with Instr.Nop self.old.registers.flags }
     {
-        self.begin(1);
+        self.move_past(1);
         1
     }
 
     /// LD (n16),SP
     #[inline(always)]
     pub(crate) fn run_store_sp(&mut self, address: u16) -> u8
-        ensures after { self.new ≡ begun_and_executed M.rules (Instr.StoreSp address) self.old }
+        ensures after { self.new ≡ executed_behind M.rules (Instr.StoreSp address) self.old }
         ensures cycles { result ≡ cycles_with (Instr.StoreSp address) self.old.registers.flags }
     {
-        self.begin(3);
+        self.move_past(3);
         self.store_sp(address);
         5
     }
@@ -105,10 +103,10 @@ impl<M: Memory> Processor<M> {
     /// STOP
     #[inline(always)]
     pub(crate) fn run_stop(&mut self) -> u8
-        ensures after { self.new ≡ begun_and_executed M.rules Instr.Stop self.old }
+        ensures after { self.new ≡ executed_behind M.rules Instr.Stop self.old }
         ensures cycles { result ≡ cycles_with Instr.Stop self.old.registers.flags }
     {
-        self.begin(2);
+        self.move_past(2);
         self.state.stopped = true;
         self.memory.write(DIVIDER, 0);
         1
@@ -117,10 +115,10 @@ impl<M: Memory> Processor<M> {
     /// JR e
     #[inline(always)]
     pub(crate) fn run_jump_relative(&mut self, offset: u8) -> u8
-        ensures after { self.new ≡ begun_and_executed M.rules (Instr.JumpRelative offset) self.old }
+        ensures after { self.new ≡ executed_behind M.rules (Instr.JumpRelative offset) self.old }
         ensures cycles { result ≡ cycles_with (Instr.JumpRelative offset) self.old.registers.flags }
     {
-        self.begin(2);
+        self.move_past(2);
         self.jump_by(offset);
         3
     }
@@ -128,10 +126,10 @@ impl<M: Memory> Processor<M> {
     /// JR cc,e
     #[inline(always)]
     pub(crate) fn run_jump_relative_if(&mut self, condition: Condition, offset: u8) -> u8
-        ensures after { self.new ≡ begun_and_executed M.rules (Instr.JumpRelativeIf condition offset) self.old }
+        ensures after { self.new ≡ executed_behind M.rules (Instr.JumpRelativeIf condition offset) self.old }
         ensures cycles { result ≡ cycles_with (Instr.JumpRelativeIf condition offset) self.old.registers.flags }
     {
-        self.begin(2);
+        self.move_past(2);
         if condition_holds(condition, self.registers.flags) {
             self.jump_by(offset);
             3
@@ -143,10 +141,10 @@ impl<M: Memory> Processor<M> {
     /// LD rp,n16
     #[inline(always)]
     pub(crate) fn run_load_register16(&mut self, register: Register16, word: u16) -> u8
-        ensures after { self.new ≡ begun_and_executed M.rules (Instr.LoadRegister16 register word) self.old }
+        ensures after { self.new ≡ executed_behind M.rules (Instr.LoadRegister16 register word) self.old }
         ensures cycles { result ≡ cycles_with (Instr.LoadRegister16 register word) self.old.registers.flags }
     {
-        self.begin(3);
+        self.move_past(3);
         set_register16(&mut self.registers, register, word);
         3
     }
@@ -154,10 +152,10 @@ impl<M: Memory> Processor<M> {
     /// ADD HL,rp
     #[inline(always)]
     pub(crate) fn run_add_hl(&mut self, register: Register16) -> u8
-        ensures after { self.new ≡ begun_and_executed M.rules (Instr.AddHl register) self.old }
+        ensures after { self.new ≡ executed_behind M.rules (Instr.AddHl register) self.old }
         ensures cycles { result ≡ cycles_with (Instr.AddHl register) self.old.registers.flags }
     {
-        self.begin(1);
+        self.move_past(1);
         self.add_to_hl(register);
         2
     }
@@ -165,10 +163,10 @@ impl<M: Memory> Processor<M> {
     /// LD (BC),A and its like
     #[inline(always)]
     pub(crate) fn run_store_accumulator(&mut self, operand: Indirect) -> u8
-        ensures after { self.new ≡ begun_and_executed M.rules (Instr.StoreAccumulator operand) self.old }
+        ensures after { self.new ≡ executed_behind M.rules (Instr.StoreAccumulator operand) self.old }
         ensures cycles { result ≡ cycles_with (Instr.StoreAccumulator operand) self.old.registers.flags }
     {
-        self.begin(1);
+        self.move_past(1);
         self.memory
             .write(address(&self.registers, operand), self.registers.a);
         finish_access(&mut self.registers, operand);
@@ -178,10 +176,10 @@ impl<M: Memory> Processor<M> {
     /// LD A,(BC) and its like
     #[inline(always)]
     pub(crate) fn run_load_accumulator(&mut self, operand: Indirect) -> u8
-        ensures after { self.new ≡ begun_and_executed M.rules (Instr.LoadAccumulator operand) self.old }
+        ensures after { self.new ≡ executed_behind M.rules (Instr.LoadAccumulator operand) self.old }
         ensures cycles { result ≡ cycles_with (Instr.LoadAccumulator operand) self.old.registers.flags }
     {
-        self.begin(1);
+        self.move_past(1);
         let byte = self.memory.read(address(&self.registers, operand));
         finish_access(&mut self.registers, operand);
         self.registers.a = byte;
@@ -191,10 +189,10 @@ impl<M: Memory> Processor<M> {
     /// INC rp
     #[inline(always)]
     pub(crate) fn run_increment_register16(&mut self, register: Register16) -> u8
-        ensures after { self.new ≡ begun_and_executed M.rules (Instr.IncrementRegister16 register) self.old }
+        ensures after { self.new ≡ executed_behind M.rules (Instr.IncrementRegister16 register) self.old }
         ensures cycles { result ≡ cycles_with (Instr.IncrementRegister16 register) self.old.registers.flags }
     {
-        self.begin(1);
+        self.move_past(1);
         self.increment_register16(register);
         2
     }
@@ -202,10 +200,10 @@ impl<M: Memory> Processor<M> {
     /// DEC rp
     #[inline(always)]
     pub(crate) fn run_decrement_register16(&mut self, register: Register16) -> u8
-        ensures after { self.new ≡ begun_and_executed M.rules (Instr.DecrementRegister16 register) self.old }
+        ensures after { self.new ≡ executed_behind M.rules (Instr.DecrementRegister16 register) self.old }
         ensures cycles { result ≡ cycles_with (Instr.DecrementRegister16 register) self.old.registers.flags }
     {
-        self.begin(1);
+        self.move_past(1);
         self.decrement_register16(register);
         2
     }
@@ -213,10 +211,10 @@ impl<M: Memory> Processor<M> {
     /// INC r
     #[inline(always)]
     pub(crate) fn run_increment(&mut self, operand: Operand8) -> u8
-        ensures after { self.new ≡ begun_and_executed M.rules (Instr.Increment operand) self.old }
+        ensures after { self.new ≡ executed_behind M.rules (Instr.Increment operand) self.old }
         ensures cycles { result ≡ cycles_with (Instr.Increment operand) self.old.registers.flags }
     {
-        self.begin(1);
+        self.move_past(1);
         let outcome = sm83_alu::increment(self.operand(operand), self.registers.flags);
         self.set_outcome(operand, outcome);
         by_operand(operand, 3, 1)
@@ -225,10 +223,10 @@ impl<M: Memory> Processor<M> {
     /// DEC r
     #[inline(always)]
     pub(crate) fn run_decrement(&mut self, operand: Operand8) -> u8
-        ensures after { self.new ≡ begun_and_executed M.rules (Instr.Decrement operand) self.old }
+        ensures after { self.new ≡ executed_behind M.rules (Instr.Decrement operand) self.old }
         ensures cycles { result ≡ cycles_with (Instr.Decrement operand) self.old.registers.flags }
     {
-        self.begin(1);
+        self.move_past(1);
         let outcome = sm83_alu::decrement(self.operand(operand), self.registers.flags);
         self.set_outcome(operand, outcome);
         by_operand(operand, 3, 1)
@@ -237,10 +235,10 @@ impl<M: Memory> Processor<M> {
     /// LD r,n8
     #[inline(always)]
     pub(crate) fn run_load_byte(&mut self, operand: Operand8, byte: u8) -> u8
-        ensures after { self.new ≡ begun_and_executed M.rules (Instr.LoadByte operand byte) self.old }
+        ensures after { self.new ≡ executed_behind M.rules (Instr.LoadByte operand byte) self.old }
         ensures cycles { result ≡ cycles_with (Instr.LoadByte operand byte) self.old.registers.flags }
     {
-        self.begin(2);
+        self.move_past(2);
         self.set_operand(operand, byte);
         by_operand(operand, 3, 2)
     }
@@ -248,10 +246,10 @@ impl<M: Memory> Processor<M> {
     /// RLCA and its like
     #[inline(always)]
     pub(crate) fn run_accumulator(&mut self, operation: AccumulatorOperation) -> u8
-        ensures after { self.new ≡ begun_and_executed M.rules (Instr.Accumulator operation) self.old }
+        ensures after { self.new ≡ executed_behind M.rules (Instr.Accumulator operation) self.old }
         ensures cycles { result ≡ cycles_with (Instr.Accumulator operation) self.old.registers.flags }
     {
-        self.begin(1);
+        self.move_past(1);
         operate_accumulator(&mut self.registers, operation);
         1
     }
@@ -259,10 +257,10 @@ impl<M: Memory> Processor<M> {
     /// LD r,r
     #[inline(always)]
     pub(crate) fn run_load(&mut self, to: Operand8, from: Operand8) -> u8
-        ensures after { self.new ≡ begun_and_executed M.rules (Instr.Load to from) self.old }
+        ensures after { self.new ≡ executed_behind M.rules (Instr.Load to from) self.old }
         ensures cycles { result ≡ cycles_with (Instr.Load to from) self.old.registers.flags }
     {
-        self.begin(1);
+        self.move_past(1);
         let byte = self.operand(from);
         self.set_operand(to, byte);
         by_operand(to, 2, by_operand(from, 2, 1))
@@ -271,10 +269,10 @@ impl<M: Memory> Processor<M> {
     /// HALT
     #[inline(always)]
     pub(crate) fn run_halt(&mut self) -> u8
-        ensures after { self.new ≡ begun_and_executed M.rules Instr.Halt self.old }
+        ensures after { self.new ≡ executed_behind M.rules Instr.Halt self.old }
         ensures cycles { result ≡ cycles_with Instr.Halt self.old.registers.flags }
     {
-        self.begin(1);
+        self.move_past(1);
         self.halt();
         1
     }
@@ -282,10 +280,10 @@ impl<M: Memory> Processor<M> {
     /// ADD A,r and its like
     #[inline(always)]
     pub(crate) fn run_operate(&mut self, operation: Operation, operand: Operand8) -> u8
-        ensures after { self.new ≡ begun_and_executed M.rules (Instr.Operate operation operand) self.old }
+        ensures after { self.new ≡ executed_behind M.rules (Instr.Operate operation operand) self.old }
         ensures cycles { result ≡ cycles_with (Instr.Operate operation operand) self.old.registers.flags }
     {
-        self.begin(1);
+        self.move_past(1);
         let byte = self.operand(operand);
         operate(&mut self.registers, operation, byte);
         by_operand(operand, 2, 1)
@@ -294,10 +292,10 @@ impl<M: Memory> Processor<M> {
     /// ADD A,n8 and its like
     #[inline(always)]
     pub(crate) fn run_operate_byte(&mut self, operation: Operation, byte: u8) -> u8
-        ensures after { self.new ≡ begun_and_executed M.rules (Instr.OperateByte operation byte) self.old }
+        ensures after { self.new ≡ executed_behind M.rules (Instr.OperateByte operation byte) self.old }
         ensures cycles { result ≡ cycles_with (Instr.OperateByte operation byte) self.old.registers.flags }
     {
-        self.begin(2);
+        self.move_past(2);
         operate(&mut self.registers, operation, byte);
         2
     }
@@ -305,10 +303,10 @@ impl<M: Memory> Processor<M> {
     /// RET cc
     #[inline(always)]
     pub(crate) fn run_return_if(&mut self, condition: Condition) -> u8
-        ensures after { self.new ≡ begun_and_executed M.rules (Instr.ReturnIf condition) self.old }
+        ensures after { self.new ≡ executed_behind M.rules (Instr.ReturnIf condition) self.old }
         ensures cycles { result ≡ cycles_with (Instr.ReturnIf condition) self.old.registers.flags }
     {
-        self.begin(1);
+        self.move_past(1);
         if condition_holds(condition, self.registers.flags) {
             self.return_from_call();
             5
@@ -320,10 +318,10 @@ impl<M: Memory> Processor<M> {
     /// LDH (n8),A
     #[inline(always)]
     pub(crate) fn run_store_high(&mut self, low: u8) -> u8
-        ensures after { self.new ≡ begun_and_executed M.rules (Instr.StoreHigh low) self.old }
+        ensures after { self.new ≡ executed_behind M.rules (Instr.StoreHigh low) self.old }
         ensures cycles { result ≡ cycles_with (Instr.StoreHigh low) self.old.registers.flags }
     {
-        self.begin(2);
+        self.move_past(2);
         self.memory
             .write(HIGH_PAGE + u16::from(low), self.registers.a);
         3
@@ -332,10 +330,10 @@ impl<M: Memory> Processor<M> {
     /// ADD SP,e
     #[inline(always)]
     pub(crate) fn run_add_sp(&mut self, offset: u8) -> u8
-        ensures after { self.new ≡ begun_and_executed M.rules (Instr.AddSp offset) self.old }
+        ensures after { self.new ≡ executed_behind M.rules (Instr.AddSp offset) self.old }
         ensures cycles { result ≡ cycles_with (Instr.AddSp offset) self.old.registers.flags }
     {
-        self.begin(2);
+        self.move_past(2);
         let outcome = sm83_alu::add_offset(self.registers.sp, offset);
         self.registers.sp = outcome.value;
         self.registers.flags = outcome.flags;
@@ -345,10 +343,10 @@ impl<M: Memory> Processor<M> {
     /// LDH A,(n8)
     #[inline(always)]
     pub(crate) fn run_load_high(&mut self, low: u8) -> u8
-        ensures after { self.new ≡ begun_and_executed M.rules (Instr.LoadHigh low) self.old }
+        ensures after { self.new ≡ executed_behind M.rules (Instr.LoadHigh low) self.old }
         ensures cycles { result ≡ cycles_with (Instr.LoadHigh low) self.old.registers.flags }
     {
-        self.begin(2);
+        self.move_past(2);
         self.registers.a = self.memory.read(HIGH_PAGE + u16::from(low));
         3
     }
@@ -356,10 +354,10 @@ impl<M: Memory> Processor<M> {
     /// LD HL,SP+e
     #[inline(always)]
     pub(crate) fn run_load_hl_sp(&mut self, offset: u8) -> u8
-        ensures after { self.new ≡ begun_and_executed M.rules (Instr.LoadHlSp offset) self.old }
+        ensures after { self.new ≡ executed_behind M.rules (Instr.LoadHlSp offset) self.old }
         ensures cycles { result ≡ cycles_with (Instr.LoadHlSp offset) self.old.registers.flags }
     {
-        self.begin(2);
+        self.move_past(2);
         let outcome = sm83_alu::add_offset(self.registers.sp, offset);
         set_hl(&mut self.registers, outcome.value);
         self.registers.flags = outcome.flags;
@@ -369,10 +367,10 @@ impl<M: Memory> Processor<M> {
     /// POP rp
     #[inline(always)]
     pub(crate) fn run_pop(&mut self, register: StackRegister16) -> u8
-        ensures after { self.new ≡ begun_and_executed M.rules (Instr.Pop register) self.old }
+        ensures after { self.new ≡ executed_behind M.rules (Instr.Pop register) self.old }
         ensures cycles { result ≡ cycles_with (Instr.Pop register) self.old.registers.flags }
     {
-        self.begin(1);
+        self.move_past(1);
         let word = self.pop();
         set_stack_register16(&mut self.registers, register, word);
         3
@@ -381,10 +379,10 @@ impl<M: Memory> Processor<M> {
     /// RET
     #[inline(always)]
     pub(crate) fn run_return(&mut self) -> u8
-        ensures after { self.new ≡ begun_and_executed M.rules Instr.Return self.old }
+        ensures after { self.new ≡ executed_behind M.rules Instr.Return self.old }
         ensures cycles { result ≡ cycles_with Instr.Return self.old.registers.flags }
     {
-        self.begin(1);
+        self.move_past(1);
         self.return_from_call();
         4
     }
@@ -392,10 +390,10 @@ impl<M: Memory> Processor<M> {
     /// RETI
     #[inline(always)]
     pub(crate) fn run_return_from_interrupt(&mut self) -> u8
-        ensures after { self.new ≡ begun_and_executed M.rules Instr.ReturnFromInterrupt self.old }
+        ensures after { self.new ≡ executed_behind M.rules Instr.ReturnFromInterrupt self.old }
         ensures cycles { result ≡ cycles_with Instr.ReturnFromInterrupt self.old.registers.flags }
     {
-        self.begin(1);
+        self.move_past(1);
         self.return_from_call();
         self.state.ime = true;
         4
@@ -404,10 +402,10 @@ impl<M: Memory> Processor<M> {
     /// JP HL
     #[inline(always)]
     pub(crate) fn run_jump_hl(&mut self) -> u8
-        ensures after { self.new ≡ begun_and_executed M.rules Instr.JumpHl self.old }
+        ensures after { self.new ≡ executed_behind M.rules Instr.JumpHl self.old }
         ensures cycles { result ≡ cycles_with Instr.JumpHl self.old.registers.flags }
     {
-        self.begin(1);
+        self.move_past(1);
         self.registers.pc = hl(&self.registers);
         1
     }
@@ -415,10 +413,10 @@ impl<M: Memory> Processor<M> {
     /// LD SP,HL
     #[inline(always)]
     pub(crate) fn run_load_sp_hl(&mut self) -> u8
-        ensures after { self.new ≡ begun_and_executed M.rules Instr.LoadSpHl self.old }
+        ensures after { self.new ≡ executed_behind M.rules Instr.LoadSpHl self.old }
         ensures cycles { result ≡ cycles_with Instr.LoadSpHl self.old.registers.flags }
     {
-        self.begin(1);
+        self.move_past(1);
         self.registers.sp = hl(&self.registers);
         2
     }
@@ -426,10 +424,10 @@ impl<M: Memory> Processor<M> {
     /// JP cc,n16
     #[inline(always)]
     pub(crate) fn run_jump_if(&mut self, condition: Condition, address: u16) -> u8
-        ensures after { self.new ≡ begun_and_executed M.rules (Instr.JumpIf condition address) self.old }
+        ensures after { self.new ≡ executed_behind M.rules (Instr.JumpIf condition address) self.old }
         ensures cycles { result ≡ cycles_with (Instr.JumpIf condition address) self.old.registers.flags }
     {
-        self.begin(3);
+        self.move_past(3);
         if condition_holds(condition, self.registers.flags) {
             self.registers.pc = address;
             4
@@ -441,10 +439,10 @@ impl<M: Memory> Processor<M> {
     /// LD (C),A
     #[inline(always)]
     pub(crate) fn run_store_high_c(&mut self) -> u8
-        ensures after { self.new ≡ begun_and_executed M.rules Instr.StoreHighC self.old }
+        ensures after { self.new ≡ executed_behind M.rules Instr.StoreHighC self.old }
         ensures cycles { result ≡ cycles_with Instr.StoreHighC self.old.registers.flags }
     {
-        self.begin(1);
+        self.move_past(1);
         let address = HIGH_PAGE + u16::from(self.registers.c);
         self.memory.write(address, self.registers.a);
         2
@@ -453,10 +451,10 @@ impl<M: Memory> Processor<M> {
     /// LD (n16),A
     #[inline(always)]
     pub(crate) fn run_store_at(&mut self, address: u16) -> u8
-        ensures after { self.new ≡ begun_and_executed M.rules (Instr.StoreAt address) self.old }
+        ensures after { self.new ≡ executed_behind M.rules (Instr.StoreAt address) self.old }
         ensures cycles { result ≡ cycles_with (Instr.StoreAt address) self.old.registers.flags }
     {
-        self.begin(3);
+        self.move_past(3);
         self.memory.write(address, self.registers.a);
         4
     }
@@ -464,10 +462,10 @@ impl<M: Memory> Processor<M> {
     /// LD A,(C)
     #[inline(always)]
     pub(crate) fn run_load_high_c(&mut self) -> u8
-        ensures after { self.new ≡ begun_and_executed M.rules Instr.LoadHighC self.old }
+        ensures after { self.new ≡ executed_behind M.rules Instr.LoadHighC self.old }
         ensures cycles { result ≡ cycles_with Instr.LoadHighC self.old.registers.flags }
     {
-        self.begin(1);
+        self.move_past(1);
         let address = HIGH_PAGE + u16::from(self.registers.c);
         self.registers.a = self.memory.read(address);
         2
@@ -476,10 +474,10 @@ impl<M: Memory> Processor<M> {
     /// LD A,(n16)
     #[inline(always)]
     pub(crate) fn run_load_at(&mut self, address: u16) -> u8
-        ensures after { self.new ≡ begun_and_executed M.rules (Instr.LoadAt address) self.old }
+        ensures after { self.new ≡ executed_behind M.rules (Instr.LoadAt address) self.old }
         ensures cycles { result ≡ cycles_with (Instr.LoadAt address) self.old.registers.flags }
     {
-        self.begin(3);
+        self.move_past(3);
         self.registers.a = self.memory.read(address);
         4
     }
@@ -487,10 +485,10 @@ impl<M: Memory> Processor<M> {
     /// JP n16
     #[inline(always)]
     pub(crate) fn run_jump(&mut self, address: u16) -> u8
-        ensures after { self.new ≡ begun_and_executed M.rules (Instr.Jump address) self.old }
+        ensures after { self.new ≡ executed_behind M.rules (Instr.Jump address) self.old }
         ensures cycles { result ≡ cycles_with (Instr.Jump address) self.old.registers.flags }
     {
-        self.begin(3);
+        self.move_past(3);
         self.registers.pc = address;
         4
     }
@@ -498,10 +496,10 @@ impl<M: Memory> Processor<M> {
     /// DI
     #[inline(always)]
     pub(crate) fn run_disable_interrupts(&mut self) -> u8
-        ensures after { self.new ≡ begun_and_executed M.rules Instr.DisableInterrupts self.old }
+        ensures after { self.new ≡ executed_behind M.rules Instr.DisableInterrupts self.old }
         ensures cycles { result ≡ cycles_with Instr.DisableInterrupts self.old.registers.flags }
     {
-        self.begin(1);
+        self.move_past(1);
         self.state.ime = false;
         self.state.enable = false;
         1
@@ -510,10 +508,10 @@ impl<M: Memory> Processor<M> {
     /// EI
     #[inline(always)]
     pub(crate) fn run_enable_interrupts(&mut self) -> u8
-        ensures after { self.new ≡ begun_and_executed M.rules Instr.EnableInterrupts self.old }
+        ensures after { self.new ≡ executed_behind M.rules Instr.EnableInterrupts self.old }
         ensures cycles { result ≡ cycles_with Instr.EnableInterrupts self.old.registers.flags }
     {
-        self.begin(1);
+        self.move_past(1);
         self.state.enable = true;
         1
     }
@@ -521,10 +519,10 @@ impl<M: Memory> Processor<M> {
     /// CALL cc,n16
     #[inline(always)]
     pub(crate) fn run_call_if(&mut self, condition: Condition, address: u16) -> u8
-        ensures after { self.new ≡ begun_and_executed M.rules (Instr.CallIf condition address) self.old }
+        ensures after { self.new ≡ executed_behind M.rules (Instr.CallIf condition address) self.old }
         ensures cycles { result ≡ cycles_with (Instr.CallIf condition address) self.old.registers.flags }
     {
-        self.begin(3);
+        self.move_past(3);
         if condition_holds(condition, self.registers.flags) {
             self.call(address);
             6
@@ -536,10 +534,10 @@ impl<M: Memory> Processor<M> {
     /// PUSH rp
     #[inline(always)]
     pub(crate) fn run_push(&mut self, register: StackRegister16) -> u8
-        ensures after { self.new ≡ begun_and_executed M.rules (Instr.Push register) self.old }
+        ensures after { self.new ≡ executed_behind M.rules (Instr.Push register) self.old }
         ensures cycles { result ≡ cycles_with (Instr.Push register) self.old.registers.flags }
     {
-        self.begin(1);
+        self.move_past(1);
         let word = stack_register16(&self.registers, register);
         self.push(word);
         4
@@ -548,10 +546,10 @@ impl<M: Memory> Processor<M> {
     /// CALL n16
     #[inline(always)]
     pub(crate) fn run_call(&mut self, address: u16) -> u8
-        ensures after { self.new ≡ begun_and_executed M.rules (Instr.Call address) self.old }
+        ensures after { self.new ≡ executed_behind M.rules (Instr.Call address) self.old }
         ensures cycles { result ≡ cycles_with (Instr.Call address) self.old.registers.flags }
     {
-        self.begin(3);
+        self.move_past(3);
         self.call(address);
         6
     }
@@ -559,10 +557,10 @@ impl<M: Memory> Processor<M> {
     /// RST n8
     #[inline(always)]
     pub(crate) fn run_restart(&mut self, address: u8) -> u8
-        ensures after { self.new ≡ begun_and_executed M.rules (Instr.Restart address) self.old }
+        ensures after { self.new ≡ executed_behind M.rules (Instr.Restart address) self.old }
         ensures cycles { result ≡ cycles_with (Instr.Restart address) self.old.registers.flags }
     {
-        self.begin(1);
+        self.move_past(1);
         self.call(u16::from(address));
         4
     }
@@ -570,10 +568,10 @@ impl<M: Memory> Processor<M> {
     /// RLC r and its like
     #[inline(always)]
     pub(crate) fn run_shift(&mut self, shift_by: Shift, operand: Operand8) -> u8
-        ensures after { self.new ≡ begun_and_executed M.rules (Instr.Shift shift_by operand) self.old }
+        ensures after { self.new ≡ executed_behind M.rules (Instr.Shift shift_by operand) self.old }
         ensures cycles { result ≡ cycles_with (Instr.Shift shift_by operand) self.old.registers.flags }
     {
-        self.begin(2);
+        self.move_past(2);
         let outcome = shift(shift_by, self.operand(operand), self.registers.flags.carry);
         self.set_outcome(operand, outcome);
         by_operand(operand, 4, 2)
@@ -582,10 +580,10 @@ impl<M: Memory> Processor<M> {
     /// BIT n,r
     #[inline(always)]
     pub(crate) fn run_test_bit(&mut self, bit: u8, operand: Operand8) -> u8
-        ensures after { self.new ≡ begun_and_executed M.rules (Instr.TestBit bit operand) self.old }
+        ensures after { self.new ≡ executed_behind M.rules (Instr.TestBit bit operand) self.old }
         ensures cycles { result ≡ cycles_with (Instr.TestBit bit operand) self.old.registers.flags }
     {
-        self.begin(2);
+        self.move_past(2);
         let byte = self.operand(operand);
         self.registers.flags = sm83_alu::test_bit(bit, byte, self.registers.flags);
         by_operand(operand, 3, 2)
@@ -594,10 +592,10 @@ impl<M: Memory> Processor<M> {
     /// RES n,r
     #[inline(always)]
     pub(crate) fn run_reset_bit(&mut self, bit: u8, operand: Operand8) -> u8
-        ensures after { self.new ≡ begun_and_executed M.rules (Instr.ResetBit bit operand) self.old }
+        ensures after { self.new ≡ executed_behind M.rules (Instr.ResetBit bit operand) self.old }
         ensures cycles { result ≡ cycles_with (Instr.ResetBit bit operand) self.old.registers.flags }
     {
-        self.begin(2);
+        self.move_past(2);
         let byte = sm83_alu::reset_bit(bit, self.operand(operand));
         self.set_operand(operand, byte);
         by_operand(operand, 4, 2)
@@ -606,10 +604,10 @@ impl<M: Memory> Processor<M> {
     /// SET n,r
     #[inline(always)]
     pub(crate) fn run_set_bit(&mut self, bit: u8, operand: Operand8) -> u8
-        ensures after { self.new ≡ begun_and_executed M.rules (Instr.SetBit bit operand) self.old }
+        ensures after { self.new ≡ executed_behind M.rules (Instr.SetBit bit operand) self.old }
         ensures cycles { result ≡ cycles_with (Instr.SetBit bit operand) self.old.registers.flags }
     {
-        self.begin(2);
+        self.move_past(2);
         let byte = sm83_alu::set_bit(bit, self.operand(operand));
         self.set_operand(operand, byte);
         by_operand(operand, 4, 2)
@@ -618,10 +616,10 @@ impl<M: Memory> Processor<M> {
     /// an undefined opcode
     #[inline(always)]
     pub(crate) fn run_undefined(&mut self, opcode: u8) -> u8
-        ensures after { self.new ≡ begun_and_executed M.rules (Instr.Undefined opcode) self.old }
+        ensures after { self.new ≡ executed_behind M.rules (Instr.Undefined opcode) self.old }
         ensures cycles { result ≡ cycles_with (Instr.Undefined opcode) self.old.registers.flags }
     {
-        self.begin(1);
+        self.move_past(1);
         self.state.locked = true;
         1
     }

@@ -1,7 +1,7 @@
 //! One instruction by its opcode. The last arm of each match is its last opcode, the only one that the others leave.
 
 ghost use Rattle.std.specs.Prelude.{◌≡◌, ◌<◌, ◌≤◌, ◌%◌, ◌/◌, true};
-ghost use Rattle.machine.specs.Opcodes.{instruction_at, begun_and_executed, cycles_with};
+ghost use Rattle.machine.specs.Opcodes.{opened, instruction_at, executed_behind, cycles_with};
 ghost use Rattle.machine.specs.Plain.{IsUsual};
 ghost use Rattle.opcode_table.specs.Table.{bit_instruction};
 ghost use Rattle.opcode_table.specs.Operands.{operand8_of, shift_of};
@@ -30,12 +30,12 @@ pub(crate) const IN_FRAME: u8 = 1;
 pub(crate) const COUNTED: u8 = 2;
 
 impl<M: Memory> Processor<M> {
-    /// Does the instruction at PC, of which this is the opcode. Answers its M-cycles, and whether the next one may begin
+    /// Does the instruction of this opcode, behind which PC is. Answers its M-cycles, and whether the next one may begin
     /// as plainly as this one did, but for an interrupt. WAY names the caller: the code for each is made apart, so that it
     /// can stand in the caller's loop.
     #[inline(always)]
     pub(crate) fn run_opcode<const WAY: u8>(&mut self, opcode: u8) -> (u8, bool)
-        ensures after { self.new ≡ begun_and_executed M.rules (instruction_at M.rules opcode self.old) self.old }
+        ensures after { self.new ≡ executed_behind M.rules (instruction_at M.rules opcode self.old) self.old }
         ensures cycles { result.0 ≡ cycles_with (instruction_at M.rules opcode self.old) self.old.registers.flags }
         ensures usual { result.1 ≡ true → IsUsual self.old.state → IsUsual self.new.state }
     {
@@ -50,11 +50,14 @@ impl<M: Memory> Processor<M> {
         }
     }
 
+    /// Does the instruction at PC, of which this is the opcode, and answers its M-cycles.
     #[inline(never)]
     pub(crate) fn run_opcode_apart(&mut self, opcode: u8) -> u8
-        ensures after { self.new ≡ begun_and_executed M.rules (instruction_at M.rules opcode self.old) self.old }
-        ensures cycles { result ≡ cycles_with (instruction_at M.rules opcode self.old) self.old.registers.flags }
+        ensures after { self.new ≡ executed_behind M.rules (instruction_at M.rules opcode (opened self.old)) (opened self.old) }
+        ensures cycles { result ≡ cycles_with (instruction_at M.rules opcode (opened self.old)) self.old.registers.flags }
     {
+        self.registers.pc = self.second();
+        self.state.repeat = false;
         self.run_opcode::<APART>(opcode).0
     }
 
@@ -62,7 +65,7 @@ impl<M: Memory> Processor<M> {
     #[tactic(auto, unfolding(opcode_table::specs::Table::instruction_of, opcode_table::specs::Table::loads_and_steps))]
     fn run_load_or_step<const WAY: u8>(&mut self, opcode: u8) -> u8
         requires { opcode < 64 }
-        ensures after { self.new ≡ begun_and_executed M.rules (instruction_at M.rules opcode self.old) self.old }
+        ensures after { self.new ≡ executed_behind M.rules (instruction_at M.rules opcode self.old) self.old }
         ensures cycles { result ≡ cycles_with (instruction_at M.rules opcode self.old) self.old.registers.flags }
     {
         match opcode {
@@ -138,7 +141,7 @@ impl<M: Memory> Processor<M> {
     fn run_load_of_opcode<const WAY: u8>(&mut self, opcode: u8) -> u8
         requires from { 64 ≤ opcode }
         requires below { opcode < 128 }
-        ensures after { self.new ≡ begun_and_executed M.rules (instruction_at M.rules opcode self.old) self.old }
+        ensures after { self.new ≡ executed_behind M.rules (instruction_at M.rules opcode self.old) self.old }
         ensures cycles { result ≡ cycles_with (instruction_at M.rules opcode self.old) self.old.registers.flags }
     {
         match opcode {
@@ -214,7 +217,7 @@ impl<M: Memory> Processor<M> {
     fn run_operation_of_opcode<const WAY: u8>(&mut self, opcode: u8) -> u8
         requires from { 128 ≤ opcode }
         requires below { opcode < 192 }
-        ensures after { self.new ≡ begun_and_executed M.rules (instruction_at M.rules opcode self.old) self.old }
+        ensures after { self.new ≡ executed_behind M.rules (instruction_at M.rules opcode self.old) self.old }
         ensures cycles { result ≡ cycles_with (instruction_at M.rules opcode self.old) self.old.registers.flags }
     {
         match opcode {
@@ -289,7 +292,7 @@ impl<M: Memory> Processor<M> {
     #[tactic(auto, unfolding(opcode_table::specs::Table::instruction_of, opcode_table::specs::Table::jumps_and_stack))]
     fn run_jump_or_stack<const WAY: u8>(&mut self, opcode: u8) -> u8
         requires { 192 ≤ opcode }
-        ensures after { self.new ≡ begun_and_executed M.rules (instruction_at M.rules opcode self.old) self.old }
+        ensures after { self.new ≡ executed_behind M.rules (instruction_at M.rules opcode self.old) self.old }
         ensures cycles { result ≡ cycles_with (instruction_at M.rules opcode self.old) self.old.registers.flags }
     {
         match opcode {
@@ -363,7 +366,7 @@ impl<M: Memory> Processor<M> {
     /// Does the instruction behind an opcode CB, and answers its M-cycles.
     #[inline(never)]
     fn run_bit_opcode(&mut self, byte: u8) -> u8
-        ensures after { self.new ≡ begun_and_executed M.rules (bit_instruction (byte / 64) (byte % 8) (byte / 8 % 8)) self.old }
+        ensures after { self.new ≡ executed_behind M.rules (bit_instruction (byte / 64) (byte % 8) (byte / 8 % 8)) self.old }
         ensures cycles { result ≡ cycles_with (bit_instruction (byte / 64) (byte % 8) (byte / 8 % 8)) self.old.registers.flags }
     {
         match byte % 8 {
@@ -382,7 +385,7 @@ impl<M: Memory> Processor<M> {
     #[tactic(auto, unfolding(opcode_table::specs::Table::bit_instruction))]
     fn run_bit_operation(&mut self, byte: u8, operand: Operand8) -> u8
         requires { operand ≡ operand8_of (byte % 8) }
-        ensures after { self.new ≡ begun_and_executed M.rules (bit_instruction (byte / 64) (byte % 8) (byte / 8 % 8)) self.old }
+        ensures after { self.new ≡ executed_behind M.rules (bit_instruction (byte / 64) (byte % 8) (byte / 8 % 8)) self.old }
         ensures cycles { result ≡ cycles_with (bit_instruction (byte / 64) (byte % 8) (byte / 8 % 8)) self.old.registers.flags }
     {
         let bit = byte / 8 % 8;
@@ -397,7 +400,7 @@ impl<M: Memory> Processor<M> {
     #[inline(always)]
     fn run_shift_of_number(&mut self, number: u8, operand: Operand8) -> u8
         requires { number < 8 }
-        ensures after { self.new ≡ begun_and_executed M.rules (Instr.Shift (shift_of number) operand) self.old }
+        ensures after { self.new ≡ executed_behind M.rules (Instr.Shift (shift_of number) operand) self.old }
         ensures cycles { result ≡ cycles_with (Instr.Shift (shift_of number) operand) self.old.registers.flags }
     {
         match number {

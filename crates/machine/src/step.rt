@@ -159,9 +159,14 @@ impl<M: Memory> Processor<M> {
         ensures plain { result.1 ≡ true → IsPlain M.rules self.new }
     {
         let opcode = self.memory.read(self.registers.pc);
+        self.registers.pc = self.registers.pc.wrapping_add(1);
         let (cycles, usual) = self.run_opcode::<WAY>(opcode);
+        if !usual {
+            self.memory.pass(cycles);
+            return (cycles, false);
+        }
         self.memory.pass(cycles);
-        (cycles, usual && !self.is_interrupted())
+        (cycles, !self.is_interrupted())
     }
 
     #[inline(always)]
