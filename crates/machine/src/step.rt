@@ -147,7 +147,7 @@ impl<M: Memory> Processor<M> {
     fn is_interrupted(&self) -> bool
         ensures { result ≡ (self.now.state.ime && not (M.rules.shared self.now.memory == 0)) }
     {
-        self.state.ime && self.memory.shared() != 0
+        self.memory.shared() != 0 && self.state.ime
     }
 
     /// A step that is plain: says how many M-cycles passed in it, and whether the next one is plain.
