@@ -7,6 +7,7 @@ ghost use Rattle.sm83_alu.specs.Arithmetic.{next_word, previous_word};
 ghost use Rattle.opcode_table.specs.declared.instruction.Instr.{Instr};
 
 use crate::memory::Memory;
+use crate::registers::set_flags;
 use crate::registers16;
 use crate::registers16::{hl, set_hl, set_register16};
 use opcode_table::{Operand8, Register16};
@@ -96,7 +97,7 @@ impl<M: Memory> Processor<M> {
     pub(crate) fn set_outcome(&mut self, operand: Operand8, outcome: Outcome)
         ensures { self.new ≡ with_outcome M.rules operand outcome self.old }
     {
-        self.registers.flags = outcome.flags;
+        set_flags(&mut self.registers, outcome.flags);
         self.set_operand(operand, outcome.value);
     }
 
@@ -142,7 +143,7 @@ impl<M: Memory> Processor<M> {
         let right = registers16::register16(&self.registers, register);
         let outcome = sm83_alu::add_words(left, right, self.registers.flags);
         set_hl(&mut self.registers, outcome.value);
-        self.registers.flags = outcome.flags;
+        set_flags(&mut self.registers, outcome.flags);
     }
 
     pub(crate) fn store_sp(&mut self, address: u16)

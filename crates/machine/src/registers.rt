@@ -19,12 +19,23 @@ pub(crate) fn condition_holds(condition: Condition, flags: Flags) -> bool
     }
 }
 
+/// Sets the flags one by one, so that each is stored as it is found.
+#[inline(always)]
+pub(crate) fn set_flags(registers: &mut Registers, flags: Flags)
+    ensures { registers.new ≡ record registers.old { flags = flags } }
+{
+    registers.flags.zero = flags.zero;
+    registers.flags.subtract = flags.subtract;
+    registers.flags.half_carry = flags.half_carry;
+    registers.flags.carry = flags.carry;
+}
+
 #[inline(always)]
 fn set_result(registers: &mut Registers, outcome: Outcome)
     ensures { registers.new ≡ with_result outcome registers.old }
 {
     registers.a = outcome.value;
-    registers.flags = outcome.flags;
+    set_flags(registers, outcome.flags);
 }
 
 #[inline(always)]
@@ -41,7 +52,7 @@ pub(crate) fn operate(registers: &mut Registers, operation: Operation, byte: u8)
         Operation::And => set_result(registers, sm83_alu::and(a, byte)),
         Operation::Xor => set_result(registers, sm83_alu::xor(a, byte)),
         Operation::Or => set_result(registers, sm83_alu::or(a, byte)),
-        Operation::Compare => registers.flags = sm83_alu::subtract(a, byte, false).flags,
+        Operation::Compare => set_flags(registers, sm83_alu::subtract(a, byte, false).flags),
     }
 }
 
