@@ -128,6 +128,10 @@ impl Bus {
     pub fn read(&self, address: u16) -> u8
         ensures { result ≡ read_at self.now address }
     {
+        // The lower half of ROM is asked for first, since most code runs there.
+        if address < 0x4000 {
+            return self.banks.read(address);
+        }
         if address < 0x8000 {
             return self.banks.read(address);
         }

@@ -12,11 +12,24 @@ impl Bus {
     pub fn pass(&mut self, cycles: u32)
         ensures { self.new ≡ iterate tick cycles self.old }
     {
-        if cycles > u32::from(self.quiet) {
+        if cycles > 255 {
             return self.pass_by_units(cycles);
         }
-        let cycles = cycles as u8;
-        self.quiet -= cycles;
+        self.pass_few(cycles as u8);
+    }
+
+    /// The same, for at most 255 M-cycles: faster, where they are quiet.
+    #[inline(always)]
+    pub fn pass_few(&mut self, cycles: u8)
+        ensures { self.new ≡ iterate tick cycles self.old }
+    {
+        // What is left is stored before it is known whether it was enough: the host does both at once.
+        let quiet = self.quiet;
+        self.quiet = quiet.wrapping_sub(cycles);
+        if cycles > quiet {
+            self.quiet = 0;
+            return self.pass_by_units(u32::from(cycles));
+        }
         self.timer.count(cycles);
         self.picture.move_on(cycles);
     }

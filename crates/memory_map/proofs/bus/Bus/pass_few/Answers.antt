@@ -1,24 +1,25 @@
-use Rattle.std.proofs.Common.{◌≤◌, ◌+◌, ◌*◌, ◌%◌, ap, ◌∙◌, arith}
+use Rattle.std.proofs.Common.{◌≡◌, ◌≤◌, ◌+◌, ◌-◌, ◌*◌, ◌%◌, ap, ◌∙◌, arith}
 use Rattle.std.specs.Fn.{iterate}
 use Rattle.timer_unit.specs.declared.timer.TimerState.{TimerState}
 use Rattle.picture_unit.specs.Picture.{Screen}
 use Rattle.memory_map.specs.Ticks.{tick}
 use Rattle.memory_map.specs.contracts.bus.Bus.{the_view}
 use Rattle.memory_map.proofs.QuietCycles.{quiet_pass, quiet_after}
-use Rattle.memory_map.proofs.bus.Bus.pass.Goals as goal
+use Rattle.memory_map.proofs.bus.Bus.pass_few.Goals as goal
 
 pub move_on-requires : goal.move_on-requires
-move_on-requires c = λ some. let line = c.self.invariant.quiet.line (omega (arith, c.from.ensures)) in omega (arith, c.from.ensures)
+move_on-requires c = λ some. let line = c.self.invariant.quiet.line (omega arith) in omega arith
 
-pub invariant_of-self : goal.invariant_of-self
-invariant_of-self c =
+pub invariant_of-self-2 : goal.invariant_of-self-2
+invariant_of-self-2 c =
     let b = the_view c.self.inside in
-    let le : c.args.cycles ≤ c.self.inside.quiet = omega (arith, c.from.ensures) in
+    let le : c.args.cycles ≤ c.self.inside.quiet = omega arith in
+    let left : (c.self.inside.quiet + (256 - c.args.cycles)) % 256 ≡ c.self.inside.quiet - c.args.cycles = omega arith in
     record {
       wram = c.self.invariant.wram;
       control = c.self.invariant.control;
       quiet =
-          rw (c.count.ensures.counter, c.move_on.ensures)
+          rw (left, c.count.ensures.counter, c.move_on.ensures)
           (quiet_after c.self.inside.quiet c.args.cycles b.control.dma_copied b.timer.timer b.serial.serial.cycles_left b.picture.screen.state le c.count.ensures.legal.counter c.self.invariant.quiet);
       calm = c.self.invariant.calm;
     }
@@ -26,7 +27,7 @@ invariant_of-self c =
 pub returns : goal.returns
 returns c =
     let b = the_view c.self.inside in
-    let le : c.args.cycles ≤ c.self.inside.quiet = omega (arith, c.from.ensures) in
+    let le : c.args.cycles ≤ c.self.inside.quiet = omega arith in
     ap (λ (t : TimerState). record b { timer = record b.timer { timer = t }; picture = record b.picture { screen = c.move_on.new.self } }) c.count.ensures.counter
     ∙ ap (λ (s : Screen). record b { timer = record b.timer { timer = record b.timer.timer { counter = (b.timer.timer.counter + 4 * c.args.cycles) % 65536 } }; picture = record b.picture { screen = s } }) c.move_on.ensures
     ∙ quiet_pass c.self.inside.quiet c.args.cycles b le c.count.ensures.legal c.self.invariant.quiet
