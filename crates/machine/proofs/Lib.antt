@@ -7,3 +7,4 @@ pub mod Runs
 pub mod Waiting
 pub mod PlainSteps
 pub mod UsualStates
+pub mod PlainFrames

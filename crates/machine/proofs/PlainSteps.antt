@@ -28,7 +28,7 @@ abbrev opcode_at : {M : Type 0} → Rules M → Processor M → ℕ
 opcode_at r p = byte_at r p.registers.pc p
 
 -- PC one on is the opcode taken
-abbrev one_on : {M : Type 0} → Processor M → Processor M
+abbrev pub one_on : {M : Type 0} → Processor M → Processor M
 one_on p = record p { registers = record p.registers { pc = next_address p.registers.pc } }
 
 abbrev taking : {M : Type 0} → Processor M → Bool → Bool → Processor M

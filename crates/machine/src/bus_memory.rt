@@ -28,6 +28,6 @@ impl Memory for Bus {
 
     #[inline]
     fn pass(&mut self, cycles: u8) {
-        Bus::pass_few(self, cycles);
+        let _ = Bus::pass_few(self, cycles);
     }
 }

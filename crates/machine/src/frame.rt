@@ -20,6 +20,7 @@ impl Processor<Bus> {
     ghost use Rattle.machine.specs.Machine.{frame_of, steps_until};
     ghost use Rattle.machine.specs.Waiting.{Waits};
     ghost use Rattle.machine.specs.Plain.{IsPlain};
+    ghost use Rattle.machine.specs.Steps.{passing};
 
     /// Steps until a frame's M-cycles have passed, `overrun` of them before, and says how many more did.
     pub(crate) fn run_frame(&mut self, overrun: u8) -> u8
@@ -79,8 +80,24 @@ impl Processor<Bus> {
         ensures few { result.0 < 17562 }
         ensures plain { result.1 ≡ true → IsPlain bus_rules self.new }
     {
-        let (cycles, is_plain) = self.run_plainly::<IN_FRAME>();
-        (passed + u32::from(cycles), is_plain)
+        let opcode = Bus::read(&self.memory, self.registers.pc);
+        self.registers.pc = self.registers.pc.wrapping_add(1);
+        let (cycles, usual) = self.run_opcode::<IN_FRAME>(opcode);
+        if !usual {
+            self.pass_apart(cycles);
+            return (passed + u32::from(cycles), false);
+        }
+        if Bus::pass_few(&mut self.memory, cycles) {
+            return (passed + u32::from(cycles), true);
+        }
+        (passed + u32::from(cycles), !self.is_interrupted())
+    }
+
+    #[inline(never)]
+    fn pass_apart(&mut self, cycles: u8)
+        ensures { self.new ≡ passing bus_rules cycles self.old }
+    {
+        let _ = Bus::pass_few(&mut self.memory, cycles);
     }
 
     /// A step in a frame of which so many M-cycles have passed, and behind a wait those that surely follow it. Says how

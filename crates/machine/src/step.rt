@@ -144,7 +144,7 @@ impl<M: Memory> Processor<M> {
     }
 
     #[inline(always)]
-    fn is_interrupted(&self) -> bool
+    pub(crate) fn is_interrupted(&self) -> bool
         ensures { result ≡ (self.now.state.ime && not (M.rules.shared self.now.memory == 0)) }
     {
         self.memory.shared() != 0 && self.state.ime

@@ -1,5 +1,5 @@
 -- M-cycles in which nothing changes but the timer's counter and the M-cycle of the line, for private functions alone.
-use Rattle.std.specs.Prelude.{◌≡◌, ℕ, ◌+◌, ◌<◌, ◌≤◌, Bool, false, length}
+use Rattle.std.specs.Prelude.{◌≡◌, ℕ, ◌+◌, ◌-◌, ◌<◌, ◌≤◌, length}
 use Rattle.timer_unit.specs.declared.timer.TimerState.{TimerState}
 use Rattle.timer_unit.specs.TimerJump.{falls_in}
 use Rattle.picture_unit.specs.declared.state.PictureState.{PictureState}
@@ -16,9 +16,12 @@ pub record AreQuiet (n copied : ℕ) (t : TimerState) (left : ℕ) (p : PictureS
   pub line : 0 < n → p.m_cycle + n < 114
   pub picture : picture.AreQuiet n p
 
--- what is known of a bus beside its value: how many M-cycles are quiet, and whether IE and IF may share a bit
-pub record IsSound (cycles : ℕ) (may_interrupt : Bool) (b : BusState) : Type 0 where
+-- What is known of a bus beside its value. Where `calm` is not 0, one M-cycle fewer is quiet, and IE and IF share no bit; else `quiet`
+-- M-cycles are quiet.
+pub record IsSound (calm quiet : ℕ) (b : BusState) : Type 0 where
   pub wram : length b.wram ≡ 8192
   pub control : IsLegalControl b.control
-  pub quiet : AreQuiet cycles b.control.dma_copied b.timer.timer b.serial.serial.cycles_left b.picture.screen.state
-  pub calm : may_interrupt ≡ false → shared b ≡ 0
+  pub waiting : AreQuiet (calm - 1) b.control.dma_copied b.timer.timer b.serial.serial.cycles_left b.picture.screen.state
+  pub asked : AreQuiet quiet b.control.dma_copied b.timer.timer b.serial.serial.cycles_left b.picture.screen.state
+  pub either : 0 < calm → quiet ≡ 0
+  pub unshared : 0 < calm → shared b ≡ 0

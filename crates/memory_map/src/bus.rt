@@ -32,10 +32,11 @@ pub struct Bus {
     hram: [u8; 127],
     sound: [u8; 48],
     control: Control,
-    // In so many M-cycles nothing changes but the timer's counter and the M-cycle of the line. What may end that sets it to 0.
+    // Where it is not 0, IE and IF share no bit, and one M-cycle fewer is quiet: in these nothing changes but the timer's counter
+    // and the M-cycle of the line. What may end that sets it to 0.
+    calm: u8,
+    // The same where they may share one: so many M-cycles are quiet.
     quiet: u8,
-    // False only where IE and IF share no bit.
-    may_interrupt: bool,
 }
 
 impl Model for Bus {
@@ -55,7 +56,7 @@ impl Model for Bus {
       control = b.control;
     } };
 
-    ghost invariant = { λ b. IsSound b.quiet b.may_interrupt (record {
+    ghost invariant = { λ b. IsSound b.calm b.quiet (record {
       timer = record { timer = b.timer; requested = b.timer_requested };
       serial = record { serial = b.serial; requested = b.serial_requested };
       picture = record { screen = b.picture; vblank = b.vblank_requested; stat = b.stat_requested };
@@ -116,8 +117,8 @@ impl Bus {
             hram: hram_at_power_on(),
             sound: sound_at_power_on(),
             control: Control::at_power_on(),
+            calm: 0,
             quiet: 0,
-            may_interrupt: true,
         })
     }
 
@@ -191,7 +192,7 @@ impl Bus {
         ensures { self.new ≡ buttons_set buttons self.old }
     {
         let select = self.control.p1_select;
-        self.may_interrupt = true;
+        self.calm = 0;
         self.control.set_joypad(select, buttons);
     }
 
@@ -243,6 +244,7 @@ impl Bus {
     fn write_vram(&mut self, offset: u16, value: u8)
         ensures { self.new ≡ (if is_closed self.old (Place.Vram offset) then self.old else stored_at (Place.Vram offset) value self.old) }
     {
+        self.calm = 0;
         self.quiet = 0;
         self.picture.write_vram(offset, value);
     }
@@ -250,7 +252,7 @@ impl Bus {
     fn write_ie(&mut self, value: u8)
         ensures { self.new ≡ stored_at Place.InterruptEnable value self.old }
     {
-        self.may_interrupt = true;
+        self.calm = 0;
         self.control.ie = value;
     }
 
@@ -296,6 +298,7 @@ impl Bus {
         if self.control.dma_copied < 160 {
             return;
         }
+        self.calm = 0;
         self.quiet = 0;
         self.picture.write_oam(offset, value);
     }

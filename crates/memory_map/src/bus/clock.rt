@@ -1,4 +1,5 @@
-ghost use Rattle.std.specs.Prelude.{◌≡◌, ◌<◌};
+ghost use Rattle.std.specs.Prelude.{◌≡◌, ◌<◌, true};
+ghost use Rattle.memory_map.specs.Bus.{shared};
 ghost use Rattle.std.specs.Fn.{iterate};
 ghost use Rattle.repeated_steps.specs.NextEvent.{IsNextEvent, earlier};
 ghost use Rattle.memory_map.specs.Ticks.{tick, tick_timer, tick_serial, tick_dma_and_picture, tick_picture, copied_byte, happens};
@@ -15,26 +16,44 @@ impl Bus {
         if cycles > 255 {
             return self.pass_by_units(cycles);
         }
-        self.pass_few(cycles as u8);
+        let _ = self.pass_few(cycles as u8);
     }
 
-    /// The same, for at most 255 M-cycles: faster, where they are quiet.
+    /// The same, for at most 255 M-cycles: faster, where nothing comes in them. Answers true only where IE and IF share no
+    /// bit then.
     #[inline(always)]
-    pub fn pass_few(&mut self, cycles: u8)
-        ensures { self.new ≡ iterate tick cycles self.old }
+    pub fn pass_few(&mut self, cycles: u8) -> bool
+        ensures ticks { self.new ≡ iterate tick cycles self.old }
+        ensures unshared { result ≡ true → shared self.new ≡ 0 }
     {
         // What is left is stored before it is known whether it was enough: the host does both at once.
-        let quiet = self.quiet;
-        self.quiet = quiet.wrapping_sub(cycles);
-        if cycles > quiet {
-            self.quiet = 0;
+        let calm = self.calm;
+        self.calm = calm.wrapping_sub(cycles);
+        if cycles >= calm {
+            self.calm = 0;
+            self.pass_asked(cycles);
+            return false;
+        }
+        self.timer.count(cycles);
+        self.picture.move_on(cycles);
+        true
+    }
+
+    /// The same, where IE and IF may share a bit, or not all M-cycles are quiet.
+    #[inline(never)]
+    fn pass_asked(&mut self, cycles: u8)
+        ensures { self.new ≡ iterate tick cycles self.old }
+    {
+        self.calm = 0;
+        if cycles > self.quiet {
             return self.pass_by_units(u32::from(cycles));
         }
+        self.quiet -= cycles;
         self.timer.count(cycles);
         self.picture.move_on(cycles);
     }
 
-    #[inline(never)]
+    #[inline]
     fn pass_by_units(&mut self, cycles: u32)
         ensures { self.new ≡ iterate tick cycles self.old }
     {
@@ -50,12 +69,18 @@ impl Bus {
     {
         let quiet = self.quiet_cycles();
         let shared = self.control.ie & self.interrupt_flag();
-        self.quiet = quiet;
-        self.may_interrupt = shared != 0;
+        if shared == 0 {
+            self.calm = quiet + 1;
+            self.quiet = 0;
+        } else {
+            self.calm = 0;
+            self.quiet = quiet;
+        }
     }
 
     fn quiet_cycles(&self) -> u8
-        ensures { AreQuiet result self.now.control.dma_copied self.now.timer.timer self.now.serial.serial.cycles_left self.now.picture.screen.state }
+        ensures few { result < 255 }
+        ensures quiet { AreQuiet result self.now.control.dma_copied self.now.timer.timer self.now.serial.serial.cycles_left self.now.picture.screen.state }
     {
         if self.control.dma_copied < 160 {
             return 0;
@@ -86,8 +111,8 @@ impl Bus {
         ensures ticks { self.new ≡ iterate tick_timer cycles self.old }
         ensures dma_page { self.old.control.dma < 256 }
     {
+        self.calm = 0;
         self.quiet = 0;
-        self.may_interrupt = true;
         let requests = self.timer.pass(cycles);
         self.timer_requested |= requests.bits != 0;
     }
@@ -96,8 +121,8 @@ impl Bus {
     fn pass_serial(&mut self, cycles: u32)
         ensures { self.new ≡ iterate tick_serial cycles self.old }
     {
+        self.calm = 0;
         self.quiet = 0;
-        self.may_interrupt = true;
         let requests = self.serial.pass(cycles);
         self.serial_requested |= requests.bits != 0;
     }
@@ -131,8 +156,8 @@ impl Bus {
     fn pass_picture(&mut self, cycles: u32)
         ensures { self.new ≡ iterate tick_picture cycles self.old }
     {
+        self.calm = 0;
         self.quiet = 0;
-        self.may_interrupt = true;
         let requests = self.picture.pass(cycles);
         self.vblank_requested |= requests.vblank;
         self.stat_requested |= requests.stat;
@@ -148,6 +173,7 @@ impl Bus {
         let page = if page < 0xe0 { page } else { page - 0x20 };
         let source = 256 * u16::from(page) + u16::from(self.control.dma_copied);
         let byte = self.peek(source);
+        self.calm = 0;
         self.quiet = 0;
         self.picture.copy_to_oam(self.control.dma_copied, byte);
         self.control.dma_copied += 1;

@@ -13,7 +13,7 @@ impl Bus {
     pub fn shared(&self) -> u8
         ensures { result ≡ shared self.now }
     {
-        if !self.may_interrupt {
+        if self.calm > 0 {
             return 0;
         }
         self.control.ie & self.interrupt_flag()
@@ -23,7 +23,7 @@ impl Bus {
     pub fn acknowledge(&mut self, bit: u8)
         ensures { self.new ≡ acknowledged bit self.old }
     {
-        self.may_interrupt = true;
+        self.calm = 0;
         match bit {
             0 => self.vblank_requested = false,
             1 => self.stat_requested = false,
@@ -49,7 +49,7 @@ impl Bus {
     pub(super) fn set_interrupt_flag(&mut self, value: u8)
         ensures { self.new ≡ with_interrupt_flag value self.old }
     {
-        self.may_interrupt = true;
+        self.calm = 0;
         self.vblank_requested = value / 1 % 2 == 1;
         self.stat_requested = value / 2 % 2 == 1;
         self.timer_requested = value / 4 % 2 == 1;
@@ -83,6 +83,7 @@ impl Bus {
             0xff00 => self.write_p1(value),
             0xff01 => self.serial.write_sb(value),
             0xff02 => {
+                self.calm = 0;
                 self.quiet = 0;
                 self.serial.write_sc(value);
             }
@@ -92,6 +93,7 @@ impl Bus {
             0xff07 => self.write_tac(value),
             0xff0f => self.set_interrupt_flag(value),
             0xff46 => {
+                self.calm = 0;
                 self.quiet = 0;
                 self.control.dma = value;
                 self.control.dma_copied = 0;
@@ -103,7 +105,7 @@ impl Bus {
     fn write_p1(&mut self, value: u8)
         ensures { self.new ≡ record self.old { control = joypad_set (select_bits value) self.old.control.buttons self.old.control } }
     {
-        self.may_interrupt = true;
+        self.calm = 0;
         let buttons = self.control.buttons;
         self.control.set_joypad(select_bits(value), buttons);
     }
@@ -111,8 +113,8 @@ impl Bus {
     fn write_div(&mut self)
         ensures { self.new ≡ record self.old { timer = with_counter_and_tac 0 self.old.timer.timer.tac self.old.timer } }
     {
+        self.calm = 0;
         self.quiet = 0;
-        self.may_interrupt = true;
         let requests = self.timer.write_div();
         self.timer_requested |= requests.bits != 0;
     }
@@ -120,8 +122,8 @@ impl Bus {
     fn write_tac(&mut self, value: u8)
         ensures { self.new ≡ record self.old { timer = with_counter_and_tac self.old.timer.timer.counter (value % 8) self.old.timer } }
     {
+        self.calm = 0;
         self.quiet = 0;
-        self.may_interrupt = true;
         let requests = self.timer.write_tac(value);
         self.timer_requested |= requests.bits != 0;
     }
@@ -129,8 +131,8 @@ impl Bus {
     fn write_picture(&mut self, address: u16, value: u8)
         ensures { self.new ≡ record self.old { picture = picture_register_written address value self.old.picture } }
     {
+        self.calm = 0;
         self.quiet = 0;
-        self.may_interrupt = true;
         self.stat_requested |= self.picture.write_register(address, value);
     }
 }

@@ -34,8 +34,8 @@ impl Bus {
         requires { AreLegalFor self.old.banks state.now }
         ensures { self.new ≡ with_registers state.now self.old }
     {
+        self.calm = 0;
         self.quiet = 0;
-        self.may_interrupt = true;
         self.timer.restore(&state.timer);
         self.serial.restore(&state.serial);
         self.picture.restore(&state.picture);
@@ -72,11 +72,13 @@ impl Bus {
     {
         match region {
             Region::Vram => {
+                self.calm = 0;
                 self.quiet = 0;
                 self.picture.fill(PictureRegion::Vram, bytes);
             }
             Region::Wram => self.wram.as_mut_slice().copy_from_slice(bytes),
             Region::Oam => {
+                self.calm = 0;
                 self.quiet = 0;
                 self.picture.fill(PictureRegion::Oam, bytes);
             }
