@@ -2,7 +2,7 @@
 _gbkeep() {
     local word=${COMP_WORDS[COMP_CWORD]}
     if [ "$COMP_CWORD" -eq 1 ]; then
-        COMPREPLY=($(compgen -W 'info list step new play frame trace help --help' -- "$word"))
+        COMPREPLY=($(compgen -W 'info list step new play frame trace help --help --version' -- "$word"))
         return
     fi
     case ${COMP_WORDS[1]}.$COMP_CWORD in

@@ -24,15 +24,21 @@ def faults():
 
 
 def commands():
-    return set(re.findall(r'"(\w+)" => Some\(Request::', text('crates/command_line/src/lib.rt')))
+    return set(re.findall(r'"(\w+)" => \1\(values\)', text('crates/command_line/src/lib.rt')))
+
+
+# what the program prints beside its commands
+OPTIONS = {'--help', '--version'}
 
 
 def main():
     missing = []
-    for path, wanted in (('README.md', commands()), ('docs/COMMANDS.md', commands() | faults()), ('docs/gbkeep.1', commands() | faults()),
-                         ('completions/gbkeep.bash', commands())):
+    for path, wanted in (('README.md', commands()), ('docs/COMMANDS.md', commands() | faults() | OPTIONS),
+                         ('docs/gbkeep.1', commands() | faults() | OPTIONS), ('completions/gbkeep.bash', commands() | OPTIONS)):
         there = re.sub(r'\\f[BIR]|`', '', text(path))
         missing += ['%s lacks %r' % (path, one) for one in sorted(wanted) if one not in there]
+    if not commands() or not faults():
+        missing.append('the sources show no commands or no faults')
     print('\n'.join(missing) if missing else 'front door: %d commands, %d faults' % (len(commands()), len(faults())))
     return 1 if missing else 0
 

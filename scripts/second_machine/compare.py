@@ -6,7 +6,9 @@ usage: compare.py GBKEEP SECONDS            each kind of ROM for so many seconds
 
 Kinds: raw (random bytes with a valid header), prog (random programs), proglong (the same, to a million steps), refuse
 (headers and lengths that are to be refused, among others), list, trace (random programs and bytes: new, play of a short
-script of frames and seconds, trace of 1,024 steps, line by line; 200 of them at most). The status is 1 where anything differs."""
+script of frames and seconds, trace of 1,024 steps, line by line; 200 of them at most), frames (programs that draw, by registers,
+tiles and objects that change within frames, by buttons and the clock; after each of some scripts of frames, buttons and seconds the whole
+picture of `frame`). The status is 1 where anything differs."""
 import os, random, shutil, subprocess, sys, tempfile, time
 import reference as ref
 
@@ -621,6 +623,140 @@ def prog_rom(rnd, shape=None):
         rom += b
     return rom
 
+class Draw:
+    """Programs whose pictures show much: they fill VRAM and OAM, and then change what a line is drawn by, again and again."""
+
+    def __init__(self, rnd, t):
+        self.rnd = rnd
+        self.kind = ref.KINDS[t][0]
+        self.safe = rnd.random() < 0.8      # the picture is not switched off
+        self.names = ['register', 'register', 'line', 'line', 'delay', 'joypad', 'clock', 'vram', 'oam', 'dma', 'lcdc']
+
+    def put(self, reg, v):
+        return bytes([0x3E, v, 0xE0, reg])
+
+    def value(self, reg):
+        r = self.rnd
+        if reg == 0x40: return self.lcdc_value()
+        if reg in (0x47, 0x48, 0x49): return r.choice([0xE4, 0x1B, 0xD2, 0x6C, r.randrange(256)])
+        if reg == 0x4B: return r.choice([0, 1, 2, 3, 4, 5, 6, 7, 8, 0x57, 0xA5, 0xA6, 0xA7, r.randrange(256), r.randrange(0xA8)])
+        if reg == 0x4A: return r.choice([0, 0, 1, 5, 20, 70, 100, 143, 144, r.randrange(256)])
+        return r.choice([0, 1, 7, 8, 0x60, 0xF8, 0xFF, r.randrange(256), r.randrange(256)])
+
+    def lcdc_value(self):
+        r = self.rnd
+        v = r.randrange(128)
+        if r.random() < 0.7: v |= 1
+        if r.random() < 0.6: v |= 2
+        return v | (0x80 if self.safe or r.random() < 0.7 else 0)
+
+    def fill(self, source, to, count):
+        """LD HL,source; LD DE,to; LD BC,count; LD A,(HL+); LD (DE),A; INC DE; DEC BC; LD A,B; OR C; JR NZ"""
+        return bytes([0x21, source & 255, source >> 8, 0x11, to & 255, to >> 8, 0x01, count & 255, count >> 8,
+                      0x2A, 0x12, 0x13, 0x0B, 0x78, 0xB1, 0x20, 0xF8])
+
+    def register(self):
+        reg = self.rnd.choice([0x42, 0x43, 0x47, 0x48, 0x49, 0x4A, 0x4B, 0x4B])
+        return self.put(reg, self.value(reg))
+
+    def lcdc(self):
+        return self.put(0x40, self.value(0x40))
+
+    def delay(self):
+        return bytes([0x0E, self.rnd.randrange(1, 60), 0x0D, 0x20, 0xFD]) + b'\x00' * self.rnd.randrange(4)
+
+    def line(self):
+        """Waits for a line, 255 looks at most, and writes a register there."""
+        r = self.rnd
+        at = r.choice([0, 1, 10, 71, 100, 140, 143, 144, 153, r.randrange(154)])
+        wait = bytes([0x0E, 0xFF, 0xF0, 0x44, 0xFE, at, 0x28, 0x03, 0x0D, 0x20, 0xF7])
+        return wait + (self.register() if r.random() < 0.7 else self.lcdc())
+
+    def joypad(self):
+        """Selects a half of the buttons, and adds or writes what it reads."""
+        r = self.rnd
+        reg = r.choice([0x42, 0x43, 0x47, 0x48, 0x4A, 0x4B])
+        out = self.put(0x00, r.choice([0x10, 0x20, 0x00])) + bytes([0xF0, 0x00])
+        if r.random() < 0.5: out += bytes([0x47, 0xF0, reg, 0x80])      # LD B,A; LDH A,(reg); ADD A,B
+        return out + bytes([0xE0, reg])
+
+    def clock(self):
+        """Latches the clock and writes one of its registers to one of the picture's."""
+        if self.kind != 'MBC3+clock': return self.register()
+        r = self.rnd
+        out = b''
+        for a, v in ((0x0000, 0x0A), (0x4000, 8 + r.randrange(5)), (0x6000, 0), (0x6000, 1)):
+            out += bytes([0x3E, v, 0xEA, a & 255, a >> 8])
+        return out + bytes([0xFA, 0x00, 0xA0, 0xE0, r.choice([0x42, 0x43, 0x47, 0x48, 0x4A, 0x4B])])
+
+    def vram(self):
+        """Writes a few bytes one behind the other; some meet mode 3."""
+        r = self.rnd
+        a = 0x8000 + r.choice([r.randrange(0x1800), 0x1800 + r.randrange(0x7F0), r.randrange(0x200)])
+        return bytes([0x21, a & 255, a >> 8]) + b''.join(bytes([0x36, r.randrange(256), 0x23]) for _ in range(r.randrange(1, 12)))
+
+    def oam(self):
+        r = self.rnd
+        a = 4 * r.randrange(38)
+        return bytes([0x21, a, 0xFE]) + b''.join(bytes([0x36, r.randrange(170), 0x23]) for _ in range(r.randrange(1, 9)))
+
+    def dma(self):
+        r = self.rnd
+        return self.put(0x46, r.choice([0x40, 0x41, 0x42, 0x50, 0xC0, 0x80, r.randrange(256)])) + (self.delay() if r.random() < 0.5 else b'')
+
+    def part(self):
+        return getattr(self, self.rnd.choice(self.names))()
+
+    def objects(self):
+        """160 bytes of OAM; many objects of one line, some of one column."""
+        r = self.rnd
+        tops = [r.randrange(160) for _ in range(4)]
+        lefts = [r.randrange(168) for _ in range(6)]
+        return b''.join(bytes([r.choice(tops) + r.randrange(6) if r.random() < 0.8 else r.randrange(256),
+                               r.choice(lefts) + r.choice([0, 0, 1, 4]) if r.random() < 0.7 else r.randrange(256),
+                               r.randrange(256), r.randrange(256)]) for _ in range(40))
+
+    def tiles(self):
+        """The bytes of VRAM: noise, few colours, or tiles of one row."""
+        r = self.rnd
+        k = r.randrange(3)
+        if k == 0: data = bytearray(r.randbytes(0x1800))
+        elif k == 1: data = bytearray(r.choice([0, 0, 0xFF, r.randrange(256)]) for _ in range(0x1800))
+        else: data = bytearray(b''.join(bytes([r.randrange(256), r.randrange(256)]) * 8 for _ in range(0x180)))
+        few = r.sample(range(256), 5)
+        return bytes(data) + bytes(r.choice(few) if r.random() < 0.8 else r.randrange(256) for _ in range(0x800))
+
+
+def draw_rom(rnd):
+    kind = rnd.choice(['none', 'MBC1', 'MBC3', 'MBC3+clock', 'MBC3+clock', 'MBC5'])
+    t = rnd.choice([x for x in TYPES if ref.KINDS[x][0] == kind])
+    g = Draw(rnd, t)
+    rom = bytearray(rnd.randbytes(0x8000))
+    header(rnd, rom, t)
+    rom[0x4000:0x6000] = g.tiles()
+    for page in (0x6000, 0x6100, 0x6200):
+        rom[page:page + 160] = g.objects()
+    start = bytes([0x31, 0xF0, 0xDF]) + g.put(0x40, 0x11) + g.fill(0x4000, 0x8000, 0x2000) + g.fill(0x6000, 0xFE00, 160) + g.fill(0x6100, 0xC000, 160)
+    for reg in (0x42, 0x43, 0x47, 0x48, 0x49, 0x4A, 0x4B):
+        if rnd.random() < 0.85: start += g.put(reg, g.value(reg))
+    start += g.put(0x45, rnd.randrange(154)) + g.put(0x41, rnd.choice([0x40, 0x08, 0x20, 0x10, 0])) + g.put(0xFF, rnd.choice([0, 0, 2, 3, 1, 0x10]))
+    start += g.put(0x40, g.lcdc_value() | 0x80) + rnd.choice([b'\xFB', b'\xF3'])
+    loop = 0x150 + len(start)
+    body = b''
+    for _ in range(rnd.randrange(0, 30)): body += g.part()
+    if rnd.random() < 0.3: body += b'\x76\x00'
+    rom[0x100:0x104] = bytes([0x00, 0xC3, 0x50, 0x01])
+    code = start + body + bytes([0xC3, loop & 255, loop >> 8])
+    rom[0x150:0x150 + len(code)] = code
+    for i in range(5):      # handlers: a register or two, changed at the interrupt
+        at = 0x3000 + 0x100 * i
+        reg = rnd.choice([0x42, 0x43, 0x47, 0x4B])
+        next_line = bytes([0xF0, 0x45, 0xC6, rnd.randrange(1, 40), 0xE0, 0x45])
+        s = b'\xF5' + rnd.choice([bytes([0xF0, 0x44, 0xE0, reg]), g.register(), g.lcdc(), next_line]) + b'\xF1\xD9'
+        rom[at:at + len(s)] = s
+        rom[0x40 + 8 * i:0x43 + 8 * i] = bytes([0xC3, at & 255, at >> 8])
+    return rom
+
 # ------------------------------------------------------------ comparing
 
 
@@ -803,6 +939,65 @@ def compare_trace(kind, seed, rom, rnd):
     return True
 
 
+def differing(want, out):
+    """Where two pictures differ: the first pixel, and how many."""
+    a, b = want.split()[4:], out.split()[4:]
+    if len(a) != len(b): return 'lengths %d and %d' % (len(a), len(b))
+    places = [i for i, (x, y) in enumerate(zip(a, b)) if x != y]
+    return '%d pixels, the first at line %d column %d: want %s got %s' % (len(places), places[0] // 160, places[0] % 160, a[places[0]], b[places[0]])
+
+
+def compare_frames(kind, seed, rom, rnd):
+    """A new game, and the whole picture after each of some scripts."""
+    with open(TMP, 'wb') as f: f.write(rom)
+    stats['roms'] += 1
+    save, script, picture = ROOM + '/save', ROOM + '/script', ROOM + '/picture'
+    if os.path.exists(save): os.remove(save)
+    sectors = int(ref.info_text(rom).split('sectors ')[1])
+    m = ref.Machine(rom)
+    m.draws = True
+    inputs = 0
+    got = gb('new', TMP, save, str(sectors))
+    if got != (0, b'begun 0\n', b''):
+        report(kind, seed, 'new: %r' % (got,))
+        return
+    for _ in range(rnd.randrange(1, 4)):
+        lines, before = [], inputs
+        if inputs == 0:     # until VRAM is full
+            for _ in range(8): m.frame(0)
+            inputs = 8
+            lines.append('frames 00 8')
+        for _ in range(rnd.randrange(1, 5)):
+            if rnd.random() < 0.25:
+                n = rnd.choice([0, 1, 59, 60, 3600, rnd.randrange(100000)])
+                for _ in range(n): m.second()
+                inputs += 1
+                lines.append('seconds %d' % n)
+            else:
+                buttons, n = rnd.choice([0, 0x01, 0x80, 0x0F, 0xF0, 0xFF, rnd.randrange(256)]), rnd.randrange(1, 5)
+                for _ in range(n): m.frame(buttons)
+                inputs += n
+                lines.append('frames %02X %d' % (buttons, n))
+        with open(script, 'w') as f: f.write('\n'.join(lines))
+        got = gb('play', TMP, save, script)
+        if got != (0, b'resumed %d\nsaved %d\n' % (before, inputs), b''):
+            report(kind, seed, 'play of %r: %r' % (lines, got))
+            return
+        if os.path.exists(picture): os.remove(picture)
+        got = gb('frame', TMP, save, picture)
+        if got != (0, b'resumed %d\n' % inputs, b''):
+            report(kind, seed, 'frame: %r' % (got,))
+            return
+        with open(picture) as f: out = f.read()
+        want = m.picture()
+        stats['bytes'] += len(want)
+        shades = len(set(want.split()[4:]))
+        cov['%d shades' % shades] = cov.get('%d shades' % shades, 0) + 1
+        if out != want:
+            report(kind, seed, 'picture behind %d inputs, last %r: %s' % (inputs, lines, differing(want, out)))
+            return
+
+
 def run(kind, first, seconds, most):
     start = time.time()
     seed = first
@@ -823,6 +1018,8 @@ def run(kind, first, seconds, most):
             compare_steps(kind, seed, rom, rnd, rnd.choice([300000, 1000000]))
         elif kind == 'trace':
             compare_trace(kind, seed, prog_rom(rnd) if rnd.random() < 0.8 else raw_rom(rnd), rnd)
+        elif kind == 'frames':
+            compare_frames(kind, seed, draw_rom(rnd) if rnd.random() < 0.85 else prog_rom(rnd), rnd)
         elif kind == 'refuse':
             compare_texts(kind, seed, refuse_rom(rnd), rnd)
         elif kind == 'list':
@@ -837,14 +1034,14 @@ def run(kind, first, seconds, most):
                 if got != want:
                     report(kind, seed, 'list %04X %d differs' % (a, n))
         seed += 1
-    print('kind=%s seeds %d..%d roms=%d comparisons(gbkeep runs)=%d mismatches=%d time=%.0f ends=%s list_bytes=%d'
+    print('kind=%s seeds %d..%d roms=%d comparisons(gbkeep runs)=%d mismatches=%d time=%.0f ends=%s bytes=%d'
           % (kind, first, seed - 1, stats['roms'], stats['runs'], stats['mis'], time.time() - start, cov, stats['bytes']), flush=True)
 
 
 def main(words):
     if len(words) == 1:
         first = int(time.time())
-        for kind in ('raw', 'prog', 'proglong', 'refuse', 'list', 'trace'):
+        for kind in ('raw', 'prog', 'proglong', 'refuse', 'list', 'trace', 'frames'):
             run(kind, first, float(words[0]), 10**9)
     elif len(words) == 3 and words[2] == 'show':
         run(words[0], int(words[1]), 1e9, 1)

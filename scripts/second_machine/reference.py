@@ -1,7 +1,8 @@
-"""A second machine, without pixels, written from the rules and tables that docs/MACHINE.md restates, by somebody who had
-not seen the emulator's code, definitions or documents. Simple and literal, one M-cycle after the other: it is what
-`make compare` compares with. Joypad, frames, seconds of the clock and the lines of a trace were added later, from docs/MACHINE.md,
-by somebody who had read of the code only the debugger and the program."""
+"""A second machine, written from the rules and tables that docs/MACHINE.md restates, by somebody who had not seen the
+emulator's code, definitions or documents. Simple and literal, one M-cycle after the other: it is what `make compare` compares
+with. Joypad, frames, seconds of the clock and the lines of a trace were added later, from docs/MACHINE.md, by somebody who had read
+of the code only the debugger and the program; the pixels, from docs/MACHINE.md and docs/COMMANDS.md, by somebody who had not read the
+crates of the picture. They are drawn only where `draws` is set, since nothing else depends on them."""
 import sys
 
 # ---------------------------------------------------------------- header
@@ -218,6 +219,10 @@ class Machine:
         self.line_ = 0
         self.mc = 0
         self.statsig = False
+        self.draws = False
+        self.seen = True
+        self.window_line = 0
+        self.shades = [[0] * 160 for _ in range(144)]
         # controller
         self.ramon = False
         self.lower = 1
@@ -414,8 +419,11 @@ class Machine:
             if (old ^ v) & 0x80:
                 self.line_ = 0
                 self.mc = 0
+                self.window_line = 0
+                self.seen = bool(v & 0x80) and self.wy == 0
                 if not v & 0x80:
                     self.statsig = False
+                    self.shades = [[0] * 160 for _ in range(144)]
             self.take_stat()
         elif a == 0xFF41:
             self.stat = v & 0x78
@@ -534,9 +542,73 @@ class Machine:
                     if l == 154: l = 0
                     self.line_ = l
                     if l == 144: self.iflag |= 1
+                    if l == 0:
+                        self.window_line = 0
+                        self.seen = False
+                    if l < 144 and self.wy == l: self.seen = True
                 self.mc = d
+                if d == 20 and self.line_ < 144 and self.draws: self.draw_line()
                 if self.stat: self.take_stat()
                 else: self.statsig = False
+
+    # ---- pixels
+    def tile_pixel(self, number, row, column):
+        """The colour of a pixel of a tile of the background or the window."""
+        at = 16 * number if self.lcdc & 0x10 else 0x1000 + 16 * signed(number)
+        return self.colour(at + 2 * row, column)
+
+    def colour(self, at, column):
+        bit = 7 - column
+        return (self.vram[at] >> bit & 1) + 2 * (self.vram[at + 1] >> bit & 1)
+
+    def map_pixel(self, upper, x, y):
+        """The colour of a place of a map of 256 by 256 pixels."""
+        at = (0x1C00 if upper else 0x1800) + 32 * (y // 8) + x // 8
+        return self.tile_pixel(self.vram[at], y % 8, x % 8)
+
+    def objects(self, y):
+        """The first ten that cover a line, with their place in OAM."""
+        height = 16 if self.lcdc & 4 else 8
+        found = []
+        for i in range(40):
+            top, x, number, attributes = self.oam[4 * i:4 * i + 4]
+            if top <= y + 16 < top + height and len(found) < 10:
+                row = y + 16 - top
+                if attributes & 0x40: row = height - 1 - row
+                if height == 16: number &= 0xFE
+                found.append((x, i, 16 * number + 2 * row, attributes))
+        return found
+
+    def draw_line(self):
+        y = self.line_
+        window = self.lcdc & 0x21 == 0x21 and self.seen and self.wx <= 0xA6
+        objects = sorted(self.objects(y)) if self.lcdc & 2 else []      # the smaller X first, then the lower place
+        line = self.shades[y]
+        for x in range(160):
+            if not self.lcdc & 1:
+                colour = shade = 0
+            else:
+                if window and x + 7 >= self.wx:
+                    colour = self.map_pixel(self.lcdc & 0x40, x + 7 - self.wx, self.window_line)
+                else:
+                    colour = self.map_pixel(self.lcdc & 8, (x + self.scx) % 256, (y + self.scy) % 256)
+                shade = self.bgp >> 2 * colour & 3
+            for left, _, at, attributes in objects:
+                if not left <= x + 8 < left + 8: continue
+                column = x + 8 - left
+                mine = self.colour(at, 7 - column if attributes & 0x20 else column)
+                if mine == 0: continue
+                if not (attributes & 0x80 and colour != 0):
+                    shade = (self.obp1 if attributes & 0x10 else self.obp0) >> 2 * mine & 3
+                break
+            line[x] = shade
+        if window: self.window_line = (self.window_line + 1) % 256
+
+    def picture(self):
+        lines = ['P2', '160 144', '3']
+        for row in self.shades:
+            lines += [' '.join(str(3 - shade) for shade in row[i:i + 32]) for i in range(0, 160, 32)]
+        return '\n'.join(lines) + '\n'
 
     # ---- step
     def push(self, v):

@@ -3,8 +3,12 @@
 //! What `clap` answers to words that it does not understand, and its help, are its own texts.
 #![tactic(auto)]
 
-ghost use Rattle.std.specs.Prelude.{◌≤◌, IfOk, IfSome};
-ghost use Rattle.command_line.specs.Words.{IsInRange, IsAnswer};
+ghost use Rattle.std.specs.Prelude.{◌≡◌, ◌<◌, ◌^◌, ℕ, List, Ok, codes, map};
+ghost use Rattle.std.specs.Option.{IsSomeAnd};
+ghost use Rattle.clap.specs.Words.{FailsBy, fault_of, found_of, rows_of, subcommand_rows_of};
+ghost use Rattle.command_line.specs.Commands.{HasNumber, HasOperand, IsFrameRow, IsInfoRow, IsListRow, IsMatched, IsRead};
+ghost use Rattle.command_line.specs.Commands.{IsNewRow, IsPlayRow, IsStepRow, IsTraceRow, gbkeep};
+ghost use Rattle.command_line.specs.Words.{IsAnswer, IsCommand, Word, WritesWithin};
 
 mod words;
 
@@ -58,65 +62,128 @@ pub enum Request<'a> {
 
 /// The request that the words make, of which the first is the program's own name.
 ///
-/// `clap`'s error has the text of what is not understood, or of the help that was asked for. The
-/// answer is `None` where the words parse and a value is missing or out of its range, which `clap`
-/// rules out: the ranges are looked at again, since `clap`'s own answers are not proved.
+/// `clap`'s error has the text of what is not understood, or of the help or version that was asked for. It comes only
+/// where the words ask for no request, or for want of memory, and its kind is the one that `clap`'s definitions give.
+/// The answer is never `None`: the type has it because the values of `clap`'s matches are options.
 pub fn request_of<'a, S: AsStr>(alloc: Global, words: &'a [S]) -> Result<Option<Request<'a>>, Error>
-    ensures ranges { IfOk result IsAnswer }
+    ensures asked { IsAnswer (map S.text words.entry.now) result }
+    ensures kinds { FailsBy (fault_of gbkeep (map S.text words.entry.now)) result }
 {
     let matches = words::command(alloc)?.try_get_matches_from(words)?;
-    Ok(match matches.subcommand() {
+    Ok(matched_request(&matches))
+}
+
+/// The request of matches.
+fn matched_request<'a>(matches: &ArgMatches<'a>) -> Option<Request<'a>>
+    ensures { (words : List Word) → IsRead words (subcommand_rows_of matches.now) → IsAnswer words (Ok result) }
+{
+    match matches.subcommand() {
         Some((name, values)) => named_request(name, values),
         None => None,
-    })
+    }
 }
 
 fn named_request<'a>(name: &str, values: &ArgMatches<'a>) -> Option<Request<'a>>
-    ensures { IfSome result IsInRange }
+    ensures { (words operands : List Word) → IsCommand words name.now operands
+        → IsMatched name.now (rows_of (found_of values.now)) operands → IsAnswer words (Ok result) }
 {
-    let cart = values.get_str("CART")?;
     match name {
-        "info" => Some(Request::Info { cart }),
-        "list" => Some(Request::List {
-            cart,
-            address: values.get_str("ADDR")?,
-            count: between(1, 4_096, values.get_one("COUNT")?)?,
-        }),
-        "step" => Some(Request::Step {
-            cart,
-            count: between(0, 1_000_000, values.get_one("COUNT")?)?,
-        }),
-        "new" => Some(Request::New {
-            cart,
-            save: values.get_str("SAVE")?,
-            sectors: between(1, 65_536, values.get_one("SECTORS")?)?,
-        }),
-        "play" => Some(Request::Play {
-            cart,
-            save: values.get_str("SAVE")?,
-            script: values.get_str("SCRIPT")?,
-        }),
-        "frame" => Some(Request::Frame {
-            cart,
-            save: values.get_str("SAVE")?,
-            out: values.get_str("OUT")?,
-        }),
-        "trace" => Some(Request::Trace {
-            cart,
-            save: values.get_str("SAVE")?,
-            count: between(1, 1_024, values.get_one("COUNT")?)?,
-        }),
+        "info" => info(values),
+        "list" => list(values),
+        "step" => step(values),
+        "new" => new(values),
+        "play" => play(values),
+        "frame" => frame(values),
+        "trace" => trace(values),
         _ => None,
     }
 }
 
-fn between(least: u32, most: u32, count: u32) -> Option<u32>
-    ensures least { IfSome result (λ n. least ≤ n) }
-    ensures most { IfSome result (λ n. n ≤ most) }
+/// An operand, as it was given.
+fn operand<'a>(values: &ArgMatches<'a>, id: &str) -> Option<&'a str>
+    ensures { (word : Word) → HasOperand (rows_of (found_of values.now)) id.now word → IsSomeAnd result (λ s. s.now ≡ word) }
 {
-    if least <= count && count <= most {
-        Some(count)
-    } else {
-        None
-    }
+    values.get_str(id)
+}
+
+/// A number, whose range `clap` has looked at.
+fn number(values: &ArgMatches<'_>, id: &str) -> Option<u32>
+    ensures { (least most : ℕ) (word : Word) → most < 2 ^ 32 → HasNumber (rows_of (found_of values.now)) id.now least most word
+        → IsSomeAnd result (WritesWithin least most word) }
+{
+    values.get_one(id)
+}
+
+fn info<'a>(values: &ArgMatches<'a>) -> Option<Request<'a>>
+    ensures { (words operands : List Word) → IsCommand words (codes "info") operands
+        → IsInfoRow (rows_of (found_of values.now)) operands → IsAnswer words (Ok result) }
+{
+    Some(Request::Info {
+        cart: operand(values, "CART")?,
+    })
+}
+
+fn list<'a>(values: &ArgMatches<'a>) -> Option<Request<'a>>
+    ensures { (words operands : List Word) → IsCommand words (codes "list") operands
+        → IsListRow (rows_of (found_of values.now)) operands → IsAnswer words (Ok result) }
+{
+    Some(Request::List {
+        cart: operand(values, "CART")?,
+        address: operand(values, "ADDR")?,
+        count: number(values, "COUNT")?,
+    })
+}
+
+fn step<'a>(values: &ArgMatches<'a>) -> Option<Request<'a>>
+    ensures { (words operands : List Word) → IsCommand words (codes "step") operands
+        → IsStepRow (rows_of (found_of values.now)) operands → IsAnswer words (Ok result) }
+{
+    Some(Request::Step {
+        cart: operand(values, "CART")?,
+        count: number(values, "COUNT")?,
+    })
+}
+
+fn new<'a>(values: &ArgMatches<'a>) -> Option<Request<'a>>
+    ensures { (words operands : List Word) → IsCommand words (codes "new") operands
+        → IsNewRow (rows_of (found_of values.now)) operands → IsAnswer words (Ok result) }
+{
+    Some(Request::New {
+        cart: operand(values, "CART")?,
+        save: operand(values, "SAVE")?,
+        sectors: number(values, "SECTORS")?,
+    })
+}
+
+fn play<'a>(values: &ArgMatches<'a>) -> Option<Request<'a>>
+    ensures { (words operands : List Word) → IsCommand words (codes "play") operands
+        → IsPlayRow (rows_of (found_of values.now)) operands → IsAnswer words (Ok result) }
+{
+    Some(Request::Play {
+        cart: operand(values, "CART")?,
+        save: operand(values, "SAVE")?,
+        script: operand(values, "SCRIPT")?,
+    })
+}
+
+fn frame<'a>(values: &ArgMatches<'a>) -> Option<Request<'a>>
+    ensures { (words operands : List Word) → IsCommand words (codes "frame") operands
+        → IsFrameRow (rows_of (found_of values.now)) operands → IsAnswer words (Ok result) }
+{
+    Some(Request::Frame {
+        cart: operand(values, "CART")?,
+        save: operand(values, "SAVE")?,
+        out: operand(values, "OUT")?,
+    })
+}
+
+fn trace<'a>(values: &ArgMatches<'a>) -> Option<Request<'a>>
+    ensures { (words operands : List Word) → IsCommand words (codes "trace") operands
+        → IsTraceRow (rows_of (found_of values.now)) operands → IsAnswer words (Ok result) }
+{
+    Some(Request::Trace {
+        cart: operand(values, "CART")?,
+        save: operand(values, "SAVE")?,
+        count: number(values, "COUNT")?,
+    })
 }

@@ -1,11 +1,19 @@
 //! The commands and their words.
+ghost use Rattle.std.specs.Prelude.{IfOk, codes};
+ghost use Rattle.command_line.specs.Commands.{Reads, ReadsOperand, number, operand, over_cart, over_save};
+ghost use Rattle.command_line.specs.Commands.{bare, frame, gbkeep, info, list, new, play, step, trace};
+
 use clap::{Arg, Command, value_parser};
 use std::alloc::{AllocError, Global};
 
 /// The name in usage texts, whatever the file of the program is called.
 const NAME: &str = "gbkeep";
 
-pub fn command<'a>(alloc: Global) -> Result<Command<'a>, AllocError> {
+const VERSION: &str = "0.1.0";
+
+pub(crate) fn command<'a>(alloc: Global) -> Result<Command<'a>, AllocError>
+    ensures { IfOk result (Reads gbkeep) }
+{
     let info = over_cart(alloc, "info", "Prints the header of a cartridge")?;
     let list = list(alloc)?;
     let step = step(alloc)?;
@@ -13,10 +21,7 @@ pub fn command<'a>(alloc: Global) -> Result<Command<'a>, AllocError> {
     let play = play(alloc)?;
     let frame = frame(alloc)?;
     let trace = trace(alloc)?;
-    Command::new(alloc, NAME)
-        .about("A Game Boy emulator whose every function is proved to meet its contract")
-        .bin_name(NAME)?
-        .subcommand_required(true)
+    bare(alloc)?
         .subcommand(info)?
         .subcommand(list)?
         .subcommand(step)?
@@ -26,17 +31,34 @@ pub fn command<'a>(alloc: Global) -> Result<Command<'a>, AllocError> {
         .subcommand(trace)
 }
 
-fn word<'a>(alloc: Global, name: &'a str, help: &'a str) -> Arg<'a> {
+/// The program without its commands.
+fn bare<'a>(alloc: Global) -> Result<Command<'a>, AllocError>
+    ensures { IfOk result (Reads bare) }
+{
+    Command::new(alloc, NAME)
+        .about("A Game Boy emulator whose every function is proved to meet its contract")
+        .version(VERSION)
+        .subcommand_required(true)
+        .bin_name(NAME)
+}
+
+fn word<'a>(alloc: Global, name: &'a str, help: &'a str) -> Arg<'a>
+    ensures { ReadsOperand (operand name.now) result }
+{
     Arg::new(alloc, name).required(true).help(help)
 }
 
-fn over_cart<'a>(alloc: Global, name: &'a str, about: &'a str) -> Result<Command<'a>, AllocError> {
+fn over_cart<'a>(alloc: Global, name: &'a str, about: &'a str) -> Result<Command<'a>, AllocError>
+    ensures { IfOk result (Reads (over_cart name.now)) }
+{
     Command::new(alloc, name)
         .about(about)
         .arg(word(alloc, "CART", "The ROM file"))
 }
 
-fn list<'a>(alloc: Global) -> Result<Command<'a>, AllocError> {
+fn list<'a>(alloc: Global) -> Result<Command<'a>, AllocError>
+    ensures { IfOk result (Reads list) }
+{
     let count = word(alloc, "COUNT", "How many instructions").value_parser(value_parser!(u32).range(
         1..=4_096,
     ));
@@ -53,7 +75,9 @@ fn list<'a>(alloc: Global) -> Result<Command<'a>, AllocError> {
     .arg(count)
 }
 
-fn step<'a>(alloc: Global) -> Result<Command<'a>, AllocError> {
+fn step<'a>(alloc: Global) -> Result<Command<'a>, AllocError>
+    ensures { IfOk result (Reads step) }
+{
     let count = word(alloc, "COUNT", "How many steps").value_parser(value_parser!(u32).range(
         0..=1_000_000,
     ));
@@ -65,11 +89,15 @@ fn step<'a>(alloc: Global) -> Result<Command<'a>, AllocError> {
     .arg(count)
 }
 
-fn over_save<'a>(alloc: Global, name: &'a str, about: &'a str) -> Result<Command<'a>, AllocError> {
+fn over_save<'a>(alloc: Global, name: &'a str, about: &'a str) -> Result<Command<'a>, AllocError>
+    ensures { IfOk result (Reads (over_save name.now)) }
+{
     over_cart(alloc, name, about)?.arg(word(alloc, "SAVE", "The file that keeps the game"))
 }
 
-fn new<'a>(alloc: Global) -> Result<Command<'a>, AllocError> {
+fn new<'a>(alloc: Global) -> Result<Command<'a>, AllocError>
+    ensures { IfOk result (Reads new) }
+{
     let sectors = word(
         alloc,
         "SECTORS",
@@ -79,7 +107,9 @@ fn new<'a>(alloc: Global) -> Result<Command<'a>, AllocError> {
     over_save(alloc, "new", "Begins a game in a new file")?.arg(sectors)
 }
 
-fn play<'a>(alloc: Global) -> Result<Command<'a>, AllocError> {
+fn play<'a>(alloc: Global) -> Result<Command<'a>, AllocError>
+    ensures { IfOk result (Reads play) }
+{
     over_save(
         alloc,
         "play",
@@ -88,7 +118,9 @@ fn play<'a>(alloc: Global) -> Result<Command<'a>, AllocError> {
     .arg(word(alloc, "SCRIPT", "The file of moves, a line each"))
 }
 
-fn frame<'a>(alloc: Global) -> Result<Command<'a>, AllocError> {
+fn frame<'a>(alloc: Global) -> Result<Command<'a>, AllocError>
+    ensures { IfOk result (Reads frame) }
+{
     over_save(
         alloc,
         "frame",
@@ -97,7 +129,9 @@ fn frame<'a>(alloc: Global) -> Result<Command<'a>, AllocError> {
     .arg(word(alloc, "OUT", "The file for the picture, as plain PGM"))
 }
 
-fn trace<'a>(alloc: Global) -> Result<Command<'a>, AllocError> {
+fn trace<'a>(alloc: Global) -> Result<Command<'a>, AllocError>
+    ensures { IfOk result (Reads trace) }
+{
     let count = word(alloc, "COUNT", "How many steps").value_parser(value_parser!(u32).range(
         1..=1_024,
     ));

@@ -3,10 +3,11 @@ use Rattle.std.specs.Prelude.{◌≡◌, ◌≤◌, ◌↔◌, ◌≢◌, ◌⊎
 use Rattle.std.specs.Io.KnownBytes.{Appends, Keeps}
 use Rattle.exact_text.specs.Written.{AppendsProperPrefix}
 use Rattle.cartridge.specs.Accepted.{refusal_of}
-use Rattle.clap.specs.Values.{kind_of}
+use Rattle.clap.specs.Words.{HasKind, fault_of, kind_of}
 use Rattle.clap.specs.declared.error.kind.ErrorKind.{ErrorKind}
 use Rattle.clap.specs.declared.error.kind.ErrorKind.TheVariants.{DisplayHelp, DisplayVersion, OutOfMemory}
-use Rattle.command_line.specs.Words.{IsInRange}
+use Rattle.command_line.specs.Commands.{gbkeep as command}
+use Rattle.command_line.specs.Words.{AsksFor, AskForSome, Word as WordText}
 use Rattle.command_line.specs.declared.Request.{Request}
 use Rattle.session.specs.declared.error.SessionError.TheVariants.{Memory as GameMemory, Device as GameDevice, NoSession as GameNoSession, OtherCartridge as GameOtherCartridge, Worn as GameWorn, Broken as GameBroken, SaveFirst as GameSaveFirst, CountFull as GameCountFull, Output as GameOutput, TooSmall as GameTooSmall, Damaged as GameDamaged}
 use Rattle.gbkeep.specs.declared.asked.Asked.{Asked}
@@ -107,16 +108,23 @@ is_help DisplayHelp = true
 is_help DisplayVersion = true
 is_help kind = false
 
--- Words can be read so: a request has counts in their ranges, `clap`'s text is help or says what is not understood, memory
--- was wanted, or a word is not text.
-abbrev pub IsReading : Result Asked Fault → Type 0
-IsReading (Ok (Command request)) = IsInRange request
-IsReading (Ok (Help text)) = is_help (kind_of text) ≡ true
-IsReading (Ok (Misuse text)) = (is_help (kind_of text) ≡ false) × (kind_of text ≢ OutOfMemory)
-IsReading (Ok OutOfRange) = ⊤
-IsReading (Err Memory) = ⊤
-IsReading (Err Word) = ⊤
-IsReading (Err fault) = ⊥
+-- What the words ask for: the request that they are, or, where they ask for none, `clap`'s text, which is help or says what is not
+-- understood; or memory was wanted.
+abbrev pub IsReading : List WordText → Result Asked Fault → Type 0
+IsReading words (Ok (Command request)) = AsksFor words request
+IsReading words (Ok (Help text)) = (¬ (AskForSome words)) × HasKind (fault_of command words) text × (is_help (kind_of text) ≡ true)
+IsReading words (Ok (Misuse text)) =
+    (¬ (AskForSome words)) × HasKind (fault_of command words) text × (is_help (kind_of text) ≡ false) × (kind_of text ≢ OutOfMemory)
+IsReading words (Ok OutOfRange) = ⊥
+IsReading words (Err Memory) = ⊤
+IsReading words (Err fault) = ⊥
+
+-- what can come of words at all; one may also be no text
+abbrev pub IsPossible : Result Asked Fault → Type 0
+IsPossible (Ok asked) = ⊤
+IsPossible (Err Memory) = ⊤
+IsPossible (Err Word) = ⊤
+IsPossible (Err fault) = ⊥
 
 -- words that are not understood
 abbrev pub IsMisuse : Result Asked Fault → Type 0
@@ -145,16 +153,21 @@ misuse_line (Ok (Command request)) = line_of Address
 misuse_line (Ok asked) = None
 misuse_line (Err fault) = line_of fault
 
--- The program ended with this status on words that were read so. `old` and `new` are what went to the output before and
--- since, and the other two what went to standard error.
+-- The program ended with this status on what was asked for. `old` and `new` are what went to the output before and since, and the
+-- other two what went to standard error.
 pub record HasEnded (asked : Result Asked Fault) (old new errors_old errors_new : Option (List ℕ)) (status : ℕ) : Type 0 where
-  pub reading : IsReading asked
   pub done : status ≡ 0 → IsFulfilled asked old new × Keeps errors_old errors_new
   pub refused : status ≡ 1 → (fault : Fault) × (status_of fault ≡ 1) × IsFaultOf asked fault old new × HasLine (line_of fault) errors_old errors_new
   pub misuse : (status ≡ 2) ↔ IsMisuse asked
   pub misused : status ≡ 2 → Keeps old new × HasLine (misuse_line asked) errors_old errors_new
   pub bound : status ≤ 2
 
--- the same for some reading of the words
-abbrev pub Ends : Option (List ℕ) → Option (List ℕ) → Option (List ℕ) → Option (List ℕ) → ℕ → Type 0
-Ends old new errors_old errors_new status = (asked : Result Asked Fault) × HasEnded asked old new errors_old errors_new status
+-- it ended so on what these words ask for
+abbrev pub Ends : List WordText → Option (List ℕ) → Option (List ℕ) → Option (List ℕ) → Option (List ℕ) → ℕ → Type 0
+Ends words old new errors_old errors_new status =
+    (asked : Result Asked Fault) × IsReading words asked × HasEnded asked old new errors_old errors_new status
+
+-- it ended so on some words, those of its process, or one of them is no text
+abbrev pub EndsOnSome : Option (List ℕ) → Option (List ℕ) → Option (List ℕ) → Option (List ℕ) → ℕ → Type 0
+EndsOnSome old new errors_old errors_new status =
+    ((words : List WordText) × Ends words old new errors_old errors_new status) ⊎ HasEnded (Err Word) old new errors_old errors_new status

@@ -102,8 +102,14 @@ IsGameRefused (Frame cart save out) why old new = (rom : List ℕ) × IsAccepted
 IsGameRefused (Trace cart save count) why old new = Keeps old new × ((rom : List ℕ) × IsAccepted rom)
 IsGameRefused request why old new = ⊥
 
--- the output failed on a ROM that is accepted; of a trace a proper prefix of its text went out, and before a picture the whole report
+-- the output failed on a ROM that is accepted; of a trace, or of the line of a new game, a proper prefix went out, and before a picture
+-- the whole report. The other requests have this failure with their text.
 abbrev pub IsOutputRefused : Request → Option (List ℕ) → Option (List ℕ) → Type 0
-IsOutputRefused (Trace cart save count) old new = (rom : List ℕ) × IsAccepted rom × OfATrace rom count (AppendsProperPrefix old new)
+IsOutputRefused (Info cart) old new = ⊥
+IsOutputRefused (Listing cart address count) old new = ⊥
+IsOutputRefused (Step cart count) old new = ⊥
+IsOutputRefused (New cart save sectors) old new = (rom : List ℕ) × IsAccepted rom × (need (text_length (ram_length_of rom)) ≤ sectors)
+    × AppendsProperPrefix old new (printed (New cart save sectors) rom)
+IsOutputRefused (Play cart save script) old new = ⊥
 IsOutputRefused (Frame cart save out) old new = (rom : List ℕ) × IsAccepted rom × IsReported [] old new
-IsOutputRefused request old new = (rom : List ℕ) × IsAccepted rom
+IsOutputRefused (Trace cart save count) old new = (rom : List ℕ) × IsAccepted rom × OfATrace rom count (AppendsProperPrefix old new)

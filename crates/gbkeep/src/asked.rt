@@ -1,8 +1,11 @@
 //! What the words of the program ask for.
 
-ghost use Rattle.std.specs.Prelude.{◌≡◌, ◌==◌, slice_index};
+ghost use Rattle.std.specs.Prelude.{◌≡◌, ◌==◌, List, map, slice_index};
 ghost use Rattle.std.specs.Option.{SomeIff};
 ghost use Rattle.std.specs.Str.Parse.{digits_value};
+ghost use Rattle.clap.specs.Words.{HasKind, fault_of, kind_of};
+ghost use Rattle.command_line.specs.Commands.{gbkeep as command};
+ghost use Rattle.command_line.specs.Words.{AskForSome, Word as WordText};
 ghost use Rattle.gbkeep.specs.Program.{IsReading};
 ghost use Rattle.gbkeep.specs.Request.{IsAddress};
 
@@ -21,13 +24,13 @@ pub(crate) enum Asked<'a> {
     Help(Error),
     /// Nothing that is understood; the text says why.
     Misuse(Error),
-    /// A value is missing or out of its range, which `clap` rules out.
+    /// No request of words that `clap` takes, which does not come.
     OutOfRange,
 }
 
 /// What the words ask for, the first of which is the program's own name. `Err`: `Memory`.
 pub(crate) fn asked_by<'a, S: AsStr>(alloc: Global, words: &'a [S]) -> Result<Asked<'a>, Fault>
-    ensures { IsReading result }
+    ensures { IsReading (map S.text words.entry.now) result }
 {
     match request_of(alloc, words) {
         Ok(Some(request)) => Ok(Asked::Command(request)),
@@ -38,7 +41,8 @@ pub(crate) fn asked_by<'a, S: AsStr>(alloc: Global, words: &'a [S]) -> Result<As
 
 /// What `clap` answers where it finds no request.
 fn read_error<'a>(error: Error) -> Result<Asked<'a>, Fault>
-    ensures { IsReading result }
+    ensures { (words : List WordText) → HasKind (fault_of command words) error
+        → (AskForSome words → kind_of error ≡ ErrorKind.OutOfMemory) → IsReading words result }
 {
     if error.kind() == ErrorKind::OutOfMemory {
         return Err(Fault::Memory);

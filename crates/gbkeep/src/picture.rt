@@ -1,6 +1,6 @@
 //! From ROM and script bytes to a report, a device and a picture.
 
-ghost use Rattle.std.specs.Prelude.{◌≡◌, ◌≢◌, IfOk, IfErr, OnOk, OnErr};
+ghost use Rattle.std.specs.Prelude.{◌≡◌, ◌≢◌, is_none, true, IfOk, IfErr, OnOk, OnErr};
 ghost use Rattle.std.specs.Io.KnownBytes.{Appends};
 ghost use Rattle.exact_text.specs.Written.{AppendsProperPrefix};
 ghost use Rattle.picture_unit.specs.Pgm.{picture_text};
@@ -36,6 +36,7 @@ pub fn play_to_picture<D: SectorDevice, W: Write, P: Write>(
     ensures playable { OnOk result (IsPlayable rom.items script.now) }
     ensures report { OnOk result (HasReported rom.items script.now (D.disk device) (W.contents report.old) (W.contents report.new)) }
     ensures cause { IfErr result (λ refused. IsPlayCause rom.items script.now device refused (D.disk device) (D.disk refused.device) (W.contents report.old) (W.contents report.new) refused.why) }
+    ensures undrawn { is_none out.entry ≡ true → IfErr result (λ refused. refused.why ≢ PlayError.Picture) }
 {
     if let Some(out) = out {
         return play_and_draw(alloc, device, rom, script, report, out);

@@ -1,7 +1,7 @@
 //! The program: words in, files and lines out.
 
-ghost use Rattle.std.specs.Prelude.{◌≡◌, ◌≤◌, IfErr};
-ghost use Rattle.gbkeep.specs.Program.{Ends, HasEnded, IsReading, IsServed, KeepsAtMisuse};
+ghost use Rattle.std.specs.Prelude.{◌≡◌, ◌≤◌, ◌⊎◌, IfErr, map};
+ghost use Rattle.gbkeep.specs.Program.{Ends, EndsOnSome, HasEnded, IsPossible, IsServed, KeepsAtMisuse};
 
 use crate::asked::{Asked, address_of, asked_by};
 use crate::bytes::{MOST_ROM, file_bytes};
@@ -26,7 +26,7 @@ pub fn run_program<R: Env + Files<File = File> + AllocGlobal, O: Write, E: Write
 ) -> u8
     ensures status { result ≤ 2 }
     ensures misuse { KeepsAtMisuse (O.contents out.old) (O.contents out.new) result }
-    ensures ends { Ends (O.contents out.old) (O.contents out.new) (E.contents err.old) (E.contents err.new) result }
+    ensures ends { EndsOnSome (O.contents out.old) (O.contents out.new) (E.contents err.old) (E.contents err.new) result }
 {
     match words(rt) {
         Ok(words) => run(rt, words.as_slice(), out, err),
@@ -35,7 +35,7 @@ pub fn run_program<R: Env + Files<File = File> + AllocGlobal, O: Write, E: Write
 }
 
 fn words<R: Env + AllocGlobal>(rt: &R) -> Result<Vec<String>, Fault>
-    ensures { IfErr result (λ fault. IsReading (Err fault)) }
+    ensures { IfErr result (λ fault. (fault ≡ Fault.Memory) ⊎ (fault ≡ Fault.Word)) }
 {
     match env::args(rt) {
         Ok(args) => args.collect(rt.alloc()).map_err(|_| Fault::Memory),
@@ -57,7 +57,7 @@ pub fn run<R: Files<File = File> + AllocGlobal, S: AsStr, O: Write, E: Write>(
 ) -> u8
     ensures status { result ≤ 2 }
     ensures misuse { KeepsAtMisuse (O.contents out.old) (O.contents out.new) result }
-    ensures ends { Ends (O.contents out.old) (O.contents out.new) (E.contents err.old) (E.contents err.new) result }
+    ensures ends { Ends (map S.text words.now) (O.contents out.old) (O.contents out.new) (E.contents err.old) (E.contents err.new) result }
 {
     answer(rt, asked_by(rt.alloc(), words), out, err)
 }
@@ -69,7 +69,7 @@ fn answer<R: Files<File = File> + AllocGlobal, O: Write, E: Write>(
     out: &mut O,
     err: &mut E,
 ) -> u8
-    requires { IsReading asked }
+    requires { IsPossible asked }
     ensures { HasEnded asked.entry (O.contents out.old) (O.contents out.new) (E.contents err.old) (E.contents err.new) result }
 {
     match asked {

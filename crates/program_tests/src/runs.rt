@@ -259,3 +259,60 @@ fn faults_are_one_line(rt: HostRuntime) -> Result<(), Fail> {
     }
     Ok(())
 }
+
+#[test]
+fn help_and_the_version_go_to_the_output(rt: HostRuntime) {
+    is_as_written(&rt, done(&["gbkeep", "--version"], "gbkeep 0.1.0\n"));
+    is_as_written(&rt, done(&["gbkeep", "-V"], "gbkeep 0.1.0\n"));
+    // the words, the status, and how the output and standard error begin
+    let asked: [(&[&str], u8, &str, &str); 5] = [
+        (&["gbkeep", "--help"], 0, "A Game Boy emulator", ""),
+        (&["gbkeep", "help", "step"], 0, "Prints the registers", ""),
+        (&["gbkeep", "step", "-h"], 0, "Prints the registers", ""),
+        (
+            &["gbkeep", "step", "rom.gb", "many"],
+            2,
+            "",
+            "error: invalid value 'many' for '<COUNT>'",
+        ),
+        (
+            &["gbkeep", "fly"],
+            2,
+            "",
+            "error: unrecognized subcommand 'fly'",
+        ),
+    ];
+    for (words, wanted, out_start, err_start) in asked {
+        let mut out = Vec::new(rt.alloc());
+        let mut err = Vec::new(rt.alloc());
+        let status = run(&rt, words, &mut out, &mut err);
+        assert_eq!(rt; status, wanted);
+        assert!(rt; begins(&out, out_start) && begins(&err, err_start));
+    }
+}
+
+// The text begins so, and is empty where nothing is wanted.
+fn begins(text: &[u8], start: &str) -> bool {
+    text.starts_with(start.as_bytes()) && text.is_empty() == start.is_empty()
+}
+
+#[test]
+fn behind_two_hyphens_a_word_is_a_path(rt: HostRuntime) -> Result<(), Fail> {
+    fs::write(
+        &rt,
+        "-plain.gb",
+        rom(rt.alloc(), &[0x3e, 0x05], &[])?.as_slice(),
+    )?;
+    is_as_written(
+        &rt,
+        done(
+            &["gbkeep", "list", "--", "-plain.gb", "100", "+1"],
+            "0100 3E05   LD A,05\n",
+        ),
+    );
+    is_as_written(
+        &rt,
+        refused(&["gbkeep", "info", "-"], 1, "gbkeep: file failed\n"),
+    );
+    Ok(())
+}

@@ -7,6 +7,8 @@ mod banks;
 #[cfg(test)]
 mod cartridges;
 #[cfg(test)]
+mod hand_drawn;
+#[cfg(test)]
 mod instructions;
 #[cfg(test)]
 mod lines;

@@ -266,3 +266,36 @@ fn colours_and_shades(rt: HostRuntime) -> Result<(), Fail> {
     assert_eq!(rt; shades, [3, 2, 1, 0, 0, 1, 2, 3, 3, 3, 2, 2, 1, 1, 0, 0, 2]);
     Ok(())
 }
+
+// Lines of the window at WX, off or beyond the screen, and the shade of its first pixel: rows of tile 1 are of colour 1, 2, 3, 0 and so on.
+#[test]
+fn window_lines_are_counted_where_it_is_drawn(rt: HostRuntime) -> Result<(), Fail> {
+    let mut picture = off(rt.alloc())?;
+    for row in 0..8 {
+        let colour = (row + 1) % 4;
+        picture.write_vram(16 + 2 * row, if colour % 2 == 1 { 0xff } else { 0 });
+        picture.write_vram(17 + 2 * row, if colour / 2 == 1 { 0xff } else { 0 });
+    }
+    picture.write_register(0xff4a, 1);
+    picture.write_register(0xff40, 0xf1);
+    // LCDC and WX of lines 0 to 6, the shade at the left, and the counter behind the line
+    let lines = [
+        (0xf1, 7, 0, 0),
+        (0xf1, 7, 1, 1),
+        (0xd1, 7, 0, 1),
+        (0xf1, 167, 0, 1),
+        (0xf1, 0, 2, 2),
+        (0xf0, 7, 0, 2),
+        (0xf1, 3, 3, 3),
+    ];
+    for (line, (lcdc, wx, shade, counter)) in lines.into_iter().enumerate() {
+        picture.write_register(0xff40, lcdc);
+        picture.write_register(0xff4b, wx);
+        picture.pass(114);
+        assert_eq!(rt; picture.row(line)[0], shade, "line {line}");
+        assert_eq!(rt; picture.state().window_line, counter, "line {line}");
+    }
+    picture.pass(147 * 114);
+    assert_eq!(rt; picture.state().window_line, 0);
+    Ok(())
+}

@@ -1,0 +1,200 @@
+-- What a command makes of its operands, and when it refuses them.
+use Rattle.std.proofs.Common.{◌≡◌, ◌∙◌, Bool, true, false, refl, sym, ap, ap₂, List, [], ◌∷◌, Some, None, cond, subst}
+use Rattle.std.specs.Prelude.{fold}
+use Rattle.std.specs.List.{list_all}
+use Rattle.clap.specs.Faults.{check_fault, defaults_fault, level_fault, settle_fault, walk_fault}
+use Rattle.clap.specs.declared.error.kind.ErrorKind.{ErrorKind}
+use Rattle.clap.specs.Kinds.{Kinds, or_else, value_kinds}
+use Rattle.clap.specs.Values.{Accepts, refused_kind}
+use Rattle.clap.specs.ValueTests.{accepts}
+use Rattle.clap.specs.declared.builder.value_parser.ValueParser.{ValueParser}
+use Rattle.clap.proofs.ValueTestLemmas.{Accepts-accepts, accepts-Accepts}
+use Rattle.clap.specs.Simple.{App, Shape, built_leaf, inherited, marked_built, on_top, with_leaf_noted}
+use Rattle.std.specs.Prelude.{pos}
+use Rattle.clap.specs.declared.builder.value_parser.ValueParser.TheVariants.{Signed}
+use Rattle.clap.specs.Walk.{Held, Row, Text, finished, nothing_held, rows_after, settled, walked}
+use Rattle.command_line.specs.Commands.{IsFrameRow, IsInfoRow, IsListRow, IsNewRow, IsPlayRow, IsStepRow, IsTraceRow, frame, gbkeep, info, list, new, play, step, trace}
+use Rattle.command_line.specs.Words.{operands_of}
+use Rattle.command_line.proofs.Walks.{Fails, Follows, at, follows, first_fails, is_plain_rule}
+
+-- a command as it is built
+abbrev pub leaf : App → Shape
+leaf a = built_leaf (inherited (on_top with_leaf_noted (on_top marked_built gbkeep)).top a.top)
+
+-- what is held behind these operands
+abbrev pub held_after : Shape → List Text → Held
+held_after s operands = (fold (walked s.rules []) (at [] None 1 true) operands).held
+
+abbrev pub leaf_fault : Shape → List Text → Kinds
+leaf_fault s operands = or_else (walk_fault s [] (at [] None 1 true) operands)
+    (or_else (settle_fault s.rules s.args_override_self (held_after s operands))
+    (or_else (defaults_fault (settled s.rules (held_after s operands)).rows s.rules) (check_fault s (finished s.rules (held_after s operands)) false)))
+
+module _ (s : Shape) (rules : list_all is_plain_rule s.rules ≡ true) (words : List Text) where
+  pub refused_without : operands_of words ≡ None → Fails (level_fault s [] nothing_held words false [])
+  refused_without none = first_fails _ _ (subst (Follows s rules [] None 1 words) none (follows s rules words [] None 1))
+
+  pub fault_is : (operands : List Text) → operands_of words ≡ Some operands → level_fault s [] nothing_held words false [] ≡ leaf_fault s operands
+  fault_is operands is =
+      let both = subst (Follows s rules [] None 1 words) is (follows s rules words [] None 1) in
+      ap₂ (λ (k : Kinds) (h : Held). or_else k (or_else (settle_fault s.rules s.args_override_self h)
+      (or_else (defaults_fault (settled s.rules h).rows s.rules) (check_fault s (finished s.rules h) false)))) both.0 both.1
+
+  pub rows_are : (operands : List Text) → operands_of words ≡ Some operands → rows_after s.rules [] words ≡ finished s.rules (held_after s operands)
+  rows_are operands is = ap (finished s.rules) (subst (Follows s rules [] None 1 words) is (follows s rules words [] None 1)).1
+
+pub or_nothing : (k : Kinds) → or_else k [] ≡ k
+or_nothing [] = refl
+or_nothing (x ∷ xs) = refl
+
+-- a value that is refused, and one that is not
+kinds_of : (p : ValueParser) (word : Text) → value_kinds false p word ≡ [] → accepts false p word ≡ true
+kinds_of p word none = go (accepts false p word) none
+  where
+    go : (b : Bool) → cond b [] (refused_kind p ∷ []) ≡ [] → b ≡ true
+    go true e = refl
+    go false e = cc
+
+no_kinds : (p : ValueParser) (word : Text) → accepts false p word ≡ true → value_kinds false p word ≡ []
+no_kinds p word e = rw e refl
+
+refuses : {k : ErrorKind} {rest : Kinds} → k ∷ rest ≡ [] → ⊥
+refuses e = cc
+
+-- what the operands of a command have to be that refuses nothing
+abbrev pub Wants : Shape → (List Row → List Text → Type 0) → Type 0
+Wants s IsRow = (operands : List Text) → leaf_fault s operands ≡ [] → IsRow (finished s.rules (held_after s operands)) operands
+
+-- `info`
+pub info_is_plain : list_all is_plain_rule (leaf info).rules ≡ true
+info_is_plain = refl
+
+info_fault : (first : Text) → leaf_fault (leaf info) (first ∷ []) ≡ []
+unfolding walked walk_fault defaults_fault
+info_fault first = refl
+
+pub info_passes : (first : Text) → leaf_fault (leaf info) (first ∷ []) ≡ []
+info_passes first = info_fault first
+
+pub info_wants : Wants (leaf info) IsInfoRow
+unfolding walked walk_fault defaults_fault
+info_wants [] none = absurd (refuses none)
+info_wants (first ∷ []) none = (first, refl, refl)
+info_wants (first ∷ more ∷ rest) none = absurd (refuses none)
+
+-- `list`
+pub list_is_plain : list_all is_plain_rule (leaf list).rules ≡ true
+list_is_plain = refl
+
+list_fault : (first second third : Text) → leaf_fault (leaf list) (first ∷ second ∷ third ∷ []) ≡ value_kinds false (Signed (pos 1) (pos 4096)) third
+unfolding walked walk_fault defaults_fault
+list_fault first second third = or_nothing _ ∙ or_nothing _
+
+pub list_passes : (first second third : Text) → Accepts false (Signed (pos 1) (pos 4096)) third → leaf_fault (leaf list) (first ∷ second ∷ third ∷ []) ≡ []
+list_passes first second third h = list_fault first second third ∙ no_kinds (Signed (pos 1) (pos 4096)) third (Accepts-accepts false (Signed (pos 1) (pos 4096)) third h)
+
+pub list_wants : Wants (leaf list) IsListRow
+unfolding walked walk_fault defaults_fault
+list_wants [] none = absurd (refuses none)
+list_wants (first ∷ []) none = absurd (refuses none)
+list_wants (first ∷ second ∷ []) none = absurd (refuses none)
+list_wants (first ∷ second ∷ third ∷ []) none =
+    (first, second, third, refl, refl, refl, (refl, accepts-Accepts false (Signed (pos 1) (pos 4096)) third (kinds_of (Signed (pos 1) (pos 4096)) third (sym (list_fault first second third) ∙ none))))
+list_wants (first ∷ second ∷ third ∷ more ∷ rest) none = absurd (refuses none)
+
+-- `step`
+pub step_is_plain : list_all is_plain_rule (leaf step).rules ≡ true
+step_is_plain = refl
+
+step_fault : (first second : Text) → leaf_fault (leaf step) (first ∷ second ∷ []) ≡ value_kinds false (Signed (pos 0) (pos 1000000)) second
+unfolding walked walk_fault defaults_fault
+step_fault first second = or_nothing _ ∙ or_nothing _
+
+pub step_passes : (first second : Text) → Accepts false (Signed (pos 0) (pos 1000000)) second → leaf_fault (leaf step) (first ∷ second ∷ []) ≡ []
+step_passes first second h = step_fault first second ∙ no_kinds (Signed (pos 0) (pos 1000000)) second (Accepts-accepts false (Signed (pos 0) (pos 1000000)) second h)
+
+pub step_wants : Wants (leaf step) IsStepRow
+unfolding walked walk_fault defaults_fault
+step_wants [] none = absurd (refuses none)
+step_wants (first ∷ []) none = absurd (refuses none)
+step_wants (first ∷ second ∷ []) none =
+    (first, second, refl, refl, (refl, accepts-Accepts false (Signed (pos 0) (pos 1000000)) second (kinds_of (Signed (pos 0) (pos 1000000)) second (sym (step_fault first second) ∙ none))))
+step_wants (first ∷ second ∷ more ∷ rest) none = absurd (refuses none)
+
+-- `new`
+pub new_is_plain : list_all is_plain_rule (leaf new).rules ≡ true
+new_is_plain = refl
+
+new_fault : (first second third : Text) → leaf_fault (leaf new) (first ∷ second ∷ third ∷ []) ≡ value_kinds false (Signed (pos 1) (pos 65536)) third
+unfolding walked walk_fault defaults_fault
+new_fault first second third = or_nothing _ ∙ or_nothing _
+
+pub new_passes : (first second third : Text) → Accepts false (Signed (pos 1) (pos 65536)) third → leaf_fault (leaf new) (first ∷ second ∷ third ∷ []) ≡ []
+new_passes first second third h = new_fault first second third ∙ no_kinds (Signed (pos 1) (pos 65536)) third (Accepts-accepts false (Signed (pos 1) (pos 65536)) third h)
+
+pub new_wants : Wants (leaf new) IsNewRow
+unfolding walked walk_fault defaults_fault
+new_wants [] none = absurd (refuses none)
+new_wants (first ∷ []) none = absurd (refuses none)
+new_wants (first ∷ second ∷ []) none = absurd (refuses none)
+new_wants (first ∷ second ∷ third ∷ []) none =
+    (first, second, third, refl, refl, refl, (refl, accepts-Accepts false (Signed (pos 1) (pos 65536)) third (kinds_of (Signed (pos 1) (pos 65536)) third (sym (new_fault first second third) ∙ none))))
+new_wants (first ∷ second ∷ third ∷ more ∷ rest) none = absurd (refuses none)
+
+-- `play`
+pub play_is_plain : list_all is_plain_rule (leaf play).rules ≡ true
+play_is_plain = refl
+
+play_fault : (first second third : Text) → leaf_fault (leaf play) (first ∷ second ∷ third ∷ []) ≡ []
+unfolding walked walk_fault defaults_fault
+play_fault first second third = refl
+
+pub play_passes : (first second third : Text) → leaf_fault (leaf play) (first ∷ second ∷ third ∷ []) ≡ []
+play_passes first second third = play_fault first second third
+
+pub play_wants : Wants (leaf play) IsPlayRow
+unfolding walked walk_fault defaults_fault
+play_wants [] none = absurd (refuses none)
+play_wants (first ∷ []) none = absurd (refuses none)
+play_wants (first ∷ second ∷ []) none = absurd (refuses none)
+play_wants (first ∷ second ∷ third ∷ []) none = (first, second, third, refl, refl, refl, refl)
+play_wants (first ∷ second ∷ third ∷ more ∷ rest) none = absurd (refuses none)
+
+-- `frame`
+pub frame_is_plain : list_all is_plain_rule (leaf frame).rules ≡ true
+frame_is_plain = refl
+
+frame_fault : (first second third : Text) → leaf_fault (leaf frame) (first ∷ second ∷ third ∷ []) ≡ []
+unfolding walked walk_fault defaults_fault
+frame_fault first second third = refl
+
+pub frame_passes : (first second third : Text) → leaf_fault (leaf frame) (first ∷ second ∷ third ∷ []) ≡ []
+frame_passes first second third = frame_fault first second third
+
+pub frame_wants : Wants (leaf frame) IsFrameRow
+unfolding walked walk_fault defaults_fault
+frame_wants [] none = absurd (refuses none)
+frame_wants (first ∷ []) none = absurd (refuses none)
+frame_wants (first ∷ second ∷ []) none = absurd (refuses none)
+frame_wants (first ∷ second ∷ third ∷ []) none = (first, second, third, refl, refl, refl, refl)
+frame_wants (first ∷ second ∷ third ∷ more ∷ rest) none = absurd (refuses none)
+
+-- `trace`
+pub trace_is_plain : list_all is_plain_rule (leaf trace).rules ≡ true
+trace_is_plain = refl
+
+trace_fault : (first second third : Text) → leaf_fault (leaf trace) (first ∷ second ∷ third ∷ []) ≡ value_kinds false (Signed (pos 1) (pos 1024)) third
+unfolding walked walk_fault defaults_fault
+trace_fault first second third = or_nothing _ ∙ or_nothing _
+
+pub trace_passes : (first second third : Text) → Accepts false (Signed (pos 1) (pos 1024)) third → leaf_fault (leaf trace) (first ∷ second ∷ third ∷ []) ≡ []
+trace_passes first second third h = trace_fault first second third ∙ no_kinds (Signed (pos 1) (pos 1024)) third (Accepts-accepts false (Signed (pos 1) (pos 1024)) third h)
+
+pub trace_wants : Wants (leaf trace) IsTraceRow
+unfolding walked walk_fault defaults_fault
+trace_wants [] none = absurd (refuses none)
+trace_wants (first ∷ []) none = absurd (refuses none)
+trace_wants (first ∷ second ∷ []) none = absurd (refuses none)
+trace_wants (first ∷ second ∷ third ∷ []) none =
+    (first, second, third, refl, refl, refl, (refl, accepts-Accepts false (Signed (pos 1) (pos 1024)) third (kinds_of (Signed (pos 1) (pos 1024)) third (sym (trace_fault first second third) ∙ none))))
+trace_wants (first ∷ second ∷ third ∷ more ∷ rest) none = absurd (refuses none)

@@ -1,0 +1,5 @@
+pub mod Building
+pub mod Getters
+pub mod Leaves
+pub mod Tops
+pub mod Walks

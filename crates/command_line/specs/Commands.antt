@@ -1,0 +1,119 @@
+-- The commands as `clap` has them: what its contracts read of a command that is built. Of what `request_of` says, only the kind of an error
+-- is stated through it; `Words.antt` says which words ask for what.
+use Rattle.std.specs.Prelude.{◌≡◌, ◌⊎◌, ℕ, List, [], ◌∷◌, Option, Some, pos, codes, true, false}
+use Rattle.clap.specs.Words.{Accepts, App, Row, Rule, Text, app_of, first_of, new_app, new_rule, one_of, rule_of, with_rule, with_subcommand, without_minus}
+use Rattle.clap.specs.declared.builder.arg.Arg.{Arg}
+use Rattle.clap.specs.declared.builder.command.Command.{Command}
+use Rattle.clap.specs.declared.builder.command.Command.TheViews.{out-Command}
+use Rattle.clap.specs.declared.builder.value_parser.ValueParser.TheVariants.{Signed}
+use Rattle.command_line.specs.Words.{IsCommand, Word}
+
+-- an operand that has to be there
+abbrev pub operand : Text → Rule
+operand id = record (new_rule id) { required = true }
+
+-- one that is a decimal number in a range
+abbrev pub number : Text → ℕ → ℕ → Rule
+number id least most = record (operand id) { parser = Some (Signed (pos least) (pos most)) }
+
+abbrev pub cart_rule : Rule
+cart_rule = operand (codes "CART")
+
+abbrev pub save_rule : Rule
+save_rule = operand (codes "SAVE")
+
+abbrev pub over_cart : Text → App
+over_cart name = with_rule (new_app name) cart_rule
+
+abbrev pub over_save : Text → App
+over_save name = with_rule (over_cart name) save_rule
+
+abbrev pub info : App
+info = over_cart (codes "info")
+
+abbrev pub list : App
+list = with_rule (with_rule (over_cart (codes "list")) (operand (codes "ADDR"))) (number (codes "COUNT") 1 4096)
+
+abbrev pub step : App
+step = with_rule (over_cart (codes "step")) (number (codes "COUNT") 0 1000000)
+
+abbrev pub new : App
+new = with_rule (over_save (codes "new")) (number (codes "SECTORS") 1 65536)
+
+abbrev pub play : App
+play = with_rule (over_save (codes "play")) (operand (codes "SCRIPT"))
+
+abbrev pub frame : App
+frame = with_rule (over_save (codes "frame")) (operand (codes "OUT"))
+
+abbrev pub trace : App
+trace = with_rule (over_save (codes "trace")) (number (codes "COUNT") 1 1024)
+
+abbrev pub bare : App
+bare = let named = new_app (codes "gbkeep") in record named { top = record named.top { has_version = true; subcommand_required = true } }
+
+-- the whole program's
+abbrev pub gbkeep : App
+gbkeep = with_subcommand (with_subcommand (with_subcommand (with_subcommand (with_subcommand (with_subcommand (with_subcommand bare
+    info.top) list.top) step.top) new.top) play.top) frame.top) trace.top
+
+-- a command that `clap` reads so, none of whose operands is global
+pub record Reads (app : App) (command : Command) : Type 0 where
+  pub shape : app_of command ≡ app
+  pub local : (out-Command command).has_globals ≡ false
+
+-- an operand that `clap` reads so
+pub record ReadsOperand (rule : Rule) (arg : Arg) : Type 0 where
+  pub rule_is : rule_of arg ≡ rule
+  pub local : arg.global ≡ false
+
+-- ---- what the matches of a command hold
+
+abbrev pub HasOperand : List Row → Word → Word → Type 0
+HasOperand rows id word = first_of id rows ≡ Some word
+
+-- a number in a range, as a typed getter reads it
+abbrev pub HasNumber : List Row → Word → ℕ → ℕ → Word → Type 0
+HasNumber rows id least most word = (one_of id rows ≡ Some (without_minus word)) × Accepts false (Signed (pos least) (pos most)) word
+
+abbrev pub IsInfoRow : List Row → List Word → Type 0
+IsInfoRow rows operands = (first : Word) × (operands ≡ first ∷ []) × HasOperand rows (codes "CART") first
+
+abbrev pub IsListRow : List Row → List Word → Type 0
+IsListRow rows operands = (first second third : Word) × (operands ≡ first ∷ second ∷ third ∷ [])
+    × HasOperand rows (codes "CART") first × HasOperand rows (codes "ADDR") second × HasNumber rows (codes "COUNT") 1 4096 third
+
+abbrev pub IsStepRow : List Row → List Word → Type 0
+IsStepRow rows operands = (first second : Word) × (operands ≡ first ∷ second ∷ [])
+    × HasOperand rows (codes "CART") first × HasNumber rows (codes "COUNT") 0 1000000 second
+
+abbrev pub IsNewRow : List Row → List Word → Type 0
+IsNewRow rows operands = (first second third : Word) × (operands ≡ first ∷ second ∷ third ∷ [])
+    × HasOperand rows (codes "CART") first × HasOperand rows (codes "SAVE") second × HasNumber rows (codes "SECTORS") 1 65536 third
+
+abbrev pub IsPlayRow : List Row → List Word → Type 0
+IsPlayRow rows operands = (first second third : Word) × (operands ≡ first ∷ second ∷ third ∷ [])
+    × HasOperand rows (codes "CART") first × HasOperand rows (codes "SAVE") second × HasOperand rows (codes "SCRIPT") third
+
+abbrev pub IsFrameRow : List Row → List Word → Type 0
+IsFrameRow rows operands = (first second third : Word) × (operands ≡ first ∷ second ∷ third ∷ [])
+    × HasOperand rows (codes "CART") first × HasOperand rows (codes "SAVE") second × HasOperand rows (codes "OUT") third
+
+abbrev pub IsTraceRow : List Row → List Word → Type 0
+IsTraceRow rows operands = (first second third : Word) × (operands ≡ first ∷ second ∷ third ∷ [])
+    × HasOperand rows (codes "CART") first × HasOperand rows (codes "SAVE") second × HasNumber rows (codes "COUNT") 1 1024 third
+
+-- this command was named, with these operands, and its matches hold them
+abbrev pub IsMatched : Word → List Row → List Word → Type 0
+IsMatched name rows operands = ((name ≡ codes "info") × IsInfoRow rows operands)
+    ⊎ ((name ≡ codes "list") × IsListRow rows operands)
+    ⊎ ((name ≡ codes "step") × IsStepRow rows operands)
+    ⊎ ((name ≡ codes "new") × IsNewRow rows operands)
+    ⊎ ((name ≡ codes "play") × IsPlayRow rows operands)
+    ⊎ ((name ≡ codes "frame") × IsFrameRow rows operands)
+    ⊎ ((name ≡ codes "trace") × IsTraceRow rows operands)
+
+-- the words are a command with its operands, and the matches of a subcommand hold them
+abbrev pub IsRead : List Word → Option (Word × List Row) → Type 0
+IsRead words subcommand = (name : Word) × (rows : List Row) × (operands : List Word) × (subcommand ≡ Some (name, rows))
+    × IsCommand words name operands × IsMatched name rows operands

@@ -1,0 +1,15 @@
+use Rattle.std.proofs.Common.{[], Err, inl, inr, subst}
+use Rattle.gbkeep.specs.Program.{HasEnded}
+use Rattle.gbkeep.specs.declared.fault.Fault.{Fault}
+use Rattle.gbkeep.specs.declared.fault.Fault.TheVariants.{Memory}
+use Rattle.gbkeep.proofs.program.run_program.Goals as goal
+
+-- where memory was wanted for the words, they may have been any
+pub returns-in-Err-clause-ends : goal.returns-in-Err-clause-ends
+returns-in-Err-clause-ends g c =
+    let Ended = λ (fault : Fault). HasEnded (Err fault) (g.O.Write.contents c.args.out.now) (g.O.Write.contents c.answer.new.out) (g.E.Write.contents c.args.err.now)
+    (g.E.Write.contents c.answer.new.err) c.answer.result in
+    elim c.in-Err.ensures [
+      | inl memory ↦ inl ([], (Err Memory, tt, subst Ended memory c.answer.ensures))
+      | inr word ↦ inr (subst Ended word c.answer.ensures)
+    ]
