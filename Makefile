@@ -16,7 +16,7 @@ help:
 	@echo 'make compare         compares the program with a second one, in Python, on random ROMs (SECONDS=20 a kind)'
 	@echo 'make hostile         gives the program damaged files and wrong scripts, kills it, and looks what is left (SECONDS=20 a kind)'
 	@echo 'make demo            plays a minute of the demo cartridge and leaves bin/demo.sav, bin/demo.pgm and bin/demo.png (a second)'
-	@echo 'make memory          refuses each allocation of each command in turn (a minute; needs a C compiler)'
+	@echo 'make memory          refuses each allocation of the program and of the calls that take memory, in turn (20 seconds once both are built; needs a C compiler)'
 	@echo 'make test            the gate: proves everything from nothing, runs the tests and programs (two hours)'
 
 ARGS ?= step data/rom.gb 2
@@ -54,6 +54,7 @@ bench:
 	cd crates/bench && $(RT) run -- units
 	cd crates/bench && $(RT) run -- snapshots
 	cd crates/bench && $(RT) run -- storage
+	cd crates/bench && RT_SECONDS=600 $(RT) run -- sessions
 
 SECONDS ?= 20
 
@@ -71,7 +72,8 @@ demo: bin/gbkeep
 	python3 -B scripts/png.py bin/demo.pgm bin/demo.png
 
 memory: bin/gbkeep
-	python3 -B scripts/refused_memory/refused_memory.py bin/gbkeep
+	cd crates/refused_memory && $(RT) run > /dev/null
+	python3 -B scripts/second_storage/refused_memory.py bin/gbkeep crates/refused_memory/out/refused_memory
 
 test:
 	RT=$(RT) sh scripts/opened_has_no_append.sh
@@ -80,5 +82,6 @@ test:
 	$(RT) ci
 	python3 -B scripts/second_storage/hostile.py $(PROGRAM)/out/gbkeep_program 4 1
 	python3 -B examples/demo/check.py $(PROGRAM)/out/gbkeep_program
+	python3 -B scripts/second_storage/refused_memory.py $(PROGRAM)/out/gbkeep_program crates/refused_memory/out/refused_memory
 
 .PHONY: help run build install check edits bench compare hostile demo memory test

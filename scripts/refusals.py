@@ -6,7 +6,7 @@ import re
 import sys
 from pathlib import Path
 
-PROGRAMS = {'bench', 'gbkeep_program'}
+PROGRAMS = {'bench', 'gbkeep_program', 'refused_memory'}
 
 
 def is_library(crate):

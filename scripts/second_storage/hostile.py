@@ -5,8 +5,10 @@ usage: hostile.py GBKEEP SECONDS [SEED]    each kind for so many seconds, from a
 
 Kinds: saves (random games, damaged in random places), scripts (random scripts, some of them wrong), bytes (arbitrary bytes as ROM,
 save file and script), kills (a play is killed at a random moment, and taken up again), holds (a save file that another process
-holds). The status is 1 where anything differs, where gbkeep dies by a signal, or where it takes longer than 10 seconds."""
-import fcntl, os, random, shutil, signal, subprocess, sys, tempfile, time
+holds), places (no plain file, no room or no leave where one is wanted), pipes (an output that nobody reads to its end, or that has no
+room), shrinks (a save file that another process cuts while it is played), names (OUT is SAVE by another name), closed (a standard
+stream is closed). The status is 1 where anything differs, where gbkeep dies by a signal, or where it takes longer than 10 seconds."""
+import fcntl, os, random, resource, shutil, signal, subprocess, sys, tempfile, time
 import save_files as ref
 
 GB = os.path.abspath(sys.argv[1]) if len(sys.argv) > 1 else ''
@@ -22,9 +24,9 @@ def differs(kind, seed, what):
     print('DIFFERS kind=%s seed=%d %s' % (kind, seed, what), flush=True)
 
 
-def gbkeep(*words):
+def gbkeep(*words, **how):
     """Status, output and errors; a status below 0 is a signal."""
-    done = subprocess.run([GB] + list(words), capture_output=True, timeout=10)
+    done = subprocess.run([GB] + list(words), capture_output=True, timeout=10, **how)
     return done.returncode, done.stdout, done.stderr
 
 
@@ -328,7 +330,253 @@ def holds(rnd, seed):
         differs('holds', seed, 'refused when it is free again')
 
 
-KINDS = {'saves': saves, 'scripts': scripts, 'bytes': arbitrary, 'kills': kills, 'holds': holds}
+# ---- what no plain file is
+
+def short_script(rnd):
+    """Its last line leaves an input, so that another game is left than before."""
+    return random_script(rnd, 30).rstrip(b'\n') + b'\nsave\nframe 01\n'
+
+
+def a_game(rnd):
+    """A game with some inputs: its cartridge and its save file."""
+    rom = random_rom(rnd)
+    cart = ref.Cartridge(rom)
+    new_game(rnd, rom, cart)
+    put(SCRIPT, short_script(rnd))
+    gbkeep('play', CART, SAVE, SCRIPT)
+    put(SCRIPT, b'frame 00\n')
+    return cart, get(SAVE)
+
+
+def count_of(image, cart):
+    game = ref.Game(image, cart)
+    game.resume()
+    return game.count
+
+
+def gone(path):
+    """Removes what stands there."""
+    if os.path.isdir(path) and not os.path.islink(path):
+        os.rmdir(path)
+    elif os.path.lexists(path):
+        os.remove(path)
+
+
+def with_room(most):
+    """Files end there, as on a full disk."""
+    def limit():
+        signal.signal(signal.SIGXFSZ, signal.SIG_IGN)
+        resource.setrlimit(resource.RLIMIT_FSIZE, (most, most))
+    return {'preexec_fn': limit}
+
+
+def as_nobody():
+    """Without root's leave to write everywhere."""
+    if os.geteuid() != 0:
+        return {}
+    own = os.path.join(ROOM, 'gbkeep')
+    if not os.path.exists(own):
+        shutil.copy(GB, own)
+        os.chmod(ROOM, 0o755)
+    return {'executable': own, 'user': 65534, 'group': 65534, 'extra_groups': []}
+
+
+def refuses(kind, seed, image, want, *words, **how):
+    """It answers so, and SAVE, where it is a plain file, has not one other byte."""
+    got = gbkeep(*words, **how)
+    left = get(SAVE) if os.path.isfile(SAVE) and not os.path.islink(SAVE) else image
+    if got != (1, b'', line(want)) or left != image:
+        differs(kind, seed, '%s: %r, SAVE %s' % (words, got, 'as it was' if left == image else 'changed'))
+
+
+def no_save_file(rnd, seed, image):
+    """What stands at SAVE is no plain file: a folder, a pipe, a device."""
+    def all_refuse(save):
+        refuses('places', seed, image, 'device failed', 'play', CART, save, SCRIPT)
+        refuses('places', seed, image, 'device failed', 'frame', CART, save, OUT)
+        refuses('places', seed, image, 'device failed', 'trace', CART, save, '1')
+        refuses('places', seed, image, 'device failed', 'new', CART, save, '300')
+
+    gone(SAVE)
+    os.mkdir(SAVE)
+    all_refuse(SAVE)
+    gone(SAVE)
+    os.mkfifo(SAVE)
+    all_refuse(SAVE)
+    gone(SAVE)
+    os.symlink(os.path.join(ROOM, 'nothing'), SAVE)
+    all_refuse(SAVE)
+    if os.path.exists(os.path.join(ROOM, 'nothing')):
+        differs('places', seed, 'a file was made behind a link')
+    gone(SAVE)
+    for save in ('/dev/null', '/dev/full', '/dev/zero', os.path.join(ROOM, 'missing', 'game.save')):
+        all_refuse(save)
+    put(SAVE, image)
+
+
+def no_leave(seed, image):
+    """SAVE may only be read; then its folder too."""
+    os.chmod(SAVE, 0o444)
+    for words in (('play', CART, SAVE, SCRIPT), ('frame', CART, SAVE, OUT), ('trace', CART, SAVE, '1')):
+        refuses('places', seed, image, 'device failed', *words, **as_nobody())
+    os.chmod(SAVE, 0o644)
+    if os.geteuid() == 0:
+        other = os.path.join(ROOM, 'other.save')
+        refuses('places', seed, image, 'device failed', 'new', CART, other, '300', **as_nobody())
+        if os.path.exists(other):
+            differs('places', seed, 'a file was made without leave')
+
+
+def other_files(seed, image):
+    """CART, SCRIPT or OUT is no file that can be read or made."""
+    folder = os.path.join(ROOM, 'folder')
+    os.makedirs(folder, exist_ok=True)
+    for path in (folder, os.path.join(folder, 'missing')):
+        refuses('places', seed, image, 'file failed', 'play', path, SAVE, SCRIPT)
+        refuses('places', seed, image, 'file failed', 'play', CART, SAVE, path)
+        refuses('places', seed, image, 'file failed', 'info', path)
+    for path in (folder, os.path.join(folder, 'missing', 'out.pgm'), os.path.join(CART, 'out.pgm')):
+        refuses('places', seed, image, 'file failed', 'frame', CART, SAVE, path)
+    refuses('places', seed, image, 'rom length 8388609', 'play', '/dev/zero', SAVE, SCRIPT)
+    refuses('places', seed, image, 'script line 0', 'play', CART, SAVE, '/dev/zero')
+
+
+def links(rnd, seed, image, cart):
+    """A game behind a link of either kind is played as any other."""
+    target = os.path.join(ROOM, 'target.save')
+    for link in (os.symlink, os.link):
+        gone(SAVE)
+        put(target, image)
+        link(target, SAVE)
+        refuses('places', seed, image, 'device failed', 'new', CART, SAVE, '300')
+        compare_play('places', seed, image, cart, short_script(rnd), 'behind a link')
+        if get(target) != get(SAVE) or not os.path.samefile(target, SAVE):
+            differs('places', seed, 'the link is another file')
+    gone(SAVE)
+    gone(target)
+    put(SAVE, image)
+
+
+def full_disk(rnd, seed, image, cart):
+    """Where the disk is full no file is left of `new`, and a play keeps what it told."""
+    other = os.path.join(ROOM, 'other.save')
+    room = rnd.choice([0, 1, 511, 512, len(image) - 1, rnd.randrange(len(image))])
+    refuses('places', seed, image, 'device failed', 'new', CART, other, str(len(image) // 512), **with_room(room))
+    if os.path.exists(other):
+        differs('places', seed, 'a file is left where there was no room')
+    before = count_of(image, cart)
+    script = short_script(rnd)
+    put(SCRIPT, script)
+    status, out, err = gbkeep('play', CART, SAVE, SCRIPT, **with_room(rnd.choice([0, 512, 1024, rnd.randrange(len(image))])))
+    told = [int(one.split(b' ')[1]) for one in out.split(b'\n')[:-1]]
+    given = before + sum(len(ref.inputs_of(move)) for move in ref.moves_of(script))
+    count = count_of(get(SAVE), cart)
+    answers = (status, err) in ((1, line('device failed')), (0, b''))
+    if not answers or not max([before] + told) <= count <= given or status == 0 and count != given:
+        differs('places', seed, 'on a full disk: %r, %d inputs, %d told' % ((status, out[-60:], err), count, max([before] + told)))
+    compare_play('places', seed, get(SAVE), cart, short_script(rnd), 'after a full disk')
+    put(SAVE, image)
+    status, out, err = gbkeep('frame', CART, SAVE, '/dev/full')
+    if (status, out, err) != (1, b'resumed %d\n' % before, line('output failed')) or count_of(get(SAVE), cart) != before:
+        differs('places', seed, 'frame to a full disk: %r' % ((status, out, err),))
+
+
+def places(rnd, seed):
+    cart, image = a_game(rnd)
+    no_save_file(rnd, seed, image)
+    no_leave(seed, image)
+    other_files(seed, image)
+    links(rnd, seed, image, cart)
+    full_disk(rnd, seed, image, cart)
+
+
+def pipes(rnd, seed):
+    """Standard output is a pipe that nobody reads, or not to its end, or a device without room."""
+    cart, image = a_game(rnd)
+    before = count_of(image, cart)
+    other = os.path.join(ROOM, 'other.save')
+    for words in (('info', CART), ('list', CART, '0', '4096'), ('step', CART, '3'), ('trace', CART, SAVE, '9'), ('play', CART, SAVE, SCRIPT),
+                  ('frame', CART, SAVE, OUT), ('new', CART, other, str(len(image) // 512)), ('--help',)):
+        reader, writer = os.pipe()
+        os.close(reader)
+        with open('/dev/full', 'wb') as full:
+            for out in (writer, full):
+                gone(other)
+                done = subprocess.run([GB] + list(words), stdout=out, stderr=subprocess.PIPE, timeout=10)
+                if (done.returncode, done.stderr) != (1, line('output failed')):
+                    differs('pipes', seed, '%s: %r' % (words, (done.returncode, done.stderr)))
+        os.close(writer)
+    gone(other)
+    if count_of(get(SAVE), cart) != before:
+        differs('pipes', seed, 'inputs were taken behind a report that failed')
+    script = b'frames 00 5\nsave\n' * 100
+    put(SCRIPT, script)
+    play = subprocess.Popen([GB, 'play', CART, SAVE, SCRIPT], stdout=subprocess.PIPE, stderr=subprocess.PIPE)
+    read = play.stdout.read(rnd.choice([1, 10, 100]))
+    play.stdout.close()
+    err = play.stderr.read()
+    status = play.wait(10)
+    told = max([before] + [int(one.split(b' ')[1]) for one in read.split(b'\n')[:-1]])
+    count = count_of(get(SAVE), cart)
+    if (status, err) not in ((1, line('output failed')), (0, b'')) or not told <= count <= before + 500:
+        differs('pipes', seed, 'read %r, then %r; %d inputs' % (read[-30:], (status, err), count))
+    compare_play('pipes', seed, get(SAVE), cart, short_script(rnd), 'after a pipe that was closed')
+
+
+def shrinks(rnd, seed):
+    """No promise holds for a save file that another process cuts, but gbkeep ends, and answers a line of its own from then on."""
+    cart, image = a_game(rnd)
+    put(SCRIPT, b'frames 00 5\nsave\n' * 100)
+    play = subprocess.Popen([GB, 'play', CART, SAVE, SCRIPT], stdout=subprocess.PIPE, stderr=subprocess.PIPE)
+    play.stdout.readline()
+    os.truncate(SAVE, rnd.choice([0, 512, 1024, len(image) - 512, rnd.randrange(len(image))]))
+    out, err = play.communicate(timeout=10)
+    if (play.returncode, err) not in ((0, b''), (1, line('device failed'))):
+        differs('shrinks', seed, 'the play: %r' % ((play.returncode, err),))
+    put(SCRIPT, b'')
+    status, out, err = gbkeep('play', CART, SAVE, SCRIPT)
+    if (status, err) != (0, b'') and (status != 1 or out or not err.startswith(b'gbkeep: ') or err.count(b'\n') != 1):
+        differs('shrinks', seed, 'the next one: %r' % ((status, out, err),))
+
+
+def names(rnd, seed):
+    """OUT is SAVE, whatever it is called: it is refused before it is emptied."""
+    cart, image = a_game(rnd)
+    soft, hard = os.path.join(ROOM, 'soft'), os.path.join(ROOM, 'hard')
+    gone(soft), gone(hard)
+    os.symlink(SAVE, soft), os.link(SAVE, hard)
+    for path in (SAVE, os.path.join(ROOM, '.', 'game.save'), ROOM + '//game.save', soft, hard):
+        put(SAVE, image)
+        refuses('names', seed, image, 'file failed', 'frame', CART, SAVE, path)
+    gone(soft), gone(hard)
+
+
+def closed(rnd, seed):
+    """A standard stream is closed: no line gets into SAVE or OUT in its place, and the game is there."""
+    cart, image = a_game(rnd)
+    put(SCRIPT, b'')
+    gbkeep('play', CART, SAVE, SCRIPT)
+    put(SCRIPT, b'frame 00\n')
+    for image in (image, get(SAVE)):        # the last root is in either slot
+        before = count_of(image, cart)
+        for streams in ((1,), (2,), (0,), (1, 2), (0, 1), (0, 1, 2)):
+            for words in (('play', CART, SAVE, SCRIPT), ('frame', CART, SAVE, OUT), ('trace', CART, SAVE, '9'), ('play', CART, SAVE, ROOM)):
+                put(SAVE, image)
+                gone(OUT)
+                without = {'preexec_fn': lambda: [os.close(stream) for stream in streams], 'stdin': subprocess.DEVNULL}
+                done = subprocess.run([GB] + list(words), stdout=subprocess.DEVNULL, stderr=subprocess.DEVNULL, timeout=10, **without)
+                left = get(SAVE)
+                roots = [left[at:at + 8] for at in (0, 512)]
+                whole = all(root in (bytes(8), b'GBKPROOT') for root in roots) and count_of(left, cart) in (before, before + 1)
+                picture = get(OUT) if os.path.exists(OUT) else b''
+                if done.returncode not in (0, 1) or not whole or picture[:2] not in (b'', b'P2'):
+                    differs('closed', seed, '%s without streams %s: status %d, roots %r, picture %r' % (words[0], streams, done.returncode, roots, picture[:12]))
+
+
+KINDS = {'saves': saves, 'scripts': scripts, 'bytes': arbitrary, 'kills': kills, 'holds': holds, 'places': places, 'pipes': pipes,
+         'shrinks': shrinks, 'names': names, 'closed': closed}
+# these differ today: they are run only by name
+DIFFERING = ('names', 'closed')
 
 
 def run(kind, seconds, first):
@@ -346,7 +594,8 @@ def main(words):
     if len(words) in (1, 2):
         first = int(words[1]) if len(words) == 2 else int(time.time())
         for kind in KINDS:
-            run(kind, float(words[0]), first)
+            if kind not in DIFFERING:
+                run(kind, float(words[0]), first)
     elif len(words) == 3 and words[0] in KINDS:
         run(words[0], float(words[1]), int(words[2]))
     else:

@@ -3,10 +3,11 @@ ghost use Rattle.std.specs.Prelude.{◌≡◌};
 
 use sector_device::{DeviceFault, SectorDevice};
 
-/// Counts the writes and syncs of a device, failed ones too, up to the greatest `u64`.
+/// Counts the reads, writes and syncs of a device, failed ones too, up to the greatest `u64`.
 #[derive(Drop)]
 pub struct Counting<D: SectorDevice> {
     inner: D,
+    pub reads: u64,
     pub writes: u64,
     pub syncs: u64,
 }
@@ -15,6 +16,7 @@ impl<D: SectorDevice> Counting<D> {
     pub fn new(inner: D) -> Self {
         Counting {
             inner,
+            reads: 0,
             writes: 0,
             syncs: 0,
         }
@@ -41,6 +43,7 @@ impl<D: SectorDevice> SectorDevice for Counting<D> {
     }
 
     fn read(&mut self, at: u64, buffer: &mut [u8; 512]) -> Result<(), DeviceFault> {
+        self.reads = self.reads.saturating_add(1);
         self.inner.read(at, buffer)
     }
 

@@ -43,7 +43,7 @@ const HALTING: [(usize, &[u8]); 2] = [
     (0x100, &[0x3e, 0x01, 0xe0, 0xff, 0xfb, 0x76, 0x18, 0xfd]),
 ];
 
-fn play_frames(machine: &mut Machine, frames: u32) {
+pub(crate) fn play_frames(machine: &mut Machine, frames: u32) {
     for _frame in 0..frames {
         machine.frame(0);
     }

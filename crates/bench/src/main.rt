@@ -1,6 +1,7 @@
-//! Benchmarks: `bench WORD` times frames, lines, units or snapshots, or counts the device calls of the log.
+//! Benchmarks: `bench WORD` times frames, lines, units, snapshots or sessions, or counts the device calls of the log.
 //!
-//! `bench frames ROM COUNT` plays a ROM once, for a tool that counts instructions. Without a word it prints its words.
+//! `bench frames ROM COUNT` plays a ROM once, and `bench sessions COUNT` takes up a log once, for a tool that counts instructions.
+//! Without a word it prints its words.
 #![tactic(auto)]
 
 mod best;
@@ -9,6 +10,7 @@ mod debugging;
 mod frames;
 mod lines;
 mod rom;
+mod sessions;
 mod snapshots;
 mod storage;
 mod units;
@@ -41,6 +43,10 @@ fn main(rt: HostRuntime) -> io::Result<()> {
         Some("units") => units::time(&rt),
         Some("snapshots") => snapshots::time(&rt),
         Some("storage") => storage::count(&rt),
+        Some("sessions") => match words.next() {
+            Some(count) => sessions::take_up(&rt, count.parse().unwrap_or(1)),
+            None => sessions::time(&rt),
+        },
         _ => usage(&rt),
     }
 }
@@ -56,5 +62,9 @@ fn usage(rt: &HostRuntime) -> io::Result<()> {
         "bench units: M-cycles of picture, timer and serial port, at once and one by one"
     )?;
     println!(rt; "bench snapshots: encode and decode")?;
-    println!(rt; "bench storage: device calls of append and replace, the same in each run")
+    println!(rt; "bench storage: device calls of append and replace, the same in each run")?;
+    println!(rt;
+        "bench sessions: device calls of sessions; saves on a file, a play of ten minutes, and the resume of a full log"
+    )?;
+    println!(rt; "bench sessions COUNT: takes up a log of so many frames once")
 }

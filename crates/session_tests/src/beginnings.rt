@@ -92,14 +92,14 @@ fn a_new_game_replaces_that_of_another_rom(rt: HostRuntime) -> Result<(), Fail> 
     Ok(())
 }
 
-/// Of a new game over one of 5 inputs, cut at any call, the old game or the new one is left; once it was begun only the new one.
+/// Of a new game over one of 120 inputs, cut at any call, the old game or the new one is left; once it was begun only the new one.
 #[test]
 fn a_new_game_cut_anywhere_leaves_old_or_new(rt: HostRuntime) -> Result<(), Fail> {
     let alloc = rt.alloc();
     let cartridge = cartridge(alloc)?;
-    let old = game(&rt, alloc, &cartridge, 5)?;
+    let old = game(&rt, alloc, &cartridge, 120)?;
     let mut begun_after = None;
-    for k in 0..102 {
+    for k in 0..103 {
         let mut device = old.image(alloc, &[])?;
         device.fuse(k);
         let (why, device) = left_by_new_game(alloc, device, &cartridge);
@@ -108,11 +108,11 @@ fn a_new_game_cut_anywhere_leaves_old_or_new(rt: HostRuntime) -> Result<(), Fail
         }
         for keeps in [[false, false], [true, true], [true, false]] {
             let left = count(&rt, alloc, image(alloc, &device, keeps)?, &cartridge);
-            assert!(rt; left == 0 || (left == 5 && why == Some(SessionError::Device)));
+            assert!(rt; left == 0 || (left == 120 && why == Some(SessionError::Device)));
         }
     }
-    // A sync, two roots, a log sector; 93 sectors, a sync, the root and a sync.
-    assert_eq!(rt; begun_after, Some(100));
+    // A sync, two roots, two log sectors; 93 sectors, a sync, the root and a sync.
+    assert_eq!(rt; begun_after, Some(101));
     Ok(())
 }
 

@@ -73,7 +73,7 @@ pub(crate) fn text_of(alloc: Global, machine: &Machine) -> Result<Vec<u8>, Fail>
     Ok(text)
 }
 
-fn apply(machine: &mut Machine, input: Input) {
+pub(crate) fn apply(machine: &mut Machine, input: Input) {
     machine.apply(input);
 }
 

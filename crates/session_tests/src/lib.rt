@@ -10,4 +10,6 @@ mod cuts;
 #[cfg(test)]
 mod found;
 #[cfg(test)]
+mod plays;
+#[cfg(test)]
 mod saves;

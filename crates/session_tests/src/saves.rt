@@ -1,8 +1,8 @@
 //! Inputs and saves.
 use crate::common::{
-    answer, begun, calls, cartridge, clock_text, counts, frames_text, fresh, give, give_frames,
-    give_input, has_bytes, into_device, is_blank_from, put, refused_save, resumed, resumes_at,
-    save, settled, text_of,
+    answer, begun, calls, cartridge, counts, frames_text, fresh, give, give_frames, give_input,
+    has_bytes, into_device, is_blank_from, put, refused_save, resumed, resumes_at, save, settled,
+    text_of,
 };
 use cartridge::Cartridge;
 use machine::Input;
@@ -84,7 +84,7 @@ fn a_failed_save_breaks_the_session(rt: HostRuntime) -> Result<(), Fail> {
     resumes_at(&rt, alloc, into_device(session), &cartridge, 120, &text)
 }
 
-/// A session of 2,680 saved inputs with 9 more pending, which the log has no room for. The last sync of a replacing save may fail.
+/// A session of 2,680 saved frames with 9 more pending, which the log has no room for. The last sync of a replacing save may fail.
 fn long(
     rt: &impl Abort,
     alloc: Global,
@@ -97,9 +97,9 @@ fn long(
         device.fail_at(228, false);
     }
     let mut session = begun(rt, alloc, device, cartridge);
-    give(rt, &mut session, 0, 2680);
+    give_frames(rt, &mut session, 0, 2680);
     save(rt, &mut session, 2680);
-    give(rt, &mut session, 2680, 2689);
+    give_frames(rt, &mut session, 2680, 2689);
     Ok(session)
 }
 
@@ -131,7 +131,7 @@ fn a_cut_replacing_save_leaves_old_or_new(rt: HostRuntime) -> Result<(), Fail> {
     let cartridge = cartridge(alloc)?;
     let mut session = long(&rt, alloc, &cartridge, true)?;
     let new = text_of(alloc, session.machine())?;
-    let old = clock_text(alloc, &cartridge, 2680)?;
+    let old = frames_text(alloc, &cartridge, 2680)?;
     assert_eq!(rt; refused_save(&rt, &mut session), SessionError::Device);
     assert_eq!(rt; counts(&session), [2689, 2680, 9]);
     let device = into_device(session);

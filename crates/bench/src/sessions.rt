@@ -1,0 +1,338 @@
+//! Sessions: their device calls, saves on a file, a play of ten minutes, and the resume of a full log.
+
+use crate::counting::Counting;
+use crate::frames::{BUSY, play_frames};
+use crate::rom::cartridge;
+use cartridge::Cartridge;
+use machine::{Input, Machine, Region};
+use playing::play;
+use script::Move;
+use sector_device::{FileDevice, MemoryDevice, SectorDevice};
+use sector_log::{Entry, are_inputs, open_log};
+use session::{Session, new_game, resume};
+use snapshot::{encode, length};
+use std::alloc::Global;
+use std::fs::{self, File, OpenOptions};
+use std::io;
+use std::os::unix::fs::FileExt;
+use std::path::Path;
+use std::time::{CpuClock, Instant};
+
+/// A cartridge with a clock and 8 KiB of RAM: a session of it needs 188 sectors.
+const CLOCK: [(usize, &[u8]); 3] = [(0x100, &[0x18, 0xfe]), (0x147, &[0x10]), (0x149, &[0x02])];
+
+const PATH: &str = "bench.save";
+
+/// Saves on a file.
+const SAVES: u32 = 200;
+
+/// Frames of a second.
+const SECOND: u8 = 60;
+
+/// Seconds of the play.
+const SECONDS: u32 = 600;
+
+/// Frames of a full log.
+const FULL: u32 = 216_000;
+
+fn failed() -> io::Error {
+    io::Error::from(io::ErrorKind::Other)
+}
+
+#[derive(Clone, Copy)]
+struct Calls {
+    reads: u64,
+    writes: u64,
+    syncs: u64,
+}
+
+fn calls_of<D: SectorDevice>(device: &Counting<D>) -> Calls {
+    Calls {
+        reads: device.reads,
+        writes: device.writes,
+        syncs: device.syncs,
+    }
+}
+
+fn calls_so_far<D: SectorDevice>(session: &Session<Counting<D>>) -> Calls {
+    calls_of(session.device())
+}
+
+fn line(rt: &HostRuntime, name: &str, before: Calls, after: Calls) -> io::Result<()> {
+    println!(rt;
+        "{name}: {} reads, {} writes, {} syncs",
+        after.reads.saturating_sub(before.reads),
+        after.writes.saturating_sub(before.writes),
+        after.syncs.saturating_sub(before.syncs)
+    )
+}
+
+fn give<D: SectorDevice>(session: &mut Session<D>, buttons: u8, frames: u8) -> io::Result<()> {
+    for _frame in 0..frames {
+        session.input(Input::Frame(buttons)).map_err(|_| failed())?;
+    }
+    Ok(())
+}
+
+fn save<D: SectorDevice>(session: &mut Session<D>) -> io::Result<()> {
+    session.save().map_err(|_| failed())?;
+    Ok(())
+}
+
+/// The device calls of a new game, a save, a resume and a play of nothing, the same in each run.
+fn count(rt: &HostRuntime) -> io::Result<()> {
+    let alloc = rt.alloc();
+    let cartridge = cartridge(alloc, &CLOCK)?;
+    let device = Counting::new(MemoryDevice::new(alloc, 188, 1000)?);
+    let made = calls_of(&device);
+    let Ok(mut session) = new_game(alloc, device, &cartridge) else {
+        return Err(failed());
+    };
+    let begun = calls_so_far(&session);
+    line(rt, "new_game on 188 sectors", made, begun)?;
+    give(&mut session, 1, SECOND)?;
+    let given = calls_so_far(&session);
+    line(rt, "60 inputs", begun, given)?;
+    save(&mut session)?;
+    let saved = calls_so_far(&session);
+    line(rt, "save of 60 inputs, in one sector", given, saved)?;
+    save(&mut session)?;
+    let again = calls_so_far(&session);
+    line(rt, "save of nothing", saved, again)?;
+    let Ok(session) = resume(alloc, session.into_device(), &cartridge) else {
+        return Err(failed());
+    };
+    let resumed = calls_so_far(&session);
+    line(rt, "resume", again, resumed)?;
+    let mut report = Vec::new(alloc);
+    let Ok(session) = play(alloc, session.into_device(), &cartridge, &[], &mut report) else {
+        return Err(failed());
+    };
+    line(
+        rt,
+        "play of an empty script",
+        resumed,
+        calls_so_far(&session),
+    )
+}
+
+/// A new file, and no other of its name.
+fn new_file(rt: &HostRuntime, sectors: u64) -> io::Result<FileDevice> {
+    // what an earlier run left
+    let _ = fs::remove_file(rt, PATH);
+    match FileDevice::create(rt, Path::new(PATH), sectors) {
+        Ok(device) => Ok(device),
+        Err(_) => Err(failed()),
+    }
+}
+
+fn nanoseconds_since(rt: &HostRuntime, start: Instant) -> io::Result<u64> {
+    Ok(u64::try_from(start.elapsed(rt)?.as_nanos()).unwrap_or(u64::MAX))
+}
+
+fn timed_save(rt: &HostRuntime, session: &mut Session<FileDevice>) -> io::Result<u64> {
+    let start = Instant::now(rt)?;
+    save(session)?;
+    nanoseconds_since(rt, start)
+}
+
+fn timed_write(rt: &HostRuntime, file: &File) -> io::Result<u64> {
+    let start = Instant::now(rt)?;
+    file.write_all_at(&[7; 512], 188 * 512)?;
+    file.sync_all()?;
+    nanoseconds_since(rt, start)
+}
+
+fn median(times: &mut Vec<u64>) -> u64 {
+    times.sort_unstable();
+    times.get(times.len() / 2).copied().unwrap_or(0)
+}
+
+/// Saves of 60 inputs on a file. Behind each, and 60 frames of another machine, so that neither finds the processor's memory warmer,
+/// comes a bare write and sync of a sector of the file that no session uses.
+fn time_saves(rt: &HostRuntime) -> io::Result<()> {
+    let alloc = rt.alloc();
+    let cartridge = cartridge(alloc, &CLOCK)?;
+    let Ok(mut session) = new_game(alloc, new_file(rt, 189)?, &cartridge) else {
+        return Err(failed());
+    };
+    let file = OpenOptions::new().write(true).open(rt, PATH)?;
+    let mut machine = Machine::power_on(alloc, &cartridge)?;
+    let mut saves = Vec::new(alloc);
+    let mut writes = Vec::new(alloc);
+    for i in 0..SAVES {
+        give(&mut session, (i % 2) as u8, SECOND)?;
+        saves.push(timed_save(rt, &mut session)?)?;
+        play_frames(&mut machine, u32::from(SECOND));
+        writes.push(timed_write(rt, &file)?)?;
+    }
+    let a_save = median(&mut saves);
+    let a_write = median(&mut writes);
+    let percent = a_save.saturating_mul(100) / a_write.max(1);
+    fs::remove_file(rt, PATH)?;
+    println!(rt;
+        "save of 60 inputs on a file: median of {SAVES} {} us; a bare write of 512 bytes and its sync {} us ({percent} %)",
+        a_save / 1000,
+        a_write / 1000
+    )
+}
+
+/// Wall time and time of the processor, in nanoseconds, that something took.
+#[derive(Clone, Copy)]
+struct Took {
+    wall: u64,
+    processor: u64,
+}
+
+fn processor_time(rt: &HostRuntime) -> io::Result<u64> {
+    Ok(u64::try_from(rt.process_cpu_time()?.as_nanos()).unwrap_or(u64::MAX))
+}
+
+fn time_once<F: FnMut() -> io::Result<()>>(rt: &HostRuntime, mut work: F) -> io::Result<Took>
+    requires { F.IsAlwaysCallable work }
+{
+    let start = Instant::now(rt)?;
+    let before = processor_time(rt)?;
+    work()?;
+    Ok(Took {
+        wall: nanoseconds_since(rt, start)?,
+        processor: processor_time(rt)?.saturating_sub(before),
+    })
+}
+
+/// Seconds and hundredths.
+fn print_time(rt: &HostRuntime, what: &str, took: Took) -> io::Result<()> {
+    let wall = took.wall / 10_000_000;
+    let processor = took.processor / 10_000_000;
+    println!(rt;
+        "{what}: {}.{:02} s, of the processor {}.{:02} s",
+        wall / 100,
+        wall % 100,
+        processor / 100,
+        processor % 100
+    )
+}
+
+fn frames_alone(alloc: Global, cartridge: &Cartridge, frames: u32) -> io::Result<()> {
+    let mut machine = Machine::power_on(alloc, cartridge)?;
+    play_frames(&mut machine, frames);
+    Ok(())
+}
+
+fn play_on_file(rt: &HostRuntime, cartridge: &Cartridge, moves: &[Move]) -> io::Result<()> {
+    let Ok(device) = FileDevice::attach(rt, Path::new(PATH)) else {
+        return Err(failed());
+    };
+    let mut report = Vec::new(rt.alloc());
+    match play(rt.alloc(), device, cartridge, moves, &mut report) {
+        Ok(_) => Ok(()),
+        Err(_) => Err(failed()),
+    }
+}
+
+/// Ten minutes of the busy loop on a file, with a save in each second.
+fn time_play(rt: &HostRuntime) -> io::Result<()> {
+    let alloc = rt.alloc();
+    let cartridge = cartridge(alloc, &BUSY)?;
+    let mut moves = Vec::new(alloc);
+    for i in 0..SECONDS {
+        moves.push(Move::Frames {
+            buttons: (i % 2) as u8,
+            times: u32::from(SECOND),
+        })?;
+        moves.push(Move::Save)?;
+    }
+    let Ok(session) = new_game(alloc, new_file(rt, 156)?, &cartridge) else {
+        return Err(failed());
+    };
+    drop(session);
+    let took = time_once(rt, || play_on_file(rt, &cartridge, &moves))?;
+    fs::remove_file(rt, PATH)?;
+    print_time(
+        rt,
+        "play of 36000 frames with a save every 60, on a file",
+        took,
+    )?;
+    let alone = time_once(rt, || frames_alone(alloc, &cartridge, 36_000))?;
+    print_time(rt, "the same frames alone", alone)
+}
+
+/// A device with a game of so many frames in its log.
+fn logged(alloc: Global, cartridge: &Cartridge, frames: u32) -> io::Result<MemoryDevice> {
+    let machine = Machine::power_on(alloc, cartridge)?;
+    let ram = machine.store(Region::CartRam).len();
+    if ram > 131_072 {
+        return Err(failed());
+    }
+    let mut text = vec![in alloc; 0u8; length(ram)]?;
+    encode(&machine, &mut text);
+    let Ok(opened) = open_log(alloc, MemoryDevice::new(alloc, 156, 10_000)?, 0) else {
+        return Err(failed());
+    };
+    if text.len() > 1_000_000 {
+        return Err(failed());
+    }
+    let Ok(mut store) = opened.begin(cartridge.digest(), 0, &text) else {
+        return Err(failed());
+    };
+    let mut left = frames;
+    // a log is full at 67 pieces and a half
+    for _piece in 0..68 {
+        let piece = left.min(3_200);
+        left = left - piece;
+        let entries = Vec::from_elem(alloc, Entry { code: [0; 5] }, piece as usize)?;
+        if piece > 0 && (!are_inputs(&entries) || store.append(&entries).is_err()) {
+            return Err(failed());
+        }
+    }
+    Ok(store.into_device())
+}
+
+fn resume_of(
+    alloc: Global,
+    device: MemoryDevice,
+    cartridge: &Cartridge,
+    frames: u32,
+) -> io::Result<()> {
+    let Ok(session) = resume(alloc, device, cartridge) else {
+        return Err(failed());
+    };
+    if session.counts().all != u64::from(frames) {
+        return Err(failed());
+    }
+    Ok(())
+}
+
+/// Takes up a log of so many frames of the busy loop, once.
+pub(crate) fn take_up(rt: &HostRuntime, frames: u32) -> io::Result<()> {
+    let alloc = rt.alloc();
+    let cartridge = cartridge(alloc, &BUSY)?;
+    let device = logged(alloc, &cartridge, frames.min(FULL))?;
+    resume_of(alloc, device, &cartridge, frames.min(FULL))?;
+    println!(rt; "{} frames are taken up", frames.min(FULL))
+}
+
+/// The resume of a full log of the busy loop, and the same frames alone.
+fn time_resume(rt: &HostRuntime) -> io::Result<()> {
+    let alloc = rt.alloc();
+    let cartridge = cartridge(alloc, &BUSY)?;
+    let device = logged(alloc, &cartridge, FULL)?;
+    let start = Instant::now(rt)?;
+    let before = processor_time(rt)?;
+    resume_of(alloc, device, &cartridge, FULL)?;
+    let took = Took {
+        wall: nanoseconds_since(rt, start)?,
+        processor: processor_time(rt)?.saturating_sub(before),
+    };
+    print_time(rt, "resume of a log of 216000 frames", took)?;
+    let alone = time_once(rt, || frames_alone(alloc, &cartridge, FULL))?;
+    print_time(rt, "the same frames alone", alone)
+}
+
+/// All of these.
+pub(crate) fn time(rt: &HostRuntime) -> io::Result<()> {
+    count(rt)?;
+    time_saves(rt)?;
+    time_play(rt)?;
+    time_resume(rt)
+}

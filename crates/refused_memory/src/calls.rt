@@ -1,0 +1,243 @@
+//! The calls, each on a game of five inputs or on its cartridge. `None`: the memory before it was refused.
+use crate::answers::{Answer, refused};
+use cartridge::Cartridge;
+use debugger::Debugger;
+use gbkeep::{PlayError, StepError, play_to_picture, step_line};
+use machine::{Input, Machine, Region};
+use playing::play;
+use script::{Move, ScriptError, read_script};
+use sector_device::{MemoryDevice, SectorDevice};
+use sector_log::{LogFault, open_log};
+use session::{SessionError, new_game, resume};
+use snapshot::{SnapError, decode, encode, length};
+use std::alloc::Global;
+
+/// Sectors of a device that holds a game with 8 KiB of RAM.
+const SECTORS: usize = 188;
+
+/// Inputs of the game.
+const INPUTS: u32 = 5;
+
+const SCRIPT: &[u8] = b"frames 01 2\nseconds 3\nsave\nframe 02\n";
+
+fn set(bytes: &mut [u8], at: usize, value: u8) {
+    if let Some(place) = bytes.get_mut(at) {
+        *place = value;
+    }
+}
+
+/// A ROM of 32 KiB with a clock and 8 KiB of RAM, that loops.
+fn rom(alloc: Global) -> Option<Vec<u8>> {
+    let mut rom = Vec::from_elem(alloc, 0u8, 0x8000).ok()?;
+    set(&mut rom, 0x100, 0x18);
+    set(&mut rom, 0x101, 0xFE);
+    set(&mut rom, 0x147, 0x10);
+    set(&mut rom, 0x149, 0x02);
+    Some(rom)
+}
+
+fn cartridge(alloc: Global) -> Option<Cartridge> {
+    Cartridge::read(rom(alloc)?).ok()
+}
+
+fn machine(alloc: Global, cartridge: &Cartridge) -> Option<Machine> {
+    let mut machine = Machine::power_on(alloc, cartridge).ok()?;
+    for i in 0..INPUTS {
+        machine.apply(Input::Seconds(i));
+    }
+    Some(machine)
+}
+
+fn text_of(alloc: Global, machine: &Machine) -> Option<Vec<u8>> {
+    let ram = machine.store(Region::CartRam).len();
+    if ram > 131_072 {
+        return None;
+    }
+    let mut text = Vec::from_elem(alloc, 0u8, length(ram)).ok()?;
+    encode(machine, &mut text);
+    Some(text)
+}
+
+/// A device with the game on it, all of it synced.
+fn game(alloc: Global, cartridge: &Cartridge) -> Option<MemoryDevice> {
+    let device = MemoryDevice::new(alloc, SECTORS, 1000).ok()?;
+    let mut session = new_game(alloc, device, cartridge).ok()?;
+    for i in 0..INPUTS {
+        session.input(Input::Seconds(i)).ok()?;
+    }
+    session.save().ok()?;
+    session.into_device().image(alloc, &[]).ok()
+}
+
+/// Whether a resume finds the game's inputs and its machine.
+fn holds_the_game(alloc: Global, device: MemoryDevice, cartridge: &Cartridge) -> bool {
+    let Ok(session) = resume(alloc, device, cartridge) else {
+        return false;
+    };
+    let Some(machine) = machine(alloc, cartridge) else {
+        return false;
+    };
+    let Some(want) = text_of(alloc, &machine) else {
+        return false;
+    };
+    let Some(found) = text_of(alloc, session.machine()) else {
+        return false;
+    };
+    session.counts().all == u64::from(INPUTS) && found.as_slice() == want.as_slice()
+}
+
+pub(crate) fn power_on(alloc: Global) -> Option<Answer> {
+    let cartridge = cartridge(alloc)?;
+    Some(match Machine::power_on(alloc, &cartridge) {
+        Ok(_) => Answer::Done,
+        Err(_) => Answer::Refused,
+    })
+}
+
+pub(crate) fn decoded(alloc: Global) -> Option<Answer> {
+    let cartridge = cartridge(alloc)?;
+    let text = text_of(alloc, &machine(alloc, &cartridge)?)?;
+    Some(match decode(alloc, &text, &cartridge) {
+        Ok(_) => Answer::Done,
+        Err(why) => refused(why == SnapError::Memory),
+    })
+}
+
+pub(crate) fn debugger(alloc: Global) -> Option<Answer> {
+    let cartridge = cartridge(alloc)?;
+    let machine = machine(alloc, &cartridge)?;
+    let before = text_of(alloc, &machine)?;
+    Some(match Debugger::new(alloc, machine, 100) {
+        Ok(_) => Answer::Done,
+        Err(machine) => match text_of(alloc, &machine) {
+            Some(after) => refused(before.as_slice() == after.as_slice()),
+            None => Answer::Wrong,
+        },
+    })
+}
+
+pub(crate) fn opened(alloc: Global) -> Option<Answer> {
+    let cartridge = cartridge(alloc)?;
+    let device = game(alloc, &cartridge)?;
+    Some(match open_log(alloc, device, 40_000) {
+        Ok(_) => Answer::Done,
+        Err(left) => refused(
+            left.why == LogFault::Memory
+                && left.device.calls() == 0
+                && holds_the_game(alloc, left.device, &cartridge),
+        ),
+    })
+}
+
+pub(crate) fn begun(alloc: Global) -> Option<Answer> {
+    let cartridge = cartridge(alloc)?;
+    let device = game(alloc, &cartridge)?;
+    Some(match new_game(alloc, device, &cartridge) {
+        Ok(_) => Answer::Done,
+        Err(left) => refused(
+            left.why == SessionError::Memory
+                && left.device.calls() == 0
+                && holds_the_game(alloc, left.device, &cartridge),
+        ),
+    })
+}
+
+pub(crate) fn resumed(alloc: Global) -> Option<Answer> {
+    let cartridge = cartridge(alloc)?;
+    let device = game(alloc, &cartridge)?;
+    Some(match resume(alloc, device, &cartridge) {
+        Ok(_) => Answer::Done,
+        Err(left) => refused(
+            left.why == SessionError::Memory
+                && left.device.calls() <= 1
+                && holds_the_game(alloc, left.device, &cartridge),
+        ),
+    })
+}
+
+pub(crate) fn script(alloc: Global) -> Option<Answer> {
+    Some(match read_script(alloc, SCRIPT) {
+        Ok(moves) if moves.len() == 4 => Answer::Done,
+        Ok(_) => Answer::Wrong,
+        Err(why) => refused(why == ScriptError::Memory),
+    })
+}
+
+/// A play into a report that takes no memory. What a refused one reported stays empty.
+pub(crate) fn played(alloc: Global) -> Option<Answer> {
+    let cartridge = cartridge(alloc)?;
+    let device = game(alloc, &cartridge)?;
+    let moves = [
+        Move::Frames {
+            buttons: 1,
+            times: 2,
+        },
+        Move::Seconds(3),
+        Move::Save,
+    ];
+    let mut buffer = [0; 64];
+    let mut report: &mut [u8] = &mut buffer;
+    let answer = match play(alloc, device, &cartridge, &moves, &mut report) {
+        Ok(_) => return Some(Answer::Done),
+        Err(left) => refused(
+            left.why == SessionError::Memory && holds_the_game(alloc, left.device, &cartridge),
+        ),
+    };
+    Some(match answer {
+        Answer::Refused => refused(buffer == [0; 64]),
+        other => other,
+    })
+}
+
+pub(crate) fn drawn(alloc: Global) -> Option<Answer> {
+    let cartridge = cartridge(alloc)?;
+    let device = game(alloc, &cartridge)?;
+    let rom = rom(alloc)?;
+    let mut picture = Vec::from_elem(alloc, 0u8, 50_000).ok()?;
+    let mut out: &mut [u8] = &mut picture;
+    let mut buffer = [0; 64];
+    let mut report: &mut [u8] = &mut buffer;
+    let answer = match play_to_picture(alloc, device, rom, SCRIPT, &mut report, Some(&mut out)) {
+        Ok(_) => return Some(Answer::Done),
+        Err(left) => {
+            let is_memory = left.why == PlayError::Session(SessionError::Memory)
+                || left.why == PlayError::Script(ScriptError::Memory);
+            refused(is_memory && holds_the_game(alloc, left.device, &cartridge))
+        }
+    };
+    Some(match answer {
+        Answer::Refused => refused(buffer == [0; 64]),
+        other => other,
+    })
+}
+
+pub(crate) fn stepped(alloc: Global) -> Option<Answer> {
+    let rom = rom(alloc)?;
+    let mut buffer = [0; 128];
+    let mut out: &mut [u8] = &mut buffer;
+    let why = match step_line(alloc, rom, 9, &mut out) {
+        Ok(()) => return Some(Answer::Done),
+        Err(why) => why,
+    };
+    Some(refused(why == StepError::Memory && buffer == [0; 128]))
+}
+
+pub(crate) fn device(alloc: Global) -> Option<Answer> {
+    Some(match MemoryDevice::new(alloc, SECTORS, 100) {
+        Ok(_) => Answer::Done,
+        Err(_) => Answer::Refused,
+    })
+}
+
+/// An image of a device with a write that is not synced, of a sector that the game does not use.
+pub(crate) fn image(alloc: Global) -> Option<Answer> {
+    let cartridge = cartridge(alloc)?;
+    let mut device = game(alloc, &cartridge)?;
+    if device.count() != 188 || device.write(50, &[7; 512]).is_err() {
+        return Some(Answer::Wrong);
+    }
+    if device.image(alloc, &[true]).is_ok() {
+        return Some(Answer::Done);
+    }
+    Some(refused(device.calls() == 1 && holds_the_game(alloc, device, &cartridge)))
+}
