@@ -575,8 +575,6 @@ def closed(rnd, seed):
 
 KINDS = {'saves': saves, 'scripts': scripts, 'bytes': arbitrary, 'kills': kills, 'holds': holds, 'places': places, 'pipes': pipes,
          'shrinks': shrinks, 'names': names, 'closed': closed}
-# these differ today: they are run only by name
-DIFFERING = ('names', 'closed')
 
 
 def run(kind, seconds, first):
@@ -594,8 +592,7 @@ def main(words):
     if len(words) in (1, 2):
         first = int(words[1]) if len(words) == 2 else int(time.time())
         for kind in KINDS:
-            if kind not in DIFFERING:
-                run(kind, float(words[0]), first)
+            run(kind, float(words[0]), first)
     elif len(words) == 3 and words[0] in KINDS:
         run(words[0], float(words[1]), int(words[2]))
     else:

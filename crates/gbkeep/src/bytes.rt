@@ -4,7 +4,7 @@ ghost use Rattle.std.specs.Prelude.{◌≡◌, ◌⊎◌, IfErr};
 
 use crate::fault::Fault;
 use std::alloc::Global;
-use std::fs::File;
+use std::fs::{File, OpenOptions, TryLockError};
 use std::io;
 use std::io::Read;
 use std::rt::Files;
@@ -44,4 +44,24 @@ pub(crate) fn bytes_of(alloc: Global, file: File, most: u64) -> Result<Vec<u8>, 
         Err(error) if error.kind() == io::ErrorKind::OutOfMemory => Err(Fault::Memory),
         Err(_) => Err(Fault::File),
     }
+}
+
+/// Opens the file of a picture: makes it, or empties it. A file that another open file holds is refused as it was: so is the save file of
+/// the game, by whatever name.
+pub(crate) fn emptied_file<R: Files<File = File>>(rt: &R, path: &str) -> Result<File, Fault>
+    ensures { IfErr result (λ fault. fault ≡ Fault.File) }
+{
+    emptied(rt, path).map_err(|_| Fault::File)
+}
+
+fn emptied<R: Files<File = File>>(rt: &R, path: &str) -> io::Result<File> {
+    let file = OpenOptions::new().write(true).create(true).open(rt, path)?;
+    if let Err(TryLockError::WouldBlock) = file.try_lock() {
+        return Err(io::ErrorKind::WouldBlock.into());
+    }
+    // a pipe or a terminal has no length
+    if file.metadata()?.len() > 0 {
+        file.set_len(0)?;
+    }
+    Ok(file)
 }

@@ -2,7 +2,7 @@
 
 ghost use Rattle.gbkeep.specs.Program.{IsServed};
 
-use crate::bytes::{MOST_ROM, MOST_SCRIPT, bytes_of, file_bytes, open_file};
+use crate::bytes::{MOST_ROM, MOST_SCRIPT, bytes_of, emptied_file, file_bytes, open_file};
 use crate::fault::Fault;
 use crate::picture::play_to_picture;
 use crate::trace::trace_lines;
@@ -11,13 +11,14 @@ use command_line::Request;
 use exact_text::write_whole;
 use sector_device::FileDevice;
 use session::{SessionError, new_game, sectors_needed};
+use std::fs;
 use std::fs::File;
 use std::io::Write;
 use std::path::Path;
 use std::rt::Files;
 
-/// Makes a file of so many sectors and begins a game in it. Where that fails once the file is made, the file is left: it holds zero
-/// sectors, or what the failed call left of them, and `new` then needs another name.
+/// Makes a file of so many sectors and begins a game in it. Where that fails once the file is made, the file is taken away again. A game
+/// that is begun stays, also where its line can't be written.
 pub(crate) fn new<R: Files<File = File> + AllocGlobal, O: Write>(
     rt: &R,
     cart: &str,
@@ -44,6 +45,7 @@ pub(crate) fn new<R: Files<File = File> + AllocGlobal, O: Write>(
         Err(fault) => return Err(Fault::Device(fault)),
     };
     if let Err(refused) = new_game(rt.alloc(), device, &cartridge) {
+        let _ = fs::remove_file(rt, save);
         return Err(Fault::Session(refused.why));
     }
     match write_whole(out, b"begun 0\n") {
@@ -88,7 +90,7 @@ pub(crate) fn play<R: Files<File = File> + AllocGlobal, O: Write>(
 }
 
 /// Plays an empty script, with the report on `out`, and writes the picture to a file, which is made or emptied before. It is refused where
-/// it is named as the save file is.
+/// it is the save file, and where it is named as the cartridge is.
 pub(crate) fn frame<R: Files<File = File> + AllocGlobal, O: Write>(
     rt: &R,
     cart: &str,
@@ -106,12 +108,13 @@ pub(crate) fn frame<R: Files<File = File> + AllocGlobal, O: Write>(
         Ok(device) => device,
         Err(fault) => return Err(Fault::Device(fault)),
     };
-    // made or emptied, it would be the end of the game
-    if picture == save {
+    // emptied, it would be the end of the game; by another name than this, the device's lock keeps it
+    if picture == save || picture == cart {
         return Err(Fault::File);
     }
-    let Ok(mut picture) = File::create(rt, picture) else {
-        return Err(Fault::File);
+    let mut picture = match emptied_file(rt, picture) {
+        Ok(picture) => picture,
+        Err(fault) => return Err(fault),
     };
     match play_to_picture(rt.alloc(), device, rom, b"", out, Some(&mut picture)) {
         Ok(_) => Ok(()),

@@ -18,6 +18,10 @@ use Rattle.sector_log.specs.Calls.{HasLooked, HasBegun, HasOldOrNewContent}
 use Rattle.sector_log.specs.Content.{content, generation_in, new_generation}
 use Rattle.sector_log.specs.Found.{log_of}
 use Rattle.sector_log.specs.declared.Stored.{Stored}
+use Rattle.sector_log.specs.declared.fault.LogFault.{LogFault}
+use Rattle.sector_log.specs.declared.fault.LogFault.TheVariants.{Memory as LogMemory, Device as LogDevice}
+use Rattle.session.specs.Beginning.{session_fault}
+use Rattle.session.specs.declared.error.SessionError.TheVariants.{Memory, Device, Worn}
 use Rattle.session.specs.Calls.{IsAtRest, HasContentOf, HasOldContentOrNewGame, StandsAsBefore}
 use Rattle.session.specs.Resting.{IsOfItsRom, Rests}
 use Rattle.session.specs.Stands.{Position, stands, further}
@@ -51,6 +55,11 @@ if_ok_both (Err e) p q to = tt
 pub if_err : {T E : Type 0} (r : Result T E) {P Q : E → Type 0} → IfErr r P → ((e : E) → P e → Q e) → IfErr r Q
 if_err (Ok x) p to = tt
 if_err (Err e) p to = to e p
+
+-- looking at what a device holds finds no last generation
+pub looking_is_not_worn : {A : Type 0} (why : LogFault) → ((why ≡ LogMemory) × A) ⊎ (why ≡ LogDevice) → session_fault why ≡ Worn → ⊥
+looking_is_not_worn why (inl memory) worn = let same : Memory ≡ Worn = sym (ap session_fault memory.0) ∙ worn in cc
+looking_is_not_worn why (inr device) worn = let same : Device ≡ Worn = sym (ap session_fault device) ∙ worn in cc
 
 -- ---- machines of a ROM
 

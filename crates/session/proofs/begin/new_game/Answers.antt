@@ -1,4 +1,4 @@
-use Rattle.std.proofs.Common.{◌≡◌, ◌⊎◌, ⊎_elim, inl, inr, [], List, ℕ, length, refl, sym, ap, ◌∙◌, subst, arith}
+use Rattle.std.proofs.Common.{◌≡◌, ◌≤◌, ◌<◌, ◌⊎◌, ⊎_elim, inl, inr, [], List, ℕ, length, refl, sym, ap, ◌∙◌, subst, arith}
 use Rattle.sha2.specs.Sha256.{sha256}
 use Rattle.machine.specs.Machine.{MachineState, start}
 use Rattle.snapshot.specs.Text.{text, text_length}
@@ -6,12 +6,13 @@ use Rattle.cartridge.specs.Header.{ram_length_of}
 use Rattle.sector_device.specs.DiskState.{DiskState}
 use Rattle.sector_device.specs.Runs.{HoldsSince}
 use Rattle.sector_log.specs.Calls.{HasOldOrNewContent}
+use Rattle.sector_log.specs.Content.{need}
 use Rattle.sector_log.specs.Words.{device_under, found_generation}
 use Rattle.session.specs.Beginning.{IsBeginRefusal}
 use Rattle.session.specs.Calls.{IsAtRest}
 use Rattle.session.specs.Resting.{IsOfItsRom}
 use Rattle.session.specs.Words.{device_of, left_by}
-use Rattle.session.proofs.Beginnings.{if_ok, if_err, since_now, start_rom, start_own, begun_at_rest, new_game_images, looked_new_game}
+use Rattle.session.proofs.Beginnings.{if_ok, if_err, since_now, start_rom, start_own, begun_at_rest, new_game_images, looked_new_game, looking_is_not_worn}
 use Rattle.session.proofs.Writes.{since_weaker}
 use Rattle.session.proofs.begin.new_game.Goals as goal
 
@@ -55,3 +56,14 @@ returns-clause-worn g c =
     (λ refused cause worn honest.
     sym (c.in-Ok-open_log.ensures.generation honest)
     ∙ (subst (λ why. IsBeginRefusal why (text_length (ram_length_of c.args.cartridge.now)) (length (g.D.SectorDevice.disk (device_under c.in-Ok-open_log.opened)).sectors) (found_generation c.in-Ok-open_log.opened)) worn cause).1)
+
+pub returns-in-Err-clause-worn : goal.returns-in-Err-clause-worn
+returns-in-Err-clause-worn g c = λ worn honest. absurd (looking_is_not_worn c.in-Err.refused.why c.in-Err.ensures.cause (sym c.fault_of.ensures ∙ worn))
+
+pub returns-clause-can : goal.returns-clause-can
+returns-clause-can g c =
+    if_ok c.begin_with.result c.begin_with.ensures.can
+    (λ s can. (
+      subst (λ (n : ℕ). need (text_length (ram_length_of c.args.cartridge.now)) ≤ n) c.in-Ok-open_log.ensures.count can.enough,
+      λ honest. subst (λ (n : ℕ). n < 18446744073709551615) (c.in-Ok-open_log.ensures.generation honest) can.unworn,
+    ))
