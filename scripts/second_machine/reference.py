@@ -1,8 +1,8 @@
 """A second machine, written from the rules and tables that docs/MACHINE.md restates, by somebody who had not seen the
 emulator's code, definitions or documents. Simple and literal, one M-cycle after the other: it is what `make compare` compares
 with. Joypad, frames, seconds of the clock and the lines of a trace were added later, from docs/MACHINE.md, by somebody who had read
-of the code only the debugger and the program; the pixels, from docs/MACHINE.md and docs/COMMANDS.md, by somebody who had not read the
-crates of the picture. They are drawn only where `draws` is set, since nothing else depends on them."""
+of the code only the debugger and the program; the pixels, from docs/MACHINE.md and docs/COMMANDS.md, by somebody who had read of the
+crates of the picture what their public calls take. They are drawn only where `draws` is set, since nothing else depends on them."""
 import sys
 
 # ---------------------------------------------------------------- header
