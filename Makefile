@@ -17,7 +17,7 @@ help:
 	@echo 'make hostile         gives the program damaged files and wrong scripts, kills it, and looks what is left (SECONDS=20 a kind)'
 	@echo 'make demo            plays a minute of the demo cartridge and leaves bin/demo.sav, bin/demo.pgm and bin/demo.png (a second)'
 	@echo 'make memory          refuses each allocation of the program and of the calls that take memory, in turn (20 seconds once both are built; needs a C compiler)'
-	@echo 'make test            the gate: proves everything from nothing, runs the tests and programs (two hours)'
+	@echo 'make test            the gate: proves everything from nothing, runs the tests and programs (one to two hours)'
 
 ARGS ?= step data/rom.gb 2
 
