@@ -48,8 +48,7 @@ edits:
 
 bench:
 	cd crates/bench && $(RT) run -- frames
-	sh scripts/instructions_a_frame.sh crates/bench/out/bench
-	sh scripts/instructions_a_step.sh crates/bench/out/bench
+	sh scripts/instructions.sh crates/bench/out/bench
 	cd crates/bench && $(RT) run -- lines
 	cd crates/bench && $(RT) run -- units
 	cd crates/bench && $(RT) run -- snapshots

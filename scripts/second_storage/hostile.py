@@ -10,6 +10,7 @@ room), shrinks (a save file that another process cuts while it is played), names
 stream is closed). The status is 1 where anything differs, where gbkeep dies by a signal, or where it takes longer than 10 seconds."""
 import fcntl, os, random, resource, shutil, signal, subprocess, sys, tempfile, time
 import save_files as ref
+from save_files import get, put
 
 GB = os.path.abspath(sys.argv[1]) if len(sys.argv) > 1 else ''
 ROOM = tempfile.mkdtemp(prefix='hostile-')
@@ -28,16 +29,6 @@ def gbkeep(*words, **how):
     """Status, output and errors; a status below 0 is a signal."""
     done = subprocess.run([GB] + list(words), capture_output=True, timeout=10, **how)
     return done.returncode, done.stdout, done.stderr
-
-
-def put(path, data):
-    with open(path, 'wb') as file:
-        file.write(data)
-
-
-def get(path):
-    with open(path, 'rb') as file:
-        return file.read()
 
 
 def line(why):

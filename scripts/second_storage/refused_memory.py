@@ -8,6 +8,7 @@ anything differs. What refuses is a library that is loaded before the C library,
 nothing is tried."""
 import os, shutil, subprocess, sys, tempfile
 import save_files as ref
+from save_files import get, put
 
 ROOM = tempfile.mkdtemp(prefix='refused-')
 CART, SAVE, NEW, SCRIPT, OUT, TOLD = (os.path.join(ROOM, name) for name in ('rom.gb', 'game.save', 'new.save', 'moves.script', 'out.pgm', 'told'))
@@ -51,16 +52,6 @@ def differs(what):
     global differences
     differences += 1
     print('DIFFERS ' + what, flush=True)
-
-
-def put(path, data):
-    with open(path, 'wb') as file:
-        file.write(data)
-
-
-def get(path):
-    with open(path, 'rb') as file:
-        return file.read()
 
 
 def library():

@@ -23,6 +23,16 @@ def le(data):
     return int.from_bytes(data, 'little')
 
 
+def put(path, data):
+    with open(path, 'wb') as file:
+        file.write(data)
+
+
+def get(path):
+    with open(path, 'rb') as file:
+        return file.read()
+
+
 # ---- a cartridge, as far as a save file depends on it
 
 # the controller of each type: none, MBC1, MBC2, MBC3, MBC3 with a clock, MBC5
