@@ -12,7 +12,8 @@ use Rattle.bank_controllers.specs.declared.clock.ClockRegister.{ClockRegister}
 use Rattle.bank_controllers.specs.declared.state.BanksState.{BanksState}
 use Rattle.bank_controllers.specs.declared.window.Window.{Window}
 use Rattle.bank_controllers.specs.declared.window.Window.TheVariants.{RamBank, HalfBytes, Clock, Shut}
-use Rattle.bank_controllers.specs.Places.{low_bank_of, high_bank_of, rom_bank_start, low_start, high_start, ram_bank_shown, clock_shown, open_window, is_open, window_of}
+use Rattle.bank_controllers.specs.Places.{low_bank_of, high_bank_of, rom_bank_start, low_start, high_start, is_ram_enabled}
+use Rattle.bank_controllers.specs.Window.{ram_bank_shown, clock_shown, open_window, window_of}
 use Rattle.bank_controllers.specs.State.{has_clock}
 use Rattle.bank_controllers.specs.CartridgeState.{IsLegalRam}
 
@@ -71,7 +72,7 @@ open_fits Mbc5 ram s legal = ram_bank_fits Mbc5 ram s.ram_bank (λ e. cc) legal
 
 window_fits : (ram : List ℕ) (s : BanksState) → IsLegalRam s.kind ram → WindowFits s.kind ram (window_of (length ram) s)
 unfolding window_of
-window_fits ram s legal = fits_if s.kind ram (is_open s.kind s) _ _ (open_fits s.kind ram s legal) tt
+window_fits ram s legal = fits_if s.kind ram (is_ram_enabled s.kind s) _ _ (open_fits s.kind ram s legal) tt
 
 -- a window that is known to be one of the four
 known_fits : (ram : List ℕ) (s : BanksState) (w v : Window) → IsLegalRam s.kind ram → w ≡ window_of (length ram) s → w ≡ v → WindowFits s.kind ram v

@@ -21,7 +21,8 @@ use Rattle.bank_controllers.specs.State.{IsLegalBanks, IsClockOf, first_rom_bank
 use Rattle.bank_controllers.specs.Writes.{is_enabling, from_one, mbc1_written, mbc2_written, mbc3_banks_written, latch_written, mbc5_written, register_written_by, register_written}
 use Rattle.bank_controllers.specs.CartridgeState.{CartridgeState, IsLegalRam, IsLegalCartridge, clock_written, second}
 use Rattle.bank_controllers.specs.Sound.{IsSound}
-use Rattle.bank_controllers.specs.Places.{low_bank_of, high_bank_of, rom_bank_start, low_start, high_start, window_of}
+use Rattle.bank_controllers.specs.Places.{low_bank_of, high_bank_of, rom_bank_start, low_start, high_start}
+use Rattle.bank_controllers.specs.Window.{window_of}
 use Rattle.bank_controllers.specs.declared.window.Window.{Window}
 use Rattle.bank_controllers.proofs.ClockJump.{IsDayLegal, day_stays}
 

@@ -7,7 +7,8 @@ use Rattle.cartridge.specs.declared.controller.Controller.TheVariants.{Plain, Mb
 use Rattle.bank_controllers.specs.declared.state.BanksState.{BanksState}
 use Rattle.bank_controllers.specs.State.{has_clock}
 use Rattle.bank_controllers.specs.Writes.{register_written_by, register_written}
-use Rattle.bank_controllers.specs.CartridgeState.{CartridgeState, Place, Rom, Ram, HalfByte, Register, Nowhere, IsSameCartridge, place_of, stored_at, written, second}
+use Rattle.bank_controllers.specs.Places.{Place, Rom, Ram, HalfByte, Register, Nowhere}
+use Rattle.bank_controllers.specs.CartridgeState.{CartridgeState, IsSameCartridge, place_of, stored_at, written, second}
 
 pub same_itself : (b : CartridgeState) → IsSameCartridge b b
 same_itself b = record { rom = refl; ram_length = refl; rumble = refl; kind = refl }

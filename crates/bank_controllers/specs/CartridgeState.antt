@@ -7,10 +7,8 @@ use Rattle.cartridge.specs.declared.controller.Controller.{Controller}
 use Rattle.cartridge.specs.declared.controller.Controller.TheVariants.{Plain, Mbc1, Mbc2, Mbc3, Mbc3Clock, Mbc5}
 use Rattle.bank_controllers.specs.declared.clock.ClockRegister.{ClockRegister}
 use Rattle.bank_controllers.specs.declared.state.BanksState.{BanksState}
-use Rattle.bank_controllers.specs.declared.window.Window.{Window}
-use Rattle.bank_controllers.specs.declared.window.Window.TheVariants.{RamBank, HalfBytes, Clock, Shut}
 use Rattle.bank_controllers.specs.Clock.{clock_second, register_of, with_register}
-use Rattle.bank_controllers.specs.Places.{low_start, high_start, window_of}
+use Rattle.bank_controllers.specs.Places.{Place, Rom, Ram, HalfByte, Register, Nowhere, low_start, high_start, in_ram}
 use Rattle.bank_controllers.specs.State.{IsLegalBanks, has_clock, state_at_power_on}
 use Rattle.bank_controllers.specs.Writes.{register_written}
 
@@ -23,27 +21,12 @@ pub record CartridgeState : Type 0 where
 
 -- ---- the place of an address
 
--- a store and an offset in it
-pub data Place : Type 0 where
-  Rom : ℕ → Place
-  Ram : ℕ → Place
-  HalfByte : ℕ → Place
-  Register : ClockRegister → Place
-  Nowhere : Place
-
--- the place at this distance from A000
-abbrev pub place_in : Window → ℕ → Place
-place_in (RamBank start) offset = Ram (start + offset)
-place_in HalfBytes offset = HalfByte (offset % 512)
-place_in (Clock register) offset = Register register
-place_in Shut offset = Nowhere
-
 unfoldable pub place_of : CartridgeState → ℕ → Place
 place_of b address =
     if nat_lt address 0x4000 then Rom (low_start (length b.rom) b.state + address) else
     (if nat_lt address 0x8000 then Rom (high_start (length b.rom) b.state + (address - 0x4000)) else
     (if nat_le 0xA000 address && nat_lt address 0xC000
-    then place_in (window_of (length b.ram) b.state) (address - 0xA000)
+    then in_ram (length b.ram) b.state (address - 0xA000)
     else Nowhere))
 
 -- ---- reads and writes

@@ -1,7 +1,10 @@
 pub mod Clock
-pub mod ClockJump
-pub mod Places
-pub mod Sound
 pub mod State
-pub mod CartridgeState
+pub mod Places
 pub mod Writes
+pub mod CartridgeState
+pub mod Laws
+-- what only the code needs
+pub mod ClockJump
+pub mod Window
+pub mod Sound

@@ -3,10 +3,17 @@
 use Rattle.std.specs.Prelude.{ℕ, ◌+◌, ◌*◌, ◌/◌, ◌%◌, Bool, true, ◌==◌, nat_lt, if◌then◌else◌}
 use Rattle.cartridge.specs.declared.controller.Controller.{Controller}
 use Rattle.cartridge.specs.declared.controller.Controller.TheVariants.{Plain, Mbc1, Mbc2, Mbc3, Mbc3Clock, Mbc5}
+use Rattle.bank_controllers.specs.declared.clock.ClockRegister.{ClockRegister}
 use Rattle.bank_controllers.specs.declared.clock.ClockRegister.TheVariants.{Seconds, Minutes, Hours, DayLow, DayHigh}
 use Rattle.bank_controllers.specs.declared.state.BanksState.{BanksState}
-use Rattle.bank_controllers.specs.declared.window.Window.{Window}
-use Rattle.bank_controllers.specs.declared.window.Window.TheVariants.{RamBank, HalfBytes, Clock, Shut}
+
+-- a store and an offset in it
+pub data Place : Type 0 where
+  Rom : ℕ → Place
+  Ram : ℕ → Place
+  HalfByte : ℕ → Place
+  Register : ClockRegister → Place
+  Nowhere : Place
 
 -- ---- ROM
 
@@ -40,38 +47,40 @@ high_start rom s = rom_bank_start rom (high_bank_of s.kind s)
 
 -- ---- A000-BFFF
 
--- bank n of 8 KiB, of this many bytes of RAM, where there is a bank at all
-abbrev pub ram_bank_shown : ℕ → ℕ → Window
-ram_bank_shown ram n = if nat_lt ram 8192 then Shut else RamBank (8192 * (n % (ram / 8192)))
+-- an offset in bank n of 8 KiB, of this many bytes of RAM, where there is a bank at all
+abbrev pub in_ram_bank : (ram n offset : ℕ) → Place
+in_ram_bank ram n offset = if nat_lt ram 8192 then Nowhere else Ram (8192 * (n % (ram / 8192)) + offset)
 
 -- 0 to 7 select a RAM bank, and nothing answers beyond the clock's registers (fixed profile)
-abbrev pub mbc3_shown : ℕ → ℕ → Window
-mbc3_shown ram select = if nat_lt select 8 then ram_bank_shown ram select else Shut
+abbrev pub in_mbc3 : (ram select offset : ℕ) → Place
+in_mbc3 ram select offset = if nat_lt select 8 then in_ram_bank ram select offset else Nowhere
 
-abbrev pub clock_shown : ℕ → Window
-clock_shown select =
-    if select == 8 then Clock Seconds else
-    (if select == 9 then Clock Minutes else
-    (if select == 10 then Clock Hours else
-    (if select == 11 then Clock DayLow else
-    (if select == 12 then Clock DayHigh else Shut))))
+abbrev pub in_clock : (select : ℕ) → Place
+in_clock select =
+    if select == 8 then Register Seconds else
+    (if select == 9 then Register Minutes else
+    (if select == 10 then Register Hours else
+    (if select == 11 then Register DayLow else
+    (if select == 12 then Register DayHigh else Nowhere))))
 
--- of enabled RAM; MBC2 has 512 half bytes
-abbrev pub open_window : Controller → ℕ → BanksState → Window
-open_window Plain ram s = ram_bank_shown ram 0
-open_window Mbc1 ram s = ram_bank_shown ram (if s.mode then s.ram_bank else 0)
-open_window Mbc2 ram s = HalfBytes
-open_window Mbc3 ram s = mbc3_shown ram s.ram_bank
-open_window Mbc3Clock ram s = if nat_lt s.ram_bank 8 then ram_bank_shown ram s.ram_bank else clock_shown s.ram_bank
-open_window Mbc5 ram s = ram_bank_shown ram s.ram_bank
+-- at this distance from A000, of enabled RAM; MBC2 has 512 half bytes, again and again
+abbrev pub in_enabled_ram : Controller → (ram : ℕ) → BanksState → (offset : ℕ) → Place
+in_enabled_ram Plain ram s offset = in_ram_bank ram 0 offset
+in_enabled_ram Mbc1 ram s offset = in_ram_bank ram (if s.mode then s.ram_bank else 0) offset
+in_enabled_ram Mbc2 ram s offset = HalfByte (offset % 512)
+in_enabled_ram Mbc3 ram s offset = in_mbc3 ram s.ram_bank offset
+in_enabled_ram Mbc3Clock ram s offset = if nat_lt s.ram_bank 8 then in_ram_bank ram s.ram_bank offset else in_clock s.ram_bank
+in_enabled_ram Mbc5 ram s offset = in_ram_bank ram s.ram_bank offset
 
-abbrev pub is_open : Controller → BanksState → Bool
-is_open Plain s = true
-is_open Mbc1 s = s.ram_enabled
-is_open Mbc2 s = s.ram_enabled
-is_open Mbc3 s = s.ram_enabled
-is_open Mbc3Clock s = s.ram_enabled
-is_open Mbc5 s = s.ram_enabled
+-- RAM without controller is always enabled (fixed profile)
+abbrev pub is_ram_enabled : Controller → BanksState → Bool
+is_ram_enabled Plain s = true
+is_ram_enabled Mbc1 s = s.ram_enabled
+is_ram_enabled Mbc2 s = s.ram_enabled
+is_ram_enabled Mbc3 s = s.ram_enabled
+is_ram_enabled Mbc3Clock s = s.ram_enabled
+is_ram_enabled Mbc5 s = s.ram_enabled
 
-unfoldable pub window_of : ℕ → BanksState → Window
-window_of ram s = if is_open s.kind s then open_window s.kind ram s else Shut
+-- the place at this distance from A000
+unfoldable pub in_ram : (ram : ℕ) → BanksState → (offset : ℕ) → Place
+in_ram ram s offset = if is_ram_enabled s.kind s then in_enabled_ram s.kind ram s offset else Nowhere

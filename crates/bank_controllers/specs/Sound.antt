@@ -1,7 +1,8 @@
 -- What the code keeps beside a cartridge's value: where the banks that it shows begin.
 use Rattle.std.specs.Prelude.{◌≡◌, ℕ, length}
 use Rattle.bank_controllers.specs.declared.window.Window.{Window}
-use Rattle.bank_controllers.specs.Places.{low_start, high_start, window_of}
+use Rattle.bank_controllers.specs.Places.{low_start, high_start}
+use Rattle.bank_controllers.specs.Window.{window_of}
 use Rattle.bank_controllers.specs.CartridgeState.{CartridgeState, IsLegalCartridge}
 
 pub record IsSound (value : CartridgeState) (low high : ℕ) (window : Window) : Type 0 where

@@ -64,8 +64,8 @@ fn zeros(alloc: Global, count: usize) -> Result<Vec<u8>, AllocError>
 impl Banks {
     ghost use Rattle.std.specs.Fn.{iterate};
     ghost use Rattle.bank_controllers.specs.State.{IsLegalBanks, state_at_power_on};
-    ghost use Rattle.bank_controllers.specs.Places.{window_of};
-    ghost use Rattle.bank_controllers.specs.CartridgeState.{IsLegalCartridge, IsLegalRam, IsSameCartridge, read_at, written, second, place_in, value_at, stored_at, cartridge_at_power_on};
+    ghost use Rattle.bank_controllers.specs.Window.{window_of, place_in};
+    ghost use Rattle.bank_controllers.specs.CartridgeState.{IsLegalCartridge, IsLegalRam, IsSameCartridge, read_at, written, second, value_at, stored_at, cartridge_at_power_on};
 
     /// The cartridge at power-on. It copies the ROM.
     pub fn new(alloc: Global, cartridge: &Cartridge) -> Result<Banks, AllocError>
@@ -105,7 +105,7 @@ impl Banks {
 
     /// Reads an address. No read changes anything.
     #[inline]
-    #[tactic(auto, unfolding(crate::specs::CartridgeState::read_at, crate::specs::CartridgeState::place_of))]
+    #[tactic(auto, using(crate::proofs::Windows::shows_its_places), unfolding(crate::specs::CartridgeState::read_at, crate::specs::CartridgeState::place_of))]
     pub fn read(&self, address: u16) -> u8
         ensures { result ≡ read_at self.now address }
     {
@@ -135,7 +135,7 @@ impl Banks {
     }
 
     /// Writes to an address.
-    #[tactic(auto, unfolding(crate::specs::CartridgeState::written, crate::specs::CartridgeState::place_of))]
+    #[tactic(auto, using(crate::proofs::Windows::shows_its_places), unfolding(crate::specs::CartridgeState::written, crate::specs::CartridgeState::place_of))]
     pub fn write(&mut self, address: u16, value: u8)
         ensures written { self.new ≡ written address value self.old }
         ensures same { IsSameCartridge self.old self.new }

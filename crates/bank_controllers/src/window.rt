@@ -1,5 +1,5 @@
 ghost use Rattle.std.specs.Prelude.{◌≡◌};
-ghost use Rattle.bank_controllers.specs.Places.{ram_bank_shown, clock_shown, open_window, is_open, window_of};
+ghost use Rattle.bank_controllers.specs.Window.{ram_bank_shown, clock_shown, open_window, window_of};
 
 use crate::clock::ClockRegister;
 use crate::state::BanksState;
@@ -19,7 +19,7 @@ pub(crate) enum Window {
 
 impl Window {
     /// The window that the registers open on this many bytes of RAM.
-    #[tactic(auto, unfolding(crate::specs::Places::window_of))]
+    #[tactic(auto, unfolding(crate::specs::Window::window_of))]
     pub(crate) fn of(state: BanksState, ram: usize) -> Window
         ensures { result ≡ window_of ram state }
     {

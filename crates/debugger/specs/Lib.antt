@@ -1,5 +1,6 @@
 pub mod History
 pub mod Listing
-pub mod Marks
 pub mod Run
 pub mod Report
+-- what only the code needs
+pub mod Marks

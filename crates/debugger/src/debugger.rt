@@ -1,6 +1,6 @@
 //! The machine with its history.
 
-ghost use Rattle.std.specs.Prelude.{◌≡◌, ◌≤◌, ◌↔◌, IfErr, IfOk, IsTrue, OnErr, OnOk, [], length, slice_get};
+ghost use Rattle.std.specs.Prelude.{◌≡◌, ◌≤◌, ◌↔◌, IfErr, IfOk, IsTrue, true, OnErr, OnOk, [], length, slice_get};
 ghost use Rattle.std.specs.Io.KnownBytes.{Appends};
 ghost use Rattle.std.specs.List.{Contains};
 ghost use Rattle.exact_text.specs.Written.{AppendsProperPrefix};
@@ -37,6 +37,7 @@ impl Model for Debugger {
 impl Debugger {
     ghost use Rattle.machine.specs.Bus.{bus_rules};
     ghost use Rattle.machine.specs.Steps.{step_of};
+    ghost use Rattle.machine.specs.Plain.{IsPlain};
     ghost use Rattle.debugger.specs.History.{after_run};
     ghost use Rattle.debugger.specs.Listing.{lines_from};
     ghost use Rattle.debugger.specs.Run.{IsStop};
@@ -57,7 +58,6 @@ impl Debugger {
 
     /// One step of the machine, and what it did. An instruction goes into the history, in place of
     /// the oldest one where it is full; a wait and the dispatch of an interrupt do not.
-    #[inline(always)]
     pub fn step(&mut self) -> Stepped
         ensures debugger { self.new ≡ after_run 1 self.old }
         ensures stepped { result ≡ (step_of bus_rules self.old.machine.processor).stepped }
@@ -77,14 +77,40 @@ impl Debugger {
         // the history is within its size, so a run of no step leaves it as it is
         prove!(self.history.len() <= self.history.capacity());
         let marks = marks_of(breaks);
+        let mut is_plain = false;
         for made in 0..limit {
             let pc = self.machine.registers().pc;
             if made > 0 && is_break(&marks, breaks, pc) {
                 return Stop::Break(pc);
             }
-            let _ = self.step();
+            is_plain = self.make_step(is_plain);
         }
         Stop::Limit
+    }
+
+    /// A step, of which the caller may know that it is plain. Says whether the next one is.
+    #[inline(always)]
+    fn make_step(&mut self, is_plain: bool) -> bool
+        requires { is_plain ≡ true → IsPlain bus_rules self.old.machine.processor }
+        ensures debugger { self.new ≡ after_run 1 self.old }
+        ensures plain { result ≡ true → IsPlain bus_rules self.new.machine.processor }
+    {
+        if is_plain {
+            return self.step_plainly();
+        }
+        let _ = self.step();
+        self.machine.is_plain()
+    }
+
+    #[inline(always)]
+    fn step_plainly(&mut self) -> bool
+        requires { IsPlain bus_rules self.old.machine.processor }
+        ensures debugger { self.new ≡ after_run 1 self.old }
+        ensures plain { result ≡ true → IsPlain bus_rules self.new.machine.processor }
+    {
+        let (ran, is_plain) = self.machine.step_plainly();
+        let _ = self.history.push_back(ran);
+        is_plain
     }
 
     /// How many instructions the history holds: at most `size`.

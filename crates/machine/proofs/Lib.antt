@@ -2,6 +2,7 @@ pub mod Examples
 pub mod Frames
 pub mod KeptByInputs
 pub mod Disabling
+pub mod OpcodeLengths
 pub mod Lowest
 pub mod Runs
 pub mod Waiting

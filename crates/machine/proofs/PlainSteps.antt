@@ -1,12 +1,16 @@
 -- A plain step is its instruction.
-use Rattle.std.proofs.Common.{◌≡◌, ◌∙◌, ℕ, Bool, true, false, cond, refl, sym, ap}
+use Rattle.std.proofs.Common.{◌≡◌, ◌∙◌, ℕ, Bool, true, false, cond, List, [], ◌∷◌, slice_index, refl, sym, ap}
 use Rattle.std.specs.Prelude.{◌&&◌, ◌==◌, ◌%◌, not, if◌then◌else◌}
 use Rattle.machine.specs.Rules.{Rules}
-use Rattle.machine.specs.Steps.{Step, step_of, after_stop, resumed, dispatched, ran, waited, passing, settled, byte_at}
+use Rattle.machine.specs.Steps.{Step, step_of, after_stop, resumed, dispatched, ran, waited, passing, settled, byte_at, second_address, decoded_at}
 use Rattle.machine.specs.Opcodes.{opened, instruction_at, executed_behind, cycles_with}
 use Rattle.machine.specs.RegisterOperations.{next_address}
 use Rattle.machine.specs.Plain.{IsPlain}
 use Rattle.machine.specs.declared.processor.Processor.{Processor}
+use Rattle.opcode_table.specs.Table.{instruction_of}
+use Rattle.opcode_table.specs.Timing.{length_of}
+use Rattle.machine.specs.declared.step.Stepped.{Stepped}
+use Rattle.machine.specs.declared.step.What.TheVariants.{Ran}
 
 abbrev on_of : {M : Type 0} → Bool → Processor M → Processor M
 on_of b p = record p { state = record p.state { stopped = b } }
@@ -61,3 +65,33 @@ plainly_cycles {M} r opcode cycles p plain e g =
     g ∙ ap (λ (o : ℕ). cycles_with (instruction_at r o (one_on p)) p.registers.flags) e
     ∙ ap (λ (s : Processor M). cycles_with (instruction_at r (opcode_at r p) s) p.registers.flags) (opens p plain.usual.repeat)
     ∙ sym (ap (λ (s : Step M). s.stepped.cycles) (plain_step r p plain))
+
+abbrev stepped_with : ℕ → List ℕ → ℕ → ℕ → Stepped
+stepped_with pc bytes length cycles = record { what = Ran (record { pc = pc; bytes = bytes; length = length }); cycles = cycles }
+
+abbrev bytes_at : {M : Type 0} → Rules M → Processor M → List ℕ
+bytes_at r p = byte_at r p.registers.pc p ∷ byte_at r (second_address p) p ∷ byte_at r (next_address (second_address p)) p ∷ []
+
+abbrev bytes_by : {M : Type 0} → Rules M → Bool → Processor M → List ℕ
+bytes_by r repeat p =
+    let second = if repeat then p.registers.pc else next_address p.registers.pc in
+    byte_at r p.registers.pc p ∷ byte_at r second p ∷ byte_at r (next_address second) p ∷ []
+
+-- the three bytes that a plain step fetches
+pub plainly_fetched : {M : Type 0} (r : Rules M) (p : Processor M) → IsPlain r p
+    → byte_at r p.registers.pc p ∷ byte_at r (next_address p.registers.pc) p ∷ byte_at r (next_address (next_address p.registers.pc)) p ∷ []
+    ≡ byte_at r p.registers.pc p ∷ byte_at r (second_address p) p ∷ byte_at r (next_address (second_address p)) p ∷ []
+plainly_fetched r p plain = ap (λ (b : Bool). bytes_by r b p) (sym plain.usual.repeat)
+
+-- what is known of a plain step that is reported
+pub plainly_reported : {M : Type 0} (r : Rules M) (bytes : List ℕ) (length cycles : ℕ) (p : Processor M) → IsPlain r p
+    → bytes ≡ byte_at r p.registers.pc p ∷ byte_at r (second_address p) p ∷ byte_at r (next_address (second_address p)) p ∷ []
+    → ((low high : ℕ) → length ≡ length_of (instruction_of (slice_index bytes 0) low high)) → cycles ≡ (step_of r p).stepped.cycles
+    → record { what = Ran (record { pc = p.registers.pc; bytes = bytes; length = length }); cycles = cycles } ≡ (step_of r p).stepped
+plainly_reported {M} r bytes length cycles p plain e f g =
+    let low = byte_at r (second_address p) p in
+    let high = byte_at r (next_address (second_address p)) p in
+    ap (λ (bs : List ℕ). stepped_with p.registers.pc bs length cycles) e
+    ∙ ap (λ (n : ℕ). stepped_with p.registers.pc (bytes_at r p) n cycles) (f low high ∙ ap (λ (bs : List ℕ). length_of (instruction_of (slice_index bs 0) low high)) e)
+    ∙ ap (λ (n : ℕ). stepped_with p.registers.pc (bytes_at r p) (decoded_at r p).length n) (g ∙ ap (λ (s : Step M). s.stepped.cycles) (plain_step r p plain))
+    ∙ sym (ap (λ (s : Step M). s.stepped) (plain_step r p plain))

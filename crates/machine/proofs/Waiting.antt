@@ -155,6 +155,12 @@ halted_waits due left p locked stopped halted none next settled k lt =
     let still : shared (iterate tick k p.memory) ≡ 0 = shared_before p.memory due k settled next (later_than due left k lt) ∙ none in
     unlocked_step (passing bus_rules k p) locked ∙ halted_step (passing bus_rules k p) stopped halted still
 
+-- a halted processor waits while IE and IF share no bit
+pub unshared_waits : (n many : ℕ) (p : Processor BusState) → p.state.locked ≡ false → p.state.stopped ≡ false → p.state.halted ≡ true
+    → ((k : ℕ) → k < many → shared (iterate tick k p.memory) ≡ 0) → n ≤ many → Waits n p
+unshared_waits n many p locked stopped halted none le k lt =
+    unlocked_step (passing bus_rules k p) locked ∙ halted_step (passing bus_rules k p) stopped halted (none k (omega (arith, le, lt)))
+
 pub none_waits : (p : Processor BusState) → Waits 0 p
 none_waits p k lt = absurd (omega (arith, lt))
 
@@ -170,6 +176,11 @@ stepped_on passed cycles p q below e f =
     ap (λ (q : Processor BusState). steps_until bus_rules 17556 (passed + cycles) q) e
     ∙ ap (λ (n : ℕ). steps_until bus_rules 17556 (passed + n) (step_of bus_rules p).after) f
     ∙ sym (until_step bus_rules passed p below)
+
+pub waits_on : (passed n : ℕ) (p : Processor BusState) (b : BusState) → passed + n ≤ 17556 → b ≡ iterate tick n p.memory → Waits n p
+    → steps_until bus_rules 17556 (passed + n) (record p { memory = b }) ≡ steps_until bus_rules 17556 passed p
+waits_on passed n p b le f waits =
+    ap (λ (b : BusState). steps_until bus_rules 17556 (passed + n) (record p { memory = b })) f ∙ until_waits n passed p le waits
 
 pub waited_on : (now n : ℕ) (p q : Processor BusState) (b : BusState) → now + n ≤ 17556 → q ≡ (step_of bus_rules p).after → b ≡ iterate tick n q.memory →
     (IsSettled q.memory.picture → Waits n q) → steps_until bus_rules 17556 (now + n) (record q { memory = b }) ≡ steps_until bus_rules 17556 now q

@@ -1,4 +1,4 @@
--- A processor whose next step is an instruction and nothing else, for private functions alone.
+-- A processor whose next step is an instruction and nothing else: a plain step.
 use Rattle.std.specs.Prelude.{◌≡◌, false, ◌&&◌, not, ◌==◌}
 use Rattle.machine.specs.Rules.{Rules}
 use Rattle.machine.specs.declared.processor.Processor.{Processor}

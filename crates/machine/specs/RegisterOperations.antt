@@ -35,11 +35,52 @@ condition_holds condition.Carry f = f.carry
 
 -- whether an instruction takes the M-cycles of a condition that holds; without a condition both are the same
 abbrev pub is_taken : Instr → Flags → Bool
+is_taken instr.Nop f = true
+is_taken (instr.StoreSp w) f = true
+is_taken instr.Stop f = true
+is_taken (instr.JumpRelative b) f = true
 is_taken (instr.JumpRelativeIf c b) f = condition_holds c f
-is_taken (instr.JumpIf c w) f = condition_holds c f
-is_taken (instr.CallIf c w) f = condition_holds c f
+is_taken (instr.LoadRegister16 r w) f = true
+is_taken (instr.AddHl r) f = true
+is_taken (instr.StoreAccumulator p) f = true
+is_taken (instr.LoadAccumulator p) f = true
+is_taken (instr.IncrementRegister16 r) f = true
+is_taken (instr.DecrementRegister16 r) f = true
+is_taken (instr.Increment r) f = true
+is_taken (instr.Decrement r) f = true
+is_taken (instr.LoadByte r b) f = true
+is_taken (instr.Accumulator o) f = true
+is_taken (instr.Load r s) f = true
+is_taken instr.Halt f = true
+is_taken (instr.Operate o r) f = true
+is_taken (instr.OperateByte o b) f = true
 is_taken (instr.ReturnIf c) f = condition_holds c f
-is_taken _ f = true
+is_taken (instr.StoreHigh b) f = true
+is_taken (instr.AddSp b) f = true
+is_taken (instr.LoadHigh b) f = true
+is_taken (instr.LoadHlSp b) f = true
+is_taken (instr.Pop r) f = true
+is_taken instr.Return f = true
+is_taken instr.ReturnFromInterrupt f = true
+is_taken instr.JumpHl f = true
+is_taken instr.LoadSpHl f = true
+is_taken (instr.JumpIf c w) f = condition_holds c f
+is_taken instr.StoreHighC f = true
+is_taken (instr.StoreAt w) f = true
+is_taken instr.LoadHighC f = true
+is_taken (instr.LoadAt w) f = true
+is_taken (instr.Jump w) f = true
+is_taken instr.DisableInterrupts f = true
+is_taken instr.EnableInterrupts f = true
+is_taken (instr.CallIf c w) f = condition_holds c f
+is_taken (instr.Push r) f = true
+is_taken (instr.Call w) f = true
+is_taken (instr.Restart a) f = true
+is_taken (instr.Shift s r) f = true
+is_taken (instr.TestBit n r) f = true
+is_taken (instr.ResetBit n r) f = true
+is_taken (instr.SetBit n r) f = true
+is_taken (instr.Undefined o) f = true
 
 -- A and the flags replaced
 abbrev pub with_result : Outcome → Registers → Registers

@@ -78,8 +78,52 @@ begun n s = record s {
 }
 
 abbrev pub is_disabling : Instr → Bool
+is_disabling instr.Nop = false
+is_disabling (instr.StoreSp w) = false
+is_disabling instr.Stop = false
+is_disabling (instr.JumpRelative b) = false
+is_disabling (instr.JumpRelativeIf c b) = false
+is_disabling (instr.LoadRegister16 r w) = false
+is_disabling (instr.AddHl r) = false
+is_disabling (instr.StoreAccumulator p) = false
+is_disabling (instr.LoadAccumulator p) = false
+is_disabling (instr.IncrementRegister16 r) = false
+is_disabling (instr.DecrementRegister16 r) = false
+is_disabling (instr.Increment r) = false
+is_disabling (instr.Decrement r) = false
+is_disabling (instr.LoadByte r b) = false
+is_disabling (instr.Accumulator o) = false
+is_disabling (instr.Load r s) = false
+is_disabling instr.Halt = false
+is_disabling (instr.Operate o r) = false
+is_disabling (instr.OperateByte o b) = false
+is_disabling (instr.ReturnIf c) = false
+is_disabling (instr.StoreHigh b) = false
+is_disabling (instr.AddSp b) = false
+is_disabling (instr.LoadHigh b) = false
+is_disabling (instr.LoadHlSp b) = false
+is_disabling (instr.Pop r) = false
+is_disabling instr.Return = false
+is_disabling instr.ReturnFromInterrupt = false
+is_disabling instr.JumpHl = false
+is_disabling instr.LoadSpHl = false
+is_disabling (instr.JumpIf c w) = false
+is_disabling instr.StoreHighC = false
+is_disabling (instr.StoreAt w) = false
+is_disabling instr.LoadHighC = false
+is_disabling (instr.LoadAt w) = false
+is_disabling (instr.Jump w) = false
 is_disabling instr.DisableInterrupts = true
-is_disabling _ = false
+is_disabling instr.EnableInterrupts = false
+is_disabling (instr.CallIf c w) = false
+is_disabling (instr.Push r) = false
+is_disabling (instr.Call w) = false
+is_disabling (instr.Restart a) = false
+is_disabling (instr.Shift s r) = false
+is_disabling (instr.TestBit n r) = false
+is_disabling (instr.ResetBit n r) = false
+is_disabling (instr.SetBit n r) = false
+is_disabling (instr.Undefined o) = false
 
 -- an instruction that began with `enable` ends with IME set and `enable` clear, but for DI
 abbrev pub settled : {M : Type 0} → Bool → Instr → Processor M → Processor M

@@ -100,8 +100,8 @@ impl Processor<Bus> {
         let _ = Bus::pass_few(&mut self.memory, cycles);
     }
 
-    /// A step in a frame of which so many M-cycles have passed, and behind a wait those that surely follow it. Says how
-    /// many M-cycles have passed then.
+    /// The waits that surely come in a frame of which so many M-cycles have passed; else a step, and behind a wait those that
+    /// surely follow it. Says how many M-cycles have passed then.
     #[inline(never)]
     fn step_and_wait(&mut self, passed: u32) -> u32
         requires { passed < 17556 }
@@ -109,6 +109,11 @@ impl Processor<Bus> {
         ensures more { passed < result }
         ensures few { result < 17562 }
     {
+        let sure = self.sure_waits(FRAME - passed);
+        if sure > 1 {
+            Bus::pass(&mut self.memory, sure);
+            return passed + sure;
+        }
         let stepped = self.step();
         let now = passed + u32::from(stepped.cycles);
         match stepped.what {
@@ -121,6 +126,19 @@ impl Processor<Bus> {
         let waits = self.waits(FRAME - now);
         Bus::pass(&mut self.memory, waits);
         now + waits
+    }
+
+    /// For how many M-cycles a halted processor surely waits, of those that are left, by what the bus knows: few where it
+    /// knows little.
+    #[inline(always)]
+    fn sure_waits(&self, left: u32) -> u32
+        ensures few { result ≤ left }
+        ensures waits { Waits result self.now }
+    {
+        if self.state.locked || self.state.stopped || !self.state.halted {
+            return 0;
+        }
+        u32::from(self.memory.unshared_for()).min(left)
     }
 
     /// For how many M-cycles the processor surely waits, of those that are left, if the STAT signal was taken as it is now.

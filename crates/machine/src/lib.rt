@@ -10,6 +10,7 @@ mod frame;
 pub mod input;
 mod instructions;
 pub mod laws;
+mod lengths;
 pub mod machine;
 pub mod machine_registers;
 pub mod memory;

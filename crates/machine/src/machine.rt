@@ -1,11 +1,11 @@
 //! The whole machine.
 
-ghost use Rattle.std.specs.Prelude.{◌≡◌, ◌<◌, ◌≤◌, IfOk, length, All, slice_set};
+ghost use Rattle.std.specs.Prelude.{◌≡◌, ◌<◌, ◌≤◌, IfOk, length, All, slice_set, true};
 
 use crate::input::Input;
 use crate::machine_registers::MachineRegisters;
 use crate::processor::{Processor, ProcessorState};
-use crate::step::Stepped;
+use crate::step::{Seen, Stepped};
 use cartridge::Cartridge;
 use memory_map::{Bus, Region};
 use picture_unit::Picture;
@@ -77,6 +77,8 @@ impl Machine {
     ghost use Rattle.machine.specs.Bus.{bus_rules};
     ghost use Rattle.machine.specs.Steps.{step_of, after_steps};
     ghost use Rattle.machine.specs.Machine.{start, frame_played, applied};
+    ghost use Rattle.machine.specs.Plain.{IsPlain};
+    ghost use Rattle.machine.specs.declared.step.What.{What};
     ghost use Rattle.machine.specs.MachineStores.{registers_of, with_registers, row_set, AreLegalFor};
 
     /// The machine at power-on with this cartridge. Refused where there is no memory.
@@ -100,6 +102,27 @@ impl Machine {
         ensures stepped { result ≡ (step_of bus_rules self.old.processor).stepped }
     {
         self.processor.step()
+    }
+
+    /// Whether the next step is an instruction that begins with neither `enable` nor `repeat`: a plain one.
+    #[inline(always)]
+    pub fn is_plain(&self) -> bool
+        ensures plain { result ≡ true → IsPlain bus_rules self.now.processor }
+        ensures every { IsPlain bus_rules self.now.processor → result ≡ true }
+    {
+        self.processor.is_plain()
+    }
+
+    /// A plain step, faster than `step`: the instruction that ran, and whether the next step is surely plain too. Condition: the
+    /// step is plain, as `is_plain` tells.
+    #[inline(always)]
+    pub fn step_plainly(&mut self) -> (Seen, bool)
+        requires { IsPlain bus_rules self.old.processor }
+        ensures machine { self.new ≡ record self.old { processor = (step_of bus_rules self.old.processor).after } }
+        ensures what { (step_of bus_rules self.old.processor).stepped.what ≡ What.Ran result.0 }
+        ensures plain { result.1 ≡ true → IsPlain bus_rules self.new.processor }
+    {
+        self.processor.run_and_report()
     }
 
     /// That many steps.

@@ -29,6 +29,9 @@ pub(crate) const IN_FRAME: u8 = 1;
 /// Those of plain steps that are counted.
 pub(crate) const COUNTED: u8 = 2;
 
+/// Those of plain steps that are reported.
+pub(crate) const REPORTED: u8 = 3;
+
 impl<M: Memory> Processor<M> {
     /// Does the instruction of this opcode, behind which PC is. Answers its M-cycles, and whether the next one may begin
     /// as plainly as this one did, but for an interrupt. WAY names the caller: the code for each is made apart, so that it

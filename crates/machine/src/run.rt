@@ -1,38 +1,65 @@
-//! Many steps.
+//! Many steps, and steps one after another that are reported.
 
-ghost use Rattle.std.specs.Prelude.{◌≡◌};
+ghost use Rattle.std.specs.Prelude.{◌≡◌, true};
 
+use crate::lengths::length_of_opcode;
 use crate::memory::Memory;
-use crate::opcodes::COUNTED;
+use crate::opcodes::{COUNTED, REPORTED};
 use crate::processor::Processor;
+use crate::step::Seen;
+use memory_map::Bus;
 
 impl<M: Memory> Processor<M> {
     ghost use Rattle.machine.specs.Steps.{after_steps, step_of};
+    ghost use Rattle.machine.specs.Plain.{IsPlain};
 
     /// Makes `count` steps.
     pub fn run_steps(&mut self, count: u32)
         ensures { self.new ≡ after_steps M.rules count self.old }
     {
+        let mut is_plain = false;
         for _i in 0..count {
-            self.make_step();
+            is_plain = self.make_step(is_plain);
         }
     }
 
+    /// A step, of which the caller may know that it is plain. Says whether the next one is.
     #[inline(always)]
-    fn make_step(&mut self)
-        ensures { self.new ≡ (step_of M.rules self.old).after }
+    fn make_step(&mut self, is_plain: bool) -> bool
+        requires { is_plain ≡ true → IsPlain M.rules self.old }
+        ensures after { self.new ≡ (step_of M.rules self.old).after }
+        ensures plain { result ≡ true → IsPlain M.rules self.new }
     {
-        if self.is_plain() {
-            self.run_plainly::<COUNTED>();
-        } else {
-            self.step_apart();
+        if is_plain {
+            return self.run_plainly::<COUNTED>().1;
         }
-    }
-
-    #[inline(never)]
-    fn step_apart(&mut self)
-        ensures { self.new ≡ (step_of M.rules self.old).after }
-    {
         self.step();
+        self.is_plain()
+    }
+}
+
+impl Processor<Bus> {
+    ghost use Rattle.machine.specs.Bus.{bus_rules};
+    ghost use Rattle.machine.specs.Steps.{step_of};
+    ghost use Rattle.machine.specs.Plain.{IsPlain};
+    ghost use Rattle.machine.specs.declared.step.What.{What};
+
+    /// A step that is plain: the instruction that ran, and whether the next step is plain.
+    #[inline(always)]
+    pub(crate) fn run_and_report(&mut self) -> (Seen, bool)
+        requires { IsPlain bus_rules self.old }
+        ensures after { self.new ≡ (step_of bus_rules self.old).after }
+        ensures what { (step_of bus_rules self.old).stepped.what ≡ What.Ran result.0 }
+        ensures plain { result.1 ≡ true → IsPlain bus_rules self.new }
+    {
+        let pc = self.registers.pc;
+        let bytes = self.memory.read_three(pc);
+        let (_, is_plain) = self.run_plainly::<REPORTED>();
+        let seen = Seen {
+            pc,
+            bytes,
+            length: length_of_opcode(bytes[0]),
+        };
+        (seen, is_plain)
     }
 }

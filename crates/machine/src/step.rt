@@ -3,9 +3,9 @@
 ghost use Rattle.std.specs.Prelude.{◌≡◌, ◌<◌, ◌≤◌, ◌+◌, ◌*◌, ◌==◌, ◌&&◌, not, true};
 ghost use Rattle.machine.specs.RegisterOperations.{next_address};
 
+use crate::lengths::length_of_opcode;
 use crate::memory::Memory;
 use crate::processor::Processor;
-use opcode_table::decode;
 
 /// An instruction that ran: where it was, the three bytes that were fetched, and how many of them
 /// it has.
@@ -123,7 +123,7 @@ impl<M: Memory> Processor<M> {
             what: What::Ran(Seen {
                 pc,
                 bytes,
-                length: decode(bytes).length,
+                length: length_of_opcode(bytes[0]),
             }),
             cycles,
         }
@@ -132,7 +132,8 @@ impl<M: Memory> Processor<M> {
     /// Whether the next step is an instruction that begins with neither `enable` nor `repeat`.
     #[inline(always)]
     pub(crate) fn is_plain(&self) -> bool
-        ensures { result ≡ true → IsPlain M.rules self.now }
+        ensures plain { result ≡ true → IsPlain M.rules self.now }
+        ensures every { IsPlain M.rules self.now → result ≡ true }
     {
         if self.state.locked || self.state.stopped || self.state.halted {
             return false;
@@ -198,7 +199,7 @@ impl<M: Memory> Processor<M> {
     }
 
     /// One step: a wait, an interrupt or one instruction.
-    #[inline(always)]
+    #[inline(never)]
     #[tactic(auto, unfolding(crate::specs::Steps::step_of))]
     pub fn step(&mut self) -> Stepped
         ensures after { self.new ≡ (step_of M.rules self.old).after }

@@ -6,3 +6,4 @@ pub mod PictureWrites
 pub mod QuietTicks
 pub mod QuietCycles
 pub mod SameCartridge
+pub mod CopyLaws

@@ -16,6 +16,7 @@ use Rattle.picture_unit.specs.declared.state.PictureState.{PictureState}
 use Rattle.picture_unit.proofs.Quiet.{none_quiet, fewer_quiet, quiet_ticks}
 use Rattle.picture_unit.proofs.PictureLaws.{picture_ticks, pending}
 use Rattle.memory_map.specs.State.{BusState}
+use Rattle.memory_map.specs.Bus.{shared}
 use Rattle.memory_map.specs.Ticks.{tick}
 use Rattle.memory_map.specs.Quiet.{AreQuiet}
 use Rattle.memory_map.proofs.NextBusEvent.{ticks_apart}
@@ -142,3 +143,8 @@ both_quiet n m q copied t left p e copy none h still line quiet = record {
   line = λ _. omega arith;
   picture = fewer_picture q n p (omega arith) quiet;
 }
+
+-- before each of n M-cycles, of which all but the last are quiet, IE and IF share what they share now
+pub shared_while_quiet : (n k : ℕ) (b : BusState) → k < n → timer.IsLegalTimer b.timer.timer
+    → AreQuiet (n - 1) b.control.dma_copied b.timer.timer b.serial.serial.cycles_left b.picture.screen.state → shared (iterate tick k b) ≡ shared b
+shared_while_quiet n k b below legal quiet = ap shared (sym (quiet_pass (n - 1) k b (omega arith) legal quiet))

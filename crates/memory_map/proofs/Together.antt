@@ -32,7 +32,7 @@ after_vram a = cond (ltb a 0xC000) (Cartridge a) (after_cart a)
 abbrev after_rom : ℕ → Place
 after_rom a = cond (ltb a 0xA000) (Vram (a - 0x8000)) (after_vram a)
 
-low_place : (P : Place → Type 0) (a : ℕ) → a < 0xE000 → ((i : ℕ) → P (Cartridge i)) → ((i : ℕ) → P (Vram i)) → ((i : ℕ) → P (Wram i)) → P (place a)
+pub low_place : (P : Place → Type 0) (a : ℕ) → a < 0xE000 → ((i : ℕ) → P (Cartridge i)) → ((i : ℕ) → P (Vram i)) → ((i : ℕ) → P (Wram i)) → P (place a)
 low_place P a h cartridge vram wram =
     let low : ltb a 0xE000 ≡ true = lt-ltb a 0xE000 h in
     elim (ltb a 0x8000) as (λ t. P (cond t (Cartridge a) (after_rom a))) [
@@ -46,7 +46,7 @@ low_place P a h cartridge vram wram =
       ]
     ]
 
-dma_source_low : (c : Control) → c.dma < 256 → c.dma_copied < 160 → dma_source c < 0xE000
+pub dma_source_low : (c : Control) → c.dma < 256 → c.dma_copied < 160 → dma_source c < 0xE000
 dma_source_low c h k = grind (arith, nat_tests)
 
 peeked_timer : (b : BusState) (t : timer.TimerAndRequest) (a : ℕ) → a < 0xE000 → peeked (record b { timer = t }) a ≡ peeked b a

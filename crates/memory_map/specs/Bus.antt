@@ -98,9 +98,15 @@ value_at b InterruptEnable = b.control.ie
 
 -- mode 3 closes VRAM; modes 2 and 3, and a running copy, close OAM
 abbrev pub is_closed : BusState → Place → Bool
+is_closed b (Cartridge a) = false
 is_closed b (Vram i) = is_vram_closed b.picture.screen.state
+is_closed b (Wram i) = false
 is_closed b (Oam i) = nat_lt b.control.dma_copied 160 || is_oam_closed b.picture.screen.state
-is_closed b p = false
+is_closed b Unused = false
+is_closed b (Sound i) = false
+is_closed b (Register a) = false
+is_closed b (Hram i) = false
+is_closed b InterruptEnable = false
 
 abbrev pub with_vram : List ℕ → BusState → BusState
 with_vram vram b = record b { picture = record b.picture { screen = record b.picture.screen { vram = vram } } }

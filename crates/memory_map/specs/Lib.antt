@@ -5,4 +5,6 @@ pub mod Bus
 pub mod Ticks
 pub mod Stores
 pub mod Laws
+pub mod CopyLaws
+-- what only the code needs
 pub mod Quiet

@@ -94,7 +94,8 @@ ghost use Rattle.memory_map.specs.State.{zeros};
 
 impl Bus {
     ghost use Rattle.memory_map.specs.State.{bus_at_power_on};
-    ghost use Rattle.memory_map.specs.Map.{place};
+    ghost use Rattle.memory_map.specs.Map.{place, address_behind};
+    ghost use Rattle.std.specs.Prelude.{[], ◌∷◌};
     ghost use Rattle.memory_map.specs.Bus.{value_at, is_closed, stored_at, peeked, read_at, written, buttons_set};
 
     /// The bus at power-on, with this cartridge. Refused where there is no memory.
@@ -140,6 +141,37 @@ impl Bus {
             return self.wram[usize::from(address - 0xc000)];
         }
         self.read_place(address)
+    }
+
+    /// Reads three addresses in a row. After FFFF comes 0000.
+    #[inline(always)]
+    pub fn read_three(&self, address: u16) -> [u8; 3]
+        ensures { result ≡ read_at self.now address ∷ read_at self.now (address_behind address) ∷ read_at self.now (address_behind (address_behind address)) ∷ [] }
+    {
+        // Within one half of ROM, so that each of the three is asked for its place no more.
+        if address < 0x3ffe {
+            return self.three_at(address);
+        }
+        if address >= 0x4000 && address < 0x7ffe {
+            return self.three_at(address);
+        }
+        self.three_apart(address)
+    }
+
+    #[inline(always)]
+    fn three_at(&self, address: u16) -> [u8; 3]
+        ensures { result ≡ read_at self.now address ∷ read_at self.now (address_behind address) ∷ read_at self.now (address_behind (address_behind address)) ∷ [] }
+    {
+        let second = address.wrapping_add(1);
+        let third = second.wrapping_add(1);
+        [self.read(address), self.read(second), self.read(third)]
+    }
+
+    #[inline(never)]
+    fn three_apart(&self, address: u16) -> [u8; 3]
+        ensures { result ≡ read_at self.now address ∷ read_at self.now (address_behind address) ∷ read_at self.now (address_behind (address_behind address)) ∷ [] }
+    {
+        self.three_at(address)
     }
 
     #[inline(never)]

@@ -4,3 +4,11 @@ ghost use Rattle.memory_map.specs.Laws.{EachRowIsMapped};
 pub fn each_row_of_the_map_is_mapped()
     ensures { EachRowIsMapped }
 {}
+
+ghost use Rattle.memory_map.specs.CopyLaws.{OamHoldsTheSourcePage};
+
+/// Law: 160 M-cycles after a write of FF46 OAM holds the 160 bytes of the source page as they were at the write, if nothing else is
+/// written meanwhile. Until then OAM reads FF, and each M-cycle copies one byte. The call does nothing.
+pub fn oam_holds_the_source_page()
+    ensures { OamHoldsTheSourcePage }
+{}

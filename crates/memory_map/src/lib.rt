@@ -14,6 +14,6 @@ mod region;
 pub use bus::Bus;
 pub use bus_registers::BusRegisters;
 pub use control::Control;
-pub use laws::each_row_of_the_map_is_mapped;
+pub use laws::{each_row_of_the_map_is_mapped, oam_holds_the_source_page};
 pub use place::Place;
 pub use region::Region;

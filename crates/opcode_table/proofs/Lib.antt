@@ -1,1 +1,2 @@
 pub mod UndefinedOpcodes
+pub mod Matrix

@@ -4,3 +4,4 @@ pub mod Timing
 pub mod Undefined
 pub mod Text
 pub mod Listing
+pub mod Matrix

@@ -3,14 +3,20 @@ use Rattle.std.specs.Prelude.{ℕ, Bool, true, false, ◌+◌, if◌then◌else�
 use Rattle.opcode_table.specs.declared.instruction.Instr.{Instr}
 use Rattle.opcode_table.specs.declared.instruction.Instr.TheVariants.{Nop, StoreSp, Stop, JumpRelative, JumpRelativeIf, LoadRegister16, AddHl, StoreAccumulator, LoadAccumulator, IncrementRegister16, DecrementRegister16, Increment, Decrement, LoadByte, Accumulator, Load, Halt, Operate, OperateByte, ReturnIf, StoreHigh, AddSp, LoadHigh, LoadHlSp, Pop, Return, ReturnFromInterrupt, JumpHl, LoadSpHl, JumpIf, StoreHighC, StoreAt, LoadHighC, LoadAt, Jump, DisableInterrupts, EnableInterrupts, CallIf, Push, Call, Restart, Shift, TestBit, ResetBit, SetBit, Undefined}
 use Rattle.opcode_table.specs.declared.instruction.Operand8.{Operand8}
-use Rattle.opcode_table.specs.declared.instruction.Operand8.TheVariants.{AtHl}
+use Rattle.opcode_table.specs.declared.instruction.Operand8.TheVariants.{B, C, D, E, H, L, AtHl, A}
 use Rattle.opcode_table.specs.declared.decoding.Decoded.{Decoded}
 use Rattle.opcode_table.specs.Table.{instruction_of}
 
 -- whether an operand is the byte at HL
 abbrev pub is_in_memory : Operand8 → Bool
+is_in_memory B = false
+is_in_memory C = false
+is_in_memory D = false
+is_in_memory E = false
+is_in_memory H = false
+is_in_memory L = false
 is_in_memory AtHl = true
-is_in_memory _ = false
+is_in_memory A = false
 
 -- the bytes behind the opcode: one for n8 and e, two for n16, and the second byte of STOP and of CB
 abbrev pub operand_bytes : Instr → ℕ
@@ -115,11 +121,52 @@ cycles_of (Undefined o) = 1
 
 -- the M-cycles where the condition holds; they are the same for an instruction that has none
 abbrev pub cycles_taken_of : Instr → ℕ
+cycles_taken_of Nop = cycles_of Nop
+cycles_taken_of (StoreSp w) = cycles_of (StoreSp w)
+cycles_taken_of Stop = cycles_of Stop
+cycles_taken_of (JumpRelative b) = cycles_of (JumpRelative b)
 cycles_taken_of (JumpRelativeIf c b) = 3
-cycles_taken_of (JumpIf c w) = 4
-cycles_taken_of (CallIf c w) = 6
+cycles_taken_of (LoadRegister16 r w) = cycles_of (LoadRegister16 r w)
+cycles_taken_of (AddHl r) = cycles_of (AddHl r)
+cycles_taken_of (StoreAccumulator p) = cycles_of (StoreAccumulator p)
+cycles_taken_of (LoadAccumulator p) = cycles_of (LoadAccumulator p)
+cycles_taken_of (IncrementRegister16 r) = cycles_of (IncrementRegister16 r)
+cycles_taken_of (DecrementRegister16 r) = cycles_of (DecrementRegister16 r)
+cycles_taken_of (Increment r) = cycles_of (Increment r)
+cycles_taken_of (Decrement r) = cycles_of (Decrement r)
+cycles_taken_of (LoadByte r b) = cycles_of (LoadByte r b)
+cycles_taken_of (Accumulator o) = cycles_of (Accumulator o)
+cycles_taken_of (Load r s) = cycles_of (Load r s)
+cycles_taken_of Halt = cycles_of Halt
+cycles_taken_of (Operate o r) = cycles_of (Operate o r)
+cycles_taken_of (OperateByte o b) = cycles_of (OperateByte o b)
 cycles_taken_of (ReturnIf c) = 5
-cycles_taken_of i = cycles_of i
+cycles_taken_of (StoreHigh b) = cycles_of (StoreHigh b)
+cycles_taken_of (AddSp b) = cycles_of (AddSp b)
+cycles_taken_of (LoadHigh b) = cycles_of (LoadHigh b)
+cycles_taken_of (LoadHlSp b) = cycles_of (LoadHlSp b)
+cycles_taken_of (Pop r) = cycles_of (Pop r)
+cycles_taken_of Return = cycles_of Return
+cycles_taken_of ReturnFromInterrupt = cycles_of ReturnFromInterrupt
+cycles_taken_of JumpHl = cycles_of JumpHl
+cycles_taken_of LoadSpHl = cycles_of LoadSpHl
+cycles_taken_of (JumpIf c w) = 4
+cycles_taken_of StoreHighC = cycles_of StoreHighC
+cycles_taken_of (StoreAt w) = cycles_of (StoreAt w)
+cycles_taken_of LoadHighC = cycles_of LoadHighC
+cycles_taken_of (LoadAt w) = cycles_of (LoadAt w)
+cycles_taken_of (Jump w) = cycles_of (Jump w)
+cycles_taken_of DisableInterrupts = cycles_of DisableInterrupts
+cycles_taken_of EnableInterrupts = cycles_of EnableInterrupts
+cycles_taken_of (CallIf c w) = 6
+cycles_taken_of (Push r) = cycles_of (Push r)
+cycles_taken_of (Call w) = cycles_of (Call w)
+cycles_taken_of (Restart a) = cycles_of (Restart a)
+cycles_taken_of (Shift s r) = cycles_of (Shift s r)
+cycles_taken_of (TestBit n r) = cycles_of (TestBit n r)
+cycles_taken_of (ResetBit n r) = cycles_of (ResetBit n r)
+cycles_taken_of (SetBit n r) = cycles_of (SetBit n r)
+cycles_taken_of (Undefined o) = cycles_of (Undefined o)
 
 -- what is to know of an instruction
 abbrev pub row_of : Instr → Decoded

@@ -7,6 +7,7 @@
 
 pub mod decoding;
 pub mod instruction;
+mod laws;
 pub mod listing;
 pub mod text;
 mod timing;
@@ -16,5 +17,6 @@ pub use instruction::{
     AccumulatorOperation, Condition, Indirect, Instr, Operand8, Operation, Register16, Shift,
     StackRegister16,
 };
+pub use laws::each_opcode_has_its_row;
 pub use listing::{Line, list_line};
 pub use text::{Text, write_text};

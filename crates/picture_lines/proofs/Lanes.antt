@@ -1,6 +1,10 @@
 -- What the lanes compute: the colours of two planes, and the shades of a palette.
-use Rattle.std.proofs.Common.{◌≡◌, ℕ, ◌+◌, ◌*◌, ◌/◌, ◌%◌, ◌^◌, ◌<◌, List, [], ◌∷◌, length, map, bit_and, refl, ap, arith, zero, suc, zero-add, ◌++◌, ◌≤◌, take, drop, get_or, set}
-use Rattle.std.specs.Prelude.{replicate, All}
+use Rattle.std.proofs.Common.{◌≡◌, ℕ, ◌+◌, ◌*◌, ◌/◌, ◌%◌, ◌^◌, ◌<◌, List, [], ◌∷◌, length, map, bit_and, refl, ap, arith, zero, suc, zero-add, ◌++◌, ◌≤◌, take, drop, get_or, set, sym, ◌∙◌}
+use Rattle.std.specs.Prelude.{replicate, All, slice_index}
+use mir.Syntax.{w8}
+use Rattle.std.proofs.lemmas.Simd.{Each1-from_get_or, SwzOk, SwzOk-from_below, swz_l, length-swz_l, get_or-swz_l_below}
+use Rattle.std.proofs.lemmas.List.{get_or-map, length-map}
+use Rattle.std.proofs.lemmas.Grind.{same_number_lists}
 use Rattle.std.proofs.lemmas.Nat.{and_mask}
 use Rattle.std.proofs.lemmas.List.Elements.{All-take, All-drop}
 use Rattle.std.proofs.Math.Nat.{suc-add}
@@ -87,3 +91,31 @@ pub ruleset mapping = (length-front_mapped, drop-front_mapped, front_mapped-bloc
 pub front_mapped-small : (f : ℕ → ℕ) (at n : ℕ) (xs ys : List ℕ) → ys ≡ front_mapped f at xs → All (λ x. x < 4) xs → All (λ x. x < 4) (chunk at n ys)
 front_mapped-small f at n xs ys same small =
     rw (same, drop-front_mapped) (All-take (λ x. x < 4) n (drop at xs) (All-drop (λ x. x < 4) at xs small))
+
+-- ---- shades by their places in a table
+
+pub shades_table : (p colour : ℕ) (rest : List ℕ) → p < 256 → colour < 4 → slice_index (p % 4 ∷ p / 4 % 4 ∷ p / 16 % 4 ∷ p / 64 ∷ rest) colour ≡ shade_of p colour
+unfolding shade_of
+shades_table p zero rest byte below = omega arith
+shades_table p (suc zero) rest byte below = omega arith
+shades_table p (suc (suc zero)) rest byte below = omega arith
+shades_table p (suc (suc (suc zero))) rest byte below = omega arith
+shades_table p (suc (suc (suc (suc n)))) rest byte below = absurd (omega arith)
+
+pub places_fit : (xs : List ℕ) → length xs ≡ 16 → All (λ x. x < 4) xs → SwzOk w8 16 16 0 xs
+places_fit xs size small =
+    SwzOk-from_below w8 16 1 16 0 xs (omega arith) (omega (arith, size)) (Each1-from_get_or (λ x. x < 16) xs 0 (λ i h. let here = small i 0 h in omega (arith, here)))
+
+pub shades_by_places : (p : ℕ) (table xs : List ℕ) → length xs ≡ 16 → ((colour : ℕ) → colour < 4 → slice_index table colour ≡ shade_of p colour)
+    → All (λ x. x < 4) xs → swz_l w8 16 table 0 xs ≡ map (shade_of p) xs
+shades_by_places p table xs size shades small =
+    same_number_lists (swz_l w8 16 table 0 xs) (map (shade_of p) xs) (length-swz_l w8 16 table 0 xs ∙ sym (length-map xs (shade_of p)))
+    (λ k h.
+    let within : k < length xs = rw length-swz_l at h in
+    let colour = get_or xs k 0 in
+    let here : colour < 4 = small k 0 within in
+    let place : 16 * ((0 + k) / 16) + colour ≡ colour = omega (arith, size, within) in
+    get_or-swz_l_below w8 16 table 0 xs k within (omega (arith, here))
+    ∙ ap (λ (i : ℕ). get_or table i 0) place
+    ∙ shades colour here
+    ∙ sym (get_or-map (shade_of p) xs k 0 0 within))

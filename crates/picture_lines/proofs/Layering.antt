@@ -4,7 +4,7 @@ use Rattle.std.specs.Prelude.{◌==◌, not, filter, nat_le, nat_lt, Option, Non
 use Rattle.std.proofs.lemmas.List.{get_or-set_same}
 use Rattle.std.proofs.lemmas.Bool.{cases_lt}
 use Rattle.picture_lines.specs.Bits.{has_bit, shade_of}
-use Rattle.picture_lines.specs.Pixel.{row_colour, object_row, shade_at, shade_under, winner, in_front, is_seen, object_colour, object_palette, object_shade, shade_over}
+use Rattle.picture_lines.specs.Pixel.{background_shade, row_colour, object_row, shade_at, shade_under, winner, in_front, is_seen, object_colour, object_palette, object_shade, shade_over}
 use Rattle.picture_lines.specs.Layers.{winner_x, IsLayered, IsBackground}
 use Rattle.picture_lines.specs.declared.registers.LineRegisters.{LineRegisters}
 use Rattle.picture_lines.specs.declared.object_entry.Object.{Object}
@@ -113,3 +113,7 @@ object_colour-at s vram x o across within place =
 pub IsLayered-none : (s : LineRegisters) (vram colours shades fronts : List ℕ) (x : ℕ) → get_or fronts (x + 8) 0 ≡ 255 → IsBackground s vram colours shades x → IsLayered s vram [] shades fronts x
 unfolding shade_at shade_under winner winner_x
 IsLayered-none s vram colours shades fronts x front ground = record { shade = ground.shade; front = front }
+
+pub shade_at-none : (s : LineRegisters) (vram : List ℕ) (x : ℕ) → shade_at s vram [] x ≡ background_shade s vram x
+unfolding shade_at shade_under winner
+shade_at-none s vram x = refl

@@ -1,4 +1,4 @@
-ghost use Rattle.std.specs.Prelude.{◌≡◌, ◌+◌, ◌<◌, ◌≤◌, length, map, All};
+ghost use Rattle.std.specs.Prelude.{◌≡◌, ℕ, ◌+◌, ◌<◌, ◌≤◌, length, map, All, slice_index};
 ghost use lib.Lanes.{chunk, put_chunk};
 ghost use Rattle.picture_lines.specs.Bits.{plane_colours, shade_of};
 
@@ -17,6 +17,20 @@ pub fn tile_colours(low: u8, high: u8) -> [u8; 8]
     (high_bits + high_bits + low_bits).to_array()
 }
 
+// The shade of each colour, and 0 in the other lanes.
+#[inline(always)]
+fn shades_of(palette: u8) -> u8x16
+    ensures { (colour : ℕ) → colour < 4 → slice_index result colour ≡ shade_of palette colour }
+{
+    let first = palette % 4;
+    let second = palette / 4 % 4;
+    let third = palette / 16 % 4;
+    let fourth = palette / 64;
+    u8x16::from_array([
+        first, second, third, fourth, 0, 0, 0, 0, 0, 0, 0, 0, 0, 0, 0, 0,
+    ])
+}
+
 // Sixteen shades at once.
 fn map_sixteen(palette: u8, colours: &mut [u8], at: usize)
     requires room { at + 16 ≤ length colours.old }
@@ -25,7 +39,7 @@ fn map_sixteen(palette: u8, colours: &mut [u8], at: usize)
         ≡ put_chunk at colours.old (map (shade_of palette) (chunk at 16 colours.old)) }
 {
     let lanes = u8x16::from_slice(&colours[at..]);
-    let shades = (u8x16::splat(palette) >> (lanes + lanes)) & u8x16::splat(3);
+    let shades = shades_of(palette).swizzle_dyn(lanes);
     shades.copy_to_slice(&mut colours[at..]);
 }
 

@@ -1,7 +1,7 @@
 ghost use Rattle.std.specs.Prelude.{◌≡◌, ℕ, ◌+◌, ◌*◌, ◌-◌, ◌/◌, ◌%◌, ◌<◌, ◌≤◌, length, slice_index, All, List, drop, [], ◌∷◌, if◌then◌else◌};
 ghost use Rattle.std.specs.List.{AllPass};
 ghost use lib.Lanes.{put_chunk};
-ghost use Rattle.picture_lines.specs.Pixel.{map_row as map_row_of, map_colour, background_colour, object_colour, object_palette, covers_line, drawn_row};
+ghost use Rattle.picture_lines.specs.Pixel.{map_row as map_row_of, map_colour, background_colour, background_shade, object_colour, object_palette, covers_line, drawn_row};
 ghost use Rattle.picture_lines.specs.Bits.{shade_of};
 ghost use Rattle.picture_lines.specs.Layers.{IsBackground, IsLayered};
 
@@ -137,6 +137,19 @@ impl LineRegisters {
         Background { colours, shades }
     }
 
+    // The shades of the background, column x at index x + 8.
+    fn background_shades(&self, tiles: &mut TileMemory) -> [u8; WIDTH]
+        ensures tiles { tiles.new ≡ tiles.old }
+        ensures shades { (x : ℕ) → x < 160 →
+            slice_index result (x + 8) ≡ background_shade self.now tiles.old x }
+    {
+        let mut colours = self.background_colours(tiles);
+        if has_bit(self.lcdc, 0) {
+            map_shades(self.bgp, &mut colours);
+        }
+        colours
+    }
+
     // The background without an object over it.
     fn bare_overlay(&self, background: &Background) -> Overlay
         ensures { (vram : List ℕ) (x : ℕ) → x < 160 →
@@ -226,6 +239,17 @@ impl LineRegisters {
         }
     }
 
+    // Draws a line on which no object is.
+    #[inline(never)]
+    fn draw_background(&self, tiles: &mut TileMemory, row: &mut [u8; 160])
+        ensures tiles { tiles.new ≡ tiles.old }
+        ensures shades { (x : ℕ) → x < 160 →
+            slice_index row.new x ≡ background_shade self.now tiles.old x }
+    {
+        let shades = self.background_shades(tiles);
+        row.copy_from_slice(&shades[8..168]);
+    }
+
     /// Draws the line, by whole tile rows.
     pub fn draw(&self, tiles: &mut TileMemory, oam: &[u8], row: &mut [u8; 160])
         requires line_in { self.now.ly < 144 }
@@ -234,9 +258,12 @@ impl LineRegisters {
         ensures row { row.new ≡ drawn_row self.now tiles.old oam.now }
         ensures shades { All (λ shade. shade < 4) row.new }
     {
+        let selected = self.selected_objects(oam);
+        if selected.is_empty() {
+            return self.draw_background(tiles, row);
+        }
         let background = self.background(tiles);
         let mut overlay = self.bare_overlay(&background);
-        let selected = self.selected_objects(oam);
         let mut index = selected.len();
         while index > 0 {
             index -= 1;

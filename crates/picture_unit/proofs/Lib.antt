@@ -2,3 +2,5 @@ pub mod Quiet
 pub mod Writing
 pub mod PictureLaws
 pub mod Settled
+pub mod SignalLaws
+pub mod WindowLaws

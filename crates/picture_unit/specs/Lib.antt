@@ -3,4 +3,7 @@ pub mod Registers
 pub mod Stores
 pub mod Pgm
 pub mod Laws
+pub mod SignalLaws
+pub mod WindowLaws
+-- what only the code needs
 pub mod PictureJump

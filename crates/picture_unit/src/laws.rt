@@ -17,3 +17,18 @@ pub fn drawn_line_holds_its_pixels()
 pub fn frame_has_17556_cycles()
     ensures { FrameHas17556Cycles }
 {}
+
+ghost use Rattle.picture_unit.specs.SignalLaws.{StatIsRequestedAtRises};
+ghost use Rattle.picture_unit.specs.WindowLaws.{WindowCounterCountsLines};
+
+/// Law: in an M-cycle and at a write of a register the STAT interrupt is requested exactly if the
+/// STAT signal rises, so once for each rise.
+pub fn stat_is_requested_at_rises()
+    ensures { StatIsRequestedAtRises }
+{}
+
+/// Law: the window counter is 0 when a frame begins, and from then on the number of lines of this
+/// frame on which the window was drawn, modulo 256, whatever is written meanwhile.
+pub fn window_counter_counts_lines()
+    ensures { WindowCounterCountsLines }
+{}

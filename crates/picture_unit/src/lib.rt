@@ -9,7 +9,10 @@ mod region;
 mod state;
 
 pub use exact_text::OutputFailed;
-pub use laws::{drawn_line_holds_its_pixels, frame_has_17556_cycles, picture_requests_are_added};
+pub use laws::{
+    drawn_line_holds_its_pixels, frame_has_17556_cycles, picture_requests_are_added,
+    stat_is_requested_at_rises, window_counter_counts_lines,
+};
 pub use picture::Picture;
 pub use picture_lines::{map_shades, tile_colours};
 pub use region::PictureRegion;

@@ -4,3 +4,4 @@ mod Calls
 mod Images
 mod Files
 pub mod Runs
+pub mod FailingCalls

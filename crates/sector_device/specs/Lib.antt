@@ -4,5 +4,7 @@ pub mod Runs
 pub mod Memory
 pub mod FileRecord
 pub mod FileDevice
-pub mod RecordLaws
 pub mod MemoryDevice
+pub mod FailingCalls
+-- what only the code needs
+pub mod RecordLaws

@@ -26,3 +26,16 @@ pub fn file_keeps_the_disk_model()
     ensures since { (d : FileDevice) (t : ℕ) (c : List (List ℕ)) → (⟦<FileDevice as SectorDevice>⟧.disk d).since t c ↔ (file_disk d).since t c }
     ensures faults { (d : FileDevice) → (⟦<FileDevice as SectorDevice>⟧.disk d).faults ≡ (file_disk d).faults }
 {}
+
+ghost use Rattle.sector_device.specs.FailingCalls.{FuseLetsSoManyPass, OnlyThatCallFails};
+
+/// Law: after `fuse(k)` of a device in memory with no failing call exactly k more calls pass, and each one after them fails, while
+/// its record has room.
+pub fn fuse_lets_so_many_pass()
+    ensures { FuseLetsSoManyPass }
+{}
+
+/// Law: after `fail_at(k, _)` of a device in memory without a fuse the k-th call fails and no other, while its record has room.
+pub fn only_that_call_fails()
+    ensures { OnlyThatCallFails }
+{}

@@ -11,5 +11,8 @@ mod replay;
 
 pub use device::{DeviceFault, SectorDevice};
 pub use file::FileDevice;
-pub use laws::{file_keeps_the_disk_model, memory_keeps_the_disk_model};
+pub use laws::{
+    file_keeps_the_disk_model, fuse_lets_so_many_pass, memory_keeps_the_disk_model,
+    only_that_call_fails,
+};
 pub use memory::MemoryDevice;

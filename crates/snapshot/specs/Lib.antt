@@ -1,6 +1,7 @@
 pub mod Text
 pub mod Table
 pub mod Reading
-pub mod Ascending
 pub mod Legal
 pub mod Laws
+-- what only the code needs
+pub mod Ascending

@@ -1,4 +1,5 @@
 pub mod SerialJump
+pub mod SerialLaws
 pub mod TimerJump
 pub mod Requested
 pub mod Tables

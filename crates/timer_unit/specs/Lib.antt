@@ -1,4 +1,6 @@
 pub mod Timer
 pub mod Serial
-pub mod TimerJump
 pub mod Laws
+pub mod SerialLaws
+-- what only the code needs
+pub mod TimerJump

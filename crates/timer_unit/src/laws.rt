@@ -18,3 +18,11 @@ pub fn serial_request_is_added()
 pub fn timer_counts_at_its_rate()
     ensures { TimerCountsAtItsRate }
 {}
+
+ghost use Rattle.timer_unit.specs.SerialLaws.{TransferTakes1024Cycles};
+
+/// Law: 1,024 M-cycles after a write of SC with bits 7 and 0 set the transfer ends, with SB FF, bit 7 of SC clear and one
+/// request; until then it runs and nothing is requested.
+pub fn transfer_takes_1024_cycles()
+    ensures { TransferTakes1024Cycles }
+{}

@@ -8,7 +8,10 @@ mod requests;
 mod serial;
 mod timer;
 
-pub use laws::{serial_request_is_added, timer_counts_at_its_rate, timer_request_is_added};
+pub use laws::{
+    serial_request_is_added, timer_counts_at_its_rate, timer_request_is_added,
+    transfer_takes_1024_cycles,
+};
 pub use requests::Requests;
 pub use serial::{Serial, SerialState};
 pub use timer::{Timer, TimerState};

@@ -1,4 +1,4 @@
-ghost use Rattle.std.specs.Prelude.{◌≡◌, ◌<◌, true};
+ghost use Rattle.std.specs.Prelude.{◌≡◌, ◌<◌, true, ℕ};
 ghost use Rattle.memory_map.specs.Bus.{shared};
 ghost use Rattle.std.specs.Fn.{iterate};
 ghost use Rattle.repeated_steps.specs.NextEvent.{IsNextEvent, earlier};
@@ -89,6 +89,17 @@ impl Bus {
             return 0;
         }
         self.timer.quiet().min(self.picture.quiet())
+    }
+
+    /// In how many M-cycles IE and IF surely share no bit: before each of them they share none.
+    #[inline]
+    pub fn unshared_for(&self) -> u8
+        ensures { (k : ℕ) → k < result → shared (iterate tick k self.now) ≡ 0 }
+    {
+        let unshared = self.calm;
+        // That the timer's state is legal, on which the quiet M-cycles rest, is known from this call.
+        let _ = self.timer.state();
+        unshared
     }
 
     /// After how many M-cycles the next event comes: a byte of a copy, a fall of the timer's signal, the end of a

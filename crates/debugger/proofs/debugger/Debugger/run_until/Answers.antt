@@ -6,17 +6,23 @@ use Rattle.debugger.proofs.debugger.Debugger.run_until.Goals as goal
 use Rattle.debugger.proofs.debugger.Debugger.run_until.Goals.{else-made-gt0-via-then-made-gt0+else-is_break, else-made-gt0-via-else-made-gt0}
 
 pub loop-made-init : goal.loop-made-init
-loop-made-init c = record { run = rw (← c.self.view_is) (not_begun _ c.self.invariant); past = λ k some below met. omega arith }
+loop-made-init c = record {
+  run = record { run = rw (← c.self.view_is) (not_begun _ c.self.invariant); past = λ k some below met. omega arith };
+  plain = λ e. cc;
+}
 
 pub loop-made-preserved : goal.loop-made-preserved
 loop-made-preserved c =
-    let pc = ap (λ r. r.pc) c.registers-pc.ensures ∙ ap (λ (d : DebuggerState). d.machine.processor.registers.pc) (c.self-in-loop-made.view_is ∙ c.loop-made.invariant.run) in
+    let pc = ap (λ r. r.pc) c.registers-pc.ensures ∙ ap (λ (d : DebuggerState). d.machine.processor.registers.pc) (c.self-in-loop-made.view_is ∙ c.loop-made.invariant.run.run) in
     record {
-      run = one_more _ _ _ _ c.loop-made.invariant.run c.step.ensures.debugger;
-      past = past_more _ _ c.loop-made.invariant.past
-          (elim c.else-made-gt0.branch [
-            | else-made-gt0-via-then-made-gt0+else-is_break w ↦ λ some met.
-                let here = w.is_break.ensures.1 (subst (λ (x : ℕ). Contains c.args.breaks.now x) (sym pc) met) in cc
-            | else-made-gt0-via-else-made-gt0 w ↦ λ some met. omega arith
-          ]);
+      run = record {
+        run = one_more _ _ _ _ c.loop-made.invariant.run.run c.make_step-is_plain.ensures.debugger;
+        past = past_more _ _ c.loop-made.invariant.run.past
+            (elim c.else-made-gt0.branch [
+              | else-made-gt0-via-then-made-gt0+else-is_break w ↦ λ some met.
+                  let here = w.is_break.ensures.1 (subst (λ (x : ℕ). Contains c.args.breaks.now x) (sym pc) met) in cc
+              | else-made-gt0-via-else-made-gt0 w ↦ λ some met. omega arith
+            ]);
+      };
+      plain = c.make_step-is_plain.ensures.plain;
     }

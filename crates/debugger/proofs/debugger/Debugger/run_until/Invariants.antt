@@ -1,5 +1,11 @@
+use Rattle.std.proofs.Common.{◌≡◌, true}
+use Rattle.machine.specs.Bus.{bus_rules}
+use Rattle.machine.specs.Plain.{IsPlain}
 use Rattle.debugger.specs.Run.{HasRun}
 use Rattle.debugger.proofs.debugger.Debugger.run_until.Given as goal
 
 abbrev pub invariant-loop-made : goal.invariant-loop-made
-invariant-loop-made l = HasRun l.breaks l.made l.fn.self l.self
+invariant-loop-made l = record {
+  run : HasRun l.breaks l.made l.fn.self l.self;
+  plain : l.is_plain ≡ true → IsPlain bus_rules l.self.machine.processor;
+}

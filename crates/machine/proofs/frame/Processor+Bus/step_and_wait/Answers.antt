@@ -1,6 +1,6 @@
 use Rattle.std.proofs.Common.{◌+◌, ap, ◌∙◌, arith}
 use Rattle.machine.specs.declared.step.Stepped.{Stepped}
-use Rattle.machine.proofs.Waiting.{stepped_on, waited_on}
+use Rattle.machine.proofs.Waiting.{stepped_on, waited_on, waits_on}
 use Rattle.machine.proofs.frame.Processor+Bus.step_and_wait.Goals as goal
 
 pub returns-in_default : goal.returns-in_default
@@ -17,9 +17,14 @@ returns-then-now-ge-FRAME-clause-run c =
     let s = c.step-stepped.ensures in
     stepped_on c.args.passed c.from.result c.args.self.now c.step-stepped.new.self c.requires s.after (c.from.ensures ∙ ap (λ (s : Stepped). s.cycles) s.stepped)
 
+pub returns-then-sure-gt1-clause-run : goal.returns-then-sure-gt1-clause-run
+returns-then-sure-gt1-clause-run c =
+    let few = c.sure_waits-sure.ensures.few in
+    waits_on c.args.passed c.sure_waits-sure.result c.args.self.now c.pass.new.self (omega (arith, few, c.requires)) c.pass.ensures c.sure_waits-sure.ensures.waits
+
 pub returns-clause-run : goal.returns-clause-run
 returns-clause-run c =
     let s = c.step-stepped.ensures in
-    waited_on (c.args.passed + c.from.result) c.waits-waits.result c.args.self.now c.step-stepped.new.self c.pass.new.self
-    (omega (arith, c.waits-waits.ensures.few, c.if-now-ge-FRAME.false)) s.after c.pass.ensures c.waits-waits.ensures.waits
+    waited_on (c.args.passed + c.from.result) c.waits-waits.result c.args.self.now c.step-stepped.new.self c.pass-2.new.self
+    (omega (arith, c.waits-waits.ensures.few, c.if-now-ge-FRAME.false)) s.after c.pass-2.ensures c.waits-waits.ensures.waits
     ∙ stepped_on c.args.passed c.from.result c.args.self.now c.step-stepped.new.self c.requires s.after (c.from.ensures ∙ ap (λ (s : Stepped). s.cycles) s.stepped)

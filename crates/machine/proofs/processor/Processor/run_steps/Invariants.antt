@@ -1,6 +1,10 @@
-use Rattle.std.proofs.Common.{◌≡◌}
+use Rattle.std.proofs.Common.{◌≡◌, true}
+use Rattle.machine.specs.Plain.{IsPlain}
 use Rattle.machine.specs.Steps.{after_steps}
 use Rattle.machine.proofs.processor.Processor.run_steps.Given as goal
 
 abbrev pub invariant-loop-i : goal.invariant-loop-i
-invariant-loop-i g l = l.self ≡ after_steps g.M.Memory.rules l._i l.fn.self
+invariant-loop-i g l = record {
+  run : l.self ≡ after_steps g.M.Memory.rules l._i l.fn.self;
+  plain : l.is_plain ≡ true → IsPlain g.M.Memory.rules l.self;
+}
