@@ -1,6 +1,7 @@
 //! Plays whose report or picture can't be written from some byte on.
 use crate::common::{cartridge, game, resumes_between, rom, texts};
 use gbkeep::{PlayError, play_to_picture};
+use machine::Machine;
 use sector_device::MemoryDevice;
 use session::SessionError;
 use std::alloc::Global;
@@ -117,6 +118,26 @@ fn draws(
             Ok(false)
         }
     }
+}
+
+/// The picture's writer has so much room: it fails, behind the front of the text that the room takes.
+fn ends_in(machine: &Machine, want: &[u8], room: &mut [u8]) -> bool {
+    let mut out: &mut [u8] = room;
+    let failed = machine.picture().write_pgm(&mut out).is_err();
+    failed && want.starts_with(room)
+}
+
+#[test]
+fn the_writer_of_a_picture_may_end_in_any_byte(rt: HostRuntime) -> Result<(), Fail> {
+    let alloc = rt.alloc();
+    let cartridge = cartridge(alloc)?;
+    let machine = Machine::power_on(alloc, &cartridge)?;
+    let want = blank_picture(alloc)?;
+    let mut room = vec![in alloc; 0u8; 46_093]?;
+    for end in 0..46_093 {
+        assert!(rt; ends_in(&machine, &want, &mut room[..end]));
+    }
+    Ok(())
 }
 
 #[test]

@@ -1,10 +1,11 @@
 pub mod Inputs
 pub mod Stands
-pub mod Beginning
 pub mod Found
-pub mod Recovery
 pub mod Calls
-pub mod Resting
-pub mod Writing
 pub mod Words
 pub mod Laws
+-- what only the code needs
+pub mod Beginning
+pub mod Recovery
+pub mod Resting
+pub mod Writing

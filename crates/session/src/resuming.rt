@@ -36,6 +36,7 @@ pub fn resume<D: SectorDevice>(
     ensures rests { IfOk result (λ s. (D.disk device).honest → IsAtRest cartridge.now (D.disk (device_of s)) (acknowledged_of s) [] (machine_of s)) }
     ensures images { (D.disk device).honest → HoldsSince (D.disk device) (D.disk (left_by result)) (StandsAsBefore cartridge.now (D.disk device)) }
     ensures nothing { (D.disk device).honest → stands cartridge.now (content (D.disk device).sectors) ≡ None → HoldsSince (D.disk device) (D.disk (left_by result)) (D.disk device).image }
+    ensures kept { IfErr result (λ refused. (refused.why ≡ Device) ⊎ ((D.disk device).honest → (D.disk refused.device).sectors ≡ (D.disk device).sectors)) }
     ensures untouched { IfErr result (λ refused. (refused.why ≡ Device) ⊎ ((D.disk device).honest → HoldsSince (D.disk device) (D.disk refused.device) (D.disk device).image)) }
 
     // when it is refused

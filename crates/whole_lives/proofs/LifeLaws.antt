@@ -1,6 +1,7 @@
 -- Lives, and one round more.
 use Rattle.std.proofs.Common.{◌≡◌, ℕ, zero, suc, ◌+◌, ◌<◌, ◌≤◌, List, [], ◌∷◌, ◌++◌, length, take, get_or, Option, Some, None, refl, sym, ap, ◌∙◌, subst, arith, length-append}
 use Rattle.std.specs.List.{All}
+use Rattle.std.specs.Prelude.{slice_get}
 use Rattle.std.proofs.Math.Seq.{take-suc}
 use Rattle.std.proofs.lemmas.List.{length-take-le, take_all}
 use Rattle.machine.specs.Machine.{MachineState, after}
@@ -8,14 +9,18 @@ use Rattle.machine.specs.declared.input.Input.{Input}
 use Rattle.sector_device.specs.DiskState.{DiskState}
 use Rattle.sector_device.specs.Memory.{MemoryState, memory_disk}
 use Rattle.sector_device.specs.Runs.{HoldsSince}
-use Rattle.sector_log.specs.Content.{content}
+use Rattle.sector_log.specs.Content.{content, generation_in}
 use Rattle.session.specs.Calls.{StandsAsBefore}
+use Rattle.session.specs.Found.{IsResumeCause}
 use Rattle.session.specs.Stands.{Position, stands}
+use Rattle.session.specs.declared.error.SessionError.{SessionError}
+use Rattle.session.specs.declared.error.SessionError.TheVariants.{Memory, Device, NoSession, TooSmall, OtherCartridge, Damaged, Worn, Broken, SaveFirst, CountFull, Output}
 use Rattle.session.proofs.StandsLaws.{after_append, after_none}
 use Rattle.whole_lives.proofs.RoundLaws.{stood_before, stands_here}
 use Rattle.whole_lives.specs.Lives.{inputs_of_round, IsRoundBy, IsRound, IsLife, HasLived, LeavesLife, LeavesSomeLife}
 use Rattle.whole_lives.specs.Laws.{survivors_of, survivors, IsTakenUpFrom, NeverFalls, NoLifeLosesWhatWasSaved}
-use Rattle.whole_lives.specs.Rounds.{LeavesRound}
+use Rattle.whole_lives.specs.Refusals.{IsLifeStop, IsUncountable}
+use Rattle.whole_lives.specs.Rounds.{LeavesRound, IsRoundRefusal}
 use Rattle.whole_lives.specs.declared.rounds.Round.{Round}
 use Rattle.whole_lives.specs.declared.rounds.RoundEnd.{RoundEnd}
 
@@ -76,6 +81,40 @@ lived_until rom old left now rounds ends lived held =
       ends = ends;
       leaves = λ last here. subst (λ (l : List Round). HasLived rom old l ends last) (sym all) (lived last (stood_before rom left now last held here));
     }
+
+-- ---- refusals
+
+-- what refuses a round ends the life of the rounds before it
+pub life_refused : (rom : List ℕ) (old mid : DiskState) (rounds : List Round) (i : ℕ) (round : Round) (ends : List RoundEnd) (left : List (List ℕ)) (why : SessionError) → slice_get rounds i ≡ Some round
+    → LeavesLife rom old mid (take i rounds) ends → IsRoundRefusal rom mid (inputs_of_round round) left why → IsLifeStop rom old rounds left why
+life_refused rom old mid rounds i round ends left Memory next lived refusal = tt
+life_refused rom old mid rounds i round ends left Device next lived refusal = tt
+life_refused rom old mid rounds i round ends left NoSession next lived refusal = refusal
+life_refused rom old mid rounds i round ends left (TooSmall n) next lived refusal = refusal
+life_refused rom old mid rounds i round ends left OtherCartridge next lived refusal = refusal
+life_refused rom old mid rounds i round ends left (Damaged d) next lived refusal = refusal
+life_refused rom old mid rounds i round ends left Worn next lived refusal = refusal
+life_refused rom old mid rounds i round ends left CountFull next lived refusal = record { done = i; ends = ends; from = refusal.first; lived = lived refusal.first refusal.stood; round = round; next = next; past = refusal.past }
+life_refused rom old mid rounds i round ends left Broken next lived refusal = refusal
+life_refused rom old mid rounds i round ends left SaveFirst next lived refusal = refusal
+life_refused rom old mid rounds i round ends left Output next lived refusal = refusal
+
+-- so does what refuses the game behind the last round
+pub life_untaken : (rom : List ℕ) (old now : DiskState) (rounds : List Round) (left : List (List ℕ)) (why : SessionError) → IsRoundRefusal rom now [] left why → (why ≡ CountFull → ⊥) → IsLifeStop rom old rounds left why
+life_untaken rom old now rounds left Memory refusal not = tt
+life_untaken rom old now rounds left Device refusal not = tt
+life_untaken rom old now rounds left NoSession refusal not = refusal
+life_untaken rom old now rounds left (TooSmall n) refusal not = refusal
+life_untaken rom old now rounds left OtherCartridge refusal not = refusal
+life_untaken rom old now rounds left (Damaged d) refusal not = refusal
+life_untaken rom old now rounds left Worn refusal not = refusal
+life_untaken rom old now rounds left CountFull refusal not = absurd (not refl)
+life_untaken rom old now rounds left Broken refusal not = refusal
+life_untaken rom old now rounds left SaveFirst refusal not = refusal
+life_untaken rom old now rounds left Output refusal not = refusal
+
+pub resume_not_full : (rom : List ℕ) (sectors : List (List ℕ)) (why : SessionError) → IsResumeCause rom (generation_in sectors) (content sectors) why → why ≡ CountFull → ⊥
+resume_not_full rom sectors why cause is = subst (λ (w : SessionError). IsResumeCause rom (generation_in sectors) (content sectors) w) is cause
 
 -- ---- what is kept in a life
 

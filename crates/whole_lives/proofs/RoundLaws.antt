@@ -9,7 +9,7 @@ use Rattle.sector_device.specs.MemoryDevice.{memory}
 use Rattle.sector_device.specs.RecordLaws.{counts_last, only_last, reads_image}
 use Rattle.sector_device.specs.Runs.{HoldsSince}
 use Rattle.sector_device.specs.declared.memory.MemoryDevice.{MemoryDevice}
-use Rattle.sector_log.specs.Content.{ImageContent, content}
+use Rattle.sector_log.specs.Content.{content, generation_in}
 use Rattle.sector_log.specs.declared.Entry.{Entry}
 use Rattle.session.specs.Calls.{StandsAsBefore, faults_after}
 use Rattle.session.specs.Inputs.{inputs_of}
@@ -17,11 +17,11 @@ use Rattle.session.specs.Stands.{Position, stands}
 use Rattle.session.specs.declared.error.SessionError.{SessionError}
 use Rattle.session.specs.declared.error.SessionError.TheVariants.{Memory, Device, NoSession, TooSmall, OtherCartridge, Damaged, Worn, Broken, SaveFirst, CountFull, Output}
 use Rattle.session.specs.Found.{IsResumeCause}
-use Rattle.playing.specs.Played.{IsPlayed, Stopped}
+use Rattle.playing.specs.Played.{IsPlayed, Stopped, IsStop}
 use Rattle.playing.proofs.PlayLaws.{reaches_here, reaches_more, played_more}
 use Rattle.whole_lives.specs.Lives.{StandsFor, EachStands}
-use Rattle.whole_lives.specs.Refusals.{IsLifeStop, IsSoundStop, CountsLifeFaults}
-use Rattle.whole_lives.specs.Rounds.{Leaves, LeavesRound, IsRoundStop}
+use Rattle.whole_lives.specs.Refusals.{IsSoundStop, CountsLifeFaults}
+use Rattle.whole_lives.specs.Rounds.{Leaves, LeavesRound, IsRoundStop, IsRoundRefusal}
 use Rattle.whole_lives.specs.declared.rounds.RoundEnd.{RoundEnd}
 
 -- ---- moves
@@ -206,41 +206,85 @@ counts_later why first old new less counts = record {
 
 -- ---- causes
 
-pub resume_stop : (rom : List ℕ) (generation : ℕ) (held : Option ImageContent) (why : SessionError) → IsResumeCause rom generation held why → IsLifeStop why
-resume_stop rom generation held Memory cause = tt
-resume_stop rom generation held Device cause = tt
-resume_stop rom generation held NoSession cause = tt
-resume_stop rom generation held (TooSmall n) cause = tt
-resume_stop rom generation held OtherCartridge cause = tt
-resume_stop rom generation held (Damaged d) cause = tt
-resume_stop rom generation held Worn cause = tt
-resume_stop rom generation held Broken cause = cause
-resume_stop rom generation held SaveFirst cause = cause
-resume_stop rom generation held CountFull cause = absurd cause
-resume_stop rom generation held Output cause = cause
+-- what stops moves whose report can't fail
+pub round_stop : (why : SessionError) (all : ℕ) (now : DiskState) → (why ≡ Output → ⊥) → IsStop why all now → IsRoundStop why all now
+round_stop Memory all now not stop = stop
+round_stop Device all now not stop = stop
+round_stop NoSession all now not stop = stop
+round_stop (TooSmall n) all now not stop = stop
+round_stop OtherCartridge all now not stop = stop
+round_stop (Damaged d) all now not stop = stop
+round_stop Worn all now not stop = stop
+round_stop CountFull all now not stop = stop
+round_stop Broken all now not stop = stop
+round_stop SaveFirst all now not stop = stop
+round_stop Output all now not stop = not refl
 
-pub moves_stop : (why : SessionError) → IsRoundStop why → IsLifeStop why
-moves_stop Memory cause = tt
-moves_stop Device cause = tt
-moves_stop NoSession cause = tt
-moves_stop (TooSmall n) cause = tt
-moves_stop OtherCartridge cause = tt
-moves_stop (Damaged d) cause = tt
-moves_stop Worn cause = tt
-moves_stop CountFull cause = tt
-moves_stop Broken cause = cause
-moves_stop SaveFirst cause = cause
-moves_stop Output cause = cause
+-- among more inputs
+pub round_stops_among : (why : SessionError) (less all : ℕ) (now : DiskState) → less ≤ all → IsRoundStop why less now → IsRoundStop why all now
+round_stops_among Memory less all now more stop = stop
+round_stops_among Device less all now more stop = stop
+round_stops_among NoSession less all now more stop = stop
+round_stops_among (TooSmall n) less all now more stop = stop
+round_stops_among OtherCartridge less all now more stop = stop
+round_stops_among (Damaged d) less all now more stop = stop
+round_stops_among Worn less all now more stop = stop
+round_stops_among CountFull less all now more stop = omega arith
+round_stops_among Broken less all now more stop = stop
+round_stops_among SaveFirst less all now more stop = stop
+round_stops_among Output less all now more stop = stop
 
-pub moves_sound_stop : (why : SessionError) → IsRoundStop why → IsSoundStop why
-moves_sound_stop Memory cause = tt
-moves_sound_stop Device cause = tt
-moves_sound_stop Worn cause = tt
-moves_sound_stop CountFull cause = tt
-moves_sound_stop NoSession cause = cause
-moves_sound_stop (TooSmall n) cause = cause
-moves_sound_stop OtherCartridge cause = cause
-moves_sound_stop (Damaged d) cause = cause
-moves_sound_stop Broken cause = cause
-moves_sound_stop SaveFirst cause = cause
-moves_sound_stop Output cause = cause
+-- moves that were stopped refuse the round
+pub moves_refuse : (rom : List ℕ) (old now : MemoryState) (inputs : List Input) (from : Position) (all : ℕ) (why : SessionError) → StandsFor rom (memory_disk old) from → all ≡ from.count + length inputs → IsRoundStop why all (memory_disk now)
+    → IsRoundRefusal rom (memory_disk old) inputs (memory_disk now).sectors why
+moves_refuse rom old now inputs from all Memory stood is stop = tt
+moves_refuse rom old now inputs from all Device stood is stop = tt
+moves_refuse rom old now inputs from all NoSession stood is stop = absurd stop
+moves_refuse rom old now inputs from all (TooSmall n) stood is stop = absurd stop
+moves_refuse rom old now inputs from all OtherCartridge stood is stop = absurd stop
+moves_refuse rom old now inputs from all (Damaged d) stood is stop = absurd stop
+moves_refuse rom old now inputs from all Worn stood is stop = stop tt
+moves_refuse rom old now inputs from all CountFull stood is stop = record { first = from; stood = stood; past = omega (arith, is, stop) }
+moves_refuse rom old now inputs from all Broken stood is stop = stop
+moves_refuse rom old now inputs from all SaveFirst stood is stop = stop
+moves_refuse rom old now inputs from all Output stood is stop = stop
+
+refused_by : (rom : List ℕ) (old : DiskState) (inputs : List Input) (left : List (List ℕ)) (why : SessionError) → IsResumeCause rom (generation_in left) (content left) why → IsRoundRefusal rom old inputs left why
+refused_by rom old inputs left Memory cause = tt
+refused_by rom old inputs left Device cause = tt
+refused_by rom old inputs left NoSession cause = cause
+refused_by rom old inputs left (TooSmall n) cause = cause
+refused_by rom old inputs left OtherCartridge cause = cause
+refused_by rom old inputs left (Damaged d) cause = cause
+refused_by rom old inputs left Worn cause = cause.holds.2
+refused_by rom old inputs left CountFull cause = absurd cause
+refused_by rom old inputs left Broken cause = cause
+refused_by rom old inputs left SaveFirst cause = cause
+refused_by rom old inputs left Output cause = cause
+
+-- so does what refuses the game, which stands there as it stood
+pub resume_refuses : (rom : List ℕ) (old : DiskState) (inputs : List Input) (was left : List (List ℕ)) (why : SessionError) → IsResumeCause rom (generation_in was) (content was) why → (why ≡ Device) ⊎ (left ≡ was)
+    → IsRoundRefusal rom old inputs left why
+resume_refuses rom old inputs was left why cause kept =
+    ⊎_elim
+    (λ (device : why ≡ Device). subst (λ (w : SessionError). IsRoundRefusal rom old inputs left w) (sym device) tt)
+    (λ (same : left ≡ was). refused_by rom old inputs left why (subst (λ (sectors : List (List ℕ)). IsResumeCause rom (generation_in sectors) (content sectors) why) (sym same) cause))
+    kept
+
+-- a fuse changes no image
+pub refusal_fused : (rom : List ℕ) (old fused : MemoryState) (inputs : List Input) (left : List (List ℕ)) (why : SessionError) → memory_disk fused ≡ memory_disk old
+    → IsRoundRefusal rom (memory_disk fused) inputs left why → IsRoundRefusal rom (memory_disk old) inputs left why
+refusal_fused rom old fused inputs left why same refusal = subst (λ (d : DiskState). IsRoundRefusal rom d inputs left why) same refusal
+
+pub moves_sound_stop : (why : SessionError) (all : ℕ) (now : DiskState) → IsRoundStop why all now → IsSoundStop why
+moves_sound_stop Memory all now cause = tt
+moves_sound_stop Device all now cause = tt
+moves_sound_stop Worn all now cause = tt
+moves_sound_stop CountFull all now cause = tt
+moves_sound_stop NoSession all now cause = cause
+moves_sound_stop (TooSmall n) all now cause = cause
+moves_sound_stop OtherCartridge all now cause = cause
+moves_sound_stop (Damaged d) all now cause = cause
+moves_sound_stop Broken all now cause = cause
+moves_sound_stop SaveFirst all now cause = cause
+moves_sound_stop Output all now cause = cause

@@ -1,4 +1,5 @@
 pub mod Lives
 pub mod Refusals
-pub mod Rounds
 pub mod Laws
+-- what only the code needs
+pub mod Rounds

@@ -1,7 +1,10 @@
 -- What one round leaves on a device; a reader needs none of this.
-use Rattle.std.specs.Prelude.{◌≡◌, ◌+◌, ℕ, List, ⊤}
+use Rattle.std.specs.Prelude.{◌≡◌, ◌≤◌, ◌+◌, ◌-◌, ◌^◌, ℕ, List, [], Bool, length, ⊤}
 use Rattle.machine.specs.declared.input.Input.{Input}
 use Rattle.sector_device.specs.DiskState.{DiskState}
+use Rattle.sector_device.specs.Memory.{MemoryState, memory_disk, image_of}
+use Rattle.sector_log.specs.Content.{content, generation_in}
+use Rattle.session.specs.Found.{IsResumeCause}
 use Rattle.session.specs.Stands.{Position}
 use Rattle.session.specs.declared.error.SessionError.{SessionError}
 use Rattle.session.specs.declared.error.SessionError.TheVariants.{Memory, Device, NoSession, TooSmall, OtherCartridge, Damaged, Worn, Broken, SaveFirst, CountFull, Output}
@@ -24,16 +27,43 @@ pub record HasPlayedRound (rom : List ℕ) (old : DiskState) (inputs : List Inpu
 abbrev pub LeavesRound : (rom : List ℕ) → (old now : DiskState) → List Input → RoundEnd → (known : ℕ) → Type 0
 LeavesRound rom old now inputs end known = (last : Position) → StandsFor rom now last → HasPlayedRound rom old inputs end known last
 
--- why moves that were begun stop: the generations used up, a failed call, or too many inputs
-abbrev pub IsRoundStop : SessionError → Type 0
-IsRoundStop Worn = ⊤
-IsRoundStop Device = ⊤
-IsRoundStop CountFull = ⊤
-IsRoundStop Memory = ⊥
-IsRoundStop NoSession = ⊥
-IsRoundStop (TooSmall needed) = ⊥
-IsRoundStop OtherCartridge = ⊥
-IsRoundStop (Damaged damage) = ⊥
-IsRoundStop Broken = ⊥
-IsRoundStop SaveFirst = ⊥
-IsRoundStop Output = ⊥
+-- the cut kept the chosen writes of a device that the round's calls led to, and no other
+pub record IsCutRound (rom : List ℕ) (old : DiskState) (kept : List Bool) (now : MemoryState) (inputs : List Input) (end : RoundEnd) (known : ℕ) : Type 0 where
+  pub played : MemoryState
+  pub leaves : LeavesRound rom old (memory_disk played) inputs end known
+  pub cut : now.at_start ≡ image_of played kept
+  pub fresh : now.recorded ≡ []
+
+-- why moves that were begun stop: the generations used up, a failed call, or more inputs in all than can be counted
+abbrev pub IsRoundStop : SessionError → (all : ℕ) → (now : DiskState) → Type 0
+IsRoundStop Worn all now = now.honest → generation_in now.sectors ≡ 2 ^ 64 - 1
+IsRoundStop Device all now = ⊤
+IsRoundStop CountFull all now = 2 ^ 64 ≤ all
+IsRoundStop Memory all now = ⊥
+IsRoundStop NoSession all now = ⊥
+IsRoundStop (TooSmall needed) all now = ⊥
+IsRoundStop OtherCartridge all now = ⊥
+IsRoundStop (Damaged damage) all now = ⊥
+IsRoundStop Broken all now = ⊥
+IsRoundStop SaveFirst all now = ⊥
+IsRoundStop Output all now = ⊥
+
+-- these inputs are more than can be counted from a position that some image of the device stands for
+pub record IsPastCounting (rom : List ℕ) (old : DiskState) (inputs : List Input) : Type 0 where
+  pub first : Position
+  pub stood : StandsFor rom old first
+  pub past : 2 ^ 64 ≤ first.count + length inputs
+
+-- why a round is refused, by the sectors that are left: what refuses the game that they hold, or what stopped the moves
+abbrev pub IsRoundRefusal : (rom : List ℕ) → (old : DiskState) → (inputs : List Input) → (left : List (List ℕ)) → SessionError → Type 0
+IsRoundRefusal rom old inputs left Memory = ⊤
+IsRoundRefusal rom old inputs left Device = ⊤
+IsRoundRefusal rom old inputs left NoSession = IsResumeCause rom (generation_in left) (content left) NoSession
+IsRoundRefusal rom old inputs left (TooSmall needed) = IsResumeCause rom (generation_in left) (content left) (TooSmall needed)
+IsRoundRefusal rom old inputs left OtherCartridge = IsResumeCause rom (generation_in left) (content left) OtherCartridge
+IsRoundRefusal rom old inputs left (Damaged damage) = IsResumeCause rom (generation_in left) (content left) (Damaged damage)
+IsRoundRefusal rom old inputs left Worn = generation_in left ≡ 2 ^ 64 - 1
+IsRoundRefusal rom old inputs left CountFull = IsPastCounting rom old inputs
+IsRoundRefusal rom old inputs left Broken = ⊥
+IsRoundRefusal rom old inputs left SaveFirst = ⊥
+IsRoundRefusal rom old inputs left Output = ⊥

@@ -22,7 +22,7 @@ fn live_rounds(
 ) -> Result<(MemoryDevice, Vec<RoundEnd>), Refused<MemoryDevice>>
     ensures lived { IfOk result (λ r. LeavesLife cartridge.now (memory_disk (memory device)) (memory_disk (memory r.0)) rounds.now r.1.items) }
     ensures left { IfErr result (λ refused. LeavesSomeLife cartridge.now (memory_disk (memory device)) (memory_disk (memory refused.device)) rounds.now) }
-    ensures cause { IfErr result (λ refused. IsLifeStop refused.why) }
+    ensures cause { IfErr result (λ refused. IsLifeStop cartridge.now (memory_disk (memory device)) rounds.now (memory_disk (memory refused.device)).sectors refused.why) }
     ensures stand { IfOk result (λ r. EachStands cartridge.now (memory_disk (memory device)) → EachStands cartridge.now (memory_disk (memory r.0))) }
     ensures sound { IfErr result (λ refused. EachStands cartridge.now (memory_disk (memory device)) → IsSoundStop refused.why) }
     ensures kept { IfErr result (λ refused. EachStands cartridge.now (memory_disk (memory device)) → EachStands cartridge.now (memory_disk (memory refused.device))) }
@@ -69,7 +69,7 @@ pub fn live(
 
     // when it is refused, and what then is left
     ensures left { IfErr result (λ refused. LeavesSomeLife cartridge.now (memory_disk (memory device)) (memory_disk (memory refused.device)) rounds.now) }
-    ensures cause { IfErr result (λ refused. IsLifeStop refused.why) }
+    ensures cause { IfErr result (λ refused. IsLifeStop cartridge.now (memory_disk (memory device)) rounds.now (memory_disk (memory refused.device)).sectors refused.why) }
     ensures sound { IfErr result (λ refused. EachStands cartridge.now (memory_disk (memory device)) → IsSoundStop refused.why) }
     ensures kept { IfErr result (λ refused. EachStands cartridge.now (memory_disk (memory device)) → EachStands cartridge.now (memory_disk (memory refused.device))) }
     ensures faults_ok { IfOk result (λ lived. (memory device).faults ≤ (memory (device_of lived.session)).faults) }

@@ -1,5 +1,5 @@
 //! Moves given to a session, saved where a save is due.
-ghost use Rattle.std.specs.Prelude.{◌≡◌, ◌<◌, ◌++◌, ◌∷◌, [], length, replicate, false, OnOk, OnErr, IfErr};
+ghost use Rattle.std.specs.Prelude.{◌≡◌, ◌<◌, ◌+◌, ◌++◌, ◌∷◌, [], length, replicate, false, OnOk, OnErr, IfErr};
 ghost use Rattle.machine.specs.declared.input.Input.TheVariants.{Frame};
 ghost use Rattle.session.specs.Calls.{faults_after};
 ghost use Rattle.session.specs.Words.{device_of, machine_of, pending_of, acknowledged_of, is_broken};
@@ -24,7 +24,8 @@ fn save<D: SectorDevice>(session: &mut Session<D>) -> Result<(), SessionError>
     ensures saved { OnOk result ((pending_of session.new ≡ []) × (is_broken session.new ≡ false)) }
     ensures faults_ok { OnOk result ((D.disk (device_of session.new)).faults ≡ (D.disk (device_of session.old)).faults) }
     ensures faults { IfErr result (λ why. (D.disk (device_of session.new)).faults ≡ faults_after why (D.disk (device_of session.old)).faults) }
-    ensures cause { IfErr result IsRoundStop }
+    ensures counts { OnOk result (acknowledged_of session.new + length (pending_of session.new) ≡ acknowledged_of session.old + length (pending_of session.old)) }
+    ensures cause { IfErr result (λ why. IsRoundStop why (acknowledged_of session.old + length (pending_of session.old)) (D.disk (device_of session.new))) }
 {
     match session.save() {
         Ok(_) => Ok(()),
@@ -45,7 +46,8 @@ fn give<D: SectorDevice>(session: &mut Session<D>, input: Input) -> Result<(), S
     ensures whole { OnOk result ((is_broken session.new ≡ false) × (length (pending_of session.new) < 3200)) }
     ensures faults_ok { OnOk result ((D.disk (device_of session.new)).faults ≡ (D.disk (device_of session.old)).faults) }
     ensures faults { IfErr result (λ why. (D.disk (device_of session.new)).faults ≡ faults_after why (D.disk (device_of session.old)).faults) }
-    ensures cause { IfErr result IsRoundStop }
+    ensures counts { OnOk result (acknowledged_of session.new + length (pending_of session.new) ≡ acknowledged_of session.old + length (pending_of session.old) + 1) }
+    ensures cause { IfErr result (λ why. IsRoundStop why (acknowledged_of session.old + length (pending_of session.old) + 1) (D.disk (device_of session.new))) }
 {
     if let Err(why) = session.input(input) {
         return Err(why);
@@ -73,7 +75,8 @@ fn give_frames<D: SectorDevice>(
     ensures whole { OnOk result ((is_broken session.new ≡ false) × (length (pending_of session.new) < 3200)) }
     ensures faults_ok { OnOk result ((D.disk (device_of session.new)).faults ≡ (D.disk (device_of session.old)).faults) }
     ensures faults { IfErr result (λ why. (D.disk (device_of session.new)).faults ≡ faults_after why (D.disk (device_of session.old)).faults) }
-    ensures cause { IfErr result IsRoundStop }
+    ensures counts { OnOk result (acknowledged_of session.new + length (pending_of session.new) ≡ acknowledged_of session.old + length (pending_of session.old) + times) }
+    ensures cause { IfErr result (λ why. IsRoundStop why (acknowledged_of session.old + length (pending_of session.old) + times) (D.disk (device_of session.new))) }
 {
     for _i in 0..times {
         if let Err(why) = give(session, Input::Frame(buttons)) {
@@ -96,7 +99,8 @@ fn make_move<D: SectorDevice>(session: &mut Session<D>, one: Move) -> Result<(),
     ensures whole { OnOk result ((is_broken session.new ≡ false) × (length (pending_of session.new) < 3200)) }
     ensures faults_ok { OnOk result ((D.disk (device_of session.new)).faults ≡ (D.disk (device_of session.old)).faults) }
     ensures faults { IfErr result (λ why. (D.disk (device_of session.new)).faults ≡ faults_after why (D.disk (device_of session.old)).faults) }
-    ensures cause { IfErr result IsRoundStop }
+    ensures counts { OnOk result (acknowledged_of session.new + length (pending_of session.new) ≡ acknowledged_of session.old + length (pending_of session.old) + length (inputs_of_move one)) }
+    ensures cause { IfErr result (λ why. IsRoundStop why (acknowledged_of session.old + length (pending_of session.old) + length (inputs_of_move one)) (D.disk (device_of session.new))) }
 {
     match one {
         Move::Frames { buttons, times } => give_frames(session, buttons, times),
@@ -121,7 +125,8 @@ pub(crate) fn make_moves<D: SectorDevice>(
         Leaves rom (D.disk (device_of session.new)) (acknowledged_of session.new) from (given ++ inputs_of_moves moves.now)) }
     ensures faults_ok { OnOk result ((D.disk (device_of session.new)).faults ≡ (D.disk (device_of session.old)).faults) }
     ensures faults { IfErr result (λ why. (D.disk (device_of session.new)).faults ≡ faults_after why (D.disk (device_of session.old)).faults) }
-    ensures cause { IfErr result IsRoundStop }
+    ensures counts { OnOk result (acknowledged_of session.new + length (pending_of session.new) ≡ acknowledged_of session.old + length (pending_of session.old) + length (inputs_of_moves moves.now)) }
+    ensures cause { IfErr result (λ why. IsRoundStop why (acknowledged_of session.old + length (pending_of session.old) + length (inputs_of_moves moves.now)) (D.disk (device_of session.new))) }
 {
     for one in moves {
         if let Err(why) = make_move(session, *one) {

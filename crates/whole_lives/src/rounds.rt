@@ -1,11 +1,11 @@
 //! One round of a life: a game taken up, played, and cut.
-ghost use Rattle.std.specs.Prelude.{◌≡◌, ◌≤◌, ◌⊎◌, ◌<◌, ◌-◌, ◌^◌, Some, None, true, IfOk, IfErr};
+ghost use Rattle.std.specs.Prelude.{◌≡◌, ◌≤◌, ◌⊎◌, ◌<◌, ◌-◌, ◌^◌, Some, None, true, false, IfOk, IfErr};
 ghost use Rattle.playing.specs.Report.{inputs_of_moves};
-ghost use Rattle.sector_device.specs.Memory.{memory_disk};
-ghost use Rattle.sector_device.specs.MemoryDevice.{memory};
+ghost use Rattle.sector_device.specs.Memory.{memory_disk, image_of};
+ghost use Rattle.sector_device.specs.MemoryDevice.{memory, IsNewMemory};
 ghost use Rattle.whole_lives.specs.Lives.{inputs_of_round, EachStands};
-ghost use Rattle.whole_lives.specs.Refusals.{IsLifeStop, IsSoundStop, CountsLifeFaults};
-ghost use Rattle.whole_lives.specs.Rounds.{LeavesRound};
+ghost use Rattle.whole_lives.specs.Refusals.{IsSoundStop, CountsLifeFaults};
+ghost use Rattle.whole_lives.specs.Rounds.{LeavesRound, IsCutRound, IsRoundRefusal};
 ghost use Rattle.whole_lives.specs.declared.rounds.RoundEnd.{RoundEnd};
 
 use crate::moves::make_moves;
@@ -58,6 +58,15 @@ fn ended_by(
     Err(refused)
 }
 
+/// The device with its fuse set.
+fn with_fuse(device: MemoryDevice, calls: u64) -> MemoryDevice
+    ensures { memory result ≡ record (memory device) { fuse = Some calls; blown = false } }
+{
+    let mut device = device;
+    device.fuse(calls);
+    device
+}
+
 /// Takes up a game and makes the moves, until they are made or the fuse is blown.
 fn play_until_blown(
     alloc: Global,
@@ -68,7 +77,7 @@ fn play_until_blown(
 ) -> Result<(MemoryDevice, RoundEnd), Refused<MemoryDevice>>
     ensures leaves { IfOk result (λ r. LeavesRound cartridge.now (memory_disk (memory device)) (memory_disk (memory r.0)) (inputs_of_moves moves.now) r.1 known) }
     ensures refused { IfErr result (λ refused. (end : RoundEnd) × LeavesRound cartridge.now (memory_disk (memory device)) (memory_disk (memory refused.device)) (inputs_of_moves moves.now) end known) }
-    ensures cause { IfErr result (λ refused. IsLifeStop refused.why) }
+    ensures cause { IfErr result (λ refused. IsRoundRefusal cartridge.now (memory_disk (memory device)) (inputs_of_moves moves.now) (memory_disk (memory refused.device)).sectors refused.why) }
     ensures stand { IfOk result (λ r. EachStands cartridge.now (memory_disk (memory device)) → EachStands cartridge.now (memory_disk (memory r.0))) }
     ensures sound { IfErr result (λ refused. EachStands cartridge.now (memory_disk (memory device)) → IsSoundStop refused.why) }
     ensures kept { IfErr result (λ refused. EachStands cartridge.now (memory_disk (memory device)) → EachStands cartridge.now (memory_disk (memory refused.device))) }
@@ -98,6 +107,24 @@ fn play_until_blown(
     }
 }
 
+/// Cuts the power: what is left is the device of the last successful sync with the chosen later writes.
+fn cut(
+    alloc: Global,
+    device: MemoryDevice,
+    kept: &[bool],
+) -> Result<MemoryDevice, Refused<MemoryDevice>>
+    ensures image { IfOk result (λ d. IsNewMemory (image_of (memory device) kept.now) (memory device).room (memory device).faults d) }
+    ensures refused { IfErr result (λ refused. (refused.why ≡ SessionError.Memory) × (refused.device ≡ device)) }
+{
+    match device.image(alloc, kept) {
+        Ok(image) => Ok(image),
+        Err(_) => Err(Refused {
+            why: SessionError::Memory,
+            device,
+        }),
+    }
+}
+
 /// One round: the fuse is set, the game is taken up and played, and the power is cut.
 pub(crate) fn one_round(
     alloc: Global,
@@ -108,24 +135,21 @@ pub(crate) fn one_round(
 ) -> Result<(MemoryDevice, RoundEnd), Refused<MemoryDevice>>
     ensures leaves { IfOk result (λ r. LeavesRound cartridge.now (memory_disk (memory device)) (memory_disk (memory r.0)) (inputs_of_round round.now) r.1 known) }
     ensures refused { IfErr result (λ refused. (end : RoundEnd) × LeavesRound cartridge.now (memory_disk (memory device)) (memory_disk (memory refused.device)) (inputs_of_round round.now) end known) }
-    ensures cause { IfErr result (λ refused. IsLifeStop refused.why) }
+    ensures cut { IfOk result (λ r. IsCutRound cartridge.now (memory_disk (memory device)) (round.now).kept.items (memory r.0) (inputs_of_round round.now) r.1 known) }
+    ensures cause { IfErr result (λ refused. IsRoundRefusal cartridge.now (memory_disk (memory device)) (inputs_of_round round.now) (memory_disk (memory refused.device)).sectors refused.why) }
     ensures stand { IfOk result (λ r. EachStands cartridge.now (memory_disk (memory device)) → EachStands cartridge.now (memory_disk (memory r.0))) }
     ensures sound { IfErr result (λ refused. EachStands cartridge.now (memory_disk (memory device)) → IsSoundStop refused.why) }
     ensures kept { IfErr result (λ refused. EachStands cartridge.now (memory_disk (memory device)) → EachStands cartridge.now (memory_disk (memory refused.device))) }
     ensures faults_ok { IfOk result (λ r. (memory device).faults ≤ (memory r.0).faults) }
     ensures faults { IfErr result (λ refused. CountsLifeFaults (memory device).faults (memory refused.device).faults refused.why) }
 {
-    let mut device = device;
-    device.fuse(round.calls);
+    let device = with_fuse(device, round.calls);
     let (device, end) = match play_until_blown(alloc, device, cartridge, &round.moves, known) {
         Ok(ended) => ended,
         Err(refused) => return Err(refused),
     };
-    match device.image(alloc, &round.kept) {
+    match cut(alloc, device, &round.kept) {
         Ok(image) => Ok((image, end)),
-        Err(_) => Err(Refused {
-            why: SessionError::Memory,
-            device,
-        }),
+        Err(refused) => Err(refused),
     }
 }

@@ -84,3 +84,8 @@ returns-in-Err-recovered-clause-cause g c = λ honest.
     c.text_length.ensures.length
     (g.met.D.SectorDevice.images_are_sized c.args.device (g.D.SectorDevice.disk c.args.device).sectors honest (g.met.D.SectorDevice.reads_are_an_image c.args.device honest))
     (c.in-Ok-open_log.ensures.seen honest) c.in-Err-recovered.ensures.err)
+
+pub returns-in-Ok-recovered-clause-kept : goal.returns-in-Ok-recovered-clause-kept
+returns-in-Ok-recovered-clause-kept g c =
+    if_err c.begin_with.result c.begin_with.ensures.untouched
+    (λ refused. ⊎_elim inl (λ same. inr (λ honest. subst (λ d. (g.D.SectorDevice.disk d).sectors ≡ (g.D.SectorDevice.disk c.args.device).sectors) (sym same) (c.in-Ok-open_log.ensures.looked honest).sectors)))

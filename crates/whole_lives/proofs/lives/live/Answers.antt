@@ -1,10 +1,12 @@
+use Rattle.std.proofs.Common.{◌≡◌, ◌⊎◌, inl, inr, ⊎_elim, []}
+use Rattle.session.specs.declared.error.SessionError.TheVariants.{Device}
 use Rattle.sector_device.specs.Memory.{memory_disk}
 use Rattle.sector_device.specs.MemoryDevice.{memory}
 use Rattle.sector_log.specs.Content.{content, generation_in}
 use Rattle.session.specs.Words.{machine_of, acknowledged_of}
 use Rattle.whole_lives.proofs.CauseLaws.{sound_stop}
-use Rattle.whole_lives.proofs.LifeLaws.{lived_to, lived_until}
-use Rattle.whole_lives.proofs.RoundLaws.{reads, each_before}
+use Rattle.whole_lives.proofs.LifeLaws.{lived_to, lived_until, life_untaken, resume_not_full}
+use Rattle.whole_lives.proofs.RoundLaws.{reads, each_before, resume_refuses}
 use Rattle.whole_lives.proofs.lives.live.Goals as goal
 
 pub returns-in-Ok-resume-clause-lived : goal.returns-in-Ok-resume-clause-lived
@@ -27,3 +29,14 @@ returns-in-Err-resume-clause-sound c = λ each.
 pub returns-in-Err-resume-clause-kept : goal.returns-in-Err-resume-clause-kept
 returns-in-Err-resume-clause-kept c = λ each.
     each_before c.args.cartridge.now (memory c.in-Ok.lived.0) (memory c.in-Err-resume.refused.device) (c.in-Err-resume.ensures.images tt) (c.in-Ok.ensures.stand each)
+
+pub returns-in-Err-resume-clause-cause : goal.returns-in-Err-resume-clause-cause
+returns-in-Err-resume-clause-cause c =
+    let rom = c.args.cartridge.now in
+    let was = memory_disk (memory c.in-Ok.lived.0) in
+    let left = memory_disk (memory c.in-Err-resume.refused.device) in
+    let why = c.in-Err-resume.refused.why in
+    let kept : (why ≡ Device) ⊎ (left.sectors ≡ was.sectors) = ⊎_elim inl (λ same. inr (same tt)) c.in-Err-resume.ensures.kept in
+    life_untaken rom (memory_disk (memory c.args.device)) was c.args.rounds.now left.sectors why
+    (resume_refuses rom was [] was.sectors left.sectors why (c.in-Err-resume.ensures.cause tt) kept)
+    (resume_not_full rom was.sectors why (c.in-Err-resume.ensures.cause tt))

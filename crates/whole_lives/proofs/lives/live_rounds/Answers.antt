@@ -1,12 +1,13 @@
-use Rattle.std.proofs.Common.{◌+◌, ◌++◌, ◌∷◌, [], List, length, take, sym, ap, ◌∙◌, subst, arith}
+use Rattle.std.proofs.Common.{◌+◌, ◌++◌, ◌∷◌, [], List, length, take, get_or, sym, ap, ◌∙◌, subst, arith}
 use Rattle.std.proofs.lemmas.List.{take_all, length_push}
+use Rattle.std.proofs.lemmas.Option.{slice_get-get_or}
 use Rattle.sector_device.specs.Memory.{memory_disk}
 use Rattle.sector_device.specs.MemoryDevice.{memory}
 use Rattle.whole_lives.specs.Lives.{inputs_of_round, HasLived, LeavesLife}
-use Rattle.whole_lives.specs.Rounds.{LeavesRound}
+use Rattle.whole_lives.specs.Rounds.{LeavesRound, IsRoundRefusal}
 use Rattle.whole_lives.specs.declared.rounds.Round.{Round}
 use Rattle.whole_lives.specs.declared.rounds.RoundEnd.{RoundEnd}
-use Rattle.whole_lives.proofs.LifeLaws.{known_behind, known_push, lived_nothing, lived_next}
+use Rattle.whole_lives.proofs.LifeLaws.{known_behind, known_push, lived_nothing, lived_next, life_refused}
 use Rattle.whole_lives.proofs.lives.live_rounds.Goals as goal
 
 pub returns-in_default-clause-left : goal.returns-in_default-clause-left
@@ -58,3 +59,13 @@ returns-clause-lived c = λ last here.
 
 pub returns-in-Err-clause-kept : goal.returns-in-Err-clause-kept
 returns-in-Err-clause-kept c = λ each. c.in-Err.ensures.kept (c.loop-round.invariant.stand each)
+
+pub returns-in-Err-clause-cause : goal.returns-in-Err-clause-cause
+returns-in-Err-clause-cause c =
+    let rom = c.args.cartridge.now in
+    let rounds = c.args.rounds.now in
+    let i = c.loop-round.round-index in
+    let before = memory_disk (memory c.loop-round.left) in
+    let left = (memory_disk (memory c.in-Err.refused.device)).sectors in
+    life_refused rom (memory_disk (memory c.args.device)) before rounds i (get_or rounds i c.round-item.result) c.loop-round.ends.items left c.in-Err.refused.why (slice_get-get_or rounds i c.round-item.result c.loop-round-test.true) c.loop-round.invariant.lived
+    (subst (λ (round : Round). IsRoundRefusal rom before (inputs_of_round round) left c.in-Err.refused.why) c.round-item.is c.in-Err.ensures.cause)

@@ -1,15 +1,16 @@
-use Rattle.std.proofs.Common.{◌≡◌, ◌+◌, ◌-◌, ◌++◌, ◌∷◌, [], List, ℕ, replicate, refl, sym, ap, ◌∙◌, arith, append-nil}
+use Rattle.std.proofs.Common.{◌≡◌, ◌≤◌, ◌+◌, ◌-◌, ◌++◌, ◌∷◌, [], List, ℕ, length, replicate, refl, sym, ap, ◌∙◌, arith, append-nil}
 use Rattle.machine.specs.declared.input.Input.{Input}
 use Rattle.machine.specs.declared.input.Input.TheVariants.{Frame}
-use Rattle.session.specs.Words.{device_of, acknowledged_of}
+use Rattle.session.specs.Words.{device_of, pending_of, acknowledged_of}
 use Rattle.playing.proofs.MoveLaws.{frames_next, frames_all}
-use Rattle.whole_lives.proofs.RoundLaws.{played_by, leaves_by, leaves_more}
+use Rattle.whole_lives.proofs.RoundLaws.{played_by, leaves_by, leaves_more, round_stops_among}
 use Rattle.whole_lives.proofs.moves.give_frames.Goals as goal
 
 pub loop-i-init : goal.loop-i-init
 loop-i-init g c = record {
   whole = c.requires.whole;
   few = c.requires.few;
+  counts = omega arith;
   faults = refl;
   played = λ rom from given played. played_by (sym (append-nil given)) played;
 }
@@ -27,6 +28,7 @@ pub loop-i-preserved : goal.loop-i-preserved
 loop-i-preserved g c = record {
   whole = c.in_default.ensures.whole.0;
   few = c.in_default.ensures.whole.1;
+  counts = omega (arith, c.in_default.ensures.counts, c.loop-i.invariant.counts);
   faults = c.in_default.ensures.faults_ok ∙ c.loop-i.invariant.faults;
   played = λ rom from given played.
       let frame : Input = Frame c.args.buttons in
@@ -38,3 +40,10 @@ pub returns-clause-played : goal.returns-clause-played
 returns-clause-played g c = λ rom from given played.
     let all : c.loop-i._i ≡ c.args.times = omega (arith, c.loop-i-test.false, c.loop-i.auto._i-end) in
     played_by (ap (λ (n : ℕ). given ++ replicate n (Frame c.args.buttons)) all) (c.loop-i.invariant.played rom from given played)
+
+pub returns-in-Err-clause-cause : goal.returns-in-Err-clause-cause
+returns-in-Err-clause-cause g c =
+    let first = c.args.session.now in
+    let there = c.loop-i.session in
+    let fewer : acknowledged_of there + length (pending_of there) + 1 ≤ acknowledged_of first + length (pending_of first) + c.args.times = omega (arith, c.loop-i.invariant.counts, c.loop-i-test.true) in
+    round_stops_among c.in-Err.why (acknowledged_of there + length (pending_of there) + 1) (acknowledged_of first + length (pending_of first) + c.args.times) (g.D.SectorDevice.disk (device_of c.give.new.session)) fewer c.in-Err.ensures.cause

@@ -1,4 +1,4 @@
-use Rattle.std.proofs.Common.{◌≡◌, ◌<◌, ◌++◌, List, ℕ, length, replicate, false}
+use Rattle.std.proofs.Common.{◌≡◌, ◌<◌, ◌+◌, ◌++◌, List, ℕ, length, replicate, false}
 use Rattle.machine.specs.declared.input.Input.{Input}
 use Rattle.machine.specs.declared.input.Input.TheVariants.{Frame}
 use Rattle.session.specs.Stands.{Position}
@@ -14,6 +14,7 @@ invariant-loop-i g l =
     record {
       whole : is_broken now ≡ false;
       few : length (pending_of now) < 3200;
+      counts : acknowledged_of now + length (pending_of now) ≡ acknowledged_of first + length (pending_of first) + l._i;
       faults : (g.D.SectorDevice.disk (device_of now)).faults ≡ (g.D.SectorDevice.disk (device_of first)).faults;
       played : (rom : List ℕ) (from : Position) (given : List Input) → IsPlayed rom (g.D.SectorDevice.disk (device_of first)) (acknowledged_of first) (pending_of first) (machine_of first) from given →
           IsPlayed rom (g.D.SectorDevice.disk (device_of now)) (acknowledged_of now) (pending_of now) (machine_of now) from (given ++ replicate l._i (Frame l.buttons));

@@ -1,4 +1,4 @@
-use Rattle.std.proofs.Common.{◌≡◌, ◌≤◌, ℕ, [], length, Some, None, refl, sym, ap, ◌∙◌, subst, arith}
+use Rattle.std.proofs.Common.{◌≡◌, ◌⊎◌, inl, inr, ⊎_elim, ◌≤◌, ◌+◌, ℕ, [], length, Some, None, refl, sym, ap, ◌∙◌, subst, arith}
 use Rattle.sector_device.specs.Memory.{memory_disk}
 use Rattle.sector_device.specs.MemoryDevice.{memory}
 use Rattle.sector_device.specs.declared.memory.MemoryDevice.{MemoryDevice}
@@ -6,15 +6,16 @@ use Rattle.sector_log.specs.Content.{content, generation_in}
 use Rattle.session.specs.Stands.{Position}
 use Rattle.session.specs.Words.{device_of, machine_of, pending_of, acknowledged_of}
 use Rattle.session.specs.declared.error.SessionError.{SessionError}
+use Rattle.session.specs.declared.error.SessionError.TheVariants.{Device}
 use Rattle.session.proofs.Beginnings.{if_ok, if_err}
 use Rattle.playing.specs.Played.{IsPlayed}
 use Rattle.playing.specs.Report.{inputs_of_moves}
 use Rattle.playing.proofs.PlayLaws.{begun_played}
-use Rattle.whole_lives.specs.Refusals.{IsLifeStop, IsSoundStop, CountsLifeFaults}
-use Rattle.whole_lives.specs.Rounds.{Leaves, LeavesRound}
+use Rattle.whole_lives.specs.Refusals.{IsSoundStop, CountsLifeFaults}
+use Rattle.whole_lives.specs.Rounds.{Leaves, LeavesRound, IsRoundRefusal}
 use Rattle.whole_lives.specs.declared.rounds.RoundEnd.{RoundEnd}
 use Rattle.whole_lives.proofs.CauseLaws.{sound_stop}
-use Rattle.whole_lives.proofs.RoundLaws.{round_missed, round_moved, round_ended, each_before, each_left, each_moved, leaves_played, least_after, counts_refusal, moves_stop, moves_sound_stop, reads}
+use Rattle.whole_lives.proofs.RoundLaws.{round_missed, round_moved, round_ended, each_before, each_left, each_moved, leaves_played, least_after, counts_refusal, moves_refuse, resume_refuses, moves_sound_stop, stands_here, reads}
 use Rattle.whole_lives.proofs.rounds.play_until_blown.Goals as goal
 
 -- ---- not taken up
@@ -131,8 +132,31 @@ returns-in-Err-made-clause-refused c =
 
 pub returns-in-Err-made-clause-cause : goal.returns-in-Err-made-clause-cause
 returns-in-Err-made-clause-cause c =
+    let rom = c.args.cartridge.now in
+    let s = c.in-Ok.session in
+    let now = c.make_moves-made.new.session in
+    let inputs = inputs_of_moves c.args.moves.now in
+    let from : Position = record { count = acknowledged_of s; machine = machine_of s } in
+    let none = ap length c.in-Ok.ensures.begun.0 in
+    let all : acknowledged_of s + length (pending_of s) + length inputs ≡ from.count + length inputs = omega (arith, none) in
+    let refused = moves_refuse rom (memory c.args.device) (memory (device_of now)) inputs from (acknowledged_of s + length (pending_of s) + length inputs) c.in-Err-made.why (stands_here rom (memory c.args.device) from (c.in-Ok.ensures.stands tt)) all c.in-Err-made.ensures.cause in
     if_err c.ended_by-in-Err-made.result c.ended_by-in-Err-made.ensures.refused
-    (λ r is. subst (λ (why : SessionError). IsLifeStop why) (sym is.1) (moves_stop c.in-Err-made.why c.in-Err-made.ensures.cause))
+    (λ r is.
+    subst (λ (d : MemoryDevice). IsRoundRefusal rom (memory_disk (memory c.args.device)) inputs (memory_disk (memory d)).sectors r.why) (sym (is.0 ∙ c.into_device-device.ensures.device))
+    (subst (λ (why : SessionError). IsRoundRefusal rom (memory_disk (memory c.args.device)) inputs (memory_disk (memory (device_of now))).sectors why) (sym is.1) refused))
+
+pub returns-in-Err-clause-cause : goal.returns-in-Err-clause-cause
+returns-in-Err-clause-cause c =
+    let rom = c.args.cartridge.now in
+    let inputs = inputs_of_moves c.args.moves.now in
+    let was = memory_disk (memory c.args.device) in
+    let left = memory_disk (memory c.in-Err.refused.device) in
+    let kept : (c.in-Err.refused.why ≡ Device) ⊎ (left.sectors ≡ was.sectors) = ⊎_elim inl (λ same. inr (same tt)) c.in-Err.ensures.kept in
+    let refused = resume_refuses rom was inputs was.sectors left.sectors c.in-Err.refused.why (c.in-Err.ensures.cause tt) kept in
+    if_err c.ended_by.result c.ended_by.ensures.refused
+    (λ r is.
+    subst (λ (d : MemoryDevice). IsRoundRefusal rom was inputs (memory_disk (memory d)).sectors r.why) (sym is.0)
+    (subst (λ (why : SessionError). IsRoundRefusal rom was inputs left.sectors why) (sym is.1) refused))
 
 pub returns-in-Err-made-clause-stand : goal.returns-in-Err-made-clause-stand
 returns-in-Err-made-clause-stand c =
@@ -150,7 +174,7 @@ returns-in-Err-made-clause-stand c =
 pub returns-in-Err-made-clause-sound : goal.returns-in-Err-made-clause-sound
 returns-in-Err-made-clause-sound c =
     if_err c.ended_by-in-Err-made.result c.ended_by-in-Err-made.ensures.refused
-    (λ r is each. subst (λ (why : SessionError). IsSoundStop why) (sym is.1) (moves_sound_stop c.in-Err-made.why c.in-Err-made.ensures.cause))
+    (λ r is each. subst (λ (why : SessionError). IsSoundStop why) (sym is.1) (moves_sound_stop c.in-Err-made.why (acknowledged_of c.in-Ok.session + length (pending_of c.in-Ok.session) + length (inputs_of_moves c.args.moves.now)) (memory_disk (memory (device_of c.make_moves-made.new.session))) c.in-Err-made.ensures.cause))
 
 pub returns-in-Err-made-clause-faults_ok : goal.returns-in-Err-made-clause-faults_ok
 returns-in-Err-made-clause-faults_ok c =
