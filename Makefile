@@ -15,7 +15,10 @@ help:
 	@echo 'make bench           proves the benchmarks: times, instructions a frame, device calls (20 minutes from nothing)'
 	@echo 'make compare         compares the program with a second one, in Python, on random ROMs (SECONDS=20 a kind)'
 	@echo 'make hostile         gives the program damaged files and wrong scripts, kills it, and looks what is left (SECONDS=20 a kind)'
+	@echo 'make fuzz            of these the random ROMs, scripts and save files, for SECONDS=20 in all, another seed each time'
 	@echo 'make demo            plays a minute of the demo cartridge and leaves bin/demo.sav, bin/demo.pgm and bin/demo.png (a second)'
+	@echo 'make play            plays a cartridge in a window (CART=examples/demo/demo.gb SAVE=bin/demo.sav; needs python3-pygame)'
+	@echo 'make test-window     plays the demo by real keys in a window of its own and kills it (half a minute; needs xvfb, xdotool, python3-pygame)'
 	@echo 'make memory          refuses each allocation of the program and of the calls that take memory, in turn (20 seconds once both are built; needs a C compiler)'
 	@echo 'make test            the gate: proves everything from nothing, runs the tests and programs (one to two hours)'
 
@@ -63,12 +66,26 @@ compare: bin/gbkeep
 hostile: bin/gbkeep
 	python3 -B scripts/second_storage/hostile.py bin/gbkeep $(SECONDS)
 
+fuzz: bin/gbkeep
+	python3 -B scripts/second_storage/hostile.py bin/gbkeep fuzz $(SECONDS)
+
 demo: bin/gbkeep
 	rm -f bin/demo.sav
 	bin/gbkeep new examples/demo/demo.gb bin/demo.sav 284
 	bin/gbkeep play examples/demo/demo.gb bin/demo.sav examples/demo/tour.txt
 	bin/gbkeep frame examples/demo/demo.gb bin/demo.sav bin/demo.pgm
 	python3 -B scripts/png.py bin/demo.pgm bin/demo.png
+
+# the Python that has pygame: Debian's, where another one comes first
+PYTHON ?= $(shell python3 -c 'import pygame' > /dev/null 2>&1 && echo python3 || echo /usr/bin/python3)
+CART ?= examples/demo/demo.gb
+SAVE ?= bin/demo.sav
+
+play: bin/gbkeep
+	$(PYTHON) -B players/window.py $(CART) $(SAVE)
+
+test-window: bin/gbkeep
+	$(PYTHON) -B players/test_window.py bin/gbkeep
 
 memory: bin/gbkeep
 	cd crates/refused_memory && $(RT) run > /dev/null
@@ -83,4 +100,4 @@ test:
 	python3 -B examples/demo/check.py $(PROGRAM)/out/gbkeep_program
 	python3 -B scripts/second_storage/refused_memory.py $(PROGRAM)/out/gbkeep_program crates/refused_memory/out/refused_memory
 
-.PHONY: help run build install check edits bench compare hostile demo memory test
+.PHONY: help run build install check edits bench compare hostile fuzz demo play test-window memory test

@@ -1,13 +1,14 @@
 """Gives gbkeep damaged save files, wrong scripts and refused ROMs, kills it, and compares what it answers and leaves with save_files.py.
 
-usage: hostile.py GBKEEP SECONDS [SEED]    each kind for so many seconds, from a seed that it prints
-       hostile.py GBKEEP KIND SECONDS SEED  one kind
+usage: hostile.py GBKEEP SECONDS [SEED]       each kind for so many seconds, from a seed that it prints
+       hostile.py GBKEEP fuzz SECONDS [SEED]  saves, scripts and bytes for so many seconds in all
+       hostile.py GBKEEP KIND SECONDS SEED    one kind
 
 Kinds: saves (random games, damaged in random places), scripts (random scripts, some of them wrong), bytes (arbitrary bytes as ROM,
 save file and script), kills (a play is killed at a random moment, and taken up again), holds (a save file that another process
 holds), places (no plain file, no room or no leave where one is wanted), pipes (an output that nobody reads to its end, or that has no
 room), shrinks (a save file that another process cuts while it is played), names (OUT is SAVE by another name), closed (a standard
-stream is closed). The status is 1 where anything differs, where gbkeep dies by a signal, or where it takes longer than 10 seconds."""
+stream is closed), streams (lines as they come, whole, in pieces, wrong ones, pictures, and a kill). The status is 1 where anything differs, where gbkeep dies by a signal, or where it takes longer than 10 seconds."""
 import fcntl, os, random, resource, shutil, signal, subprocess, sys, tempfile, time
 import save_files as ref
 from save_files import get, put
@@ -566,8 +567,113 @@ def closed(rnd, seed):
                     differs('closed', seed, '%s without streams %s: status %d, roots %r, picture %r' % (words[0], streams, done.returncode, roots, picture[:12]))
 
 
+# ---- lines as they come
+
+def moves_before(lines):
+    """The moves of the lines before the first wrong one, and its number; None where no line is wrong. A `picture` is no move."""
+    moves = []
+    for number, line in enumerate(lines, 1):
+        if line == b'picture':
+            continue
+        try:
+            if len(line) > 64:
+                raise ref.Refused('too long')
+            moves += ref.moves_of(line)
+        except ref.Refused:
+            return moves, number
+    return moves, None
+
+
+def streamed(image, cart, lines):
+    """Status, output without its pictures, errors and the save file that a stream leaves."""
+    game = ref.Game(image, cart)
+    moves, wrong = moves_before(lines)
+    try:
+        game.resume()
+        game.play(moves)
+    except ref.Refused as why:
+        return 1, game.report, line(why), game
+    return (1, game.report, line('script line %d' % wrong), game) if wrong else (0, game.report, b'', game)
+
+
+def without_pictures(out):
+    """The lines of an output, and its pictures."""
+    told, pictures, at = b'', [], 0
+    while at < len(out):
+        end = out.find(b'\n', at) + 1 or len(out)
+        if out[at:end] == b'P2\n':
+            end = at + 46093
+            pictures.append(out[at:end])
+        else:
+            told += out[at:end]
+        at = end
+    return told, pictures
+
+
+def streams(rnd, seed):
+    """Whole, in pieces, with wrong lines and pictures; then line by line, each answer waited for; then killed."""
+    cart, image = a_game(rnd)
+    text = wrong_script(rnd) if rnd.random() < 0.5 else random_script(rnd, 300)
+    lines = text.split(b'\n')
+    for _ in range(rnd.choice([0, 1, 3])):
+        lines.insert(rnd.randrange(len(lines) + 1), rnd.choice([b'picture', b'picture', b'', b'p' * 64, b'save' + b' ' * 61, b'0' * 70]))
+    text = b'\n'.join(lines)
+    want = streamed(image, cart, lines)
+    put(SAVE, image)
+    stream = subprocess.Popen([GB, 'stream', CART, SAVE], stdin=subprocess.PIPE, stdout=subprocess.PIPE, stderr=subprocess.PIPE)
+    if rnd.random() < 0.5:
+        with open(SCRIPT, 'wb') as file:
+            file.write(text)
+        stream.stdin.close()
+        stream.wait(10)
+        put(SAVE, image)
+        with open(SCRIPT, 'rb') as file:
+            stream = subprocess.Popen([GB, 'stream', CART, SAVE], stdin=file, stdout=subprocess.PIPE, stderr=subprocess.PIPE)
+            out, err = stream.communicate(timeout=10)
+    else:
+        out, err = stream.communicate(text, timeout=10)
+    told, pictures = without_pictures(out)
+    if (stream.returncode, told, err) != want[:3] or not same_file(get(SAVE), want[3]) or any(len(one) != 46093 for one in pictures):
+        return differs('streams', seed, 'wanted %r got %r' % ((want[0], want[1][-60:], want[2]), (stream.returncode, told[-60:], err)))
+    put(SAVE, image)
+    put(SCRIPT, b'')
+    right = [one for one in random_script(rnd, 30).split(b'\n') if one] + [b'save', b'picture', b'frame 00']
+    stream = subprocess.Popen([GB, 'stream', CART, SAVE], stdin=subprocess.PIPE, stdout=subprocess.PIPE, stderr=subprocess.PIPE)
+    report, shown = stream.stdout.readline(), b''
+    for one in right:
+        stream.stdin.write(one + b'\n')
+        stream.stdin.flush()
+        if one == b'save':
+            report += stream.stdout.readline()
+        elif one == b'picture':
+            shown = stream.stdout.read(46093)
+    told = int(report.split()[-1])
+    if rnd.random() < 0.5:
+        stream.send_signal(signal.SIGKILL)
+        stream.communicate()
+        if not told <= count_of(get(SAVE), cart) <= told + 1:
+            return differs('streams', seed, 'killed: %d inputs, %d told' % (count_of(get(SAVE), cart), told))
+        return
+    rest, err = stream.communicate(timeout=10)
+    want = streamed(image, cart, right)
+    if (stream.returncode, report + rest, err) != want[:3] or not same_file(get(SAVE), want[3]):
+        return differs('streams', seed, 'line by line: wanted %r got %r' % (want[:3], (stream.returncode, report + rest, err)))
+    # the script of the same lines leaves the same bytes, and its picture is the one before the last input
+    left = get(SAVE)
+    put(SAVE, image)
+    put(SCRIPT, b'\n'.join(one for one in right if one != b'picture'))
+    got = gbkeep('play', CART, SAVE, SCRIPT)
+    if got != (0, want[1], b'') or get(SAVE) != left:
+        return differs('streams', seed, 'a play of the same lines: %r' % (got,))
+    put(SAVE, image)
+    put(SCRIPT, b'\n'.join(one for one in right[:-1] if one != b'picture'))
+    gbkeep('play', CART, SAVE, SCRIPT)
+    if gbkeep('frame', CART, SAVE, OUT)[0] != 0 or get(OUT) != shown:
+        differs('streams', seed, 'another picture')
+
+
 KINDS = {'saves': saves, 'scripts': scripts, 'bytes': arbitrary, 'kills': kills, 'holds': holds, 'places': places, 'pipes': pipes,
-         'shrinks': shrinks, 'names': names, 'closed': closed}
+         'shrinks': shrinks, 'names': names, 'closed': closed, 'streams': streams}
 
 
 def run(kind, seconds, first):
@@ -581,11 +687,16 @@ def run(kind, seconds, first):
     print('kind=%s seeds %d..%d differences=%d' % (kind, first, seed - 1, differences - before), flush=True)
 
 
+FUZZ = ('saves', 'scripts', 'bytes')
+
+
 def main(words):
+    is_fuzz = words[:1] == ['fuzz']
+    words = words[1:] if is_fuzz else words
     if len(words) in (1, 2):
         first = int(words[1]) if len(words) == 2 else int(time.time())
-        for kind in KINDS:
-            run(kind, float(words[0]), first)
+        for kind in FUZZ if is_fuzz else KINDS:
+            run(kind, float(words[0]) / (len(FUZZ) if is_fuzz else 1), first)
     elif len(words) == 3 and words[0] in KINDS:
         run(words[0], float(words[1]), int(words[2]))
     else:

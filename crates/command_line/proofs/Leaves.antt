@@ -13,7 +13,7 @@ use Rattle.clap.specs.Simple.{App, Shape, built_leaf, inherited, marked_built, o
 use Rattle.std.specs.Prelude.{pos}
 use Rattle.clap.specs.declared.builder.value_parser.ValueParser.TheVariants.{Signed}
 use Rattle.clap.specs.Walk.{Held, Row, Text, finished, nothing_held, rows_after, settled, walked}
-use Rattle.command_line.specs.Commands.{IsFrameRow, IsInfoRow, IsListRow, IsNewRow, IsPlayRow, IsStepRow, IsTraceRow, frame, gbkeep, info, list, new, play, step, trace}
+use Rattle.command_line.specs.Commands.{IsFrameRow, IsInfoRow, IsListRow, IsNewRow, IsPlayRow, IsStepRow, IsStreamRow, IsTraceRow, frame, gbkeep, info, list, new, play, step, stream, trace}
 use Rattle.command_line.specs.Words.{operands_of}
 use Rattle.command_line.proofs.Walks.{Fails, Follows, at, follows, first_fails, is_plain_rule}
 
@@ -198,3 +198,21 @@ trace_wants (first ∷ second ∷ []) none = absurd (refuses none)
 trace_wants (first ∷ second ∷ third ∷ []) none =
     (first, second, third, refl, refl, refl, (refl, accepts-Accepts false (Signed (pos 1) (pos 1024)) third (kinds_of (Signed (pos 1) (pos 1024)) third (sym (trace_fault first second third) ∙ none))))
 trace_wants (first ∷ second ∷ third ∷ more ∷ rest) none = absurd (refuses none)
+
+-- `stream`
+pub stream_is_plain : list_all is_plain_rule (leaf stream).rules ≡ true
+stream_is_plain = refl
+
+stream_fault : (first second : Text) → leaf_fault (leaf stream) (first ∷ second ∷ []) ≡ []
+unfolding walked walk_fault defaults_fault
+stream_fault first second = refl
+
+pub stream_passes : (first second : Text) → leaf_fault (leaf stream) (first ∷ second ∷ []) ≡ []
+stream_passes first second = stream_fault first second
+
+pub stream_wants : Wants (leaf stream) IsStreamRow
+unfolding walked walk_fault defaults_fault
+stream_wants [] none = absurd (refuses none)
+stream_wants (first ∷ []) none = absurd (refuses none)
+stream_wants (first ∷ second ∷ []) none = (first, second, refl, refl, refl)
+stream_wants (first ∷ second ∷ more ∷ rest) none = absurd (refuses none)

@@ -20,12 +20,12 @@ use Rattle.clap.specs.declared.error.Error.{Error}
 use Rattle.clap.specs.declared.error.kind.ErrorKind.TheVariants.{OutOfMemory}
 use Rattle.clap.specs.declared.parser.matches.ArgMatches.{ArgMatches}
 use Rattle.clap.proofs.WalkLemmas.{walk_stopped}
-use Rattle.command_line.specs.Commands.{IsFrameRow, IsInfoRow, IsListRow, IsNewRow, IsPlayRow, IsMatched, IsRead, IsStepRow, IsTraceRow, frame, gbkeep, info, list, new, play, step, trace}
+use Rattle.command_line.specs.Commands.{IsFrameRow, IsInfoRow, IsListRow, IsNewRow, IsPlayRow, IsMatched, IsRead, IsStepRow, IsStreamRow, IsTraceRow, frame, gbkeep, info, list, new, play, step, stream, trace}
 use Rattle.command_line.specs.Words.{AsksFor, AskForSome, IsAnswer, IsCommand, Word, WritesWithin, is_option, operands_of}
 use Rattle.command_line.specs.declared.Request.{Request}
-use Rattle.command_line.specs.declared.Request.TheVariants.{Info, List as Listing, Step as Steps, New, Play, Frame, Trace}
+use Rattle.command_line.specs.declared.Request.TheVariants.{Info, List as Listing, Step as Steps, New, Play, Frame, Trace, Stream}
 use Rattle.command_line.proofs.Leaves.{Wants, fault_is, leaf, leaf_fault, or_nothing, refused_without, rows_are}
-use Rattle.command_line.proofs.Leaves.{info_is_plain, info_passes, info_wants, list_is_plain, list_passes, list_wants, step_is_plain, step_passes, step_wants, new_is_plain, new_passes, new_wants, play_is_plain, play_passes, play_wants, frame_is_plain, frame_passes, frame_wants, trace_is_plain, trace_passes, trace_wants}
+use Rattle.command_line.proofs.Leaves.{info_is_plain, info_passes, info_wants, list_is_plain, list_passes, list_wants, step_is_plain, step_passes, step_wants, new_is_plain, new_passes, new_wants, play_is_plain, play_passes, play_wants, frame_is_plain, frame_passes, frame_wants, trace_is_plain, trace_passes, trace_wants, stream_is_plain, stream_passes, stream_wants}
 use Rattle.command_line.proofs.Walks.{Classified, Fails, classify, dashes, first_fails, is_plain_rule, later_fails, option_fails, value_met}
 
 abbrev top : Shape
@@ -117,6 +117,9 @@ frame_known = record { met = refl; is_not_help = refl; found = refl; named = ref
 trace_known : IsNameOf (codes "trace") (leaf trace)
 trace_known = record { met = refl; is_not_help = refl; found = refl; named = refl }
 
+stream_known : IsNameOf (codes "stream") (leaf stream)
+stream_known = record { met = refl; is_not_help = refl; found = refl; named = refl }
+
 -- ---- a word that is no command
 
 abbrev NoCommand : Text → Type 0
@@ -186,7 +189,10 @@ frame_reads : (program : Text) (rest : List Text) → Reads program rest (codes 
 frame_reads = read_as _ (leaf frame) frame_known frame_is_plain IsFrameRow frame_wants (λ rows operands row. inr (inr (inr (inr (inr (inl (refl, row)))))))
 
 trace_reads : (program : Text) (rest : List Text) → Reads program rest (codes "trace")
-trace_reads = read_as _ (leaf trace) trace_known trace_is_plain IsTraceRow trace_wants (λ rows operands row. inr (inr (inr (inr (inr (inr ((refl, row))))))))
+trace_reads = read_as _ (leaf trace) trace_known trace_is_plain IsTraceRow trace_wants (λ rows operands row. inr (inr (inr (inr (inr (inr (inl (refl, row))))))))
+
+stream_reads : (program : Text) (rest : List Text) → Reads program rest (codes "stream")
+stream_reads = read_as _ (leaf stream) stream_known stream_is_plain IsStreamRow stream_wants (λ rows operands row. inr (inr (inr (inr (inr (inr (inr (refl, row))))))))
 
 -- a word is a name, or it is tried with the others
 case_of : (name word : Text) (P : Text → Type 0) → P name → (bytes_eq name word ≡ false → P word) → P word
@@ -206,8 +212,9 @@ reads word program rest =
     case_of (codes "play") word P (play_reads program rest) (λ not_play.
     case_of (codes "frame") word P (frame_reads program rest) (λ not_frame.
     case_of (codes "trace") word P (trace_reads program rest) (λ not_trace.
+    case_of (codes "stream") word P (stream_reads program rest) (λ not_stream.
     case_of (codes "help") word P (λ none. absurd (help_fails program rest none)) (λ not_help.
-    λ none. absurd (unknown_fails word program rest (rw (not_info, not_list, not_step, not_new, not_play, not_frame, not_trace, not_help) refl) none)))))))))
+    λ none. absurd (unknown_fails word program rest (rw (not_info, not_list, not_step, not_new, not_play, not_frame, not_trace, not_stream, not_help) refl) none))))))))))
 
 understood : (words : List Text) → fault_of gbkeep words ≡ [] → IsRead words (subcommand_of gbkeep words)
 understood [] none = absurd (no_words [] (inl refl) none)
@@ -236,6 +243,8 @@ asked words (Frame cart save out) command =
     command_passes _ (leaf frame) frame_known frame_is_plain words _ (frame_passes cart.now save.now out.now) command
 asked words (Trace cart save count) (number, command, within) =
     command_passes _ (leaf trace) trace_known trace_is_plain words _ (trace_passes cart.now save.now number (accepted 1 1024 count number within (omega arith))) command
+asked words (Stream cart save) command =
+    command_passes _ (leaf stream) stream_known stream_is_plain words _ (stream_passes cart.now save.now) command
 
 -- ---- what `clap` answers
 

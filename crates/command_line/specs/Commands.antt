@@ -49,13 +49,16 @@ frame = with_rule (over_save (codes "frame")) (operand (codes "OUT"))
 abbrev pub trace : App
 trace = with_rule (over_save (codes "trace")) (number (codes "COUNT") 1 1024)
 
+abbrev pub stream : App
+stream = over_save (codes "stream")
+
 abbrev pub bare : App
 bare = let named = new_app (codes "gbkeep") in record named { top = record named.top { has_version = true; subcommand_required = true } }
 
 -- the whole program's
 abbrev pub gbkeep : App
-gbkeep = with_subcommand (with_subcommand (with_subcommand (with_subcommand (with_subcommand (with_subcommand (with_subcommand bare
-    info.top) list.top) step.top) new.top) play.top) frame.top) trace.top
+gbkeep = with_subcommand (with_subcommand (with_subcommand (with_subcommand (with_subcommand (with_subcommand (with_subcommand (with_subcommand bare
+    info.top) list.top) step.top) new.top) play.top) frame.top) trace.top) stream.top
 
 -- a command that `clap` reads so, none of whose operands is global
 pub record Reads (app : App) (command : Command) : Type 0 where
@@ -103,6 +106,10 @@ abbrev pub IsTraceRow : List Row → List Word → Type 0
 IsTraceRow rows operands = (first second third : Word) × (operands ≡ first ∷ second ∷ third ∷ [])
     × HasOperand rows (codes "CART") first × HasOperand rows (codes "SAVE") second × HasNumber rows (codes "COUNT") 1 1024 third
 
+abbrev pub IsStreamRow : List Row → List Word → Type 0
+IsStreamRow rows operands = (first second : Word) × (operands ≡ first ∷ second ∷ [])
+    × HasOperand rows (codes "CART") first × HasOperand rows (codes "SAVE") second
+
 -- this command was named, with these operands, and its matches hold them
 abbrev pub IsMatched : Word → List Row → List Word → Type 0
 IsMatched name rows operands = ((name ≡ codes "info") × IsInfoRow rows operands)
@@ -112,6 +119,7 @@ IsMatched name rows operands = ((name ≡ codes "info") × IsInfoRow rows operan
     ⊎ ((name ≡ codes "play") × IsPlayRow rows operands)
     ⊎ ((name ≡ codes "frame") × IsFrameRow rows operands)
     ⊎ ((name ≡ codes "trace") × IsTraceRow rows operands)
+    ⊎ ((name ≡ codes "stream") × IsStreamRow rows operands)
 
 -- the words are a command with its operands, and the matches of a subcommand hold them
 abbrev pub IsRead : List Word → Option (Word × List Row) → Type 0

@@ -7,7 +7,7 @@ use Rattle.clap.specs.Words.{kind_of}
 use Rattle.clap.specs.declared.error.Error.{Error}
 use Rattle.clap.specs.declared.error.kind.ErrorKind.TheVariants.{OutOfMemory}
 use Rattle.command_line.specs.declared.Request.{Request}
-use Rattle.command_line.specs.declared.Request.TheVariants.{Info, List as Listing, Step, New, Play, Frame, Trace}
+use Rattle.command_line.specs.declared.Request.TheVariants.{Info, List as Listing, Step, New, Play, Frame, Trace, Stream}
 
 -- a word, as its bytes
 abbrev pub Word : Type 0
@@ -53,6 +53,7 @@ AsksFor words (Play cart save script) = IsCommand words (codes "play") (cart.now
 AsksFor words (Frame cart save out) = IsCommand words (codes "frame") (cart.now ∷ save.now ∷ out.now ∷ [])
 AsksFor words (Trace cart save count) =
     (number : Word) × IsCommand words (codes "trace") (cart.now ∷ save.now ∷ number ∷ []) × WritesWithin 1 1024 number count
+AsksFor words (Stream cart save) = IsCommand words (codes "stream") (cart.now ∷ save.now ∷ [])
 
 -- the words ask for some request
 abbrev pub AskForSome : List Word → Type 0

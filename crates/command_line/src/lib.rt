@@ -7,7 +7,7 @@ ghost use Rattle.std.specs.Prelude.{◌≡◌, ◌<◌, ◌^◌, ℕ, List, Ok, 
 ghost use Rattle.std.specs.Option.{IsSomeAnd};
 ghost use Rattle.clap.specs.Words.{FailsBy, fault_of, found_of, rows_of, subcommand_rows_of};
 ghost use Rattle.command_line.specs.Commands.{HasNumber, HasOperand, IsFrameRow, IsInfoRow, IsListRow, IsMatched, IsRead};
-ghost use Rattle.command_line.specs.Commands.{IsNewRow, IsPlayRow, IsStepRow, IsTraceRow, gbkeep};
+ghost use Rattle.command_line.specs.Commands.{IsNewRow, IsPlayRow, IsStepRow, IsStreamRow, IsTraceRow, gbkeep};
 ghost use Rattle.command_line.specs.Words.{IsAnswer, IsCommand, Word, WritesWithin};
 
 mod words;
@@ -58,6 +58,11 @@ pub enum Request<'a> {
         save: &'a str,
         count: u32,
     },
+    /// Plays the lines of the input on the game in a file, as they come.
+    Stream {
+        cart: &'a str,
+        save: &'a str,
+    },
 }
 
 /// The request that the words make, of which the first is the program's own name.
@@ -95,6 +100,7 @@ fn named_request<'a>(name: &str, values: &ArgMatches<'a>) -> Option<Request<'a>>
         "play" => play(values),
         "frame" => frame(values),
         "trace" => trace(values),
+        "stream" => stream(values),
         _ => None,
     }
 }
@@ -185,5 +191,15 @@ fn trace<'a>(values: &ArgMatches<'a>) -> Option<Request<'a>>
         cart: operand(values, "CART")?,
         save: operand(values, "SAVE")?,
         count: number(values, "COUNT")?,
+    })
+}
+
+fn stream<'a>(values: &ArgMatches<'a>) -> Option<Request<'a>>
+    ensures { (words operands : List Word) → IsCommand words (codes "stream") operands
+        → IsStreamRow (rows_of (found_of values.now)) operands → IsAnswer words (Ok result) }
+{
+    Some(Request::Stream {
+        cart: operand(values, "CART")?,
+        save: operand(values, "SAVE")?,
     })
 }

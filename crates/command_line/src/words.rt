@@ -1,7 +1,7 @@
 //! The commands and their words.
 ghost use Rattle.std.specs.Prelude.{IfOk, codes};
 ghost use Rattle.command_line.specs.Commands.{Reads, ReadsOperand, number, operand, over_cart, over_save};
-ghost use Rattle.command_line.specs.Commands.{bare, frame, gbkeep, info, list, new, play, step, trace};
+ghost use Rattle.command_line.specs.Commands.{bare, frame, gbkeep, info, list, new, play, step, stream, trace};
 
 use clap::{Arg, Command, value_parser};
 use std::alloc::{AllocError, Global};
@@ -21,6 +21,7 @@ pub(crate) fn command<'a>(alloc: Global) -> Result<Command<'a>, AllocError>
     let play = play(alloc)?;
     let frame = frame(alloc)?;
     let trace = trace(alloc)?;
+    let stream = stream(alloc)?;
     bare(alloc)?
         .subcommand(info)?
         .subcommand(list)?
@@ -28,7 +29,8 @@ pub(crate) fn command<'a>(alloc: Global) -> Result<Command<'a>, AllocError>
         .subcommand(new)?
         .subcommand(play)?
         .subcommand(frame)?
-        .subcommand(trace)
+        .subcommand(trace)?
+        .subcommand(stream)
 }
 
 /// The program without its commands.
@@ -141,4 +143,14 @@ fn trace<'a>(alloc: Global) -> Result<Command<'a>, AllocError>
         "Takes up a game and prints its next steps, which are not saved",
     )?
     .arg(count)
+}
+
+fn stream<'a>(alloc: Global) -> Result<Command<'a>, AllocError>
+    ensures { IfOk result (Reads stream) }
+{
+    over_save(
+        alloc,
+        "stream",
+        "Takes up a game, plays the lines of the standard input as they come and saves it",
+    )
 }

@@ -2,3 +2,4 @@ pub mod Addresses
 pub mod HeaderLines
 pub mod Plays
 pub mod Traces
+pub mod StreamTexts

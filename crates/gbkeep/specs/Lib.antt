@@ -5,3 +5,4 @@ pub mod Playing
 pub mod Tracing
 pub mod Request
 pub mod Program
+pub mod Streaming

@@ -18,9 +18,12 @@ use Rattle.gbkeep.specs.declared.error.PlayError.TheVariants.{Cart as PlayCart, 
 use Rattle.gbkeep.specs.declared.error.TraceError.{TraceError}
 use Rattle.gbkeep.specs.declared.error.TraceError.TheVariants.{Cart as TraceCart, Session as TraceSession, Memory as TraceMemory, Output as TraceOutput}
 use Rattle.gbkeep.specs.declared.fault.Fault.{Fault}
-use Rattle.gbkeep.specs.declared.fault.Fault.TheVariants.{Cart, Step, Memory, File, Output, Address, Word, Device, Script, Session}
+use Rattle.gbkeep.specs.declared.error.StreamPlayError.{StreamPlayError}
+use Rattle.gbkeep.specs.declared.error.StreamPlayError.TheVariants.{Cart as StreamCart, Stream as StreamFault}
+use Rattle.streaming.specs.declared.error.StreamError.TheVariants.{Session as StreamSession, Line as StreamLine, Input as StreamInput}
+use Rattle.gbkeep.specs.declared.fault.Fault.TheVariants.{Cart, Step, Memory, File, Output, Address, Word, Device, Script, Session, Line, Input}
 use Rattle.script.specs.Script.{IsRefused as IsScriptRefused}
-use Rattle.gbkeep.specs.Request.{HasAddress, HasSave, HasScript, IsDone, IsGameRefused, IsOutputRefused, printed}
+use Rattle.gbkeep.specs.Request.{HasAddress, HasSave, HasScript, IsDone, IsGameRefused, IsInputRefused, IsOutputRefused, printed}
 use Rattle.gbkeep.specs.StepLine.{Refuses}
 
 abbrev pub status_of : Fault → ℕ
@@ -34,6 +37,8 @@ status_of Word = 2
 status_of (Device fault) = 1
 status_of (Script fault) = 1
 status_of (Session fault) = 1
+status_of (Line number) = 1
+status_of Input = 1
 
 -- what a play that was refused is for the program
 abbrev pub fault_of_play : PlayError → Fault
@@ -49,7 +54,14 @@ fault_of_trace (TraceSession fault) = Session fault
 fault_of_trace TraceMemory = Memory
 fault_of_trace TraceOutput = Output
 
--- its line on standard error; None for a fault of the cartridge, of a save file, of a script, or of a game that is too large
+-- and what a stream that was refused is
+abbrev pub fault_of_stream : StreamPlayError → Fault
+fault_of_stream (StreamCart fault) = Cart fault
+fault_of_stream (StreamFault (StreamSession fault)) = Session fault
+fault_of_stream (StreamFault (StreamLine number)) = Line number
+fault_of_stream (StreamFault StreamInput) = Input
+
+-- its line on standard error; None for a fault of the cartridge, of a save file, of a script, of a line of the input, or of a game that is too large
 -- for its file or damaged, whose text no definition gives
 abbrev pub line_of : Fault → Option (List ℕ)
 line_of (Cart fault) = None
@@ -74,6 +86,8 @@ line_of (Session GameCountFull) = Some (codes "gbkeep: count full\n")
 line_of (Session GameOutput) = Some (codes "gbkeep: output failed\n")
 line_of (Session (GameTooSmall needed)) = None
 line_of (Session (GameDamaged damage)) = None
+line_of (Line number) = None
+line_of Input = Some (codes "gbkeep: input failed\n")
 
 -- the line went out, or a proper prefix of it; nothing is said of a line that is not given
 abbrev pub HasLine : Option (List ℕ) → Option (List ℕ) → Option (List ℕ) → Type 0
@@ -96,6 +110,8 @@ IsRefused request Word old new = ⊥
 IsRefused request (Device fault) old new = HasSave request × Keeps old new
 IsRefused request (Script fault) old new = HasScript request × Keeps old new × ((script : List ℕ) × IsScriptRefused script fault)
 IsRefused request (Session fault) old new = IsGameRefused request fault old new
+IsRefused request (Line number) old new = IsInputRefused request old new
+IsRefused request Input old new = IsInputRefused request old new
 
 -- a request was done or refused
 abbrev pub IsServed : Request → Result Unit Fault → Option (List ℕ) → Option (List ℕ) → Type 0

@@ -1,12 +1,12 @@
 -- What a request wants of a ROM, and when the program has done it.
-use Rattle.std.specs.Prelude.{◌⊎◌, ◌≤◌, ℕ, List, [], codes, length, Option, IsOk}
+use Rattle.std.specs.Prelude.{◌⊎◌, ◌≤◌, ℕ, List, [], codes, length, Option, IsOk, All}
 use Rattle.std.specs.Str.Parse.{IsNumeral, digits_value}
 use Rattle.std.specs.Io.KnownBytes.{Appends, Keeps}
 use Rattle.exact_text.specs.Written.{AppendsProperPrefix}
 use Rattle.cartridge.specs.Accepted.{IsAccepted}
 use Rattle.cartridge.specs.Header.{ram_length_of}
 use Rattle.command_line.specs.declared.Request.{Request}
-use Rattle.command_line.specs.declared.Request.TheVariants.{Info, List as Listing, Step, New, Play, Frame, Trace}
+use Rattle.command_line.specs.declared.Request.TheVariants.{Info, List as Listing, Step, New, Play, Frame, Trace, Stream}
 use Rattle.machine.specs.Machine.{start}
 use Rattle.snapshot.specs.Legal.{IsMachineOf}
 use Rattle.snapshot.specs.Text.{text_length}
@@ -16,7 +16,9 @@ use Rattle.script.specs.declared.moves.Move.{Move}
 use Rattle.session.specs.declared.error.SessionError.{SessionError}
 use Rattle.session.specs.Found.{IsNewGameCause}
 use Rattle.session.specs.Stands.{Position}
-use Rattle.playing.specs.Report.{report_lines, report_of, HasTold}
+use Rattle.playing.specs.Report.{Line, texts, report_lines, report_of, HasTold}
+use Rattle.streaming.specs.Answers.{stream_lines}
+use Rattle.streaming.specs.Orders.{orders_of, IsRight}
 use Rattle.debugger.specs.Listing.{lines_from}
 use Rattle.gbkeep.specs.Info.{info_of}
 use Rattle.gbkeep.specs.Playing.{moves_in}
@@ -36,8 +38,9 @@ HasAddress (New cart save sectors) = Unit {0}
 HasAddress (Play cart save script) = Unit {0}
 HasAddress (Frame cart save out) = Unit {0}
 HasAddress (Trace cart save count) = Unit {0}
+HasAddress (Stream cart save) = Unit {0}
 
--- what it prints of a ROM; not here the report of a play and a trace, which are of a game of the ROM
+-- what it prints of a ROM; not here the report of a play, a trace and a stream, which are of a game of the ROM
 abbrev pub printed : Request → List ℕ → List ℕ
 printed (Info cart) rom = info_of rom
 printed (Listing cart address count) rom = lines_from (start rom) (digits_value 16 address.now) count
@@ -46,6 +49,7 @@ printed (New cart save sectors) rom = codes "begun 0\n"
 printed (Play cart save script) rom = []
 printed (Frame cart save out) rom = []
 printed (Trace cart save count) rom = []
+printed (Stream cart save) rom = []
 
 -- a count of inputs and a machine of this ROM, of which the text of a trace has P
 abbrev pub OfATrace : (rom : List ℕ) → (steps : ℕ) → (List ℕ → Type 0) → Type 0
@@ -64,11 +68,16 @@ IsCutShort moves why old new = Keeps old new ⊎ ((count saved : ℕ) × HasTold
 abbrev pub OfAScript : (List Move → Type 0) → Type 0
 OfAScript P = (script : List ℕ) × IsOk (moves_of script) × P (moves_in script)
 
+-- what is written of some lines of an input from some position, of which P holds
+abbrev pub OfAStream : (List Line → Type 0) → Type 0
+OfAStream P = (from : Position) × (lines : List (List ℕ)) × All IsRight lines × P (stream_lines from (orders_of lines))
+
 -- it was done on this ROM
 abbrev pub IsDoneOn : List ℕ → Request → Option (List ℕ) → Option (List ℕ) → Type 0
 IsDoneOn rom (Play cart save script) old new = IsAccepted rom × OfAScript (λ moves. IsReported moves old new)
 IsDoneOn rom (Frame cart save out) old new = IsAccepted rom × IsReported [] old new
 IsDoneOn rom (Trace cart save count) old new = IsAccepted rom × OfATrace rom count (Appends old new)
+IsDoneOn rom (Stream cart save) old new = IsAccepted rom × OfAStream (λ lines. Appends old new (texts lines))
 IsDoneOn rom (New cart save sectors) old new =
     IsAccepted rom × (need (text_length (ram_length_of rom)) ≤ sectors) × Appends old new (printed (New cart save sectors) rom)
 IsDoneOn rom request old new = IsAccepted rom × HasAddress request × Appends old new (printed request rom)
@@ -86,6 +95,7 @@ HasSave (New cart save sectors) = Unit {0}
 HasSave (Play cart save script) = Unit {0}
 HasSave (Frame cart save out) = Unit {0}
 HasSave (Trace cart save count) = Unit {0}
+HasSave (Stream cart save) = Unit {0}
 
 -- it plays a script, which is empty where it names none
 abbrev pub HasScript : Request → Type 0
@@ -100,6 +110,8 @@ IsGameRefused (New cart save sectors) why old new =
 IsGameRefused (Play cart save script) why old new = (rom : List ℕ) × IsAccepted rom × OfAScript (λ moves. IsCutShort moves why old new)
 IsGameRefused (Frame cart save out) why old new = (rom : List ℕ) × IsAccepted rom × IsCutShort [] why old new
 IsGameRefused (Trace cart save count) why old new = Keeps old new × ((rom : List ℕ) × IsAccepted rom)
+IsGameRefused (Stream cart save) why old new =
+    (rom : List ℕ) × IsAccepted rom × (Keeps old new ⊎ OfAStream (λ lines. (saved : ℕ) × HasTold why saved lines old new))
 IsGameRefused request why old new = ⊥
 
 -- the output failed on a ROM that is accepted; of a trace, or of the line of a new game, a proper prefix went out, and before a picture
@@ -113,3 +125,9 @@ IsOutputRefused (New cart save sectors) old new = (rom : List ℕ) × IsAccepted
 IsOutputRefused (Play cart save script) old new = ⊥
 IsOutputRefused (Frame cart save out) old new = (rom : List ℕ) × IsAccepted rom × IsReported [] old new
 IsOutputRefused (Trace cart save count) old new = (rom : List ℕ) × IsAccepted rom × OfATrace rom count (AppendsProperPrefix old new)
+IsOutputRefused (Stream cart save) old new = ⊥
+
+-- it reads an input: all that the lines before a wrong one or a failed read ask for was done
+abbrev pub IsInputRefused : Request → Option (List ℕ) → Option (List ℕ) → Type 0
+IsInputRefused (Stream cart save) old new = (rom : List ℕ) × IsDoneOn rom (Stream cart save) old new
+IsInputRefused request old new = ⊥

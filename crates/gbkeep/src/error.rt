@@ -3,6 +3,7 @@ use cartridge::CartError;
 use script::ScriptError;
 use sector_device::SectorDevice;
 use session::SessionError;
+use streaming::StreamError;
 use thiserror::Error;
 
 /// Why `step_line` or `list_lines` did not write all of its text.
@@ -66,5 +67,24 @@ pub enum TraceError {
 pub struct TraceRefused<D: SectorDevice> {
     pub why: TraceError,
     /// As it was, where the cartridge is refused; else as taking the game up left it.
+    pub device: D,
+}
+
+/// Why `stream_play` did not go on to the end of its input.
+#[derive(Clone, Copy, Debug, PartialEq, Eq, Error)]
+pub enum StreamPlayError {
+    /// The image is no cartridge.
+    #[error(transparent)]
+    Cart(CartError),
+    /// The stream ended here.
+    #[error(transparent)]
+    Stream(StreamError),
+}
+
+/// A refusal that hands the device back.
+#[derive(Drop)]
+pub struct StreamPlayRefused<D: SectorDevice> {
+    pub why: StreamPlayError,
+    /// As it was, where the cartridge is refused; else as the stream left it.
     pub device: D,
 }

@@ -1,9 +1,9 @@
 //! Why the program does not do what it is asked to.
 
 ghost use Rattle.std.specs.Prelude.{◌≡◌, Some};
-ghost use Rattle.gbkeep.specs.Program.{HasLine, fault_of_play, fault_of_trace, line_of, status_of};
+ghost use Rattle.gbkeep.specs.Program.{HasLine, fault_of_play, fault_of_stream, fault_of_trace, line_of, status_of};
 
-use crate::error::{PlayError, StepError, TraceError};
+use crate::error::{PlayError, StepError, StreamPlayError, TraceError};
 use cartridge::CartError;
 use exact_text::write_whole;
 use script::ScriptError;
@@ -11,6 +11,7 @@ use sector_device::DeviceFault;
 use session::SessionError;
 use std::fmt::Display;
 use std::io::Write;
+use streaming::StreamError;
 
 /// The statuses of the program.
 pub(crate) const DONE: u8 = 0;
@@ -33,6 +34,10 @@ pub(crate) enum Fault {
     Script(ScriptError),
     /// A game is not begun, or a play ended here.
     Session(SessionError),
+    /// The number of a wrong line of the input.
+    Line(u64),
+    /// The input can't be read.
+    Input,
 }
 
 impl Fault {
@@ -57,6 +62,18 @@ impl Fault {
             TraceError::Session(why) => Fault::Session(why),
             TraceError::Memory => Fault::Memory,
             TraceError::Output => Fault::Output,
+        }
+    }
+
+    /// What a stream that was refused is for the program.
+    pub(crate) fn of_stream(why: StreamPlayError) -> Fault
+        ensures { result ≡ fault_of_stream why }
+    {
+        match why {
+            StreamPlayError::Cart(why) => Fault::Cart(why),
+            StreamPlayError::Stream(StreamError::Session(why)) => Fault::Session(why),
+            StreamPlayError::Stream(StreamError::Line(number)) => Fault::Line(number),
+            StreamPlayError::Stream(StreamError::Input) => Fault::Input,
         }
     }
 
@@ -86,6 +103,8 @@ pub(crate) fn report<E: Write>(fault: Fault, err: &mut E) -> u8
         Fault::Device(why) => write_text_line(why, err),
         Fault::Script(why) => write_text_line(why, err),
         Fault::Session(why) => write_session_line(why, err),
+        Fault::Line(number) => write_number_line(number, err),
+        Fault::Input => write_line("gbkeep: input failed\n", err),
     }
     fault.status()
 }
@@ -120,6 +139,10 @@ fn write_session_line<E: Write>(fault: SessionError, err: &mut E)
 
 fn write_text_line<T: Display + Copy, E: Write>(fault: T, err: &mut E) {
     let _ = writeln!(err, "gbkeep: {fault}");
+}
+
+fn write_number_line<E: Write>(number: u64, err: &mut E) {
+    let _ = writeln!(err, "gbkeep: script line {number}");
 }
 
 fn write_cart_line<E: Write>(fault: CartError, err: &mut E) {

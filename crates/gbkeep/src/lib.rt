@@ -1,7 +1,7 @@
 //! The emulator as a library: bytes in, bytes out.
 //!
 //! `step_line` and `list_lines` are proved to write exactly the text that the definitions in
-//! `specs/` give; `run` is the whole program over any runtime and any two writers.
+//! `specs/` give; `run` is the whole program over any runtime, any reader and any two writers.
 #![tactic(auto)]
 
 mod asked;
@@ -15,12 +15,16 @@ mod picture;
 pub mod program;
 mod saves;
 mod steps;
+mod streams;
 mod trace;
 
-pub use error::{PlayError, PlayRefused, StepError, TraceError, TraceRefused};
+pub use error::{
+    PlayError, PlayRefused, StepError, StreamPlayError, StreamPlayRefused, TraceError, TraceRefused,
+};
 pub use info::info_lines;
 pub use listing::list_lines;
 pub use picture::{play_and_draw, play_to_picture};
 pub use program::{run, run_program};
 pub use steps::step_line;
+pub use streams::stream_play;
 pub use trace::trace_lines;

@@ -8,19 +8,20 @@ use crate::bytes::{MOST_ROM, file_bytes};
 use crate::fault::{DONE, Fault, NOT_UNDERSTOOD, report};
 use crate::info::info_lines;
 use crate::listing::list_lines;
-use crate::saves::{frame, new, play, trace};
+use crate::saves::{frame, new, play, stream, trace};
 use crate::steps::step_line;
 use clap::Error;
 use command_line::Request;
 use std::convert::AsStr;
 use std::fs::File;
-use std::io::Write;
+use std::io::{Read, Write};
 use std::rt::{Env, Files};
 use std::{env, io};
 
 /// Runs the program on the words that the process was started with: `main` does nothing else.
-pub fn run_program<R: Env + Files<File = File> + AllocGlobal, O: Write, E: Write>(
+pub fn run_program<R: Env + Files<File = File> + AllocGlobal, I: Read, O: Write, E: Write>(
     rt: &R,
+    input: &mut I,
     out: &mut O,
     err: &mut E,
 ) -> u8
@@ -29,8 +30,8 @@ pub fn run_program<R: Env + Files<File = File> + AllocGlobal, O: Write, E: Write
     ensures ends { EndsOnSome (O.contents out.old) (O.contents out.new) (E.contents err.old) (E.contents err.new) result }
 {
     match words(rt) {
-        Ok(words) => run(rt, words.as_slice(), out, err),
-        Err(fault) => answer(rt, Err(fault), out, err),
+        Ok(words) => run(rt, words.as_slice(), input, out, err),
+        Err(fault) => answer(rt, Err(fault), input, out, err),
     }
 }
 
@@ -47,11 +48,12 @@ fn words<R: Env + AllocGlobal>(rt: &R) -> Result<Vec<String>, Fault>
 /// Runs the program on its words, the first of which is its own name, and answers its status:
 /// 0 done, 1 refused, 2 words not understood.
 ///
-/// What is asked for goes to `out`, which gets nothing where the status is 2. A fault is one line on `err`, `gbkeep: ` and its text; of words
+/// `stream` reads its lines from `input`; nothing else reads it. What is asked for goes to `out`, which gets nothing where the status is 2. A fault is one line on `err`, `gbkeep: ` and its text; of words
 /// that are not understood `err` gets `clap`'s text.
-pub fn run<R: Files<File = File> + AllocGlobal, S: AsStr, O: Write, E: Write>(
+pub fn run<R: Files<File = File> + AllocGlobal, S: AsStr, I: Read, O: Write, E: Write>(
     rt: &R,
     words: &[S],
+    input: &mut I,
     out: &mut O,
     err: &mut E,
 ) -> u8
@@ -59,13 +61,14 @@ pub fn run<R: Files<File = File> + AllocGlobal, S: AsStr, O: Write, E: Write>(
     ensures misuse { KeepsAtMisuse (O.contents out.old) (O.contents out.new) result }
     ensures ends { Ends (map S.text words.now) (O.contents out.old) (O.contents out.new) (E.contents err.old) (E.contents err.new) result }
 {
-    answer(rt, asked_by(rt.alloc(), words), out, err)
+    answer(rt, asked_by(rt.alloc(), words), input, out, err)
 }
 
 /// Answers what was read of the words.
-fn answer<R: Files<File = File> + AllocGlobal, O: Write, E: Write>(
+fn answer<R: Files<File = File> + AllocGlobal, I: Read, O: Write, E: Write>(
     rt: &R,
     asked: Result<Asked<'_>, Fault>,
+    input: &mut I,
     out: &mut O,
     err: &mut E,
 ) -> u8
@@ -73,7 +76,7 @@ fn answer<R: Files<File = File> + AllocGlobal, O: Write, E: Write>(
     ensures { HasEnded asked.entry (O.contents out.old) (O.contents out.new) (E.contents err.old) (E.contents err.new) result }
 {
     match asked {
-        Ok(Asked::Command(request)) => match serve(rt, request, out) {
+        Ok(Asked::Command(request)) => match serve(rt, request, input, out) {
             Ok(()) => DONE,
             Err(fault) => report(fault, err),
         },
@@ -99,9 +102,10 @@ fn write_help<O: Write>(text: Error, out: &mut O) -> Result<(), Fault>
     }
 }
 
-fn serve<R: Files<File = File> + AllocGlobal, O: Write>(
+fn serve<R: Files<File = File> + AllocGlobal, I: Read, O: Write>(
     rt: &R,
     request: Request<'_>,
+    input: &mut I,
     out: &mut O,
 ) -> Result<(), Fault>
     ensures { IsServed request.entry result (O.contents out.old) (O.contents out.new) }
@@ -126,6 +130,7 @@ fn serve<R: Files<File = File> + AllocGlobal, O: Write>(
             out: picture,
         } => frame(rt, cart, save, picture, out),
         Request::Trace { cart, save, count } => trace(rt, cart, save, count, out),
+        Request::Stream { cart, save } => stream(rt, cart, save, input, out),
     }
 }
 

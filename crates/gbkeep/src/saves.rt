@@ -5,6 +5,7 @@ ghost use Rattle.gbkeep.specs.Program.{IsServed};
 use crate::bytes::{MOST_ROM, MOST_SCRIPT, bytes_of, emptied_file, file_bytes, open_file};
 use crate::fault::Fault;
 use crate::picture::play_to_picture;
+use crate::streams::stream_play;
 use crate::trace::trace_lines;
 use cartridge::Cartridge;
 use command_line::Request;
@@ -13,7 +14,7 @@ use sector_device::FileDevice;
 use session::{SessionError, new_game, sectors_needed};
 use std::fs;
 use std::fs::File;
-use std::io::Write;
+use std::io::{Read, Write};
 use std::path::Path;
 use std::rt::Files;
 
@@ -147,5 +148,29 @@ pub(crate) fn trace<R: Files<File = File> + AllocGlobal, O: Write>(
     match trace_lines(rt.alloc(), device, rom, count, out) {
         Ok(_) => Ok(()),
         Err(refused) => Err(Fault::of_trace(refused.why)),
+    }
+}
+
+/// Takes up the game in a file and obeys the lines of the input as they come, with all answers on `out`: each goes out as it is written.
+pub(crate) fn stream<R: Files<File = File> + AllocGlobal, I: Read, O: Write>(
+    rt: &R,
+    cart: &str,
+    save: &str,
+    input: &mut I,
+    out: &mut O,
+) -> Result<(), Fault>
+    ensures { IsServed (Request.Stream cart.entry save.entry) result (O.contents out.old) (O.contents out.new) }
+{
+    let rom = match file_bytes(rt, cart, MOST_ROM) {
+        Ok(rom) => rom,
+        Err(fault) => return Err(fault),
+    };
+    let device = match FileDevice::attach(rt, Path::new(save)) {
+        Ok(device) => device,
+        Err(fault) => return Err(Fault::Device(fault)),
+    };
+    match stream_play(rt.alloc(), device, rom, input, out) {
+        Ok(_) => Ok(()),
+        Err(refused) => Err(Fault::of_stream(refused.why)),
     }
 }

@@ -13,7 +13,8 @@ fn main(rt: HostRuntime) -> ExitCode {
         File::open(&rt, NOTHING),
         File::open(&rt, NOTHING),
     ];
+    let mut input = rt.stdin();
     let mut out = rt.stdout();
     let mut err = rt.stderr();
-    ExitCode::from(gbkeep::run_program(&rt, &mut out, &mut err))
+    ExitCode::from(gbkeep::run_program(&rt, &mut input, &mut out, &mut err))
 }

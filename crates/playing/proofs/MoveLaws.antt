@@ -2,8 +2,10 @@
 use Rattle.std.proofs.Common.{◌≡◌, ℕ, zero, suc, ◌+◌, ◌-◌, ◌<◌, List, [], ◌∷◌, ◌++◌, length, take, drop, replicate, get_or, refl, sym, ap, ◌∙◌, arith, append_assoc, append-nil}
 use Rattle.std.proofs.Math.Seq.{take-suc}
 use Rattle.std.proofs.lemmas.List.{replicate-append-replicate}
+use Rattle.machine.specs.Machine.{MachineState, after}
 use Rattle.machine.specs.declared.input.Input.{Input}
 use Rattle.script.specs.declared.moves.Move.{Move}
+use Rattle.session.proofs.StandsLaws.{after_append}
 use Rattle.playing.specs.Report.{inputs_of_move, inputs_of_moves}
 
 -- ---- frames
@@ -19,6 +21,12 @@ frames_all given input i n less =
     ∙ append_assoc given (replicate (i + 1) input) (replicate (n - (i + 1)) input)
     ∙ ap (λ (l : List Input). given ++ l) (replicate-append-replicate (i + 1) (n - (i + 1)) input)
     ∙ ap (λ (k : ℕ). given ++ replicate k input) e
+
+-- the machine after one more
+pub machine_frames : (first there next : MachineState) (input : Input) (i : ℕ) → there ≡ after first (replicate i input) → next ≡ after there (input ∷ []) → next ≡ after first (replicate (i + 1) input)
+machine_frames first there next input i so_far one =
+    one ∙ ap (λ (m : MachineState). after m (input ∷ [])) so_far ∙ after_append first (replicate i input) (input ∷ [])
+    ∙ ap (after first) (replicate-append-replicate i 1 input)
 
 -- ---- moves
 

@@ -6,5 +6,6 @@ mod moves;
 mod report;
 mod whole;
 
+pub use moves::make_move;
 pub use report::write_resumed;
 pub use whole::play;

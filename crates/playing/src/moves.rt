@@ -1,6 +1,7 @@
 //! Moves given to a session, saved where a save is due, and reported.
 ghost use Rattle.std.specs.Prelude.{◌≡◌, ◌<◌, ◌≤◌, ◌+◌, ◌++◌, ◌∷◌, [], length, replicate, false, OnOk, OnErr, IfErr};
 ghost use Rattle.std.specs.Io.KnownBytes.{Appends};
+ghost use Rattle.machine.specs.Machine.{after};
 ghost use Rattle.machine.specs.declared.input.Input.TheVariants.{Frame};
 ghost use Rattle.session.specs.Calls.{faults_after};
 ghost use Rattle.session.specs.Words.{device_of, machine_of, rom_of, pending_of, acknowledged_of, is_broken};
@@ -34,6 +35,7 @@ fn save_line<D: SectorDevice, W: Write>(
     ensures cause { IfErr result (λ why. IsStop why (acknowledged_of session.old + length (pending_of session.old)) (D.disk (device_of session.new))) }
     ensures later { acknowledged_of session.old ≤ acknowledged_of session.new }
     ensures rom { rom_of session.new ≡ rom_of session.old }
+    ensures machine { OnOk result (machine_of session.new ≡ machine_of session.old) }
 {
     match session.save() {
         Ok(count) => match write_saved(report, count) {
@@ -67,6 +69,7 @@ fn give<D: SectorDevice, W: Write>(
     ensures cause { IfErr result (λ why. IsStop why (acknowledged_of session.old + length (pending_of session.old) + 1) (D.disk (device_of session.new))) }
     ensures later { acknowledged_of session.old ≤ acknowledged_of session.new }
     ensures rom { rom_of session.new ≡ rom_of session.old }
+    ensures machine { OnOk result (machine_of session.new ≡ after (machine_of session.old) (input ∷ [])) }
 {
     if let Err(why) = session.input(input) {
         return Err(why);
@@ -101,6 +104,7 @@ fn give_frames<D: SectorDevice, W: Write>(
     ensures cause { IfErr result (λ why. IsStop why (acknowledged_of session.old + length (pending_of session.old) + times) (D.disk (device_of session.new))) }
     ensures later { acknowledged_of session.old ≤ acknowledged_of session.new }
     ensures rom { rom_of session.new ≡ rom_of session.old }
+    ensures machine { OnOk result (machine_of session.new ≡ after (machine_of session.old) (replicate times (Frame buttons))) }
 {
     for _i in 0..times {
         if let Err(why) = give(session, Input::Frame(buttons), report) {
@@ -110,8 +114,12 @@ fn give_frames<D: SectorDevice, W: Write>(
     Ok(())
 }
 
-/// Makes one move.
-fn make_move<D: SectorDevice, W: Write>(
+/// Makes one move: gives its inputs, saves where a save is due, and writes `saved N` after each save, with N the count of all inputs.
+/// There is one at a `Save`, and right after the input that makes 3,200 unsaved.
+///
+/// Refusals: whichever is met first of `Worn`, `Device`, `CountFull` and `Output`. What was saved stays saved: the report then has the
+/// first of the move's lines, and behind them a part of the next at `Output` alone.
+pub fn make_move<D: SectorDevice, W: Write>(
     session: &mut Session<D>,
     one: Move,
     report: &mut W,
@@ -133,6 +141,7 @@ fn make_move<D: SectorDevice, W: Write>(
     ensures cause { IfErr result (λ why. IsStop why (acknowledged_of session.old + length (pending_of session.old) + length (inputs_of_move one)) (D.disk (device_of session.new))) }
     ensures later { acknowledged_of session.old ≤ acknowledged_of session.new }
     ensures rom { rom_of session.new ≡ rom_of session.old }
+    ensures machine { OnOk result (machine_of session.new ≡ after (machine_of session.old) (inputs_of_move one)) }
 {
     match one {
         Move::Frames { buttons, times } => give_frames(session, buttons, times, report),

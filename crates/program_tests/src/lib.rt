@@ -8,6 +8,8 @@ mod runs;
 #[cfg(test)]
 mod saves;
 #[cfg(test)]
+mod streams;
+#[cfg(test)]
 mod traces;
 #[cfg(test)]
 mod words;

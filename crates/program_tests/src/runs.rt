@@ -57,7 +57,8 @@ pub(crate) fn refused(words: &'static [&'static str], status: u8, err: &'static 
 pub(crate) fn is_as_written<R: Files<File = File> + AllocGlobal + Abort>(rt: &R, expected: Run) {
     let mut out = Vec::new(rt.alloc());
     let mut err = Vec::new(rt.alloc());
-    let status = run(rt, expected.words, &mut out, &mut err);
+    let mut input: &[u8] = b"";
+    let status = run(rt, expected.words, &mut input, &mut out, &mut err);
     assert_eq!(rt; status, expected.status);
     let same = out.as_slice() == expected.out.as_bytes();
     assert!(rt; same);
@@ -285,7 +286,8 @@ fn help_and_the_version_go_to_the_output(rt: HostRuntime) {
     for (words, wanted, out_start, err_start) in asked {
         let mut out = Vec::new(rt.alloc());
         let mut err = Vec::new(rt.alloc());
-        let status = run(&rt, words, &mut out, &mut err);
+        let mut input: &[u8] = b"";
+        let status = run(&rt, words, &mut input, &mut out, &mut err);
         assert_eq!(rt; status, wanted);
         assert!(rt; begins(&out, out_start) && begins(&err, err_start));
     }

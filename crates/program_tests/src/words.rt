@@ -24,6 +24,13 @@ fn reads_each_command(rt: HostRuntime) -> Result<(), Fail> {
         })
     );
     assert_eq!(rt;
+        request_of(alloc, ["gbkeep", "stream", "a.gb", "a.save"].as_slice())?,
+        Some(Request::Stream {
+            cart: "a.gb",
+            save: "a.save"
+        })
+    );
+    assert_eq!(rt;
         request_of(alloc, ["gbkeep", "list", "a.gb", "0100", "4096"].as_slice())?,
         Some(Request::List {
             cart: "a.gb",
@@ -116,6 +123,7 @@ fn does_not_understand_what_is_out_of_range(rt: HostRuntime) {
     assert_eq!(rt; status(alloc, ["gbkeep", "play", "a", "b"].as_slice()), 2);
     assert_eq!(rt; status(alloc, ["gbkeep", "frame", "a", "b"].as_slice()), 2);
     assert_eq!(rt; status(alloc, ["gbkeep", "step", "a"].as_slice()), 2);
+    assert_eq!(rt; status(alloc, ["gbkeep", "stream", "a"].as_slice()), 2);
     assert_eq!(rt; status(alloc, ["gbkeep"].as_slice()), 2);
     assert_eq!(rt; status(alloc, ["gbkeep", "--help"].as_slice()), 0);
     assert_eq!(rt; status(alloc, ["gbkeep", "help", "step"].as_slice()), 0);

@@ -11,5 +11,6 @@ mod lines;
 pub mod moves;
 
 pub use error::ScriptError;
+pub use line::read_line;
 pub use lines::read_script;
 pub use moves::Move;

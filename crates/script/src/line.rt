@@ -17,8 +17,9 @@ const MOST_DIGITS: usize = 10;
 /// The most frames of one line.
 const MOST_TIMES: u32 = 1_000_000;
 
-/// The move of a line that is not empty; `None` where the line is wrong.
-pub(crate) fn move_of(line: &[u8]) -> Option<Move>
+/// The move of one line, without its newline: `frame BB`, `frames BB N`, `seconds N` or `save`, as `read_script` takes them. `None`
+/// where it is none of these; an empty line is none.
+pub fn read_line(line: &[u8]) -> Option<Move>
     ensures line { result ≡ move_of_line line.now }
     ensures times { IfSome result HasTimes }
 {

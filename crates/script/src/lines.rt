@@ -7,7 +7,7 @@ ghost use Rattle.script.specs.Script.{CountsMoves, IsRefused, lines_of, moves_fr
 
 use crate::cut::cut;
 use crate::error::ScriptError;
-use crate::line::move_of;
+use crate::line::read_line;
 use crate::moves::Move;
 use std::alloc::{AllocError, Global};
 
@@ -55,7 +55,7 @@ fn count_moves(script: &[u8]) -> Result<usize, u32>
     while let Some(text) = rest {
         let (line, after) = cut(text, NEWLINE);
         if !line.is_empty() {
-            match move_of(line) {
+            match read_line(line) {
                 Some(_) => count += 1,
                 None => return Err(number),
             }
@@ -77,7 +77,7 @@ fn list_moves(alloc: Global, script: &[u8], count: usize) -> Result<Vec<Move>, A
     while let Some(text) = rest {
         let (line, after) = cut(text, NEWLINE);
         if !line.is_empty() {
-            match move_of(line) {
+            match read_line(line) {
                 Some(next) => moves.push(next)?,
                 None => unreachable!(),
             }

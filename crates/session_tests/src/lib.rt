@@ -13,3 +13,5 @@ mod found;
 mod plays;
 #[cfg(test)]
 mod saves;
+#[cfg(test)]
+mod streams;

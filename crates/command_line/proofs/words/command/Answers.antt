@@ -10,4 +10,5 @@ returns c =
     let four = command_added _ _ _ _ _ three c.in_ok-new.ensures c.in_ok-subcommand-4.ensures in
     let five = command_added _ _ _ _ _ four c.in_ok-play.ensures c.in_ok-subcommand-5.ensures in
     let six = command_added _ _ _ _ _ five c.in_ok-frame.ensures c.in_ok-subcommand-6.ensures in
-    IfOk-weaker c.subcommand-7.result _ _ (λ r adds. command_added _ _ _ _ _ six c.in_ok-trace.ensures adds) c.subcommand-7.ensures
+    let seven = command_added _ _ _ _ _ six c.in_ok-trace.ensures c.in_ok-subcommand-7.ensures in
+    IfOk-weaker c.subcommand-8.result _ _ (λ r adds. command_added _ _ _ _ _ seven c.in_ok-stream.ensures adds) c.subcommand-8.ensures

@@ -1,5 +1,5 @@
 use Rattle.gbkeep.proofs.fault.report.Goals as goal
-use Rattle.gbkeep.proofs.fault.report.Goals.{in-Cart, in-Step, in-Memory, in-File, in-Output, in-Address, in-Word, in-Device, in-Script, in-Session}
+use Rattle.gbkeep.proofs.fault.report.Goals.{in-Cart, in-Step, in-Memory, in-File, in-Output, in-Address, in-Word, in-Device, in-Script, in-Session, in-Line, in-Input}
 
 pub returns-clause-line : goal.returns-clause-line
 returns-clause-line g c =
@@ -14,4 +14,6 @@ returns-clause-line g c =
       | in-Device w ↦ rw w.in-Device.is tt
       | in-Script w ↦ rw w.in-Script.is tt
       | in-Session w ↦ rw (w.in-Session.is, w.err-is) w.write_session_line.ensures
+      | in-Line w ↦ rw w.in-Line.is tt
+      | in-Input w ↦ rw (w.in-Input.is, w.err-is) w.write_line-in-Input.ensures
     ]

@@ -2,6 +2,7 @@ use Rattle.std.proofs.Common.{◌≡◌, ◌+◌, ◌++◌, ◌∷◌, [], List,
 use Rattle.machine.specs.declared.input.Input.{Input}
 use Rattle.session.specs.Inputs.{entry_of}
 use Rattle.session.specs.Words.{device_of, machine_of, pending_of, acknowledged_of, is_broken}
+use Rattle.session.proofs.StandsLaws.{after_one}
 use Rattle.playing.specs.Played.{Going, Stopped}
 use Rattle.playing.specs.Played.{IsStop}
 use Rattle.playing.specs.Report.{saved_line, line_due}
@@ -99,3 +100,11 @@ returns-then-counts-eq3200-clause-cause g c =
     let more : length (pending_of mid) ≡ length (pending_of was) + 1 = ap length c.in_default.ensures.pending ∙ length-append (pending_of was) (entry_of c.args.input ∷ []) in
     let all : acknowledged_of mid + length (pending_of mid) ≡ acknowledged_of was + length (pending_of was) + 1 = omega (arith, more, c.input.ensures.kept.0) in
     if_err c.save_line.result c.save_line.ensures.cause (λ why stop. subst (λ (n : ℕ). IsStop why n (g.D.SectorDevice.disk (device_of c.save_line.new.session))) all stop)
+
+pub returns-clause-machine : goal.returns-clause-machine
+returns-clause-machine g c = c.in_default.ensures.machine ∙ sym (after_one (machine_of c.args.session.now) c.args.input)
+
+pub returns-then-counts-eq3200-clause-machine : goal.returns-then-counts-eq3200-clause-machine
+returns-then-counts-eq3200-clause-machine g c =
+    on_ok c.save_line.result c.save_line.ensures.machine
+    (λ same. same ∙ c.in_default.ensures.machine ∙ sym (after_one (machine_of c.args.session.now) c.args.input))

@@ -1,4 +1,5 @@
 use Rattle.std.proofs.Common.{◌≡◌, ◌≤◌, ◌+◌, ◌-◌, ◌++◌, ◌∷◌, [], List, ℕ, length, replicate, refl, sym, ap, subst, ◌∙◌, arith}
+use Rattle.machine.specs.Machine.{after}
 use Rattle.machine.specs.declared.input.Input.{Input}
 use Rattle.machine.specs.declared.input.Input.TheVariants.{Frame}
 use Rattle.session.specs.Words.{device_of, machine_of, pending_of, acknowledged_of}
@@ -8,7 +9,8 @@ use Rattle.playing.specs.Report.{Line, texts, unsaved_after, line_due, lines_of_
 use Rattle.playing.proofs.ReportLaws.{appends_lines, frames_unsaved, frames_lines}
 use Rattle.playing.proofs.Telling.{told_frames}
 use Rattle.playing.proofs.Stops.{stops_among}
-use Rattle.playing.proofs.MoveLaws.{frames_next, frames_all}
+use Rattle.session.proofs.StandsLaws.{after_none}
+use Rattle.playing.proofs.MoveLaws.{frames_next, frames_all, machine_frames}
 use Rattle.playing.proofs.PlayLaws.{going_nowhere, going_then, going_by, stopped_then, stopped_more, stopped_by}
 use Rattle.playing.proofs.moves.give_frames.Goals as goal
 
@@ -22,6 +24,7 @@ loop-i-init g c = record {
   report = appends_nothing (g.W.Write.contents c.args.report.now);
   later = omega arith;
   rom = refl;
+  machine = sym (after_none (machine_of c.args.session.now));
   going = λ rom from given played.
       let first = c.args.session.now in
       going_nowhere rom (g.D.SectorDevice.disk (device_of first)) (acknowledged_of first) (pending_of first) (machine_of first) from given played (g.met.D.SectorDevice.only_now (device_of first));
@@ -56,6 +59,7 @@ loop-i-preserved g c = record {
       (line_due (length (pending_of there)) (acknowledged_of there + length (pending_of there) + 1)) c.loop-i.invariant.report c.in_default.ensures.report);
   later = omega (arith, c.give.ensures.later, c.loop-i.invariant.later);
   rom = c.give.ensures.rom ∙ c.loop-i.invariant.rom;
+  machine = machine_frames (machine_of c.args.session.now) (machine_of c.loop-i.session) (machine_of c.give.new.session) (Frame c.args.buttons) c.loop-i._i c.loop-i.invariant.machine c.in_default.ensures.machine;
   going = λ rom from given played.
       let first = g.D.SectorDevice.disk (device_of c.args.session.now) in
       let there = g.D.SectorDevice.disk (device_of c.loop-i.session) in
@@ -97,3 +101,8 @@ returns-in-Err-clause-cause g c =
     let there = c.loop-i.session in
     let fewer : acknowledged_of there + length (pending_of there) + 1 ≤ acknowledged_of first + length (pending_of first) + c.args.times = omega (arith, c.loop-i.invariant.counts, c.loop-i-test.true) in
     stops_among c.in-Err.why (acknowledged_of there + length (pending_of there) + 1) (acknowledged_of first + length (pending_of first) + c.args.times) (g.D.SectorDevice.disk (device_of c.give.new.session)) fewer c.in-Err.ensures.cause
+
+pub returns-clause-machine : goal.returns-clause-machine
+returns-clause-machine g c =
+    let all : c.loop-i._i ≡ c.args.times = omega (arith, c.loop-i-test.false, c.loop-i.auto._i-end) in
+    c.loop-i.invariant.machine ∙ ap (λ (n : ℕ). after (machine_of c.args.session.now) (replicate n (Frame c.args.buttons))) all

@@ -1,4 +1,5 @@
 use Rattle.std.proofs.Common.{◌≡◌, ◌<◌, ◌≤◌, ◌+◌, ◌++◌, List, ℕ, length, replicate, false}
+use Rattle.machine.specs.Machine.{after}
 use Rattle.machine.specs.declared.input.Input.{Input}
 use Rattle.machine.specs.declared.input.Input.TheVariants.{Frame}
 use Rattle.session.specs.Stands.{Position}
@@ -22,6 +23,7 @@ invariant-loop-i g l =
       report : Appends (g.W.Write.contents l.initial.report) (g.W.Write.contents l.report) (texts (lines_of_inputs (acknowledged_of first + length (pending_of first)) (length (pending_of first)) (replicate l._i (Frame l.buttons))));
       later : acknowledged_of first ≤ acknowledged_of now;
       rom : rom_of now ≡ rom_of first;
+      machine : machine_of now ≡ after (machine_of first) (replicate l._i (Frame l.buttons));
       going : (rom : List ℕ) (from : Position) (given : List Input) → IsPlayed rom (g.D.SectorDevice.disk (device_of first)) (acknowledged_of first) (pending_of first) (machine_of first) from given →
           Going rom (g.D.SectorDevice.disk (device_of first)) (g.D.SectorDevice.disk (device_of now)) (acknowledged_of now) (pending_of now) (machine_of now) from (given ++ replicate l._i (Frame l.buttons));
     }

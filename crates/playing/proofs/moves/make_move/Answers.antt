@@ -1,9 +1,11 @@
 use Rattle.std.proofs.Common.{◌+◌, ◌++◌, ℕ, length, sym, ap, ◌∙◌, subst, arith, append-nil}
 use Rattle.std.specs.Prelude.{IfErr}
 use Rattle.std.proofs.lemmas.List.{length-replicate}
+use Rattle.machine.specs.Machine.{after}
 use Rattle.machine.specs.declared.input.Input.TheVariants.{Frame}
 use Rattle.script.specs.declared.moves.Move.{Move}
-use Rattle.session.specs.Words.{device_of, pending_of, acknowledged_of}
+use Rattle.session.specs.Words.{device_of, machine_of, pending_of, acknowledged_of}
+use Rattle.session.proofs.StandsLaws.{after_none}
 use Rattle.playing.specs.Played.{IsStop}
 use Rattle.playing.specs.Report.{inputs_of_move, lines_of_move, HasTold}
 use Rattle.playing.proofs.Stops.{if_err}
@@ -69,3 +71,16 @@ returns-in-Save-clause-cause g c =
     let was = c.args.session.now in
     subst (λ (m : Move). IfErr c.save_line.result (λ why. IsStop why (acknowledged_of was + length (pending_of was) + length (inputs_of_move m)) (g.D.SectorDevice.disk (device_of c.save_line.new.session)))) (sym c.in-Save.is)
     (if_err c.save_line.result c.save_line.ensures.cause (λ why stop. subst (λ (n : ℕ). IsStop why n (g.D.SectorDevice.disk (device_of c.save_line.new.session))) (omega arith) stop))
+
+pub returns-in-Frames-clause-machine : goal.returns-in-Frames-clause-machine
+returns-in-Frames-clause-machine g c =
+    on_ok c.give_frames.result c.give_frames.ensures.machine (λ is. is ∙ ap (λ (m : Move). after (machine_of c.args.session.now) (inputs_of_move m)) (sym c.in-Frames.is))
+
+pub returns-in-Seconds-clause-machine : goal.returns-in-Seconds-clause-machine
+returns-in-Seconds-clause-machine g c =
+    on_ok c.give.result c.give.ensures.machine (λ is. is ∙ ap (λ (m : Move). after (machine_of c.args.session.now) (inputs_of_move m)) (sym c.in-Seconds.is))
+
+pub returns-in-Save-clause-machine : goal.returns-in-Save-clause-machine
+returns-in-Save-clause-machine g c =
+    on_ok c.save_line.result c.save_line.ensures.machine
+    (λ is. is ∙ sym (after_none (machine_of c.args.session.now)) ∙ ap (λ (m : Move). after (machine_of c.args.session.now) (inputs_of_move m)) (sym c.in-Save.is))

@@ -1,5 +1,5 @@
 use Rattle.script.proofs.Words.{too_many_words}
-use Rattle.script.proofs.line.move_of.Goals as goal
+use Rattle.script.proofs.line.read_line.Goals as goal
 
 pub returns-in-Some-rest-2-clause-line : goal.returns-in-Some-rest-2-clause-line
 returns-in-Some-rest-2-clause-line c =

@@ -1,0 +1,48 @@
+//! From ROM bytes and lines as they come to a report, pictures and a device.
+
+ghost use Rattle.std.specs.Prelude.{◌≡◌, IfErr, OnOk};
+ghost use Rattle.cartridge.specs.Accepted.{IsAccepted};
+ghost use Rattle.streaming.specs.Streamed.{HasStreamed};
+ghost use Rattle.streaming.specs.declared.obeying.End.TheVariants.{Whole};
+ghost use Rattle.gbkeep.specs.Streaming.{IsStreamPlayCause, faults_after_stream_play, left_by};
+
+use crate::error::{StreamPlayError, StreamPlayRefused};
+use cartridge::Cartridge;
+use sector_device::SectorDevice;
+use std::alloc::Global;
+use std::io::{Read, Write};
+use streaming::stream;
+
+/// Takes up the game that a device holds, writes `resumed N`, and obeys the lines of an input as they come: those of a script, and
+/// `picture`, which writes the machine's picture as plain PGM, 46,093 bytes. `saved N` is written after each save.
+///
+/// Refusals, in this order, each of which hands the device back: what is wrong with the image, with nothing read and nothing written;
+/// those of the stream: what was given before a wrong line, or before a read that failed, is saved and told.
+pub fn stream_play<D: SectorDevice, R: Read, W: Write>(
+    alloc: Global,
+    device: D,
+    rom: Vec<u8>,
+    input: &mut R,
+    out: &mut W,
+) -> Result<D, StreamPlayRefused<D>>
+    ensures accepted { OnOk result (IsAccepted rom.items) }
+    ensures streamed { OnOk result (HasStreamed rom.items (D.disk device) (D.disk (left_by result)) Whole (R.remaining input.old) (R.remaining input.new) (W.contents out.old) (W.contents out.new)) }
+    ensures cause { IfErr result (λ refused. IsStreamPlayCause rom.items device refused (D.disk device) (D.disk refused.device) (R.remaining input.old) (R.remaining input.new) (W.contents out.old) (W.contents out.new) refused.why) }
+    ensures faults_ok { OnOk result ((D.disk (left_by result)).faults ≡ (D.disk device).faults) }
+    ensures faults { IfErr result (λ refused. (D.disk refused.device).faults ≡ faults_after_stream_play refused.why (D.disk device).faults) }
+{
+    let cartridge = match Cartridge::read(rom) {
+        Ok(cartridge) => cartridge,
+        Err(fault) => return Err(StreamPlayRefused {
+            why: StreamPlayError::Cart(fault),
+            device,
+        }),
+    };
+    match stream(alloc, device, &cartridge, input, out) {
+        Ok(session) => Ok(session.into_device()),
+        Err(refused) => Err(StreamPlayRefused {
+            why: StreamPlayError::Stream(refused.why),
+            device: refused.device,
+        }),
+    }
+}

@@ -1,0 +1,4 @@
+pub mod Newlines
+pub mod Compositions
+pub mod Steps
+pub mod Wholes

@@ -1,0 +1,9 @@
+use Rattle.std.proofs.Common.{sym, ◌∙◌}
+use Rattle.streaming.proofs.Newlines.{found_at, found_nowhere}
+use Rattle.streaming.proofs.held.line_length.Goals as goal
+
+pub returns-in-Some : goal.returns-in-Some
+returns-in-Some c = found_at c.args.bytes.now _ (sym c.place_of_newline.ensures ∙ c.in-Some.is)
+
+pub returns-in-None : goal.returns-in-None
+returns-in-None c = found_nowhere c.args.bytes.now (sym c.place_of_newline.ensures ∙ c.in-None.is)

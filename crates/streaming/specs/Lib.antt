@@ -1,0 +1,5 @@
+pub mod Orders
+pub mod Reading
+pub mod Answers
+pub mod Obeying
+pub mod Streamed

@@ -1,0 +1,26 @@
+//! Why a stream was refused.
+
+use sector_device::SectorDevice;
+use session::SessionError;
+use thiserror::Error;
+
+/// Why a stream was refused, with the text of each.
+#[derive(Clone, Copy, Debug, PartialEq, Eq, Error)]
+pub enum StreamError {
+    /// The game was not taken up, or an input, a save or the output was refused.
+    #[error("{0}")]
+    Session(SessionError),
+    /// The number of the first wrong line, counted from 1.
+    #[error("script line {0}")]
+    Line(u64),
+    /// A read of the input failed.
+    #[error("input failed")]
+    Input,
+}
+
+/// A refusal that hands the device back.
+#[derive(Drop)]
+pub struct StreamRefused<D: SectorDevice> {
+    pub why: StreamError,
+    pub device: D,
+}

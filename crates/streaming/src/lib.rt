@@ -1,0 +1,12 @@
+//! Playing line by line: each line of an input is obeyed as soon as it is read, and answered.
+#![tactic(auto)]
+
+pub mod error;
+mod held;
+mod obeying;
+pub mod order;
+mod whole;
+
+pub use error::{StreamError, StreamRefused};
+pub use order::{Order, read_order};
+pub use whole::stream;

@@ -1,0 +1,160 @@
+//! Obeying lines.
+ghost use Rattle.std.specs.Prelude.{◌≡◌, ◌<◌, [], ◌∷◌, length, false, IfOk, IfErr, OnOk, OnErr};
+ghost use Rattle.std.specs.Io.KnownBytes.{Appends};
+ghost use Rattle.exact_text.specs.Written.{AppendsProperPrefix};
+ghost use Rattle.picture_unit.specs.Pgm.{picture_text};
+ghost use Rattle.session.specs.Words.{device_of, machine_of, rom_of, pending_of, acknowledged_of, is_broken};
+ghost use Rattle.streaming.specs.Orders.{order_list};
+ghost use Rattle.streaming.specs.Answers.{last_orders};
+ghost use Rattle.streaming.specs.Obeying.{place, Obeys, StopsAmong, ObeysLines, StopsAmongLines, Streams, StopsStream};
+
+use crate::held::{Next, read_next};
+use crate::order::Order;
+use arrayvec::ArrayVec;
+use exact_text::OutputFailed;
+use playing::{make_move, write_resumed};
+use script::Move;
+use sector_device::SectorDevice;
+use session::{Session, SessionError};
+use std::io::{Read, Write};
+
+/// Where a stream ends.
+#[derive(Clone, Copy, Debug, PartialEq, Eq)]
+pub enum End {
+    /// With its input.
+    Whole,
+    /// At a wrong line, with its number from 1.
+    Wrong(u64),
+    /// At a read that failed.
+    Failed,
+}
+
+/// Writes the picture of the machine as it is.
+fn draw<D: SectorDevice, W: Write>(session: &Session<D>, out: &mut W) -> Result<(), OutputFailed>
+    ensures ok { OnOk result (Appends (W.contents out.old) (W.contents out.new) (picture_text (machine_of session.now).processor.memory.picture.screen.rows)) }
+    ensures err { OnErr result (AppendsProperPrefix (W.contents out.old) (W.contents out.new) (picture_text (machine_of session.now).processor.memory.picture.screen.rows)) }
+{
+    session.machine().picture().write_pgm(out)
+}
+
+/// Makes a move.
+fn obey_move<D: SectorDevice, W: Write>(
+    session: &mut Session<D>,
+    one: Move,
+    out: &mut W,
+) -> Result<(), SessionError>
+    requires whole { is_broken session.old ≡ false }
+    requires few { length (pending_of session.old) < 3200 }
+    ensures obeyed { OnOk result (Obeys (place (D.disk (device_of session.old)) session.old) (place (D.disk (device_of session.new)) session.new) (W.contents out.old) (W.contents out.new) (Order.Make one ∷ [])) }
+    ensures stopped { IfErr result (λ why. StopsAmong (place (D.disk (device_of session.old)) session.old) (place (D.disk (device_of session.new)) session.new) (W.contents out.old) (W.contents out.new) (Order.Make one ∷ []) why) }
+    ensures whole { OnOk result ((is_broken session.new ≡ false) × (length (pending_of session.new) < 3200)) }
+{
+    match make_move(session, one, out) {
+        Ok(()) => Ok(()),
+        Err(why) => Err(why),
+    }
+}
+
+/// Writes a picture.
+fn obey_picture<D: SectorDevice, W: Write>(
+    session: &mut Session<D>,
+    out: &mut W,
+) -> Result<(), SessionError>
+    ensures obeyed { OnOk result (Obeys (place (D.disk (device_of session.old)) session.old) (place (D.disk (device_of session.new)) session.new) (W.contents out.old) (W.contents out.new) (Order.Picture ∷ [])) }
+    ensures stopped { IfErr result (λ why. StopsAmong (place (D.disk (device_of session.old)) session.old) (place (D.disk (device_of session.new)) session.new) (W.contents out.old) (W.contents out.new) (Order.Picture ∷ []) why) }
+    ensures same { session.new ≡ session.old }
+{
+    match draw(session, out) {
+        Ok(()) => Ok(()),
+        Err(_) => Err(SessionError::Output),
+    }
+}
+
+/// Does what a line asks for.
+fn obey<D: SectorDevice, W: Write>(
+    session: &mut Session<D>,
+    order: Option<Order>,
+    out: &mut W,
+) -> Result<(), SessionError>
+    requires whole { is_broken session.old ≡ false }
+    requires few { length (pending_of session.old) < 3200 }
+    ensures obeyed { OnOk result (Obeys (place (D.disk (device_of session.old)) session.old) (place (D.disk (device_of session.new)) session.new) (W.contents out.old) (W.contents out.new) (order_list order)) }
+    ensures stopped { IfErr result (λ why. StopsAmong (place (D.disk (device_of session.old)) session.old) (place (D.disk (device_of session.new)) session.new) (W.contents out.old) (W.contents out.new) (order_list order) why) }
+    ensures whole { OnOk result ((is_broken session.new ≡ false) × (length (pending_of session.new) < 3200)) }
+{
+    match order {
+        None => Ok(()),
+        Some(Order::Make(one)) => obey_move(session, one, out),
+        Some(Order::Picture) => obey_picture(session, out),
+    }
+}
+
+/// Obeys lines as they come, up to the end, a wrong one, or a read that fails.
+fn obey_lines<D: SectorDevice, R: Read, W: Write>(
+    session: &mut Session<D>,
+    input: &mut R,
+    out: &mut W,
+) -> Result<End, SessionError>
+    requires whole { is_broken session.old ≡ false }
+    requires few { length (pending_of session.old) < 3200 }
+    ensures obeyed { IfOk result (λ end. ObeysLines (place (D.disk (device_of session.old)) session.old) (place (D.disk (device_of session.new)) session.new) (R.remaining input.old) (R.remaining input.new) (W.contents out.old) (W.contents out.new) end) }
+    ensures stopped { IfErr result (λ why. StopsAmongLines (place (D.disk (device_of session.old)) session.old) (place (D.disk (device_of session.new)) session.new) (R.remaining input.old) (R.remaining input.new) (W.contents out.old) (W.contents out.new) why) }
+    ensures whole { OnOk result ((is_broken session.new ≡ false) × (length (pending_of session.new) < 3200)) }
+{
+    let mut held = ArrayVec::new();
+    for number in 1..u64::MAX {
+        match read_next(&mut held, input) {
+            Next::Line(order) => {
+                if let Err(why) = obey(session, order, out) {
+                    return Err(why);
+                }
+            }
+            Next::Wrong => return Ok(End::Wrong(number)),
+            Next::End => return Ok(End::Whole),
+            Next::Failed => return Ok(End::Failed),
+        }
+    }
+    Ok(End::Wrong(u64::MAX))
+}
+
+/// Saves what is unsaved.
+fn save_rest<D: SectorDevice, W: Write>(
+    session: &mut Session<D>,
+    out: &mut W,
+) -> Result<(), SessionError>
+    requires whole { is_broken session.old ≡ false }
+    requires few { length (pending_of session.old) < 3200 }
+    ensures obeyed { OnOk result (Obeys (place (D.disk (device_of session.old)) session.old) (place (D.disk (device_of session.new)) session.new) (W.contents out.old) (W.contents out.new) (last_orders (length (pending_of session.old)))) }
+    ensures stopped { IfErr result (λ why. StopsAmong (place (D.disk (device_of session.old)) session.old) (place (D.disk (device_of session.new)) session.new) (W.contents out.old) (W.contents out.new) (last_orders (length (pending_of session.old))) why) }
+    ensures saved { OnOk result ((is_broken session.new ≡ false) × (pending_of session.new ≡ [])) }
+{
+    if session.counts().pending == 0 {
+        return Ok(());
+    }
+    obey_move(session, Move::Save, out)
+}
+
+/// Writes that the session was taken up, obeys the lines, and saves what is then unsaved.
+pub(crate) fn stream_on<D: SectorDevice, R: Read, W: Write>(
+    session: &mut Session<D>,
+    input: &mut R,
+    out: &mut W,
+) -> Result<End, SessionError>
+    requires whole { is_broken session.old ≡ false }
+    requires none { pending_of session.old ≡ [] }
+    ensures streamed { IfOk result (λ end. Streams (place (D.disk (device_of session.old)) session.old) (place (D.disk (device_of session.new)) session.new) (R.remaining input.old) (R.remaining input.new) (W.contents out.old) (W.contents out.new) end) }
+    ensures stopped { IfErr result (λ why. StopsStream (place (D.disk (device_of session.old)) session.old) (place (D.disk (device_of session.new)) session.new) (R.remaining input.old) (R.remaining input.new) (W.contents out.old) (W.contents out.new) why) }
+    ensures saved { OnOk result ((is_broken session.new ≡ false) × (pending_of session.new ≡ [])) }
+{
+    if let Err(_) = write_resumed(out, session.counts().all) {
+        return Err(SessionError::Output);
+    }
+    let end = match obey_lines(session, input, out) {
+        Ok(end) => end,
+        Err(why) => return Err(why),
+    };
+    match save_rest(session, out) {
+        Ok(()) => Ok(end),
+        Err(why) => Err(why),
+    }
+}
