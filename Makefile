@@ -16,6 +16,7 @@ help:
 	@echo 'make compare         compares the program with a second one, in Python, on random ROMs (SECONDS=20 a kind)'
 	@echo 'make hostile         gives the program damaged files and wrong scripts, kills it, and looks what is left (SECONDS=20 a kind)'
 	@echo 'make fuzz            of these the random ROMs, scripts and save files, for SECONDS=20 in all, another seed each time'
+	@echo 'make strace          compares each write and sync of the save file with a second writer (needs strace)'
 	@echo 'make demo            plays a minute of the demo cartridge and leaves bin/demo.sav, bin/demo.pgm and bin/demo.png (a second)'
 	@echo 'make play            plays a cartridge in a window (CART=examples/demo/demo.gb SAVE=bin/demo.sav; needs python3-pygame)'
 	@echo 'make test-window     plays the demo by real keys in a window of its own and kills it (half a minute; needs xvfb, xdotool, python3-pygame)'
@@ -57,6 +58,8 @@ bench:
 	cd crates/bench && $(RT) run -- snapshots
 	cd crates/bench && $(RT) run -- storage
 	cd crates/bench && RT_SECONDS=600 $(RT) run -- sessions
+	$(MAKE) bin/gbkeep
+	python3 -B scripts/stream_cost.py bin/gbkeep
 
 SECONDS ?= 20
 
@@ -68,6 +71,9 @@ hostile: bin/gbkeep
 
 fuzz: bin/gbkeep
 	python3 -B scripts/second_storage/hostile.py bin/gbkeep fuzz $(SECONDS)
+
+strace: bin/gbkeep
+	python3 -B scripts/second_storage/traced.py bin/gbkeep
 
 demo: bin/gbkeep
 	rm -f bin/demo.sav
@@ -100,4 +106,4 @@ test:
 	python3 -B examples/demo/check.py $(PROGRAM)/out/gbkeep_program
 	python3 -B scripts/second_storage/refused_memory.py $(PROGRAM)/out/gbkeep_program crates/refused_memory/out/refused_memory
 
-.PHONY: help run build install check edits bench compare hostile fuzz demo play test-window memory test
+.PHONY: help run build install check edits bench compare hostile fuzz strace demo play test-window memory test

@@ -45,6 +45,7 @@ void *realloc(void *old, size_t size) {
     return refused() ? 0 : real_realloc(old, size);
 }
 '''
+LINES = b'frames 01 2\nsave\npicture\nseconds 3\nsave\nframe 02\n'     # what a stream reads
 differences = 0
 
 
@@ -70,7 +71,7 @@ def refusing(loaded, words, number):
     if os.path.exists(TOLD):
         os.remove(TOLD)
     how = {'LD_PRELOAD': loaded, 'REFUSE': str(number), 'TOLD': TOLD}
-    done = subprocess.run(words, capture_output=True, timeout=10, env=how)
+    done = subprocess.run(words, capture_output=True, timeout=10, env=how, input=LINES)
     return (done.returncode, done.stdout, done.stderr), os.path.exists(TOLD)
 
 
@@ -97,7 +98,7 @@ def commands(gbkeep, loaded):
     image = get(SAVE)
     before = count_of(image, cart)
     for words in (['--help'], ['info', CART], ['list', CART, '100', '9'], ['step', CART, '9'], ['new', CART, NEW, '188'],
-                  ['play', CART, SAVE, SCRIPT], ['frame', CART, SAVE, OUT], ['trace', CART, SAVE, '9']):
+                  ['play', CART, SAVE, SCRIPT], ['frame', CART, SAVE, OUT], ['stream', CART, SAVE], ['trace', CART, SAVE, '9']):
         whole, answers, number = None, {}, 0
         for number in range(0, 100000):
             put(SAVE, image)

@@ -120,11 +120,14 @@ fn draws(
     }
 }
 
-/// The picture's writer has so much room: it fails, behind the front of the text that the room takes.
-fn ends_in(machine: &Machine, want: &[u8], room: &mut [u8]) -> bool {
-    let mut out: &mut [u8] = room;
+/// The picture's writer has room for so many bytes: it fails, behind the front of the text that the room takes.
+fn ends_in(machine: &Machine, want: &[u8], room: &mut [u8], end: usize) -> bool {
+    if end > room.len() {
+        return false;
+    }
+    let mut out: &mut [u8] = &mut room[..end];
     let failed = machine.picture().write_pgm(&mut out).is_err();
-    failed && want.starts_with(room)
+    failed && want.starts_with(&room[..end])
 }
 
 #[test]
@@ -135,7 +138,7 @@ fn the_writer_of_a_picture_may_end_in_any_byte(rt: HostRuntime) -> Result<(), Fa
     let want = blank_picture(alloc)?;
     let mut room = vec![in alloc; 0u8; 46_093]?;
     for end in 0..46_093 {
-        assert!(rt; ends_in(&machine, &want, &mut room[..end]));
+        assert!(rt; ends_in(&machine, &want, &mut room, end));
     }
     Ok(())
 }

@@ -1,0 +1,145 @@
+"""Looks from outside at what gbkeep does to a save file, and compares each write and each sync with what save_files.py would write.
+
+usage: traced.py GBKEEP [GAMES [SEED]]
+
+It needs Debian's package strace. No clause can say that the program's file calls are those that a FileDevice notes: this shows that each write has the
+offset and the bytes that the second writer has (but for the snapshots of machines that were given inputs, which have their places and lengths), in its
+order, and that each sync of the record is an fsync of the file, before any line that tells of it goes out."""
+import os, random, re, shutil, subprocess, sys, tempfile
+sys.argv, words = sys.argv[:1], sys.argv[1:]
+import hostile
+import save_files as ref
+from save_files import get, put
+
+CALL = re.compile(r'^\d*\s*(\w+)\((.*)\)\s+= (-?\d+)')
+
+
+class Recorded(ref.Game):
+    """A game that notes its writes and syncs, as (offset, bytes or None where they are a snapshot's) and 'sync'."""
+
+    def __init__(self, image, cart):
+        super().__init__(image, cart)
+        self.calls = []
+
+    def note(self, sectors, unknown=()):
+        for sector in sectors:
+            at = sector * 512
+            data = bytes(self.image[at:at + 512])
+            self.calls.append((at, None if any(low < at + 512 and at < high for low, high in unknown) else data))
+
+    def begin(self, generation, base, snapshot):
+        super().begin(generation, base, snapshot)
+        first, _ = ref.area_of(self.image, generation)
+        pages = (self.cart.length + 511) // 512
+        self.note(range(first, first + 32))
+        self.note(range(first + 32, first + 32 + pages), self.unknown)
+        self.calls.append('sync')
+        self.note([generation % 2])
+        self.calls.append('sync')
+
+    def resume(self):
+        # one as the file is attached, and one as the log is opened
+        self.calls += ['sync', 'sync']
+        super().resume()
+        self.calls.append('resumed %d\n' % self.count)
+
+    def append(self, entries):
+        full = ref.ENTRIES[2]
+        first, _ = ref.area_of(self.image, self.generation)
+        before = list(self.entries)
+        super().append(entries)
+        changed = [index for index in range((len(entries) + full - 1) // full) if before[index * full:(index + 1) * full] != entries[index * full:(index + 1) * full]]
+        self.note([first + index for index in changed])
+        self.calls.append('sync')
+
+    def save(self):
+        super().save()
+        self.calls.append('saved %d\n' % self.count)
+
+
+def unescaped(text):
+    return bytes.fromhex(text.replace('\\x', ''))
+
+
+def calls_of(trace, save):
+    """What a trace shows of the save file and of standard output, in order."""
+    calls, fd, at = [], None, 0
+    for row in open(trace):
+        found = CALL.match(row)
+        if not found:
+            continue
+        name, words, answer = found[1], found[2], int(found[3])
+        if name == 'openat' and save.encode().hex() in words.replace('\\x', '') and answer >= 0:
+            fd = answer
+        elif name in ('write', 'pwrite64') and answer >= 0:
+            to, text, *rest = re.match(r'(\d+), "([^"]*)", (.*)', words).groups()
+            data = unescaped(text)[:answer]
+            if int(to) == fd:
+                place = int(rest[0].rpartition(', ')[2]) if name == 'pwrite64' else at
+                calls.append((place, data))
+                at = place + len(data)
+            elif int(to) == 1:
+                calls.append(data.decode())
+        elif name == 'lseek' and words.split(',')[0] == str(fd):
+            at = answer
+        elif name == 'read' and words.split(',')[0] == str(fd) and answer > 0:
+            at += answer
+        elif name in ('fsync', 'fdatasync') and words == str(fd):
+            if answer != 0:
+                sys.exit('a sync failed: ' + row)
+            calls.append('sync')
+        elif name == 'close' and words == str(fd):
+            fd = None
+    return calls
+
+
+def is_same(got, want):
+    if isinstance(want, str) or isinstance(got, str):
+        return got == want
+    return got[0] == want[0] and (len(got[1]) == 512 if want[1] is None else got[1] == want[1])
+
+
+def trace(words, save):
+    path = os.path.join(hostile.ROOM, 'trace')
+    done = subprocess.run(['strace', '-f', '-o', path, '-xx', '-s', '1024', '-e', 'trace=openat,read,write,pread64,pwrite64,lseek,fsync,fdatasync,close', hostile.GB, *words],
+                          capture_output=True, timeout=60)
+    if done.returncode != 0:
+        sys.exit('%s: %r' % (words, done))
+    return calls_of(path, save)
+
+
+def game(rnd):
+    cart, image = hostile.a_game(rnd)
+    scripts = [hostile.random_script(rnd, rnd.choice([30, 300, 4000])) for _ in range(3)]
+    shown = 0
+    for script in scripts:
+        put(hostile.SCRIPT, script)
+        want = Recorded(get(hostile.SAVE), cart)
+        want.resume()
+        want.play(ref.moves_of(script))
+        got = trace(['play', hostile.CART, hostile.SAVE, hostile.SCRIPT], hostile.SAVE)
+        for at, (one, other) in enumerate(zip(got + ['end'], want.calls + ['end'])):
+            if not is_same(one, other):
+                sys.exit('call %d of %d: %r, wanted %r' % (at, len(want.calls), one, other))
+        if len(got) != len(want.calls):
+            sys.exit('%d calls, wanted %d' % (len(got), len(want.calls)))
+        shown += len(got)
+    return shown
+
+
+def main():
+    if not words or not shutil.which('strace'):
+        print(__doc__)
+        return 2
+    hostile.GB = os.path.abspath(words[0])
+    games, seed = int(words[1]) if len(words) > 1 else 10, int(words[2]) if len(words) > 2 else 1
+    try:
+        shown = sum(game(random.Random('traced-%d-%d' % (seed, number))) for number in range(games))
+    finally:
+        shutil.rmtree(hostile.ROOM)
+    print('%d games, seed %d: %d writes, syncs and lines as they should be' % (games, seed, shown))
+    return 0
+
+
+if __name__ == '__main__':
+    sys.exit(main())
