@@ -88,7 +88,7 @@ class Player:
         self.screen, self.save = screen, save
         self.process = subprocess.Popen([sys.executable, HERE / 'window.py', '--gbkeep', gbkeep, DEMO / 'demo.gb', save], env=screen.env,
                                         start_new_session=True, stdout=subprocess.PIPE, stderr=subprocess.STDOUT, text=True)
-        self.window = self.wait(lambda: screen.do('search', '--name', 'gbkeep: ').split(), 'no window came up')[0]
+        self.window = self.wait(lambda: screen.do('search', '--class', 'gbkeep').split(), 'no window came up')[0]
         screen.do('windowfocus', self.window)
 
     def wait(self, what, or_else, seconds=20):
