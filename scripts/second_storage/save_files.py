@@ -1,4 +1,4 @@
-"""A second reader and writer of save files and scripts, written from docs/STORAGE.md, docs/SNAPSHOT.md and the README.
+"""A second reader and writer of save files and scripts, written from docs/STORAGE.md, docs/SNAPSHOT.md and docs/COMMANDS.md.
 
 It has no machine: it says what a play of a script reports, or why it is refused, and each byte of the save file after it but those of
 the snapshots of machines that were given inputs."""
