@@ -1,6 +1,9 @@
 -- One more step of a debugger.
-use Rattle.std.proofs.Common.{◌≡◌, ◌∙◌, ℕ, zero, suc, ◌+◌, ◌-◌, ◌<◌, ◌≤◌, List, [], ◌++◌, length, drop, append-nil, append_assoc, below_more, length-append, length-drop, add-one, ap, refl, sym, arith}
+use Rattle.std.proofs.Common.{Bool, true, false, not, IsTrue, ◌≡◌, ◌∙◌, ℕ, zero, suc, ◌+◌, ◌-◌, ◌<◌, ◌≤◌, List, [], ◌∷◌, ◌++◌, length, drop, append-nil, append_assoc, below_more, length-append, length-drop, add-one, ap, refl, subst, sym, arith, inl, inr}
+use Rattle.std.proofs.lemmas.Bool.{cases_lt}
 use Rattle.std.proofs.lemmas.List.{drop-append-le, drop-drop}
+use Rattle.std.proofs.Math.Nat.{eq-or-lt_of_le}
+use Rattle.std.specs.List.{Contains}
 use Rattle.circular_buffer.specs.Buffer.{Buffer, buffer, keep_last}
 use Rattle.machine.specs.Bus.{bus_rules}
 use Rattle.machine.specs.Machine.{MachineState}
@@ -12,6 +15,7 @@ use Rattle.machine.specs.declared.step.What.{What}
 use Rattle.machine.specs.declared.step.What.TheVariants.{Dispatch, Wait, Ran}
 use Rattle.memory_map.specs.State.{BusState}
 use Rattle.machine.proofs.Runs.{after_steps-zero, after_steps-add_one}
+use Rattle.debugger.specs.Run.{HasRun, pc_after}
 use Rattle.debugger.specs.History.{DebuggerState, HoldsAtMost, after_run, instruction_in, instructions_in}
 
 pub keep_last-all : {X : Type 0} (n : ℕ) (xs : List X) → length xs ≤ n → keep_last n xs ≡ xs
@@ -100,3 +104,54 @@ one_more n d e f so_far step = step ∙ ap (after_run 1) so_far ∙ two_runs n d
 
 pub past_more : (P : ℕ → Type 0) (n : ℕ) → ((k : ℕ) → 0 < k → k < n → P k) → (0 < n → P n) → (k : ℕ) → 0 < k → k < n + 1 → P k
 past_more P n before here k some below = below_more (λ j. 0 < j → P j) n (λ j less some. before j some less) here k below some
+
+-- the instructions of n steps and of one more
+pub instructions_and : (n : ℕ) (p : Processor BusState) (kept : List Seen) (seen : Seen) → kept ≡ instructions_in bus_rules n p →
+    (step_of bus_rules (after_steps bus_rules n p)).stepped.what ≡ Ran seen → kept ++ seen ∷ [] ≡ instructions_in bus_rules (n + 1) p
+instructions_and n p kept seen so_far ran =
+    ap (λ (xs : List Seen). xs ++ seen ∷ []) so_far
+    ∙ ap (λ (what : What). instructions_in bus_rules n p ++ instruction_in what) (sym ran)
+    ∙ sym (instructions_more bus_rules n p)
+    ∙ ap (λ (k : ℕ). instructions_in bus_rules k p) (sym (add-one n))
+
+-- a machine that made n steps, and a buffer into which their instructions were put together
+pub steps_kept : (n : ℕ) (m : MachineState) (b k : Buffer Seen) (seen : List Seen) → seen ≡ instructions_in bus_rules n m.processor →
+    k ≡ buffer (keep_last b.capacity (b.items ++ seen)) b.capacity →
+    seen_as (record m { processor = after_steps bus_rules n m.processor }) k ≡ after_run n (seen_as m b)
+steps_kept n m b k seen is kept = rw (← is) (ap (seen_as _) kept)
+
+-- n steps, and then k more
+pub runs : (k n : ℕ) (d : DebuggerState) → after_run k (after_run n d) ≡ after_run (n + k) d
+runs zero n d = sym (not_begun (after_run n d) (keep_last-most d.size _)) ∙ ap (λ (j : ℕ). after_run j d) (omega arith)
+runs (suc k) n d =
+    ap (λ (j : ℕ). after_run j (after_run n d)) (sym (add-one k))
+    ∙ sym (two_runs k (after_run n d)) ∙ ap (after_run 1) (runs k n d) ∙ two_runs (n + k) d
+    ∙ ap (λ (j : ℕ). after_run j d) (omega arith)
+
+-- a run, and one from there on that began at no break
+pub run_on : (breaks : List ℕ) (m n : ℕ) (d e f : DebuggerState) → HasRun breaks m d e → (0 < m → ¬ (Contains breaks e.machine.processor.registers.pc)) →
+    HasRun breaks n e f → HasRun breaks (m + n) d f
+run_on breaks m n d e f first here next = record {
+  run = next.run ∙ ap (after_run n) first.run ∙ runs n m d;
+  past = λ k some below. elim (cases_lt k m) [
+    | inl less ↦ first.past k some less
+    | inr more ↦ elim (eq-or-lt_of_le more) [
+      | inl same ↦ λ met. here (omega (arith, same, some))
+          (subst (Contains breaks) (sym (ap (λ (x : DebuggerState). x.machine.processor.registers.pc) first.run)) (subst (λ (j : ℕ). Contains breaks (pc_after j d)) (sym same) met))
+      | inr less ↦ λ met. next.past (k - m) (omega (arith, less)) (omega (arith, less, below))
+          (subst (Contains breaks) (sym (ap (λ (x : DebuggerState). pc_after (k - m) x) first.run
+          ∙ ap (λ (x : DebuggerState). x.machine.processor.registers.pc) (runs (k - m) m d)
+          ∙ ap (λ (j : ℕ). pc_after j d) (omega (arith, less)))) met)
+    ]
+  ];
+}
+
+-- a step is due, which is plain and begins at no break but where it is the first
+pub record IsGoing (breaks : List ℕ) (is_plain : Bool) (made most : ℕ) (d : DebuggerState) : Type 0 where
+  pub plain : is_plain ≡ true
+  pub due : made < most
+  pub here : 0 < made → ¬ (Contains breaks (pc_after made d))
+
+pub not_both : (b : Bool) → IsTrue b → not b ≡ true → ⊥
+not_both true t e = cc
+not_both false t e = cc

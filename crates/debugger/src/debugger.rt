@@ -1,6 +1,6 @@
 //! The machine with its history.
 
-ghost use Rattle.std.specs.Prelude.{◌≡◌, ◌≤◌, ◌↔◌, IfErr, IfOk, IsTrue, true, OnErr, OnOk, [], length, slice_get};
+ghost use Rattle.std.specs.Prelude.{◌≡◌, ◌<◌, ◌≤◌, ◌↔◌, IfErr, IfOk, IsTrue, true, OnErr, OnOk, [], length, slice_get};
 ghost use Rattle.std.specs.Io.KnownBytes.{Appends};
 ghost use Rattle.std.specs.List.{Contains};
 ghost use Rattle.exact_text.specs.Written.{AppendsProperPrefix};
@@ -15,9 +15,19 @@ use std::alloc::Global;
 use std::io::Write;
 use std::marker::Model;
 
+/// How many plain steps are put into the history at once.
+const KEPT: usize = 256;
+
+/// What stands where no instruction was put yet.
+const NOTHING: Seen = Seen {
+    pc: 0,
+    bytes: [0; 3],
+    length: 0,
+};
+
 /// A machine whose last instructions are kept.
 ///
-/// `new` makes the room for them. Every other call takes no memory, and only `list` can fail.
+/// `new` allocates the room for them. Every other call takes no memory, and only `list` can fail.
 #[derive(Drop)]
 pub struct Debugger {
     machine: Machine,
@@ -40,10 +50,10 @@ impl Debugger {
     ghost use Rattle.machine.specs.Plain.{IsPlain};
     ghost use Rattle.debugger.specs.History.{after_run};
     ghost use Rattle.debugger.specs.Listing.{lines_from};
-    ghost use Rattle.debugger.specs.Run.{IsStop};
+    ghost use Rattle.debugger.specs.Run.{HasRun, IsStop};
 
-    /// A debugger for this machine, which keeps the last `size` instructions, 1 to 1,024. Where there
-    /// is no memory for them it gives the machine back as it was.
+    /// A debugger for this machine, which keeps the last `size` instructions, 1 to 1,024. If there
+    /// is no memory for them, it hands the machine back as it was.
     pub fn new(alloc: Global, machine: Machine, size: usize) -> Result<Debugger, Machine>
         requires least { 1 ≤ size }
         requires most { size ≤ 1024 }
@@ -56,8 +66,8 @@ impl Debugger {
         }
     }
 
-    /// One step of the machine, and what it did. An instruction goes into the history, in place of
-    /// the oldest one where it is full; a wait and the dispatch of an interrupt do not.
+    /// One step of the machine, and what it did. An instruction goes into the history, replacing
+    /// the oldest one if the history is full; a wait and the dispatch of an interrupt do not.
     pub fn step(&mut self) -> Stepped
         ensures debugger { self.new ≡ after_run 1 self.old }
         ensures stepped { result ≡ (step_of bus_rules self.old.machine.processor).stepped }
@@ -69,48 +79,68 @@ impl Debugger {
         stepped
     }
 
-    /// Makes steps until one that is not the first would begin at one of these addresses, at most
-    /// `limit` of them. A run that ends at a break after all its steps is a `Limit`.
+    /// Makes steps until one that is not the first would begin at one of these addresses, but at
+    /// most `limit` steps. A run that has made all its steps when it reaches a breakpoint is a
+    /// `Limit`.
     pub fn run_until(&mut self, breaks: &[u16], limit: u32) -> Stop
         ensures { IsStop breaks.now limit self.old self.new result }
     {
         // the history is within its size, so a run of no step leaves it as it is
         prove!(self.history.len() <= self.history.capacity());
         let marks = marks_of(breaks);
+        let mut kept = [NOTHING; KEPT];
         let mut is_plain = false;
-        for made in 0..limit {
+        let mut made = 0;
+        while made < limit {
             let pc = self.machine.registers().pc;
             if made > 0 && is_break(&marks, breaks, pc) {
                 return Stop::Break(pc);
             }
-            is_plain = self.make_step(is_plain);
+            if is_plain {
+                let (more, is_more) = self.run_plainly(&marks, breaks, limit - made, &mut kept);
+                made += more;
+                is_plain = is_more;
+            } else {
+                let _ = self.step();
+                made += 1;
+                is_plain = self.machine.is_plain();
+            }
         }
         Stop::Limit
     }
 
-    /// A step, of which the caller may know that it is plain. Says whether the next one is.
+    /// Makes plain steps, at least one, until one that is not the first would begin at a break, or may
+    /// not be plain; at most `limit`, and no more than are put into the history at once. Says how many,
+    /// and whether the next step is surely plain. The loop has the only call of `step_plainly`, so that
+    /// the code of the instructions stands in it.
     #[inline(always)]
-    fn make_step(&mut self, is_plain: bool) -> bool
-        requires { is_plain ≡ true → IsPlain bus_rules self.old.machine.processor }
-        ensures debugger { self.new ≡ after_run 1 self.old }
-        ensures plain { result ≡ true → IsPlain bus_rules self.new.machine.processor }
+    fn run_plainly(
+        &mut self,
+        marks: &[bool; 256],
+        breaks: &[u16],
+        limit: u32,
+        kept: &mut [Seen; KEPT],
+    ) -> (u32, bool)
+        requires marks { AreMarked marks.now breaks.now }
+        requires some { 0 < limit }
+        requires plain { IsPlain bus_rules self.old.machine.processor }
+        ensures run { HasRun breaks.now result.0 self.old self.new }
+        ensures some { 0 < result.0 }
+        ensures most { result.0 ≤ limit }
+        ensures plain { result.1 ≡ true → IsPlain bus_rules self.new.machine.processor }
     {
-        if is_plain {
-            return self.step_plainly();
+        let most = limit.min(KEPT as u32);
+        let mut made = 0;
+        let mut is_plain = true;
+        let mut is_going = true;
+        while is_going {
+            is_plain = self.machine.step_plainly(&mut kept[made as usize]);
+            made += 1;
+            let pc = self.machine.registers().pc;
+            is_going = is_plain && made < most && !is_break(marks, breaks, pc);
         }
-        let _ = self.step();
-        self.machine.is_plain()
-    }
-
-    #[inline(always)]
-    fn step_plainly(&mut self) -> bool
-        requires { IsPlain bus_rules self.old.machine.processor }
-        ensures debugger { self.new ≡ after_run 1 self.old }
-        ensures plain { result ≡ true → IsPlain bus_rules self.new.machine.processor }
-    {
-        let (ran, is_plain) = self.machine.step_plainly();
-        let _ = self.history.push_back(ran);
-        is_plain
+        self.history.extend_from_slice(&kept[..made as usize]);
+        (made, is_plain)
     }
 
     /// How many instructions the history holds: at most `size`.
@@ -128,9 +158,10 @@ impl Debugger {
         self.history.get(index).copied()
     }
 
-    /// Writes the lines of `count` instructions as the machine has them now, the first at `address`.
-    /// Addresses wrap around after FFFF, and each line begins where the last one's instruction ended.
-    /// Refused where a write fails or takes no byte: a proper prefix of the lines went out.
+    /// Writes the lines of `count` instructions as the machine sees them now, the first at
+    /// `address`. Addresses wrap around after FFFF, and each line begins where the last one's
+    /// instruction ended. Refused if a write fails or takes no byte: a proper prefix of the lines
+    /// went out.
     pub fn list<W: Write>(&self, address: u16, count: u32, out: &mut W) -> Result<(), OutputFailed>
         ensures ok { OnOk result (Appends (W.contents out.old) (W.contents out.new) (lines_from self.now.machine address count)) }
         ensures err { OnErr result (AppendsProperPrefix (W.contents out.old) (W.contents out.new) (lines_from self.now.machine address count)) }
@@ -138,7 +169,7 @@ impl Debugger {
         write_lines(&self.machine, address, count, out)
     }
 
-    /// The machine, to look at.
+    /// A read-only view of the machine.
     pub fn machine(&self) -> &Machine
         ensures { result.now ≡ self.now.machine }
     {
@@ -157,7 +188,7 @@ impl Debugger {
     }
 }
 
-/// Marks the low byte of each break, so that most steps look at no more than one mark.
+/// Marks the low byte of each breakpoint, so that most steps check only one mark.
 fn marks_of(breaks: &[u16]) -> [bool; 256]
     ensures { AreMarked result breaks.now }
 {

@@ -1,7 +1,8 @@
-//! A debugger: steps of a machine one by one or up to a break, and the instructions that ran last.
+//! A debugger: steps of a machine one by one or up to a breakpoint, and the instructions that ran
+//! last.
 //!
-//! The machine steps as it does without a debugger, and looking changes nothing. Only `new` takes
-//! memory, for the history.
+//! The machine steps as it does without a debugger, and reading it changes nothing. Only `new`
+//! takes memory, for the history.
 #![tactic(auto)]
 
 pub mod debugger;

@@ -1,4 +1,4 @@
-//! Instructions as a machine has them.
+//! Instructions as a machine sees them.
 
 ghost use Rattle.std.specs.Prelude.{◌≡◌, [], ◌∷◌, OnOk, OnErr};
 ghost use Rattle.std.specs.Io.KnownBytes.{Appends};
@@ -10,7 +10,7 @@ use machine::Machine;
 use opcode_table::{Line, decode, list_line};
 use std::io::Write;
 
-/// The three bytes at an address, of which the addresses wrap around.
+/// The three bytes from an address on; addresses wrap around.
 fn three_bytes(machine: &Machine, address: u16) -> [u8; 3]
     ensures { result ≡ byte_behind machine.now address 0 ∷ byte_behind machine.now address 1 ∷ byte_behind machine.now address 2 ∷ [] }
 {

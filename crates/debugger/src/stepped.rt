@@ -39,8 +39,8 @@ fn interrupt_line(vector: u16) -> Line
 }
 
 /// Writes the line of a step: that of the instruction as in a listing, `wait`, or `interrupt` and
-/// the vector in two hexadecimal digits. Refused where a write fails or takes no byte: a proper
-/// prefix of the line went out.
+/// the vector in two hexadecimal digits. Refused if a write fails or takes no byte: a proper prefix
+/// of the line went out.
 pub fn write_stepped<W: Write>(stepped: &Stepped, out: &mut W) -> Result<(), OutputFailed>
     ensures ok { OnOk result (Appends (W.contents out.old) (W.contents out.new) (line_of stepped.now.what)) }
     ensures err { OnErr result (AppendsProperPrefix (W.contents out.old) (W.contents out.new) (line_of stepped.now.what)) }

@@ -3,7 +3,7 @@
 /// Why `Debugger::run_until` stopped.
 #[derive(Clone, Copy, Debug, PartialEq, Eq)]
 pub enum Stop {
-    /// The next step would have begun at this address, which is one of the breaks.
+    /// The next step would have begun at this address, which is one of the breakpoints.
     Break(u16),
     /// All steps were made.
     Limit,

@@ -12,7 +12,8 @@ use Rattle.command_line.specs.declared.Request.{Request}
 use Rattle.session.specs.declared.error.SessionError.TheVariants.{Memory as GameMemory, Device as GameDevice, NoSession as GameNoSession, OtherCartridge as GameOtherCartridge, Worn as GameWorn, Broken as GameBroken, SaveFirst as GameSaveFirst, CountFull as GameCountFull, Output as GameOutput, TooSmall as GameTooSmall, Damaged as GameDamaged}
 use Rattle.gbkeep.specs.declared.asked.Asked.{Asked}
 use Rattle.gbkeep.specs.declared.asked.Asked.TheVariants.{Command, Help, Misuse, OutOfRange}
-use Rattle.gbkeep.specs.declared.error.StepError.TheVariants.{Cart as StepCart, Memory as StepMemory, Output as StepOutput}
+use Rattle.gbkeep.specs.declared.error.TextError.{TextError}
+use Rattle.gbkeep.specs.declared.error.TextError.TheVariants.{Cart as TextCart, Memory as TextMemory, Output as TextOutput}
 use Rattle.gbkeep.specs.declared.error.PlayError.{PlayError}
 use Rattle.gbkeep.specs.declared.error.PlayError.TheVariants.{Cart as PlayCart, Script as PlayScript, Session as PlaySession, Picture as PlayPicture}
 use Rattle.gbkeep.specs.declared.error.TraceError.{TraceError}
@@ -21,14 +22,12 @@ use Rattle.gbkeep.specs.declared.fault.Fault.{Fault}
 use Rattle.gbkeep.specs.declared.error.StreamPlayError.{StreamPlayError}
 use Rattle.gbkeep.specs.declared.error.StreamPlayError.TheVariants.{Cart as StreamCart, Stream as StreamFault}
 use Rattle.streaming.specs.declared.error.StreamError.TheVariants.{Session as StreamSession, Line as StreamLine, Input as StreamInput}
-use Rattle.gbkeep.specs.declared.fault.Fault.TheVariants.{Cart, Step, Memory, File, Output, Address, Word, Device, Script, Session, Line, Input}
+use Rattle.gbkeep.specs.declared.fault.Fault.TheVariants.{Cart, Memory, File, Output, Address, Word, Device, Script, Session, Line, Input}
 use Rattle.script.specs.Script.{IsRefused as IsScriptRefused}
-use Rattle.gbkeep.specs.Request.{HasAddress, HasSave, HasScript, IsDone, IsGameRefused, IsInputRefused, IsOutputRefused, printed}
-use Rattle.gbkeep.specs.StepLine.{Refuses}
+use Rattle.gbkeep.specs.Request.{HasAddress, HasSave, HasScript, IsDone, IsGameRefused, IsInputRefused, IsOutputRefused}
 
 abbrev pub status_of : Fault → ℕ
 status_of (Cart fault) = 1
-status_of (Step fault) = 1
 status_of Memory = 1
 status_of File = 1
 status_of Output = 1
@@ -40,7 +39,13 @@ status_of (Session fault) = 1
 status_of (Line number) = 1
 status_of Input = 1
 
--- what a play that was refused is for the program
+-- what a text that was refused is for the program
+abbrev pub fault_of_text : TextError → Fault
+fault_of_text (TextCart fault) = Cart fault
+fault_of_text TextMemory = Memory
+fault_of_text TextOutput = Output
+
+-- and what a play that was refused is
 abbrev pub fault_of_play : PlayError → Fault
 fault_of_play (PlayCart fault) = Cart fault
 fault_of_play (PlayScript fault) = Script fault
@@ -65,9 +70,6 @@ fault_of_stream (StreamFault StreamInput) = Input
 -- for its file or damaged, whose text no definition gives
 abbrev pub line_of : Fault → Option (List ℕ)
 line_of (Cart fault) = None
-line_of (Step (StepCart fault)) = None
-line_of (Step StepMemory) = Some (codes "gbkeep: no memory\n")
-line_of (Step StepOutput) = Some (codes "gbkeep: output failed\n")
 line_of Memory = Some (codes "gbkeep: no memory\n")
 line_of File = Some (codes "gbkeep: file failed\n")
 line_of Output = Some (codes "gbkeep: output failed\n")
@@ -101,7 +103,6 @@ KeepsAtMisuse old new status = status ≡ 2 → Keeps old new
 -- why a request was refused, and what went out then
 abbrev pub IsRefused : Request → Fault → Option (List ℕ) → Option (List ℕ) → Type 0
 IsRefused request (Cart fault) old new = HasAddress request × Keeps old new × ((rom : List ℕ) × (refusal_of rom ≡ Some fault))
-IsRefused request (Step fault) old new = HasAddress request × ((rom : List ℕ) × Refuses rom (printed request rom) old new fault)
 IsRefused request Memory old new = HasAddress request × Keeps old new
 IsRefused request File old new = HasAddress request × Keeps old new
 IsRefused request Output old new = HasAddress request × IsOutputRefused request old new

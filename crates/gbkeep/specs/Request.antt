@@ -114,12 +114,13 @@ IsGameRefused (Stream cart save) why old new =
     (rom : List ℕ) × IsAccepted rom × (Keeps old new ⊎ OfAStream (λ lines. (saved : ℕ) × HasTold why saved lines old new))
 IsGameRefused request why old new = ⊥
 
--- the output failed on a ROM that is accepted; of a trace, or of the line of a new game, a proper prefix went out, and before a picture
--- the whole report. The other requests have this failure with their text.
+-- the output failed on a ROM that is accepted: a proper prefix of the text went out, or before a picture the whole report. A report and the
+-- answers of a stream end as a game that is refused.
 abbrev pub IsOutputRefused : Request → Option (List ℕ) → Option (List ℕ) → Type 0
-IsOutputRefused (Info cart) old new = ⊥
-IsOutputRefused (Listing cart address count) old new = ⊥
-IsOutputRefused (Step cart count) old new = ⊥
+IsOutputRefused (Info cart) old new = (rom : List ℕ) × IsAccepted rom × AppendsProperPrefix old new (printed (Info cart) rom)
+IsOutputRefused (Listing cart address count) old new =
+    (rom : List ℕ) × IsAccepted rom × AppendsProperPrefix old new (printed (Listing cart address count) rom)
+IsOutputRefused (Step cart count) old new = (rom : List ℕ) × IsAccepted rom × AppendsProperPrefix old new (printed (Step cart count) rom)
 IsOutputRefused (New cart save sectors) old new = (rom : List ℕ) × IsAccepted rom × (need (text_length (ram_length_of rom)) ≤ sectors)
     × AppendsProperPrefix old new (printed (New cart save sectors) rom)
 IsOutputRefused (Play cart save script) old new = ⊥

@@ -6,8 +6,8 @@ use Rattle.cartridge.specs.Accepted.{IsAccepted, refusal_of}
 use Rattle.machine.specs.Bus.{bus_rules}
 use Rattle.machine.specs.Machine.{start}
 use Rattle.machine.specs.Steps.{after_steps}
-use Rattle.gbkeep.specs.declared.error.StepError.{StepError}
-use Rattle.gbkeep.specs.declared.error.StepError.TheVariants.{Cart, Memory, Output}
+use Rattle.gbkeep.specs.declared.error.TextError.{TextError}
+use Rattle.gbkeep.specs.declared.error.TextError.TheVariants.{Cart, Memory, Output}
 use Rattle.gbkeep.specs.Line.{register_line}
 
 -- the line of the machine after so many steps from power-on
@@ -16,7 +16,7 @@ line_after rom count = register_line (after_steps bus_rules count (start rom).pr
 
 -- a refusal: the first rule of a cartridge that the image breaks, or that memory is wanted, and then nothing was
 -- written; or the output failed
-abbrev pub Refuses : List ℕ → List ℕ → Option (List ℕ) → Option (List ℕ) → StepError → Type 0
+abbrev pub Refuses : List ℕ → List ℕ → Option (List ℕ) → Option (List ℕ) → TextError → Type 0
 Refuses rom text old new (Cart fault) = (Keeps old new) × (refusal_of rom ≡ Some fault)
 Refuses rom text old new Memory = (Keeps old new) × IsAccepted rom
 Refuses rom text old new Output = IsAccepted rom × AppendsProperPrefix old new text

@@ -8,7 +8,7 @@ use thiserror::Error;
 
 /// Why `step_line` or `list_lines` did not write all of its text.
 #[derive(Clone, Copy, Debug, PartialEq, Eq, Error)]
-pub enum StepError {
+pub enum TextError {
     /// The image is no cartridge.
     #[error(transparent)]
     Cart(CartError),

@@ -1,9 +1,10 @@
 //! Why the program does not do what it is asked to.
 
 ghost use Rattle.std.specs.Prelude.{◌≡◌, Some};
-ghost use Rattle.gbkeep.specs.Program.{HasLine, fault_of_play, fault_of_stream, fault_of_trace, line_of, status_of};
+ghost use Rattle.gbkeep.specs.declared.fault.Fault.TheVariants.{Cart, Device};
+ghost use Rattle.gbkeep.specs.Program.{HasLine, fault_of_play, fault_of_stream, fault_of_text, fault_of_trace, line_of, status_of};
 
-use crate::error::{PlayError, StepError, StreamPlayError, TraceError};
+use crate::error::{PlayError, StreamPlayError, TextError, TraceError};
 use cartridge::CartError;
 use exact_text::write_whole;
 use script::ScriptError;
@@ -23,7 +24,6 @@ pub(crate) const NOT_UNDERSTOOD: u8 = 2;
 #[derive(Clone, Copy, Debug, PartialEq, Eq)]
 pub(crate) enum Fault {
     Cart(CartError),
-    Step(StepError),
     Memory,
     File,
     Output,
@@ -40,11 +40,38 @@ pub(crate) enum Fault {
     Input,
 }
 
-impl Fault {
-    /// What a play that was refused is for the program.
-    pub(crate) fn of_play(why: PlayError) -> Fault
-        ensures { result ≡ fault_of_play why }
-    {
+impl From<CartError> for Fault {
+    ghost from_gives = { λ why fault. fault ≡ Cart why };
+
+    fn from(why: CartError) -> Fault {
+        Fault::Cart(why)
+    }
+}
+
+impl From<DeviceFault> for Fault {
+    ghost from_gives = { λ why fault. fault ≡ Device why };
+
+    fn from(why: DeviceFault) -> Fault {
+        Fault::Device(why)
+    }
+}
+
+impl From<TextError> for Fault {
+    ghost from_gives = { λ why fault. fault ≡ fault_of_text why };
+
+    fn from(why: TextError) -> Fault {
+        match why {
+            TextError::Cart(why) => Fault::Cart(why),
+            TextError::Memory => Fault::Memory,
+            TextError::Output => Fault::Output,
+        }
+    }
+}
+
+impl From<PlayError> for Fault {
+    ghost from_gives = { λ why fault. fault ≡ fault_of_play why };
+
+    fn from(why: PlayError) -> Fault {
         match why {
             PlayError::Cart(why) => Fault::Cart(why),
             PlayError::Script(why) => Fault::Script(why),
@@ -52,11 +79,12 @@ impl Fault {
             PlayError::Picture => Fault::Output,
         }
     }
+}
 
-    /// What a trace that was refused is for the program.
-    pub(crate) fn of_trace(why: TraceError) -> Fault
-        ensures { result ≡ fault_of_trace why }
-    {
+impl From<TraceError> for Fault {
+    ghost from_gives = { λ why fault. fault ≡ fault_of_trace why };
+
+    fn from(why: TraceError) -> Fault {
         match why {
             TraceError::Cart(why) => Fault::Cart(why),
             TraceError::Session(why) => Fault::Session(why),
@@ -64,11 +92,12 @@ impl Fault {
             TraceError::Output => Fault::Output,
         }
     }
+}
 
-    /// What a stream that was refused is for the program.
-    pub(crate) fn of_stream(why: StreamPlayError) -> Fault
-        ensures { result ≡ fault_of_stream why }
-    {
+impl From<StreamPlayError> for Fault {
+    ghost from_gives = { λ why fault. fault ≡ fault_of_stream why };
+
+    fn from(why: StreamPlayError) -> Fault {
         match why {
             StreamPlayError::Cart(why) => Fault::Cart(why),
             StreamPlayError::Stream(StreamError::Session(why)) => Fault::Session(why),
@@ -76,7 +105,9 @@ impl Fault {
             StreamPlayError::Stream(StreamError::Input) => Fault::Input,
         }
     }
+}
 
+impl Fault {
     fn status(self) -> u8
         ensures { result ≡ status_of self }
     {
@@ -94,7 +125,6 @@ pub(crate) fn report<E: Write>(fault: Fault, err: &mut E) -> u8
 {
     match fault {
         Fault::Cart(why) => write_cart_line(why, err),
-        Fault::Step(fault) => write_step_line(fault, err),
         Fault::Memory => write_line("gbkeep: no memory\n", err),
         Fault::File => write_line("gbkeep: file failed\n", err),
         Fault::Output => write_line("gbkeep: output failed\n", err),
@@ -107,16 +137,6 @@ pub(crate) fn report<E: Write>(fault: Fault, err: &mut E) -> u8
         Fault::Input => write_line("gbkeep: input failed\n", err),
     }
     fault.status()
-}
-
-fn write_step_line<E: Write>(fault: StepError, err: &mut E)
-    ensures { HasLine (line_of (Fault.Step fault)) (E.contents err.old) (E.contents err.new) }
-{
-    match fault {
-        StepError::Cart(why) => write_cart_line(why, err),
-        StepError::Memory => write_line("gbkeep: no memory\n", err),
-        StepError::Output => write_line("gbkeep: output failed\n", err),
-    }
 }
 
 fn write_session_line<E: Write>(fault: SessionError, err: &mut E)

@@ -7,7 +7,7 @@ ghost use Rattle.exact_text.specs.Written.{AppendsProperPrefix};
 ghost use Rattle.gbkeep.specs.Info.{checksum_line, info_of, name_of, ram_line, rom_line, sectors_line, shown, title_line, type_line};
 ghost use Rattle.gbkeep.specs.StepLine.{Refuses};
 
-use crate::error::StepError;
+use crate::error::TextError;
 use arrayvec::ArrayString;
 use cartridge::{Cartridge, Controller};
 use exact_text::{OutputFailed, byte_digits, write_whole};
@@ -22,18 +22,18 @@ type Line = ArrayString<64>;
 ///
 /// Refusals, in this order: what is wrong with the image (its length, its type, its RAM code, its number of banks), output failed.
 /// Nothing is written but at the last, where a proper prefix of the lines is.
-pub fn info_lines<W: Write>(rom: Vec<u8>, out: &mut W) -> Result<(), StepError>
+pub fn info_lines<W: Write>(rom: Vec<u8>, out: &mut W) -> Result<(), TextError>
     ensures accepted { OnOk result (IsAccepted rom.items) }
     ensures lines { OnOk result (Appends (W.contents out.old) (W.contents out.new) (info_of rom.items)) }
     ensures refused { IfErr result (Refuses rom.items (info_of rom.items) (W.contents out.old) (W.contents out.new)) }
 {
     let cartridge = match Cartridge::read(rom) {
         Ok(cartridge) => cartridge,
-        Err(fault) => return Err(StepError::Cart(fault)),
+        Err(fault) => return Err(TextError::Cart(fault)),
     };
     match write_info(out, &cartridge) {
         Ok(()) => Ok(()),
-        Err(_) => Err(StepError::Output),
+        Err(_) => Err(TextError::Output),
     }
 }
 

@@ -19,7 +19,7 @@ mod streams;
 mod trace;
 
 pub use error::{
-    PlayError, PlayRefused, StepError, StreamPlayError, StreamPlayRefused, TraceError, TraceRefused,
+    PlayError, PlayRefused, StreamPlayError, StreamPlayRefused, TextError, TraceError, TraceRefused,
 };
 pub use info::info_lines;
 pub use listing::list_lines;

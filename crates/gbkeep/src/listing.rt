@@ -7,7 +7,7 @@ ghost use Rattle.machine.specs.Machine.{start};
 ghost use Rattle.debugger.specs.Listing.{lines_from};
 ghost use Rattle.gbkeep.specs.StepLine.{Refuses};
 
-use crate::error::StepError;
+use crate::error::TextError;
 use cartridge::Cartridge;
 use debugger::Debugger;
 use machine::Machine;
@@ -24,25 +24,25 @@ pub fn list_lines<W: Write>(
     address: u16,
     count: u32,
     out: &mut W,
-) -> Result<(), StepError>
+) -> Result<(), TextError>
     ensures accepted { OnOk result (IsAccepted rom.items) }
     ensures lines { OnOk result (Appends (W.contents out.old) (W.contents out.new) (lines_from (start rom.items) address count)) }
     ensures refused { IfErr result (Refuses rom.items (lines_from (start rom.items) address count) (W.contents out.old) (W.contents out.new)) }
 {
     let cartridge = match Cartridge::read(rom) {
         Ok(cartridge) => cartridge,
-        Err(fault) => return Err(StepError::Cart(fault)),
+        Err(fault) => return Err(TextError::Cart(fault)),
     };
     let machine = match Machine::power_on(alloc, &cartridge) {
         Ok(machine) => machine,
-        Err(_) => return Err(StepError::Memory),
+        Err(_) => return Err(TextError::Memory),
     };
     let debugger = match Debugger::new(alloc, machine, 1) {
         Ok(debugger) => debugger,
-        Err(_) => return Err(StepError::Memory),
+        Err(_) => return Err(TextError::Memory),
     };
     match debugger.list(address, count, out) {
         Ok(()) => Ok(()),
-        Err(_) => Err(StepError::Output),
+        Err(_) => Err(TextError::Output),
     }
 }

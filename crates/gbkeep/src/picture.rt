@@ -31,11 +31,15 @@ pub fn play_to_picture<D: SectorDevice, W: Write, P: Write>(
     report: &mut W,
     out: Option<&mut P>,
 ) -> Result<D, PlayRefused<D>>
-    ensures played { OnOk result ((D.disk device).honest → HasPlayed rom.items (D.disk device) (D.disk (left_by result)) (inputs_of_script script.now)) }
-    ensures images { (D.disk device).honest → HoldsSince (D.disk device) (D.disk (left_by result)) (PlayImage rom.items (D.disk device) (inputs_of_script script.now)) }
+    ensures played { OnOk result ((D.disk device).honest →
+        HasPlayed rom.items (D.disk device) (D.disk (left_by result)) (inputs_of_script script.now)) }
+    ensures images { (D.disk device).honest →
+        HoldsSince (D.disk device) (D.disk (left_by result)) (PlayImage rom.items (D.disk device) (inputs_of_script script.now)) }
     ensures playable { OnOk result (IsPlayable rom.items script.now) }
     ensures report { OnOk result (HasReported rom.items script.now (D.disk device) (W.contents report.old) (W.contents report.new)) }
-    ensures cause { IfErr result (λ refused. IsPlayCause rom.items script.now device refused (D.disk device) (D.disk refused.device) (W.contents report.old) (W.contents report.new) refused.why) }
+    ensures cause { IfErr result (λ refused.
+        IsPlayCause rom.items script.now device refused (D.disk device) (D.disk refused.device) (W.contents report.old)
+        (W.contents report.new) refused.why) }
     ensures undrawn { is_none out.entry ≡ true → IfErr result (λ refused. refused.why ≢ PlayError.Picture) }
 {
     if let Some(out) = out {
@@ -56,11 +60,15 @@ pub fn play_and_draw<D: SectorDevice, W: Write, P: Write>(
     report: &mut W,
     out: &mut P,
 ) -> Result<D, PlayRefused<D>>
-    ensures played { OnOk result ((D.disk device).honest → HasPlayed rom.items (D.disk device) (D.disk (left_by result)) (inputs_of_script script.now)) }
-    ensures images { (D.disk device).honest → HoldsSince (D.disk device) (D.disk (left_by result)) (PlayImage rom.items (D.disk device) (inputs_of_script script.now)) }
+    ensures played { OnOk result ((D.disk device).honest →
+        HasPlayed rom.items (D.disk device) (D.disk (left_by result)) (inputs_of_script script.now)) }
+    ensures images { (D.disk device).honest →
+        HoldsSince (D.disk device) (D.disk (left_by result)) (PlayImage rom.items (D.disk device) (inputs_of_script script.now)) }
     ensures playable { OnOk result (IsPlayable rom.items script.now) }
     ensures report { OnOk result (HasReported rom.items script.now (D.disk device) (W.contents report.old) (W.contents report.new)) }
-    ensures cause { IfErr result (λ refused. IsPlayCause rom.items script.now device refused (D.disk device) (D.disk refused.device) (W.contents report.old) (W.contents report.new) refused.why) }
+    ensures cause { IfErr result (λ refused.
+        IsPlayCause rom.items script.now device refused (D.disk device) (D.disk refused.device) (W.contents report.old)
+        (W.contents report.new) refused.why) }
     ensures picture { OnOk result (HasDrawn rom.items script.now (D.disk device) (P.contents out.old) (P.contents out.new)) }
     ensures part { IfErr result (λ refused. HasDrawnPart rom.items script.now (D.disk device) (P.contents out.old) (P.contents out.new) refused.why) }
 {
@@ -78,11 +86,15 @@ fn play_script<D: SectorDevice, W: Write>(
     script: &[u8],
     report: &mut W,
 ) -> Result<Session<D>, PlayRefused<D>>
-    ensures played { OnOk result ((D.disk device).honest → HasPlayed rom.items (D.disk device) (D.disk (left_by_session result)) (inputs_of_script script.now)) }
-    ensures images { (D.disk device).honest → HoldsSince (D.disk device) (D.disk (left_by_session result)) (PlayImage rom.items (D.disk device) (inputs_of_script script.now)) }
+    ensures played { OnOk result ((D.disk device).honest →
+        HasPlayed rom.items (D.disk device) (D.disk (left_by_session result)) (inputs_of_script script.now)) }
+    ensures images { (D.disk device).honest →
+        HoldsSince (D.disk device) (D.disk (left_by_session result)) (PlayImage rom.items (D.disk device) (inputs_of_script script.now)) }
     ensures playable { OnOk result (IsPlayable rom.items script.now) }
     ensures report { OnOk result (HasReported rom.items script.now (D.disk device) (W.contents report.old) (W.contents report.new)) }
-    ensures cause { IfErr result (λ refused. IsPlayCause rom.items script.now device refused (D.disk device) (D.disk refused.device) (W.contents report.old) (W.contents report.new) refused.why) }
+    ensures cause { IfErr result (λ refused.
+        IsPlayCause rom.items script.now device refused (D.disk device) (D.disk refused.device) (W.contents report.old)
+        (W.contents report.new) refused.why) }
     ensures last { IfOk result (λ s. IsLastMachine rom.items script.now (D.disk device) (machine_of s)) }
     ensures undrawn { IfErr result (λ refused. refused.why ≢ PlayError.Picture) }
 {
@@ -115,9 +127,11 @@ fn picture_of<D: SectorDevice, P: Write>(
     out: &mut P,
 ) -> Result<D, PlayRefused<D>>
     ensures device { left_by result ≡ device_of session }
-    ensures picture { OnOk result (Appends (P.contents out.old) (P.contents out.new) (picture_text (machine_of session).processor.memory.picture.screen.rows)) }
+    ensures picture { OnOk result (Appends (P.contents out.old) (P.contents out.new)
+        (picture_text (machine_of session).processor.memory.picture.screen.rows)) }
     ensures why { IfErr result (λ refused. refused.why ≡ PlayError.Picture) }
-    ensures part { OnErr result (AppendsProperPrefix (P.contents out.old) (P.contents out.new) (picture_text (machine_of session).processor.memory.picture.screen.rows)) }
+    ensures part { OnErr result (AppendsProperPrefix (P.contents out.old) (P.contents out.new)
+        (picture_text (machine_of session).processor.memory.picture.screen.rows)) }
 {
     let written = session.machine().picture().write_pgm(out);
     let device = session.into_device();

@@ -141,14 +141,9 @@ fn info<R: Files<File = File> + AllocGlobal, O: Write>(
 ) -> Result<(), Fault>
     ensures { IsServed (Request.Info cart.entry) result (O.contents out.old) (O.contents out.new) }
 {
-    let rom = match file_bytes(rt, cart, MOST_ROM) {
-        Ok(rom) => rom,
-        Err(fault) => return Err(fault),
-    };
-    match info_lines(rom, out) {
-        Ok(()) => Ok(()),
-        Err(fault) => Err(Fault::Step(fault)),
-    }
+    let rom = file_bytes(rt, cart, MOST_ROM)?;
+    info_lines(rom, out)?;
+    Ok(())
 }
 
 fn list<R: Files<File = File> + AllocGlobal, O: Write>(
@@ -163,14 +158,9 @@ fn list<R: Files<File = File> + AllocGlobal, O: Write>(
     let Some(first) = address_of(address) else {
         return Err(Fault::Address);
     };
-    let rom = match file_bytes(rt, cart, MOST_ROM) {
-        Ok(rom) => rom,
-        Err(fault) => return Err(fault),
-    };
-    match list_lines(rt.alloc(), rom, first, count, out) {
-        Ok(()) => Ok(()),
-        Err(fault) => Err(Fault::Step(fault)),
-    }
+    let rom = file_bytes(rt, cart, MOST_ROM)?;
+    list_lines(rt.alloc(), rom, first, count, out)?;
+    Ok(())
 }
 
 fn step<R: Files<File = File> + AllocGlobal, O: Write>(
@@ -181,12 +171,7 @@ fn step<R: Files<File = File> + AllocGlobal, O: Write>(
 ) -> Result<(), Fault>
     ensures { IsServed (Request.Step cart.entry count) result (O.contents out.old) (O.contents out.new) }
 {
-    let rom = match file_bytes(rt, cart, MOST_ROM) {
-        Ok(rom) => rom,
-        Err(fault) => return Err(fault),
-    };
-    match step_line(rt.alloc(), rom, count, out) {
-        Ok(()) => Ok(()),
-        Err(fault) => Err(Fault::Step(fault)),
-    }
+    let rom = file_bytes(rt, cart, MOST_ROM)?;
+    step_line(rt.alloc(), rom, count, out)?;
+    Ok(())
 }

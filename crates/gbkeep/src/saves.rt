@@ -29,22 +29,13 @@ pub(crate) fn new<R: Files<File = File> + AllocGlobal, O: Write>(
 ) -> Result<(), Fault>
     ensures { IsServed (Request.New cart.entry save.entry sectors) result (O.contents out.old) (O.contents out.new) }
 {
-    let rom = match file_bytes(rt, cart, MOST_ROM) {
-        Ok(rom) => rom,
-        Err(fault) => return Err(fault),
-    };
-    let cartridge = match Cartridge::read(rom) {
-        Ok(cartridge) => cartridge,
-        Err(fault) => return Err(Fault::Cart(fault)),
-    };
+    let rom = file_bytes(rt, cart, MOST_ROM)?;
+    let cartridge = Cartridge::read(rom)?;
     let need = sectors_needed(&cartridge);
     if u64::from(sectors) < need {
         return Err(Fault::Session(SessionError::TooSmall { need }));
     }
-    let device = match FileDevice::create(rt, Path::new(save), u64::from(sectors)) {
-        Ok(device) => device,
-        Err(fault) => return Err(Fault::Device(fault)),
-    };
+    let device = FileDevice::create(rt, Path::new(save), u64::from(sectors))?;
     if let Err(refused) = new_game(rt.alloc(), device, &cartridge) {
         let _ = fs::remove_file(rt, save);
         return Err(Fault::Session(refused.why));
@@ -65,18 +56,9 @@ pub(crate) fn play<R: Files<File = File> + AllocGlobal, O: Write>(
 ) -> Result<(), Fault>
     ensures { IsServed (Request.Play cart.entry save.entry script.entry) result (O.contents out.old) (O.contents out.new) }
 {
-    let rom = match file_bytes(rt, cart, MOST_ROM) {
-        Ok(rom) => rom,
-        Err(fault) => return Err(fault),
-    };
-    let device = match FileDevice::attach(rt, Path::new(save)) {
-        Ok(device) => device,
-        Err(fault) => return Err(Fault::Device(fault)),
-    };
-    let script = match file_bytes(rt, script, MOST_SCRIPT) {
-        Ok(script) => script,
-        Err(fault) => return Err(fault),
-    };
+    let rom = file_bytes(rt, cart, MOST_ROM)?;
+    let device = FileDevice::attach(rt, Path::new(save))?;
+    let script = file_bytes(rt, script, MOST_SCRIPT)?;
     match play_to_picture(
         rt.alloc(),
         device,
@@ -86,7 +68,7 @@ pub(crate) fn play<R: Files<File = File> + AllocGlobal, O: Write>(
         None::<&mut File>,
     ) {
         Ok(_) => Ok(()),
-        Err(refused) => Err(Fault::of_play(refused.why)),
+        Err(refused) => Err(Fault::from(refused.why)),
     }
 }
 
@@ -101,25 +83,16 @@ pub(crate) fn frame<R: Files<File = File> + AllocGlobal, O: Write>(
 ) -> Result<(), Fault>
     ensures { IsServed (Request.Frame cart.entry save.entry picture.entry) result (O.contents out.old) (O.contents out.new) }
 {
-    let rom = match file_bytes(rt, cart, MOST_ROM) {
-        Ok(rom) => rom,
-        Err(fault) => return Err(fault),
-    };
-    let device = match FileDevice::attach(rt, Path::new(save)) {
-        Ok(device) => device,
-        Err(fault) => return Err(Fault::Device(fault)),
-    };
+    let rom = file_bytes(rt, cart, MOST_ROM)?;
+    let device = FileDevice::attach(rt, Path::new(save))?;
     // emptied, it would be the end of the game; by another name than this, the device's lock keeps it
     if picture == save || picture == cart {
         return Err(Fault::File);
     }
-    let mut picture = match emptied_file(rt, picture) {
-        Ok(picture) => picture,
-        Err(fault) => return Err(fault),
-    };
+    let mut picture = emptied_file(rt, picture)?;
     match play_to_picture(rt.alloc(), device, rom, b"", out, Some(&mut picture)) {
         Ok(_) => Ok(()),
-        Err(refused) => Err(Fault::of_play(refused.why)),
+        Err(refused) => Err(Fault::from(refused.why)),
     }
 }
 
@@ -133,21 +106,12 @@ pub(crate) fn trace<R: Files<File = File> + AllocGlobal, O: Write>(
 ) -> Result<(), Fault>
     ensures { IsServed (Request.Trace cart.entry save.entry count) result (O.contents out.old) (O.contents out.new) }
 {
-    let cart = match open_file(rt, cart) {
-        Ok(cart) => cart,
-        Err(fault) => return Err(fault),
-    };
-    let device = match FileDevice::attach(rt, Path::new(save)) {
-        Ok(device) => device,
-        Err(fault) => return Err(Fault::Device(fault)),
-    };
-    let rom = match bytes_of(rt.alloc(), cart, MOST_ROM) {
-        Ok(rom) => rom,
-        Err(fault) => return Err(fault),
-    };
+    let cart = open_file(rt, cart)?;
+    let device = FileDevice::attach(rt, Path::new(save))?;
+    let rom = bytes_of(rt.alloc(), cart, MOST_ROM)?;
     match trace_lines(rt.alloc(), device, rom, count, out) {
         Ok(_) => Ok(()),
-        Err(refused) => Err(Fault::of_trace(refused.why)),
+        Err(refused) => Err(Fault::from(refused.why)),
     }
 }
 
@@ -161,16 +125,10 @@ pub(crate) fn stream<R: Files<File = File> + AllocGlobal, I: Read, O: Write>(
 ) -> Result<(), Fault>
     ensures { IsServed (Request.Stream cart.entry save.entry) result (O.contents out.old) (O.contents out.new) }
 {
-    let rom = match file_bytes(rt, cart, MOST_ROM) {
-        Ok(rom) => rom,
-        Err(fault) => return Err(fault),
-    };
-    let device = match FileDevice::attach(rt, Path::new(save)) {
-        Ok(device) => device,
-        Err(fault) => return Err(Fault::Device(fault)),
-    };
+    let rom = file_bytes(rt, cart, MOST_ROM)?;
+    let device = FileDevice::attach(rt, Path::new(save))?;
     match stream_play(rt.alloc(), device, rom, input, out) {
         Ok(_) => Ok(()),
-        Err(refused) => Err(Fault::of_stream(refused.why)),
+        Err(refused) => Err(Fault::from(refused.why)),
     }
 }

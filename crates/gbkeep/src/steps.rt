@@ -5,7 +5,7 @@ ghost use Rattle.std.specs.Io.KnownBytes.{Appends};
 ghost use Rattle.cartridge.specs.Accepted.{IsAccepted};
 ghost use Rattle.gbkeep.specs.StepLine.{Refuses, line_after};
 
-use crate::error::StepError;
+use crate::error::TextError;
 use crate::line::register_line;
 use cartridge::Cartridge;
 use exact_text::write_whole;
@@ -24,23 +24,23 @@ pub fn step_line<W: Write>(
     rom: Vec<u8>,
     count: u32,
     out: &mut W,
-) -> Result<(), StepError>
+) -> Result<(), TextError>
     ensures accepted { OnOk result (IsAccepted rom.items) }
     ensures line { OnOk result (Appends (W.contents out.old) (W.contents out.new) (line_after rom.items count)) }
     ensures refused { IfErr result (Refuses rom.items (line_after rom.items count) (W.contents out.old) (W.contents out.new)) }
 {
     let cartridge = match Cartridge::read(rom) {
         Ok(cartridge) => cartridge,
-        Err(fault) => return Err(StepError::Cart(fault)),
+        Err(fault) => return Err(TextError::Cart(fault)),
     };
     let mut machine = match Machine::power_on(alloc, &cartridge) {
         Ok(machine) => machine,
-        Err(_) => return Err(StepError::Memory),
+        Err(_) => return Err(TextError::Memory),
     };
     machine.run_steps(count);
     let line = register_line(machine.processor());
     match write_whole(out, line.as_bytes()) {
         Ok(()) => Ok(()),
-        Err(_) => Err(StepError::Output),
+        Err(_) => Err(TextError::Output),
     }
 }

@@ -26,8 +26,12 @@ pub fn stream_play<D: SectorDevice, R: Read, W: Write>(
     out: &mut W,
 ) -> Result<D, StreamPlayRefused<D>>
     ensures accepted { OnOk result (IsAccepted rom.items) }
-    ensures streamed { OnOk result (HasStreamed rom.items (D.disk device) (D.disk (left_by result)) Whole (R.remaining input.old) (R.remaining input.new) (W.contents out.old) (W.contents out.new)) }
-    ensures cause { IfErr result (λ refused. IsStreamPlayCause rom.items device refused (D.disk device) (D.disk refused.device) (R.remaining input.old) (R.remaining input.new) (W.contents out.old) (W.contents out.new) refused.why) }
+    ensures streamed { OnOk result
+        (HasStreamed rom.items (D.disk device) (D.disk (left_by result)) Whole (R.remaining input.old) (R.remaining input.new)
+        (W.contents out.old) (W.contents out.new)) }
+    ensures cause { IfErr result (λ refused.
+        IsStreamPlayCause rom.items device refused (D.disk device) (D.disk refused.device) (R.remaining input.old) (R.remaining input.new)
+        (W.contents out.old) (W.contents out.new) refused.why) }
     ensures faults_ok { OnOk result ((D.disk (left_by result)).faults ≡ (D.disk device).faults) }
     ensures faults { IfErr result (λ refused. (D.disk refused.device).faults ≡ faults_after_stream_play refused.why (D.disk device).faults) }
 {

@@ -40,7 +40,9 @@ pub fn trace_lines<D: SectorDevice, W: Write>(
     ensures accepted { OnOk result (IsAccepted rom.items) }
     ensures traced { OnOk result (HasTraced rom.items (D.disk device) (D.disk (left_by result)) count (W.contents out.old) (W.contents out.new)) }
     ensures images { (D.disk device).honest → HoldsSince (D.disk device) (D.disk (left_by result)) (StandsAsBefore rom.items (D.disk device)) }
-    ensures cause { IfErr result (λ refused. IsTraceCause rom.items count device refused (D.disk device) (D.disk refused.device) (W.contents out.old) (W.contents out.new) refused.why) }
+    ensures cause { IfErr result (λ refused.
+        IsTraceCause rom.items count device refused (D.disk device) (D.disk refused.device) (W.contents out.old) (W.contents out.new)
+        refused.why) }
     ensures faults_ok { OnOk result ((D.disk (left_by result)).faults ≡ (D.disk device).faults) }
     ensures faults { IfErr result (λ refused. (D.disk refused.device).faults ≡ faults_after_trace refused.why (D.disk device).faults) }
 {
@@ -78,8 +80,10 @@ fn write_trace<W: Write>(
 ) -> Result<(), TraceError>
     requires rom { machine.now.processor.memory.banks.rom ≡ cartridge.now }
     requires own { IsOfItsRom machine.now }
-    ensures ok { OnOk result (IsMachineOf cartridge.now machine.now × Appends (W.contents out.old) (W.contents out.new) (trace_text inputs machine.now count)) }
-    ensures err { IfErr result (IsUnwritten cartridge.now machine.now (trace_text inputs machine.now count) (W.contents out.old) (W.contents out.new)) }
+    ensures ok { OnOk result (IsMachineOf cartridge.now machine.now ×
+        Appends (W.contents out.old) (W.contents out.new) (trace_text inputs machine.now count)) }
+    ensures err { IfErr result (IsUnwritten cartridge.now machine.now (trace_text inputs machine.now count) (W.contents out.old)
+        (W.contents out.new)) }
 {
     let Some(mut debugger) = debugger_of(alloc, machine, cartridge) else {
         return Err(TraceError::Memory);
@@ -112,7 +116,8 @@ fn write_steps<W: Write>(
     out: &mut W,
 ) -> Result<(), OutputFailed>
     ensures ok { OnOk result (Appends (W.contents out.old) (W.contents out.new) (step_lines bus_rules count debugger.old.machine.processor)) }
-    ensures err { OnErr result (AppendsProperPrefix (W.contents out.old) (W.contents out.new) (step_lines bus_rules count debugger.old.machine.processor)) }
+    ensures err { OnErr result (AppendsProperPrefix (W.contents out.old) (W.contents out.new)
+        (step_lines bus_rules count debugger.old.machine.processor)) }
 {
     for _i in 0..count {
         let stepped = debugger.step();

@@ -6,7 +6,7 @@ use Rattle.opcode_table.specs.declared.instruction.Instr.{Instr}
 use Rattle.opcode_table.specs.declared.instruction.Instr.TheVariants.{Nop, StoreSp, Stop, JumpRelative, JumpRelativeIf, LoadRegister16, AddHl, StoreAccumulator, LoadAccumulator, IncrementRegister16, DecrementRegister16, Increment, Decrement, LoadByte, Accumulator, Load, Halt, Operate, OperateByte, ReturnIf, StoreHigh, AddSp, LoadHigh, LoadHlSp, Pop, Return, ReturnFromInterrupt, JumpHl, LoadSpHl, JumpIf, StoreHighC, StoreAt, LoadHighC, LoadAt, Jump, DisableInterrupts, EnableInterrupts, CallIf, Push, Call, Restart, Shift, TestBit, ResetBit, SetBit, Undefined}
 use Rattle.opcode_table.specs.Timing.{is_in_memory, cycles_of, cycles_taken_of}
 use Rattle.machine.specs.Rules.{Rules}
-use Rattle.machine.specs.Steps.{Step, step_of, after_steps, waited, dispatched, ran, resumed, after_stop}
+use Rattle.machine.specs.Steps.{Step, step_of, after_steps, waited, dispatched, ran, dispatched_or_ran, step_unstopped}
 use Rattle.machine.specs.Machine.{Ahead, IsFrame, cycles_of_steps, steps_until}
 use Rattle.machine.specs.declared.processor.Processor.{Processor}
 
@@ -100,18 +100,18 @@ chosen_step false s t first second = second
 pub ran-bounds : {M : Type 0} (r : Rules M) (p : Processor M) → AreCycles (ran r p).stepped.cycles
 ran-bounds r p = chosen _ _ _ (cycles_taken-bounds _) (cycles-bounds _)
 
-resumed-bounds : {M : Type 0} (r : Rules M) (p : Processor M) → AreCycles (resumed r p).stepped.cycles
-resumed-bounds r p = chosen_step _ (dispatched r p) (ran r p) five (ran-bounds r p)
+dispatched_or_ran-bounds : {M : Type 0} (r : Rules M) (p : Processor M) → AreCycles (dispatched_or_ran r p).stepped.cycles
+dispatched_or_ran-bounds r p = chosen_step _ (dispatched r p) (ran r p) five (ran-bounds r p)
 
-after_stop-bounds : {M : Type 0} (r : Rules M) (p : Processor M) → AreCycles (after_stop r p).stepped.cycles
-after_stop-bounds r p = chosen_step _ (waited r p) (resumed r _) one (resumed-bounds r _)
+step_unstopped-bounds : {M : Type 0} (r : Rules M) (p : Processor M) → AreCycles (step_unstopped r p).stepped.cycles
+step_unstopped-bounds r p = chosen_step _ (waited r p) (dispatched_or_ran r _) one (dispatched_or_ran-bounds r _)
 
 pub step-bounds : {M : Type 0} (r : Rules M) (p : Processor M) → AreCycles (step_of r p).stepped.cycles
 unfolding step_of
 step-bounds {M} r p =
     let on : Processor M = record p { state = record p.state { stopped = false } } in
     let waits = p.state.stopped && r.value_at p.memory 0xFF00 % 16 == 15 in
-    chosen_step p.state.locked (waited r p) (if waits then waited r p else after_stop r on) one (chosen_step waits (waited r p) (after_stop r on) one (after_stop-bounds r on))
+    chosen_step p.state.locked (waited r p) (if waits then waited r p else step_unstopped r on) one (chosen_step waits (waited r p) (step_unstopped r on) one (step_unstopped-bounds r on))
 
 -- ---- steps until a frame is complete
 

@@ -19,7 +19,7 @@ use Rattle.machine.specs.Rules.{Rules}
 use Rattle.machine.specs.Bus.{bus_rules}
 use Rattle.machine.specs.RegisterOperations.{previous_address, condition_holds}
 use Rattle.machine.specs.Execution.{executed, with_operand, pushed, at_pc}
-use Rattle.machine.specs.Steps.{is_disabling, Step, step_of, lowest_interrupt, vector_of, passing, waited, dispatched, decoded_at, begun, settled, ran, resumed, after_stop}
+use Rattle.machine.specs.Steps.{is_disabling, Step, step_of, lowest_interrupt, vector_of, passing, waited, dispatched, decoded_at, begun, settled, ran, dispatched_or_ran, step_unstopped}
 use Rattle.machine.specs.Machine.{MachineState, Ahead, steps_until, applied, after}
 use Rattle.machine.specs.MachineLaws.{CartridgeStays}
 
@@ -121,24 +121,24 @@ module _ {M : Type 0} (r : Rules M) (R : M → M → Type 0) (k : IsKept r R) wh
       by_passing s.memory 5 (at_pc (vector_of bit) (pushed r s.registers.pc quiet))
       (k.follows _ _ _ (k.acknowledged s.memory bit) (by_push s.registers.pc quiet))
 
-  by_resuming : (s : Processor M) → R s.memory (resumed r s).after.memory
+  by_resuming : (s : Processor M) → R s.memory (dispatched_or_ran r s).after.memory
   by_resuming s = either_step s.memory (s.state.ime && not (r.shared s.memory == 0)) (dispatched r s) (ran r s) (by_dispatch s) (by_running s)
 
   by_wait : (s : Processor M) → R s.memory (waited r s).after.memory
   by_wait s = k.passed s.memory 1
 
-  by_going_on : (s : Processor M) → R s.memory (after_stop r s).after.memory
+  by_going_on : (s : Processor M) → R s.memory (step_unstopped r s).after.memory
   by_going_on s =
       let going : Processor M = record s { state = record s.state { halted = false } } in
-      either_step s.memory (s.state.halted && r.shared s.memory == 0) (waited r s) (resumed r going) (by_wait s) (by_resuming going)
+      either_step s.memory (s.state.halted && r.shared s.memory == 0) (waited r s) (dispatched_or_ran r going) (by_wait s) (by_resuming going)
 
   pub by_step : (s : Processor M) → R s.memory (step_of r s).after.memory
   unfolding step_of
   by_step s =
       let on : Processor M = record s { state = record s.state { stopped = false } } in
       let waits = s.state.stopped && r.value_at s.memory 0xFF00 % 16 == 15 in
-      either_step s.memory s.state.locked (waited r s) (if waits then waited r s else after_stop r on) (by_wait s)
-      (either_step s.memory waits (waited r s) (after_stop r on) (by_wait s) (by_going_on on))
+      either_step s.memory s.state.locked (waited r s) (if waits then waited r s else step_unstopped r on) (by_wait s)
+      (either_step s.memory waits (waited r s) (step_unstopped r on) (by_wait s) (by_going_on on))
 
   either_end : (m : M) (b : Bool) (x y : Ahead M) → R m x.after.memory → R m y.after.memory → R m (if b then x else y).after.memory
   either_end m true x y first second = first

@@ -2,7 +2,7 @@
 use Rattle.std.proofs.Common.{◌≡◌, ◌∙◌, ℕ, Bool, true, false, cond, List, [], ◌∷◌, slice_index, refl, sym, ap}
 use Rattle.std.specs.Prelude.{◌&&◌, ◌==◌, ◌%◌, not, if◌then◌else◌}
 use Rattle.machine.specs.Rules.{Rules}
-use Rattle.machine.specs.Steps.{Step, step_of, after_stop, resumed, dispatched, ran, waited, passing, settled, byte_at, second_address, decoded_at}
+use Rattle.machine.specs.Steps.{Step, step_of, step_unstopped, dispatched_or_ran, dispatched, ran, waited, passing, settled, byte_at, second_address, decoded_at}
 use Rattle.machine.specs.Opcodes.{opened, instruction_at, executed_behind, cycles_with}
 use Rattle.machine.specs.RegisterOperations.{next_address}
 use Rattle.machine.specs.Plain.{IsPlain}
@@ -21,11 +21,11 @@ going_of b p = record p { state = record p.state { halted = b } }
 pub plain_step : {M : Type 0} (r : Rules M) (p : Processor M) → IsPlain r p → step_of r p ≡ ran r p
 unfolding step_of
 plain_step r p plain =
-    ap (λ b. cond b (waited r p) (cond (p.state.stopped && r.value_at p.memory 0xFF00 % 16 == 15) (waited r p) (after_stop r (on_of false p)))) plain.usual.locked
-    ∙ ap (λ b. cond (b && r.value_at p.memory 0xFF00 % 16 == 15) (waited r p) (after_stop r (on_of false p))) plain.usual.stopped
-    ∙ ap (λ b. after_stop r (on_of b p)) (sym plain.usual.stopped)
-    ∙ ap (λ b. cond (b && r.shared p.memory == 0) (waited r p) (resumed r (going_of false p))) plain.usual.halted
-    ∙ ap (λ b. resumed r (going_of b p)) (sym plain.usual.halted)
+    ap (λ b. cond b (waited r p) (cond (p.state.stopped && r.value_at p.memory 0xFF00 % 16 == 15) (waited r p) (step_unstopped r (on_of false p)))) plain.usual.locked
+    ∙ ap (λ b. cond (b && r.value_at p.memory 0xFF00 % 16 == 15) (waited r p) (step_unstopped r (on_of false p))) plain.usual.stopped
+    ∙ ap (λ b. step_unstopped r (on_of b p)) (sym plain.usual.stopped)
+    ∙ ap (λ b. cond (b && r.shared p.memory == 0) (waited r p) (dispatched_or_ran r (going_of false p))) plain.usual.halted
+    ∙ ap (λ b. dispatched_or_ran r (going_of b p)) (sym plain.usual.halted)
     ∙ ap (λ b. cond b (dispatched r p) (ran r p)) plain.uninterrupted
 
 abbrev opcode_at : {M : Type 0} → Rules M → Processor M → ℕ

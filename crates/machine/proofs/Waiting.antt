@@ -14,7 +14,7 @@ use Rattle.memory_map.proofs.QuietTicks.{ComesAfter, bus_settles, shared_before,
 use Rattle.machine.specs.Rules.{Rules}
 use Rattle.machine.specs.Bus.{bus_rules}
 use Rattle.machine.specs.Execution.{at_pc, pushed, executed}
-use Rattle.machine.specs.Steps.{Step, step_of, passing, waited, lowest_interrupt, vector_of, dispatched, decoded_at, begun, settled, ran, resumed, after_stop}
+use Rattle.machine.specs.Steps.{Step, step_of, passing, waited, lowest_interrupt, vector_of, dispatched, decoded_at, begun, settled, ran, dispatched_or_ran, step_unstopped}
 use Rattle.machine.specs.Machine.{steps_until}
 use Rattle.machine.specs.Waiting.{Waits, within}
 use Rattle.machine.specs.declared.processor.Processor.{Processor}
@@ -84,8 +84,8 @@ dispatched_settles p =
     let quiet : Processor BusState = record p { state = record p.state { ime = false; enable = false }; memory = acknowledged bit p.memory } in
     passing_settles 5 (at_pc (vector_of bit) (pushed bus_rules p.registers.pc quiet)) (omega arith)
 
-resumed_settles : (p : Processor BusState) → Settles (resumed bus_rules p)
-resumed_settles p = either_settles _ (dispatched bus_rules p) (ran bus_rules p) (dispatched_settles p) (ran_settles p)
+dispatched_or_ran_settles : (p : Processor BusState) → Settles (dispatched_or_ran bus_rules p)
+dispatched_or_ran_settles p = either_settles _ (dispatched bus_rules p) (ran bus_rules p) (dispatched_settles p) (ran_settles p)
 
 waited_settles : (p : Processor BusState) → Settles (waited bus_rules p)
 waited_settles p = passing_settles 1 p (omega arith)
@@ -93,16 +93,16 @@ waited_settles p = passing_settles 1 p (omega arith)
 abbrev going_of : Processor BusState → Processor BusState
 going_of p = record p { state = record p.state { halted = false } }
 
-after_stop_settles : (p : Processor BusState) → Settles (after_stop bus_rules p)
-after_stop_settles p = either_settles _ (waited bus_rules p) (resumed bus_rules (going_of p)) (waited_settles p) (resumed_settles (going_of p))
+step_unstopped_settles : (p : Processor BusState) → Settles (step_unstopped bus_rules p)
+step_unstopped_settles p = either_settles _ (waited bus_rules p) (dispatched_or_ran bus_rules (going_of p)) (waited_settles p) (dispatched_or_ran_settles (going_of p))
 
 pub step_settles : (p : Processor BusState) → IsSettled (step_of bus_rules p).after.memory.picture
 unfolding step_of
 step_settles p =
     let on : Processor BusState = record p { state = record p.state { stopped = false } } in
     let waits = p.state.stopped && read_at p.memory 0xFF00 % 16 == 15 in
-    either_settles p.state.locked (waited bus_rules p) (if waits then waited bus_rules p else after_stop bus_rules on) (waited_settles p)
-    (either_settles waits (waited bus_rules p) (after_stop bus_rules on) (waited_settles p) (after_stop_settles on))
+    either_settles p.state.locked (waited bus_rules p) (if waits then waited bus_rules p else step_unstopped bus_rules on) (waited_settles p)
+    (either_settles waits (waited bus_rules p) (step_unstopped bus_rules on) (waited_settles p) (step_unstopped_settles on))
 
 -- ---- which processors wait
 
@@ -110,7 +110,7 @@ abbrev on_of : Processor BusState → Processor BusState
 on_of p = record p { state = record p.state { stopped = false } }
 
 abbrev stop_test : Processor BusState → Step BusState
-stop_test p = if p.state.stopped && read_at p.memory 0xFF00 % 16 == 15 then waited bus_rules p else after_stop bus_rules (on_of p)
+stop_test p = if p.state.stopped && read_at p.memory 0xFF00 % 16 == 15 then waited bus_rules p else step_unstopped bus_rules (on_of p)
 
 locked_step : (p : Processor BusState) → p.state.locked ≡ true → step_of bus_rules p ≡ waited bus_rules p
 unfolding step_of
@@ -122,16 +122,16 @@ unlocked_step p locked = ap (λ b. cond b (waited bus_rules p) (stop_test p)) lo
 
 stopped_step : (p : Processor BusState) → p.state.stopped ≡ true → read_at p.memory 0xFF00 % 16 ≡ 15 → stop_test p ≡ waited bus_rules p
 stopped_step p stopped low =
-    ap (λ b. cond (b && read_at p.memory 0xFF00 % 16 == 15) (waited bus_rules p) (after_stop bus_rules (on_of p))) stopped
-    ∙ ap (λ (n : ℕ). cond (n == 15) (waited bus_rules p) (after_stop bus_rules (on_of p))) low
+    ap (λ b. cond (b && read_at p.memory 0xFF00 % 16 == 15) (waited bus_rules p) (step_unstopped bus_rules (on_of p))) stopped
+    ∙ ap (λ (n : ℕ). cond (n == 15) (waited bus_rules p) (step_unstopped bus_rules (on_of p))) low
 
 halted_step : (p : Processor BusState) → p.state.stopped ≡ false → p.state.halted ≡ true → shared p.memory ≡ 0 → stop_test p ≡ waited bus_rules p
 halted_step p stopped halted none =
     let same : on_of p ≡ p = ap (λ (b : Bool). record p { state = record p.state { stopped = b } }) (sym stopped) in
-    ap (λ b. cond (b && read_at p.memory 0xFF00 % 16 == 15) (waited bus_rules p) (after_stop bus_rules (on_of p))) stopped
-    ∙ ap (λ (q : Processor BusState). after_stop bus_rules q) same
-    ∙ ap (λ b. cond (b && shared p.memory == 0) (waited bus_rules p) (resumed bus_rules (going_of p))) halted
-    ∙ ap (λ (n : ℕ). cond (n == 0) (waited bus_rules p) (resumed bus_rules (going_of p))) none
+    ap (λ b. cond (b && read_at p.memory 0xFF00 % 16 == 15) (waited bus_rules p) (step_unstopped bus_rules (on_of p))) stopped
+    ∙ ap (λ (q : Processor BusState). step_unstopped bus_rules q) same
+    ∙ ap (λ b. cond (b && shared p.memory == 0) (waited bus_rules p) (dispatched_or_ran bus_rules (going_of p))) halted
+    ∙ ap (λ (n : ℕ). cond (n == 0) (waited bus_rules p) (dispatched_or_ran bus_rules (going_of p))) none
 
 pub locked_waits : (n : ℕ) (p : Processor BusState) → p.state.locked ≡ true → Waits n p
 locked_waits n p locked k lt = locked_step (passing bus_rules k p) locked

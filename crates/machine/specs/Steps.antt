@@ -148,21 +148,21 @@ ran rules s =
     }
 
 -- a processor that neither waits nor is stopped takes an interrupt that is let in, or runs
-abbrev pub resumed : {M : Type 0} → Rules M → Processor M → Step M
-resumed rules s = if s.state.ime && not (rules.shared s.memory == 0) then dispatched rules s else ran rules s
+abbrev pub dispatched_or_ran : {M : Type 0} → Rules M → Processor M → Step M
+dispatched_or_ran rules s = if s.state.ime && not (rules.shared s.memory == 0) then dispatched rules s else ran rules s
 
 -- a halt ends where IE and IF share a bit
-abbrev pub after_stop : {M : Type 0} → Rules M → Processor M → Step M
-after_stop rules s =
+abbrev pub step_unstopped : {M : Type 0} → Rules M → Processor M → Step M
+step_unstopped rules s =
     if s.state.halted && rules.shared s.memory == 0 then waited rules s
-    else resumed rules (record s { state = record s.state { halted = false } })
+    else dispatched_or_ran rules (record s { state = record s.state { halted = false } })
 
 -- a locked processor waits for ever; a stop ends where a low bit of P1, at FF00, is 0
 unfoldable pub step_of : {M : Type 0} → Rules M → Processor M → Step M
 step_of rules s =
     if s.state.locked then waited rules s
     else if s.state.stopped && rules.value_at s.memory 0xFF00 % 16 == 15 then waited rules s
-    else after_stop rules (record s { state = record s.state { stopped = false } })
+    else step_unstopped rules (record s { state = record s.state { stopped = false } })
 
 -- the processor after n steps
 unfoldable pub after_steps : {M : Type 0} → Rules M → ℕ → Processor M → Processor M

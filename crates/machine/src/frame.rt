@@ -22,7 +22,8 @@ impl Processor<Bus> {
     ghost use Rattle.machine.specs.Plain.{IsPlain};
     ghost use Rattle.machine.specs.Steps.{passing};
 
-    /// Steps until a frame's M-cycles have passed, `overrun` of them before, and says how many more did.
+    /// Steps until a frame's M-cycles have passed, `overrun` of which passed before, and says how
+    /// many more passed.
     pub(crate) fn run_frame(&mut self, overrun: u8) -> u8
         requires { overrun < 6 }
         ensures after { self.new ≡ (frame_of bus_rules overrun self.old).after }
@@ -36,7 +37,8 @@ impl Processor<Bus> {
         (passed - FRAME) as u8
     }
 
-    /// Steps in a frame of which so many M-cycles have passed. Says how many have passed then.
+    /// Steps in a frame of which `passed` M-cycles have passed. Says how many have passed after
+    /// that.
     #[inline(always)]
     fn go_on(&mut self, passed: u32) -> u32
         requires { passed < 17556 }
@@ -70,7 +72,8 @@ impl Processor<Bus> {
         passed
     }
 
-    /// A plain step. Says how many M-cycles of the frame have passed then, and whether the next step is plain.
+    /// Makes a plain step. Says how many M-cycles of the frame have passed after it, and whether
+    /// the next step is plain.
     #[inline(always)]
     fn run_plain_step(&mut self, passed: u32) -> (u32, bool)
         requires below { passed < 17556 }
@@ -100,8 +103,9 @@ impl Processor<Bus> {
         let _ = Bus::pass_few(&mut self.memory, cycles);
     }
 
-    /// The waits that surely come in a frame of which so many M-cycles have passed; else a step, and behind a wait those that
-    /// surely follow it. Says how many M-cycles have passed then.
+    /// Passes the waits that are sure to come in a frame of which `passed` M-cycles have passed; if
+    /// there are none, makes a step and, after a wait, passes those that are sure to follow it.
+    /// Says how many M-cycles have passed after that.
     #[inline(never)]
     fn step_and_wait(&mut self, passed: u32) -> u32
         requires { passed < 17556 }
@@ -128,8 +132,8 @@ impl Processor<Bus> {
         now + waits
     }
 
-    /// For how many M-cycles a halted processor surely waits, of those that are left, by what the bus knows: few where it
-    /// knows little.
+    /// For how many of the M-cycles that are left a halted processor is sure to wait, by what the
+    /// bus knows: few if it knows little.
     #[inline(always)]
     fn sure_waits(&self, left: u32) -> u32
         ensures few { result ≤ left }
@@ -141,7 +145,8 @@ impl Processor<Bus> {
         u32::from(self.memory.unshared_for()).min(left)
     }
 
-    /// For how many M-cycles the processor surely waits, of those that are left, if the STAT signal was taken as it is now.
+    /// For how many of the M-cycles that are left the processor is sure to wait, if the STAT signal
+    /// was last evaluated at its present level.
     fn waits(&self, left: u32) -> u32
         ensures few { result ≤ left }
         ensures waits { IsSettled self.now.memory.picture → Waits result self.now }

@@ -1,4 +1,4 @@
-//! What each instruction does once its opcode is taken, and its M-cycles.
+//! What each instruction does once its opcode has been fetched, and its M-cycles.
 
 ghost use Rattle.std.specs.Prelude.{◌≡◌, ◌<◌, ◌+◌, ◌*◌, if◌then◌else◌};
 ghost use Rattle.machine.specs.Steps.{second_address};
@@ -160,7 +160,7 @@ impl<M: Memory> Processor<M> {
         2
     }
 
-    /// LD (BC),A and its like
+    /// LD (BC),A and the like
     #[inline(always)]
     pub(crate) fn run_store_accumulator(&mut self, operand: Indirect) -> u8
         ensures after { self.new ≡ executed_behind M.rules (Instr.StoreAccumulator operand) self.old }
@@ -173,7 +173,7 @@ impl<M: Memory> Processor<M> {
         2
     }
 
-    /// LD A,(BC) and its like
+    /// LD A,(BC) and the like
     #[inline(always)]
     pub(crate) fn run_load_accumulator(&mut self, operand: Indirect) -> u8
         ensures after { self.new ≡ executed_behind M.rules (Instr.LoadAccumulator operand) self.old }
@@ -243,7 +243,7 @@ impl<M: Memory> Processor<M> {
         by_operand(operand, 3, 2)
     }
 
-    /// RLCA and its like
+    /// RLCA and the like
     #[inline(always)]
     pub(crate) fn run_accumulator(&mut self, operation: AccumulatorOperation) -> u8
         ensures after { self.new ≡ executed_behind M.rules (Instr.Accumulator operation) self.old }
@@ -277,7 +277,7 @@ impl<M: Memory> Processor<M> {
         1
     }
 
-    /// ADD A,r and its like
+    /// ADD A,r and the like
     #[inline(always)]
     pub(crate) fn run_operate(&mut self, operation: Operation, operand: Operand8) -> u8
         ensures after { self.new ≡ executed_behind M.rules (Instr.Operate operation operand) self.old }
@@ -289,7 +289,7 @@ impl<M: Memory> Processor<M> {
         by_operand(operand, 2, 1)
     }
 
-    /// ADD A,n8 and its like
+    /// ADD A,n8 and the like
     #[inline(always)]
     pub(crate) fn run_operate_byte(&mut self, operation: Operation, byte: u8) -> u8
         ensures after { self.new ≡ executed_behind M.rules (Instr.OperateByte operation byte) self.old }
@@ -565,7 +565,7 @@ impl<M: Memory> Processor<M> {
         4
     }
 
-    /// RLC r and its like
+    /// RLC r and the like
     #[inline(always)]
     pub(crate) fn run_shift(&mut self, shift_by: Shift, operand: Operand8) -> u8
         ensures after { self.new ≡ executed_behind M.rules (Instr.Shift shift_by operand) self.old }

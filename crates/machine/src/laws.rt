@@ -1,9 +1,9 @@
-//! Laws of the definitions. The calls do nothing: the contract of each is a law.
+//! Laws of the definitions. The functions do nothing: the contract of each is a law.
 
 ghost use Rattle.machine.specs.Steps.{DispatchesLowest};
 ghost use Rattle.machine.specs.MachineLaws.{FrameIsLeast, InputsAddUp, CartridgeStays};
 
-/// Of the interrupts that IE and IF share, the one that is dispatched is the lowest.
+/// Of the interrupts that IE and IF share, the lowest is dispatched.
 pub fn dispatch_takes_the_lowest_bit()
     ensures { DispatchesLowest }
 {}
@@ -13,12 +13,13 @@ pub fn frame_ends_with_the_first_step_that_completes_it<M>()
     ensures { FrameIsLeast M }
 {}
 
-/// Inputs one after another are the whole list.
+/// Giving inputs one after another is the same as giving the whole list.
 pub fn inputs_add_up()
     ensures { InputsAddUp }
 {}
 
-/// No input changes which cartridge is in the machine: its ROM, kind, motor and length of RAM stay.
+/// No input changes which cartridge is in the machine: its ROM, kind, motor and length of RAM stay
+/// the same.
 pub fn inputs_keep_the_cartridge()
     ensures { CartridgeStays }
 {}

@@ -1,4 +1,4 @@
-//! The bytes of each instruction, by its opcode.
+//! The length of each instruction, by its opcode.
 
 ghost use Rattle.std.specs.Prelude.{◌≡◌, ℕ};
 ghost use Rattle.opcode_table.specs.Table.{instruction_of};
@@ -25,7 +25,7 @@ const LENGTHS: [u8; 256] = [
     2, 1, 1, 1, 1, 1, 2, 1, 2, 1, 3, 1, 1, 1, 2, 1,
 ];
 
-/// How many bytes the instruction of this opcode has, whatever stands behind it.
+/// How many bytes the instruction of this opcode has, whatever follows it.
 #[inline(always)]
 pub(crate) fn length_of_opcode(opcode: u8) -> u8
     ensures { (low high : ℕ) → result ≡ length_of (instruction_of opcode low high) }

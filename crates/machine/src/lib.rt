@@ -1,7 +1,7 @@
 //! The Game Boy: the processor, the SM83, over any memory, and the whole machine over the bus.
 //!
-//! A step is a wait, the dispatch of an interrupt or one instruction. What it is to do stands in
-//! `specs/Steps.antt` and `specs/Execution.antt`; `Processor::step` is proved to do exactly that
+//! A step is a wait, the dispatch of an interrupt or one instruction. What it should do is defined
+//! in `specs/Steps.antt` and `specs/Execution.antt`; `Processor::step` is proved to do exactly that
 //! over every memory that meets the trait `Memory`, and `Machine` is the processor over the bus.
 #![tactic(auto)]
 

@@ -15,7 +15,8 @@ use std::marker::Model;
 
 /// The Game Boy with a cartridge: the processor, the bus and all units on it.
 ///
-/// `power_on` makes all its room. Every other call takes no memory and always succeeds.
+/// `power_on` allocates all the memory that it needs. Every other call takes no memory and always
+/// succeeds.
 #[derive(Drop)]
 pub struct Machine {
     processor: Processor<Bus>,
@@ -81,7 +82,7 @@ impl Machine {
     ghost use Rattle.machine.specs.declared.step.What.{What};
     ghost use Rattle.machine.specs.MachineStores.{registers_of, with_registers, row_set, AreLegalFor};
 
-    /// The machine at power-on with this cartridge. Refused where there is no memory.
+    /// The machine at power-on with this cartridge. Refused if there is no memory.
     pub fn power_on(alloc: Global, cartridge: &Cartridge) -> Result<Machine, AllocError>
         ensures { IfOk result (λ m. m ≡ start cartridge.now) }
     {
@@ -104,7 +105,8 @@ impl Machine {
         self.processor.step()
     }
 
-    /// Whether the next step is an instruction that begins with neither `enable` nor `repeat`: a plain one.
+    /// Whether the next step is an instruction that begins with neither `enable` nor `repeat`: a
+    /// plain one.
     #[inline(always)]
     pub fn is_plain(&self) -> bool
         ensures plain { result ≡ true → IsPlain bus_rules self.now.processor }
@@ -113,26 +115,27 @@ impl Machine {
         self.processor.is_plain()
     }
 
-    /// A plain step, faster than `step`: the instruction that ran, and whether the next step is surely plain too. Condition: the
-    /// step is plain, as `is_plain` tells.
+    /// A plain step, faster than `step`: puts the instruction that ran into `ran`, and says whether the
+    /// next step is surely plain too. Condition: the step is plain, as `is_plain` tells.
     #[inline(always)]
-    pub fn step_plainly(&mut self) -> (Seen, bool)
+    pub fn step_plainly(&mut self, ran: &mut Seen) -> bool
         requires { IsPlain bus_rules self.old.processor }
         ensures machine { self.new ≡ record self.old { processor = (step_of bus_rules self.old.processor).after } }
-        ensures what { (step_of bus_rules self.old.processor).stepped.what ≡ What.Ran result.0 }
-        ensures plain { result.1 ≡ true → IsPlain bus_rules self.new.processor }
+        ensures what { (step_of bus_rules self.old.processor).stepped.what ≡ What.Ran ran.new }
+        ensures plain { result ≡ true → IsPlain bus_rules self.new.processor }
     {
-        self.processor.run_and_report()
+        self.processor.run_and_report(ran)
     }
 
-    /// That many steps.
+    /// Makes `count` steps.
     pub fn run_steps(&mut self, count: u32)
         ensures { self.new ≡ record self.old { processor = after_steps bus_rules count self.old.processor } }
     {
         self.processor.run_steps(count);
     }
 
-    /// A frame with these buttons: Right, Left, Up, Down, A, B, Select, Start as bits 0 to 7, 1 for pressed.
+    /// Plays a frame with these buttons: Right, Left, Up, Down, A, B, Select, Start as bits 0 to 7,
+    /// 1 for pressed.
     pub fn frame(&mut self, buttons: u8)
         ensures { self.new ≡ frame_played buttons self.old }
     {
@@ -140,7 +143,7 @@ impl Machine {
         self.overrun = self.processor.run_frame(self.overrun);
     }
 
-    /// One input.
+    /// Gives the machine one input.
     pub fn apply(&mut self, input: Input)
         ensures { self.new ≡ applied input self.old }
     {
@@ -157,28 +160,28 @@ impl Machine {
         self.processor.registers
     }
 
-    /// The processor, to look at.
+    /// A read-only view of the processor.
     pub fn processor(&self) -> &Processor<Bus>
         ensures { result.now ≡ self.now.processor }
     {
         &self.processor
     }
 
-    /// The picture unit, to look at.
+    /// A read-only view of the picture unit.
     pub fn picture(&self) -> &Picture
         ensures { result.now ≡ self.now.processor.memory.picture.screen }
     {
         self.processor.memory.picture()
     }
 
-    /// What reading an address gives where neither a mode nor a copy closes anything.
+    /// What reading an address gives if neither a mode nor a copy closes anything.
     pub fn peek(&self, address: u16) -> u8
         ensures { result ≡ peeked self.now.processor.memory address }
     {
         self.processor.memory.peek(address)
     }
 
-    /// The M-cycles by which the last frame was longer than a frame, 0 to 5.
+    /// The M-cycles by which the last frame overran, 0 to 5.
     pub fn overrun(&self) -> u8
         ensures overrun { result ≡ self.now.overrun }
         ensures few { result < 6 }
@@ -186,8 +189,8 @@ impl Machine {
         self.overrun
     }
 
-    /// What a snapshot holds beside the stores of bytes and the rows of the picture: each field legal for this
-    /// cartridge.
+    /// What a snapshot holds besides the stores of bytes and the rows of the picture; each field is
+    /// legal for this cartridge.
     pub fn state(&self) -> MachineRegisters
         ensures state { result ≡ registers_of self.now }
         ensures legal { AreLegalFor self.now.processor.memory.banks result }
@@ -220,15 +223,18 @@ impl Machine {
         self.processor.memory.store(region)
     }
 
-    /// Sets all bytes of a region. Condition: there are as many, and for the RAM of MBC2 each is below 16.
+    /// Sets all bytes of a region. Condition: there are as many as the region has, and for the RAM
+    /// of MBC2 each is below 16.
     pub fn fill(&mut self, region: Region, bytes: &[u8])
         requires { FitsRegion self.old.processor.memory region bytes.now }
-        ensures { self.new ≡ record self.old { processor = record self.old.processor { memory = region_filled region bytes.now self.old.processor.memory } } }
+        ensures { self.new ≡
+            record self.old { processor = record self.old.processor { memory = region_filled region bytes.now self.old.processor.memory } } }
     {
         self.processor.memory.fill(region, bytes);
     }
 
-    /// Sets the shades of a row of the picture. Condition: the row is below 144 and each shade at most 3.
+    /// Sets the shades of a row of the picture. Condition: the row is below 144, and each shade is
+    /// at most 3.
     pub fn set_row(&mut self, y: usize, row: &[u8; 160])
         requires y_in { y < 144 }
         requires shades { All (λ shade. shade < 4) row.now }

@@ -2,12 +2,12 @@ use crate::processor::ProcessorState;
 use memory_map::BusRegisters;
 use sm83_alu::Registers;
 
-/// What a snapshot holds of the machine beside its stores of bytes and the rows of the picture.
+/// What a snapshot holds of the machine besides its stores of bytes and the rows of the picture.
 #[derive(Clone, Copy, Debug, PartialEq, Eq)]
 pub struct MachineRegisters {
     pub registers: Registers,
     pub state: ProcessorState,
-    /// The M-cycles by which the last frame was longer than a frame, 0 to 5.
+    /// The M-cycles by which the last frame overran, 0 to 5.
     pub overrun: u8,
     pub bus: BusRegisters,
 }

@@ -5,8 +5,8 @@ ghost use Rattle.machine.specs.Rules.{Rules};
 
 /// A memory of 65,536 addresses with the interrupt bits, in which time passes.
 ///
-/// No call refuses, takes memory of the host or depends on anything but the value: what each gives
-/// and leaves is the ghost member `rules`.
+/// No call refuses, takes the host's memory or depends on anything but the value: the ghost member
+/// `rules` states what each gives and leaves.
 pub trait Memory {
     /// What each access gives and leaves.
     ghost rules: { Rules Self };
@@ -19,7 +19,8 @@ pub trait Memory {
     fn write(&mut self, address: u16, value: u8)
         ensures { self.new ≡ rules.written self.old address value };
 
-    /// The bits that IE and IF share, of the low five: VBlank 0, STAT 1, timer 2, serial 3, joypad 4.
+    /// The bits that IE and IF share, of the low five: VBlank 0, STAT 1, timer 2, serial 3, joypad
+    /// 4.
     fn shared(&self) -> u8
         ensures { result ≡ rules.shared self.now };
 

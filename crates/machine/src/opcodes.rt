@@ -1,4 +1,5 @@
-//! One instruction by its opcode. The last arm of each match is its last opcode, the only one that the others leave.
+//! One instruction by its opcode. The last arm of each match is its last opcode, the only one left
+//! by the others.
 
 ghost use Rattle.std.specs.Prelude.{◌≡◌, ◌<◌, ◌≤◌, ◌%◌, ◌/◌, true};
 ghost use Rattle.machine.specs.Opcodes.{opened, instruction_at, executed_behind, cycles_with};
@@ -20,22 +21,23 @@ const STOP: u8 = 0x10;
 /// The opcode of HALT.
 const HALT: u8 = 0x76;
 
-/// Instructions that are run by a step of any kind.
+/// Instructions run by a step of any kind.
 pub(crate) const APART: u8 = 0;
 
-/// Those of plain steps in a frame.
+/// Those run by plain steps in a frame.
 pub(crate) const IN_FRAME: u8 = 1;
 
-/// Those of plain steps that are counted.
+/// Those run by plain steps that are counted.
 pub(crate) const COUNTED: u8 = 2;
 
-/// Those of plain steps that are reported.
+/// Those run by plain steps that are reported.
 pub(crate) const REPORTED: u8 = 3;
 
 impl<M: Memory> Processor<M> {
-    /// Does the instruction of this opcode, behind which PC is. Answers its M-cycles, and whether the next one may begin
-    /// as plainly as this one did, but for an interrupt. WAY names the caller: the code for each is made apart, so that it
-    /// can stand in the caller's loop.
+    /// Executes the instruction of this opcode, with PC just after the opcode. Answers its
+    /// M-cycles, and whether the next one may begin as plainly as this one did, unless an interrupt
+    /// comes. WAY names the caller: code is made separately for each, so that it can be inlined
+    /// into the caller's loop.
     #[inline(always)]
     pub(crate) fn run_opcode<const WAY: u8>(&mut self, opcode: u8) -> (u8, bool)
         ensures after { self.new ≡ executed_behind M.rules (instruction_at M.rules opcode self.old) self.old }
@@ -53,7 +55,7 @@ impl<M: Memory> Processor<M> {
         }
     }
 
-    /// Does the instruction at PC, of which this is the opcode, and answers its M-cycles.
+    /// Executes the instruction at PC, which has this opcode, and answers its M-cycles.
     #[inline(never)]
     pub(crate) fn run_opcode_apart(&mut self, opcode: u8) -> u8
         ensures after { self.new ≡ executed_behind M.rules (instruction_at M.rules opcode (opened self.old)) (opened self.old) }
@@ -366,7 +368,7 @@ impl<M: Memory> Processor<M> {
         }
     }
 
-    /// Does the instruction behind an opcode CB, and answers its M-cycles.
+    /// Executes the instruction after an opcode CB, and answers its M-cycles.
     #[inline(never)]
     fn run_bit_opcode(&mut self, byte: u8) -> u8
         ensures after { self.new ≡ executed_behind M.rules (bit_instruction (byte / 64) (byte % 8) (byte / 8 % 8)) self.old }

@@ -1,4 +1,4 @@
-//! Many steps, and steps one after another that are reported.
+//! Many steps at once, and steps that are reported one by one.
 
 ghost use Rattle.std.specs.Prelude.{◌≡◌, true};
 
@@ -23,7 +23,7 @@ impl<M: Memory> Processor<M> {
         }
     }
 
-    /// A step, of which the caller may know that it is plain. Says whether the next one is.
+    /// Makes a step, which the caller may know to be plain. Says whether the next one is plain.
     #[inline(always)]
     fn make_step(&mut self, is_plain: bool) -> bool
         requires { is_plain ≡ true → IsPlain M.rules self.old }
@@ -44,22 +44,20 @@ impl Processor<Bus> {
     ghost use Rattle.machine.specs.Plain.{IsPlain};
     ghost use Rattle.machine.specs.declared.step.What.{What};
 
-    /// A step that is plain: the instruction that ran, and whether the next step is plain.
+    /// A step that is plain: puts the instruction that ran into `ran`, before it runs, and says whether
+    /// the next step is plain.
     #[inline(always)]
-    pub(crate) fn run_and_report(&mut self) -> (Seen, bool)
+    pub(crate) fn run_and_report(&mut self, ran: &mut Seen) -> bool
         requires { IsPlain bus_rules self.old }
         ensures after { self.new ≡ (step_of bus_rules self.old).after }
-        ensures what { (step_of bus_rules self.old).stepped.what ≡ What.Ran result.0 }
-        ensures plain { result.1 ≡ true → IsPlain bus_rules self.new }
+        ensures what { (step_of bus_rules self.old).stepped.what ≡ What.Ran ran.new }
+        ensures plain { result ≡ true → IsPlain bus_rules self.new }
     {
         let pc = self.registers.pc;
-        let bytes = self.memory.read_three(pc);
-        let (_, is_plain) = self.run_plainly::<REPORTED>();
-        let seen = Seen {
-            pc,
-            bytes,
-            length: length_of_opcode(bytes[0]),
-        };
-        (seen, is_plain)
+        ran.pc = pc;
+        self.memory.read_three(pc, &mut ran.bytes);
+        let opcode = ran.bytes[0];
+        ran.length = length_of_opcode(opcode);
+        self.run_plain_opcode::<REPORTED>(opcode).1
     }
 }

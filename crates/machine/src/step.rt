@@ -8,7 +8,7 @@ use crate::memory::Memory;
 use crate::processor::Processor;
 
 /// An instruction that ran: where it was, the three bytes that were fetched, and how many of them
-/// it has.
+/// are its own.
 #[derive(Clone, Copy, Debug, PartialEq, Eq)]
 pub struct Seen {
     pub pc: u16,
@@ -41,7 +41,7 @@ const JOYPAD: u16 = 0xff00;
 const DISABLE_INTERRUPTS: u8 = 0xf3;
 
 impl<M: Memory> Processor<M> {
-    ghost use Rattle.machine.specs.Steps.{step_of, after_stop, resumed, ran, dispatched, waited, begun, settled, decoded_at, second_address, byte_at, lowest_interrupt};
+    ghost use Rattle.machine.specs.Steps.{step_of, step_unstopped, dispatched_or_ran, ran, dispatched, waited, begun, settled, decoded_at, second_address, byte_at, lowest_interrupt};
     ghost use Rattle.std.specs.Prelude.{[], ◌∷◌, ℕ};
     ghost use Rattle.opcode_table.specs.Table.{instruction_of};
     ghost use Rattle.machine.specs.Plain.{IsPlain};
@@ -79,7 +79,8 @@ impl<M: Memory> Processor<M> {
     }
 
     fn fetch(&self) -> [u8; 3]
-        ensures { result ≡ byte_at M.rules self.now.registers.pc self.now ∷ byte_at M.rules (second_address self.now) self.now ∷ byte_at M.rules (next_address (second_address self.now)) self.now ∷ [] }
+        ensures { result ≡ byte_at M.rules self.now.registers.pc self.now ∷ byte_at M.rules (second_address self.now) self.now ∷
+            byte_at M.rules (next_address (second_address self.now)) self.now ∷ [] }
     {
         let second = self.second();
         let third = second.wrapping_add(1);
@@ -90,7 +91,7 @@ impl<M: Memory> Processor<M> {
         ]
     }
 
-    /// The end of an instruction of this opcode that began with `enable`.
+    /// Ends an instruction of this opcode that began with `enable` as given.
     #[inline(always)]
     #[tactic(auto, using(crate::proofs::Disabling::disabling_opcode))]
     fn settle(&mut self, enable: bool, opcode: u8)
@@ -151,7 +152,7 @@ impl<M: Memory> Processor<M> {
         self.memory.shared() != 0 && self.state.ime
     }
 
-    /// A step that is plain: says how many M-cycles passed in it, and whether the next one is plain.
+    /// Makes a plain step: says how many M-cycles passed in it, and whether the next one is plain.
     #[inline(always)]
     pub(crate) fn run_plainly<const WAY: u8>(&mut self) -> (u8, bool)
         requires { IsPlain M.rules self.old }
@@ -160,6 +161,18 @@ impl<M: Memory> Processor<M> {
         ensures plain { result.1 ≡ true → IsPlain M.rules self.new }
     {
         let opcode = self.memory.read(self.registers.pc);
+        self.run_plain_opcode::<WAY>(opcode)
+    }
+
+    /// The same, of an opcode that was read.
+    #[inline(always)]
+    pub(crate) fn run_plain_opcode<const WAY: u8>(&mut self, opcode: u8) -> (u8, bool)
+        requires plain { IsPlain M.rules self.old }
+        requires here { opcode ≡ byte_at M.rules self.old.registers.pc self.old }
+        ensures after { self.new ≡ (step_of M.rules self.old).after }
+        ensures cycles { result.0 ≡ (step_of M.rules self.old).stepped.cycles }
+        ensures plain { result.1 ≡ true → IsPlain M.rules self.new }
+    {
         self.registers.pc = self.registers.pc.wrapping_add(1);
         let (cycles, usual) = self.run_opcode::<WAY>(opcode);
         if !usual {
@@ -171,9 +184,9 @@ impl<M: Memory> Processor<M> {
     }
 
     #[inline(always)]
-    fn resume(&mut self) -> Stepped
-        ensures after { self.new ≡ (resumed M.rules self.old).after }
-        ensures stepped { result ≡ (resumed M.rules self.old).stepped }
+    fn dispatch_or_run(&mut self) -> Stepped
+        ensures after { self.new ≡ (dispatched_or_ran M.rules self.old).after }
+        ensures stepped { result ≡ (dispatched_or_ran M.rules self.old).stepped }
         ensures some_cycles { 0 < result.cycles }
         ensures few_cycles { result.cycles ≤ 6 }
     {
@@ -185,9 +198,9 @@ impl<M: Memory> Processor<M> {
     }
 
     #[inline(always)]
-    fn leave_halt(&mut self) -> Stepped
-        ensures after { self.new ≡ (after_stop M.rules self.old).after }
-        ensures stepped { result ≡ (after_stop M.rules self.old).stepped }
+    fn step_unstopped(&mut self) -> Stepped
+        ensures after { self.new ≡ (step_unstopped M.rules self.old).after }
+        ensures stepped { result ≡ (step_unstopped M.rules self.old).stepped }
         ensures some_cycles { 0 < result.cycles }
         ensures few_cycles { result.cycles ≤ 6 }
     {
@@ -195,7 +208,7 @@ impl<M: Memory> Processor<M> {
             return self.wait();
         }
         self.state.halted = false;
-        self.resume()
+        self.dispatch_or_run()
     }
 
     /// One step: a wait, an interrupt or one instruction.
@@ -214,7 +227,7 @@ impl<M: Memory> Processor<M> {
             return self.wait();
         }
         self.state.stopped = false;
-        self.leave_halt()
+        self.step_unstopped()
     }
 }
 

@@ -13,11 +13,11 @@ use std::alloc::{AllocError, Global};
 use std::marker::Model;
 use timer_unit::{Serial, Timer};
 
-/// All that the processor reaches by addresses, and the units that time passes in.
+/// All that the processor reaches by address, and the units in which time passes.
 ///
-/// Contracts see it as a `BusState`: each unit with the interrupts that it has requested, the cartridge, WRAM, HRAM,
-/// the sound bytes, and the registers that belong to no unit. `new` makes all its room, and no other call takes memory
-/// or refuses.
+/// Contracts see it as a `BusState`: each unit with the interrupts that it has requested, the
+/// cartridge, WRAM, HRAM, the sound bytes, and the registers that belong to no unit. `new`
+/// allocates all the memory that it needs, and no other call takes memory or refuses.
 #[derive(Drop)]
 pub struct Bus {
     timer: Timer,
@@ -98,7 +98,7 @@ impl Bus {
     ghost use Rattle.std.specs.Prelude.{[], ◌∷◌};
     ghost use Rattle.memory_map.specs.Bus.{value_at, is_closed, stored_at, peeked, read_at, written, buttons_set};
 
-    /// The bus at power-on, with this cartridge. Refused where there is no memory.
+    /// The bus at power-on, with this cartridge. Refused if there is no memory.
     pub fn new(alloc: Global, cartridge: &Cartridge) -> Result<Bus, AllocError>
         ensures { IfOk result (λ b. b ≡ bus_at_power_on cartridge.now) }
     {
@@ -123,8 +123,8 @@ impl Bus {
         })
     }
 
-    /// Reads an address. VRAM in mode 3, and OAM in modes 2 and 3 and while a copy runs, read FF. No read changes
-    /// anything.
+    /// Reads an address. VRAM in mode 3, and OAM in modes 2 and 3 and while a copy runs, read FF.
+    /// No read changes anything.
     #[inline]
     #[tactic(auto, unfolding(crate::specs::Bus::read_at))]
     pub fn read(&self, address: u16) -> u8
@@ -143,24 +143,26 @@ impl Bus {
         self.read_place(address)
     }
 
-    /// Reads three addresses in a row. After FFFF comes 0000.
+    /// Reads three addresses in a row into `bytes`. After FFFF comes 0000.
     #[inline(always)]
-    pub fn read_three(&self, address: u16) -> [u8; 3]
-        ensures { result ≡ read_at self.now address ∷ read_at self.now (address_behind address) ∷ read_at self.now (address_behind (address_behind address)) ∷ [] }
+    pub fn read_three(&self, address: u16, bytes: &mut [u8; 3])
+        ensures { bytes.new ≡
+            read_at self.now address ∷ read_at self.now (address_behind address) ∷ read_at self.now (address_behind (address_behind address)) ∷ [] }
     {
         // Within one half of ROM, so that each of the three is asked for its place no more.
         if address < 0x3ffe {
-            return self.three_at(address);
+            *bytes = self.three_at(address);
+        } else if address >= 0x4000 && address < 0x7ffe {
+            *bytes = self.three_at(address);
+        } else {
+            *bytes = self.three_apart(address);
         }
-        if address >= 0x4000 && address < 0x7ffe {
-            return self.three_at(address);
-        }
-        self.three_apart(address)
     }
 
     #[inline(always)]
     fn three_at(&self, address: u16) -> [u8; 3]
-        ensures { result ≡ read_at self.now address ∷ read_at self.now (address_behind address) ∷ read_at self.now (address_behind (address_behind address)) ∷ [] }
+        ensures { result ≡
+            read_at self.now address ∷ read_at self.now (address_behind address) ∷ read_at self.now (address_behind (address_behind address)) ∷ [] }
     {
         let second = address.wrapping_add(1);
         let third = second.wrapping_add(1);
@@ -169,7 +171,8 @@ impl Bus {
 
     #[inline(never)]
     fn three_apart(&self, address: u16) -> [u8; 3]
-        ensures { result ≡ read_at self.now address ∷ read_at self.now (address_behind address) ∷ read_at self.now (address_behind (address_behind address)) ∷ [] }
+        ensures { result ≡
+            read_at self.now address ∷ read_at self.now (address_behind address) ∷ read_at self.now (address_behind (address_behind address)) ∷ [] }
     {
         self.three_at(address)
     }
@@ -192,7 +195,7 @@ impl Bus {
         }
     }
 
-    /// What `read` gives where neither a mode nor a copy closes anything.
+    /// What `read` gives if neither a mode nor a copy closes anything.
     #[tactic(auto, unfolding(crate::specs::Bus::peeked, picture_unit::specs::Stores::byte_read))]
     pub fn peek(&self, address: u16) -> u8
         ensures { result ≡ peeked self.now address }
@@ -200,7 +203,7 @@ impl Bus {
         self.value(Place::of(address))
     }
 
-    /// Writes to an address. A write to what is closed is ignored.
+    /// Writes to an address. A write to a closed place is ignored.
     #[tactic(auto, unfolding(crate::specs::Bus::written, picture_unit::specs::Stores::vram_written))]
     pub fn write(&mut self, address: u16, value: u8)
         ensures { self.new ≡ written address value self.old }
@@ -218,8 +221,8 @@ impl Bus {
         }
     }
 
-    /// The pressed buttons become these: Right, Left, Up, Down, A, B, Select, Start as bits 0 to 7. A line of P1 that
-    /// falls by it requests the joypad interrupt.
+    /// Sets the pressed buttons: Right, Left, Up, Down, A, B, Select, Start as bits 0 to 7. If a
+    /// line of P1 falls as a result, the joypad interrupt is requested.
     pub fn set_buttons(&mut self, buttons: u8)
         ensures { self.new ≡ buttons_set buttons self.old }
     {

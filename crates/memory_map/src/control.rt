@@ -1,4 +1,4 @@
-/// The registers that belong to no unit, and what stands behind them.
+/// The registers that belong to no unit, and the state behind them.
 #[derive(Clone, Copy, Debug, PartialEq, Eq)]
 pub struct Control {
     /// IE, all eight bits.
@@ -11,7 +11,7 @@ pub struct Control {
     pub p1_select: u8,
     /// The last value written to DMA.
     pub dma: u8,
-    /// How many bytes of a copy to OAM are made; 160 where none runs.
+    /// How many bytes of a copy to OAM are done; 160 if no copy is running.
     pub dma_copied: u8,
 }
 
@@ -34,7 +34,7 @@ impl Control {
         }
     }
 
-    /// P1 as it is read.
+    /// P1 as it reads.
     pub(crate) fn p1(&self) -> u8
         requires { self.now.p1_select ≤ 48 }
         ensures { result ≡ p1_value self.now }
@@ -42,7 +42,7 @@ impl Control {
         0xc0 + self.p1_select + lines(self.p1_select, self.buttons)
     }
 
-    /// The select bits and the buttons become these.
+    /// Sets the select bits and the buttons.
     pub(crate) fn set_joypad(&mut self, select: u8, buttons: u8)
         ensures { self.new ≡ joypad_set select buttons self.old }
     {

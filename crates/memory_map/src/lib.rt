@@ -1,7 +1,9 @@
-//! The memory map of the Game Boy: all that the processor reaches by addresses, and time passing in it.
+//! The memory map of the Game Boy: all that the processor reaches by address, and the passing of
+//! time in it.
 //!
-//! `Bus` holds the units, the cartridge and the stores. Reads and writes are one equation each on the place that an
-//! address names (`specs/Bus.antt`), and n M-cycles are n times one M-cycle of all units (`specs/Ticks.antt`).
+//! `Bus` holds the units, the cartridge and the stores. Reads and writes are one equation each by
+//! the place that an address names (`specs/Bus.antt`), and n M-cycles are n times one M-cycle of
+//! all units (`specs/Ticks.antt`).
 #![tactic(auto)]
 
 mod bus;

@@ -1,6 +1,7 @@
 ghost use Rattle.std.specs.Prelude.{◌≡◌};
 
-/// What an address names: the cartridge or a register by the address itself, every other store by the offset in it.
+/// What an address names: the cartridge or a register by the address itself, every other store by
+/// the offset in it.
 #[derive(Clone, Copy, Debug, PartialEq, Eq)]
 pub enum Place {
     /// ROM, or cartridge RAM or clock, as the controller says.

@@ -15,8 +15,8 @@ use std::marker::Model;
 /// "Rendering").
 ///
 /// Contracts see it as a `Screen`: the state that a snapshot holds, the bytes of VRAM and OAM, and
-/// 144 rows of 160 shades from 0 to 3. Time is counted in M-cycles, 114 a line and 154 lines a
-/// frame. `new` makes all its room, and no other call takes memory.
+/// 144 rows of 160 shades from 0 to 3. Time is counted in M-cycles, with 114 per line and 154 lines
+/// per frame. `new` allocates all the memory that it needs, and no other call takes memory.
 #[derive(Drop)]
 pub struct Picture {
     state: PictureState,
@@ -55,8 +55,8 @@ impl Picture {
     ghost use Rattle.picture_unit.specs.Pgm.{picture_text};
 
     /// The picture unit when the machine is switched on: LCDC 91, BGP FC, OBP0 and OBP1 FF, the
-    /// other registers, VRAM, OAM and all shades 0, at the beginning of line 0. Refused where there
-    /// is no memory.
+    /// other registers, VRAM, OAM and all shades 0, at the beginning of line 0. Refused if there is
+    /// no memory.
     pub fn new(alloc: Global) -> Result<Picture, AllocError>
         ensures { IfOk result (λ p. p ≡ screen_at_power_on) }
     {
@@ -186,8 +186,8 @@ impl Picture {
     }
 
     /// Writes the picture as plain PGM: `P2`, `160 144`, `3`, then each row as five lines of 32
-    /// values, 3 less the shade. Refused where a write fails or takes no byte: a proper prefix of
-    /// the text went out.
+    /// values, 3 minus the shade. Refused if a write fails or takes no byte: a proper prefix of the
+    /// text went out.
     pub fn write_pgm<W: Write>(&self, out: &mut W) -> Result<(), OutputFailed>
         ensures ok { OnOk result
             (Appends (W.contents out.old) (W.contents out.new) (picture_text self.now.rows)) }

@@ -2,16 +2,16 @@ ghost use Rattle.std.specs.Prelude.{◌≡◌, ◌<◌, ◌≤◌};
 
 use picture_lines::LineRegisters;
 
-/// The registers and counters of the picture unit: what a snapshot holds of it beside VRAM, OAM and
-/// the rows of shades. It is legal if STAT has no bits but 6 to 3, LY is below 154 and the M-cycle
-/// below 114.
+/// The registers and counters of the picture unit: what a snapshot holds of it besides VRAM, OAM
+/// and the rows of shades. It is legal if STAT has no bits other than 6 to 3, LY is below 154 and
+/// the M-cycle is below 114.
 #[derive(Clone, Copy, Debug, PartialEq, Eq)]
 pub struct PictureState {
     /// FF40: bit 7 on, 6 window map 9C00, 5 window, 4 tile data from 8000, 3 background map 9C00, 2
     /// objects 8x16, 1 objects, 0 background and window.
     pub lcdc: u8,
-    /// The bits of FF41 that are written: 6 LY = LYC, 5 mode 2, 4 mode 1, 3 mode 0, the sources of
-    /// the STAT signal.
+    /// The writable bits of FF41, the sources of the STAT signal: 6 LY = LYC, 5 mode 2, 4 mode 1, 3
+    /// mode 0.
     pub stat: u8,
     /// FF42, the row of the background map at the top of the screen.
     pub scy: u8,
@@ -37,7 +37,7 @@ pub struct PictureState {
     pub window_line: u8,
     /// Whether LY has equalled WY on entry to a line of this frame.
     pub seen: bool,
-    /// The STAT signal, as it was last taken.
+    /// The STAT signal as last evaluated.
     pub signal: bool,
 }
 
@@ -118,7 +118,7 @@ impl PictureState {
         is_source(self.stat, self.mode(), self.ly == self.lyc)
     }
 
-    /// The next M-cycle of the line, and of the frame.
+    /// Moves on to the next M-cycle of the line, and of the frame.
     #[tactic(auto, unfolding(crate::specs::Picture::advanced, crate::specs::Picture::entered))]
     pub(crate) fn advance(&mut self)
         requires { IsLegalPicture self.old }
@@ -162,7 +162,7 @@ impl PictureState {
         self.m_cycle == 20 && self.ly < 144
     }
 
-    /// How many M-cycles the next line, mode 3 or mode 0 is away.
+    /// How many M-cycles away the next line, mode 3 or mode 0 is.
     #[tactic(auto, unfolding(crate::specs::PictureJump::next_entry))]
     pub(crate) fn next_entry(&self) -> u8
         requires { self.now.m_cycle < 114 }

@@ -5,6 +5,7 @@ use Rattle.machine.specs.declared.input.Input.{Input}
 use Rattle.machine.specs.declared.input.Input.TheVariants.{Frame, Seconds as PassSeconds}
 use Rattle.script.specs.declared.moves.Move.{Move}
 use Rattle.script.specs.declared.moves.Move.TheVariants.{Frames, Seconds, Save}
+use Rattle.session.specs.Calls.{most_unsaved}
 use Rattle.session.specs.declared.error.SessionError.{SessionError}
 use Rattle.session.specs.declared.error.SessionError.TheVariants.{Output}
 
@@ -39,10 +40,10 @@ texts (line ∷ lines) = line.text ++ texts lines
 
 -- a save is due right after the input that makes 3,200 unsaved
 abbrev pub unsaved_after : ℕ → ℕ
-unsaved_after unsaved = if unsaved + 1 == 3200 then 0 else unsaved + 1
+unsaved_after unsaved = if unsaved + 1 == most_unsaved then 0 else unsaved + 1
 
 abbrev pub line_due : (unsaved count : ℕ) → List Line
-line_due unsaved count = if unsaved + 1 == 3200 then saved_line count ∷ [] else []
+line_due unsaved count = if unsaved + 1 == most_unsaved then saved_line count ∷ [] else []
 
 -- from a count of inputs of which so many are unsaved: how many are unsaved behind these
 abbrev pub unsaved_behind : ℕ → List Input → ℕ

@@ -1,5 +1,5 @@
-//! Playing a script on a device: a game is taken up, its moves are given, saves are made where they are due, and each is reported
-//! once it is made.
+//! Plays a script on a device: resumes the game, gives it the moves, saves when a save is due, and
+//! reports each save once it is made.
 #![tactic(auto)]
 
 mod moves;

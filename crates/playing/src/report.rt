@@ -29,7 +29,7 @@ fn saved_text(count: u64) -> Option<ArrayString<32>>
     }
 }
 
-/// Writes the line `resumed N`, that a session was taken up at this count.
+/// Writes the line `resumed N`: a session was resumed at this count.
 pub fn write_resumed<W: Write>(out: &mut W, count: u64) -> Result<(), OutputFailed>
     ensures ok { OnOk result (Appends (W.contents out.old) (W.contents out.new) (resumed_line count).text) }
     ensures err { OnErr result (AppendsProperPrefix (W.contents out.old) (W.contents out.new) (resumed_line count).text) }

@@ -15,12 +15,14 @@ use session::{Refused, Session, resume};
 use std::alloc::Global;
 use std::io::Write;
 
-/// Takes up the game on a device, writes `resumed N`, makes the moves, and writes `saved N` after each save: one at each `Save`, right
-/// after the input that makes 3,200 unsaved, and at the end if any is unsaved. N is the count of all inputs.
+/// Resumes the game on a device, writes `resumed N`, makes the moves, and writes `saved N` after
+/// each save: one at each `Save`, right after the input that makes 3,200 unsaved, and at the end if
+/// any is unsaved. N is the count of all inputs.
 ///
-/// Refusals: those of `resume`, with nothing written to the report; then whichever is met first of `Worn`, `Device`, `CountFull` and
-/// `Output`. What was saved stays saved: the report then has the first of its lines, and behind them a part of the next at `Output`
-/// alone, and each image that is left has all inputs up to each N that they tell.
+/// Refusals: those of `resume`, with nothing written to the report; then whichever comes first of
+/// `Worn`, `Device`, `CountFull` and `Output`. What was saved stays saved: the report then has the
+/// first of its lines, followed, only on `Output`, by a part of the next, and each image that is
+/// left has all inputs up to each N that these lines report.
 pub fn play<D: SectorDevice, W: Write>(
     alloc: Global,
     device: D,
@@ -29,9 +31,12 @@ pub fn play<D: SectorDevice, W: Write>(
     report: &mut W,
 ) -> Result<Session<D>, Refused<D>>
     // at Ok
-    ensures played { IfOk result (λ s. (D.disk device).honest → HasPlayed cartridge.now (D.disk device) (D.disk (device_of s)) (inputs_of_moves moves.now)) }
-    ensures reached { IfOk result (λ s. (D.disk device).honest → HasReached cartridge.now (D.disk device) (acknowledged_of s) (machine_of s) (inputs_of_moves moves.now)) }
-    ensures report { IfOk result (λ s. (count : ℕ) × (acknowledged_of s ≡ count + length (inputs_of_moves moves.now)) × Appends (W.contents report.old) (W.contents report.new) (report_of count moves.now)) }
+    ensures played { IfOk result (λ s. (D.disk device).honest →
+        HasPlayed cartridge.now (D.disk device) (D.disk (device_of s)) (inputs_of_moves moves.now)) }
+    ensures reached { IfOk result (λ s. (D.disk device).honest →
+        HasReached cartridge.now (D.disk device) (acknowledged_of s) (machine_of s) (inputs_of_moves moves.now)) }
+    ensures report { IfOk result (λ s. (count : ℕ) × (acknowledged_of s ≡ count + length (inputs_of_moves moves.now)) ×
+        Appends (W.contents report.old) (W.contents report.new) (report_of count moves.now)) }
     ensures whole { IfOk result (λ s. (pending_of s ≡ []) × (is_broken s ≡ false) × (rom_of s ≡ cartridge.now)) }
 
     // where it is refused: not taken up, or stopped behind that
@@ -40,7 +45,8 @@ pub fn play<D: SectorDevice, W: Write>(
         ⊎ HasStopped cartridge.now (D.disk device) (D.disk refused.device) moves.now refused.why (W.contents report.old) (W.contents report.new)) }
 
     // at each moment
-    ensures images { (D.disk device).honest → HoldsSince (D.disk device) (D.disk (left_by result)) (PlayImage cartridge.now (D.disk device) (inputs_of_moves moves.now)) }
+    ensures images { (D.disk device).honest →
+        HoldsSince (D.disk device) (D.disk (left_by result)) (PlayImage cartridge.now (D.disk device) (inputs_of_moves moves.now)) }
 
     ensures honest { (D.disk device).honest → (D.disk (left_by result)).honest }
     ensures faults_ok { IfOk result (λ s. (D.disk (device_of s)).faults ≡ (D.disk device).faults) }

@@ -2,7 +2,7 @@
 use crate::answers::{Answer, refused};
 use cartridge::Cartridge;
 use debugger::Debugger;
-use gbkeep::{PlayError, StepError, play_to_picture, step_line};
+use gbkeep::{PlayError, TextError, play_to_picture, step_line};
 use machine::{Input, Machine, Region};
 use playing::play;
 use script::{Move, ScriptError, read_script};
@@ -219,7 +219,7 @@ pub(crate) fn stepped(alloc: Global) -> Option<Answer> {
         Ok(()) => return Some(Answer::Done),
         Err(why) => why,
     };
-    Some(refused(why == StepError::Memory && buffer == [0; 128]))
+    Some(refused(why == TextError::Memory && buffer == [0; 128]))
 }
 
 pub(crate) fn device(alloc: Global) -> Option<Answer> {

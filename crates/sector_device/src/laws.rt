@@ -12,8 +12,10 @@ use crate::memory::MemoryDevice;
 /// is an image of it exactly if it is the sectors of the last successful sync with some of the writes since applied.
 pub fn memory_keeps_the_disk_model()
     ensures honest { (d : MemoryDevice) → (⟦<MemoryDevice as SectorDevice>⟧.disk d).honest }
-    ensures sectors { (d : MemoryDevice) → (⟦<MemoryDevice as SectorDevice>⟧.disk d).sectors ≡ (replayed (memory d).at_start (memory d).recorded).reads }
-    ensures images { (d : MemoryDevice) (c : List (List ℕ)) → (⟦<MemoryDevice as SectorDevice>⟧.disk d).image c ↔ IsCutOf (replayed (memory d).at_start (memory d).recorded) c }
+    ensures sectors { (d : MemoryDevice) →
+        (⟦<MemoryDevice as SectorDevice>⟧.disk d).sectors ≡ (replayed (memory d).at_start (memory d).recorded).reads }
+    ensures images { (d : MemoryDevice) (c : List (List ℕ)) →
+        (⟦<MemoryDevice as SectorDevice>⟧.disk d).image c ↔ IsCutOf (replayed (memory d).at_start (memory d).recorded) c }
 {}
 
 /// Law: what `SectorDevice` says of a device in a file is what `create` and `attach` say of it. So it is honest exactly under

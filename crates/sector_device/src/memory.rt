@@ -261,7 +261,8 @@ impl SectorDevice for MemoryDevice {
         requires { at < length (memory_disk (memory self.old)).sectors }
         ensures count { length (memory_disk (memory self.new)).sectors ≡ length (memory_disk (memory self.old)).sectors }
         ensures honest { (memory_disk (memory self.new)).honest ↔ (memory_disk (memory self.old)).honest }
-        ensures read { (memory_disk (memory self.old)).honest → HasRead at buffer.new (memory_disk (memory self.old)) (memory_disk (memory self.new)) result }
+        ensures read { (memory_disk (memory self.old)).honest →
+            HasRead at buffer.new (memory_disk (memory self.old)) (memory_disk (memory self.new)) result }
         ensures faults { CountsFaults (memory_disk (memory self.old)).faults (memory_disk (memory self.new)).faults result }
         ensures device { IfErr result (λ fault. fault ≡ DeviceFault.Device) }
         ensures state { memory self.new ≡ read_called (memory self.old) }
@@ -279,7 +280,8 @@ impl SectorDevice for MemoryDevice {
         requires { at < length (memory_disk (memory self.old)).sectors }
         ensures count { length (memory_disk (memory self.new)).sectors ≡ length (memory_disk (memory self.old)).sectors }
         ensures honest { (memory_disk (memory self.new)).honest ↔ (memory_disk (memory self.old)).honest }
-        ensures written { (memory_disk (memory self.old)).honest → HasWritten at bytes.now (memory_disk (memory self.old)) (memory_disk (memory self.new)) result }
+        ensures written { (memory_disk (memory self.old)).honest →
+            HasWritten at bytes.now (memory_disk (memory self.old)) (memory_disk (memory self.new)) result }
         ensures faults { CountsFaults (memory_disk (memory self.old)).faults (memory_disk (memory self.new)).faults result }
         ensures device { IfErr result (λ fault. fault ≡ DeviceFault.Device) }
         ensures state { memory self.new ≡ write_called at bytes.now (memory self.old) }

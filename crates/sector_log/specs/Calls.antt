@@ -4,6 +4,7 @@ use Rattle.sector_device.specs.DiskState.{DiskState, Settled, NoNewImage, NoLost
 use Rattle.sector_device.specs.Runs.{HoldsSince}
 use Rattle.sector_log.specs.Content.{ImageContent, area_start, content, generation_in, new_generation, need, Holds}
 use Rattle.sector_log.specs.Inputs.{inputs, AreInputs}
+use Rattle.sector_log.specs.Sizes.{entries_per_sector, log_sectors_per_area}
 use Rattle.sector_log.specs.declared.Entry.{Entry}
 use Rattle.sector_log.specs.declared.Stored.{Stored}
 use Rattle.sector_log.specs.declared.found.Content.{Content}
@@ -83,7 +84,7 @@ pub record IsAppended (old now : DiskState) (more : List Entry) : Type 0 where
 pub record ChangesOpenLog (old : List (List ℕ)) (entries : ℕ) (image : List (List ℕ)) : Type 0 where
   pub size : length image ≡ length old
   pub each : (k : ℕ) → (sector_at image k ≡ sector_at old k)
-      ⊎ ((area_start (generation_in old) old + entries / 84 ≤ k) × (k < area_start (generation_in old) old + 32))
+      ⊎ ((area_start (generation_in old) old + entries / entries_per_sector ≤ k) × (k < area_start (generation_in old) old + log_sectors_per_area))
 
 -- why nothing, or not everything, is appended: a call failed before, else the inputs don't fit, else a call fails now
 abbrev pub IsAppendCause : LogFault → Bool → Bool → Type 0

@@ -5,6 +5,7 @@ use Rattle.std.specs.Int.{w32, w64, from_le_bytes, to_le_bytes}
 use lib.ListN.{replicate}
 use Rattle.sector_device.specs.DiskState.{sector_at}
 use Rattle.sector_log.specs.Log.{begins_with, zeros, log_from}
+use Rattle.sector_log.specs.Sizes.{log_sectors_per_area}
 use Rattle.sector_log.specs.declared.Stored.{Stored}
 use Rattle.sector_log.specs.declared.found.Content.{Content}
 use Rattle.sector_log.specs.declared.root.Version.{Version}
@@ -88,7 +89,7 @@ blob_sectors blob_length = (blob_length + 511) / 512
 
 -- the sectors that a device needs for a blob of this length
 abbrev pub need : ℕ → ℕ
-need blob_length = 2 + 2 * (32 + blob_sectors blob_length)
+need blob_length = 2 + 2 * (log_sectors_per_area + blob_sectors blob_length)
 
 -- ---- content
 
@@ -110,8 +111,8 @@ header_of root = record { id = root.id; base = root.base; blob_length = root.blo
 abbrev pub content_in : Root → List (List ℕ) → ImageContent
 content_in root sectors = record {
   header = header_of root;
-  body = if nat_le (32 + blob_sectors root.blob_length) (length sectors)
-      then Some (record { blob = take root.blob_length (flat_map (λ (s : List ℕ). s) (drop 32 sectors)); log = log_from root.version 0 (take 32 sectors) })
+  body = if nat_le (log_sectors_per_area + blob_sectors root.blob_length) (length sectors)
+      then Some (record { blob = take root.blob_length (flat_map (λ (s : List ℕ). s) (drop log_sectors_per_area sectors)); log = log_from root.version 0 (take log_sectors_per_area sectors) })
       else None;
 }
 

@@ -2,6 +2,7 @@
 use Rattle.std.specs.Prelude.{◌≡◌, ◌≤◌, ◌<◌, ◌+◌, ◌-◌, ◌^◌, ℕ, List, [], length, Option, Some, None, Bool, true, false, if◌then◌else◌, nat_lt, nat_le}
 use Rattle.sector_log.specs.Content.{ImageContent, Body, header_of, need}
 use Rattle.sector_log.specs.Inputs.{counted}
+use Rattle.sector_log.specs.Sizes.{most_entries_read}
 use Rattle.sector_log.specs.declared.Stored.{Stored}
 use Rattle.sector_log.specs.declared.found.Content.{Content}
 use Rattle.sector_log.specs.declared.found.Found.{Found}
@@ -59,7 +60,7 @@ seen_in most held = record { found = found_in held; log = log_of held; blob = bl
 
 -- what holds of any device, honest or not
 pub record IsSound (seen : Seen) : Type 0 where
-  pub few : length seen.log ≤ 3200
+  pub few : length seen.log ≤ most_entries_read
   pub counts : (c : Content) → seen.found ≡ Sound c → c.base + counted 0 seen.log < 2 ^ 64
 
 -- what a chosen root says whose blob does not fit its area, or behind whose blob this log stands

@@ -3,6 +3,7 @@ use Rattle.std.specs.Prelude.{◌≡◌, ◌==◌, ◌&&◌, ◌||◌, ◌++◌,
 use Rattle.std.specs.Int.{w32, to_le_bytes, from_le_bytes}
 use lib.ListN.{replicate}
 use Rattle.sector_log.specs.Log.{byte, zeros}
+use Rattle.sector_log.specs.Sizes.{entries_per_sector, most_entries, most_inputs}
 use Rattle.sector_log.specs.declared.Entry.{Entry}
 use Rattle.sector_log.specs.declared.Stored.{Stored}
 use Rattle.sector_log.specs.declared.logged.Logged.{Logged}
@@ -33,7 +34,7 @@ abbrev pub run_length : Stored → ℕ
 run_length s = from_le_bytes w32 (drop 2 s.code)
 
 abbrev pub is_run : Stored → Bool
-is_run s = byte 0 s.code == 0 && nat_le 1 (run_length s) && nat_le (run_length s) 216000
+is_run s = byte 0 s.code == 0 && nat_le 1 (run_length s) && nat_le (run_length s) most_inputs
 
 abbrev pub is_seconds : Stored → Bool
 is_seconds s = byte 0 s.code == 1 && byte 5 s.code == 0
@@ -53,7 +54,7 @@ inputs_logged (Seconds n) = seconds n ∷ []
 
 -- a run has 1 to 216,000 frames, and seconds fit 32 bits
 abbrev pub HasFewTimes : Logged → Type 0
-HasFewTimes (Frames buttons times) = (1 ≤ times) × (times ≤ 216000)
+HasFewTimes (Frames buttons times) = (1 ≤ times) × (times ≤ most_inputs)
 HasFewTimes (Seconds n) = n < 2 ^ 32
 
 abbrev pub inputs : List Stored → List Entry
@@ -67,19 +68,19 @@ all_entries (s ∷ log) = (is_entry s ≡ true) × all_entries log
 -- each entry of a log is an input, and a log holds at most 216,000 of them
 pub record AreInputs (log : List Stored) : Type 0 where
   pub each : all_entries log
-  pub few : length (inputs log) ≤ 216000
+  pub few : length (inputs log) ≤ most_inputs
 
 -- how many inputs a log counts from so many on: one for an entry that is no input, or with which there would be too many
 abbrev pub counted : ℕ → List Stored → ℕ
 counted before [] = before
-counted before (s ∷ log) = counted (before + (if is_entry s && nat_le (before + length (inputs_in s)) 216000 then length (inputs_in s) else 1)) log
+counted before (s ∷ log) = counted (before + (if is_entry s && nat_le (before + length (inputs_in s)) most_inputs then length (inputs_in s) else 1)) log
 
 -- the index of the first entry that is no input, or with which there would be more than 216,000; `before` inputs stand
 -- before these
 abbrev pub wrong_from : ℕ → ℕ → List Stored → Option ℕ
 wrong_from index before [] = None
 wrong_from index before (s ∷ log) =
-    if is_entry s && nat_le (before + length (inputs_in s)) 216000 then wrong_from (index + 1) (before + length (inputs_in s)) log else Some index
+    if is_entry s && nat_le (before + length (inputs_in s)) most_inputs then wrong_from (index + 1) (before + length (inputs_in s)) log else Some index
 
 abbrev pub first_wrong : List Stored → Option ℕ
 first_wrong log = wrong_from 0 0 log
@@ -113,12 +114,12 @@ with_inputs log (e ∷ es) = with_inputs (with_input log e) es
 
 -- the entries of full sectors
 abbrev pub sealed : List Stored → ℕ
-sealed log = 84 * (length log / 84)
+sealed log = entries_per_sector * (length log / entries_per_sector)
 
 -- the log with more inputs, where full sectors stay as they are
 unfoldable pub grown : List Stored → List Entry → List Stored
 grown log more = take (sealed log) log ++ with_inputs (drop (sealed log) log) more
 
--- the entries fit the 32 sectors, and the inputs a log
+-- the entries fit the log's sectors, and the inputs a log
 unfoldable pub fits : List Stored → List Entry → Bool
-fits log more = nat_le (length (grown log more)) 2688 && nat_le (length (inputs log) + length more) 216000
+fits log more = nat_le (length (grown log more)) most_entries && nat_le (length (inputs log) + length more) most_inputs

@@ -6,6 +6,7 @@ use Rattle.sector_log.specs.Log.{log_from, log_area}
 use Rattle.sector_log.specs.Calls.{HoldsPrefix}
 use Rattle.sector_log.specs.Content.{ImageContent, Body, content, generation_in, chosen, area, area_start, area_length, blob_sectors, need}
 use Rattle.sector_log.specs.Inputs.{inputs, all_input, AllFive, AreInputs, grown, fits, counted, first_wrong}
+use Rattle.sector_log.specs.Sizes.{entries_per_sector, log_sectors_per_area}
 use Rattle.sector_log.specs.Store.{HaveSix}
 use Rattle.sector_log.specs.declared.Entry.{Entry}
 use Rattle.sector_log.specs.declared.Stored.{Stored}
@@ -15,17 +16,17 @@ use Rattle.sector_log.specs.declared.root.Version.TheVariants.{Two}
 -- This is the log of an area's log sectors, and every one behind the sector that it ends in is blank. Of that sector only
 -- what it is read as is asked.
 pub record EndsOpen (olds : List (List ℕ)) (log : List Stored) : Type 0 where
-  pub area : length olds ≡ 32
+  pub area : length olds ≡ log_sectors_per_area
   pub is : log_from Two 0 olds ≡ log
-  pub blank : (k : ℕ) → length log / 84 < k → k < 32 → sector_at olds k ≡ replicate 512 0
+  pub blank : (k : ℕ) → length log / entries_per_sector < k → k < log_sectors_per_area → sector_at olds k ≡ replicate 512 0
   pub six : HaveSix log
   pub are : AreInputs log
 
 -- any of the writes of one append were made: they begin with the sector that the log ends in
 pub record AnyWritten (olds : List (List ℕ)) (log : List Stored) (more : List Entry) (now : List (List ℕ)) : Type 0 where
-  pub size : length now ≡ 32
-  pub full : (k : ℕ) → k < length log / 84 → sector_at now k ≡ sector_at olds k
-  pub each : (k : ℕ) → length log / 84 ≤ k → k < 32 → (sector_at now k ≡ sector_at olds k) ⊎ (sector_at now k ≡ sector_at (log_area (grown log more)) k)
+  pub size : length now ≡ log_sectors_per_area
+  pub full : (k : ℕ) → k < length log / entries_per_sector → sector_at now k ≡ sector_at olds k
+  pub each : (k : ℕ) → length log / entries_per_sector ≤ k → k < log_sectors_per_area → (sector_at now k ≡ sector_at olds k) ⊎ (sector_at now k ≡ sector_at (log_area (grown log more)) k)
 
 -- a log of the same inputs and a prefix of these
 pub record ExtendsBy (log : List Stored) (more : List Entry) (now : List Stored) : Type 0 where
@@ -44,18 +45,18 @@ AnAppendAddsAPrefixToTheLog =
 pub record IsOpenEnded (image : List (List ℕ)) (root : Root) (log : List Stored) : Type 0 where
   pub chosen_is : chosen image ≡ Some root
   pub version_is : root.version ≡ Two
-  pub fits : 32 + blob_sectors root.blob_length ≤ area_length image
-  pub ends : EndsOpen (take 32 (area root.generation image)) log
+  pub fits : log_sectors_per_area + blob_sectors root.blob_length ≤ area_length image
+  pub ends : EndsOpen (take log_sectors_per_area (area root.generation image)) log
 
 -- the first sector that an append to this log writes
 abbrev pub first_written : Root → List Stored → List (List ℕ) → ℕ
-first_written root log image = area_start root.generation image + length log / 84
+first_written root log image = area_start root.generation image + length log / entries_per_sector
 
 -- each sector is the old one, or one that an append of these inputs writes there
 pub record IsInAppend (old : List (List ℕ)) (root : Root) (log : List Stored) (more : List Entry) (now : List (List ℕ)) : Type 0 where
   pub size : length now ≡ length old
   pub each : (k : ℕ) → (sector_at now k ≡ sector_at old k)
-      ⊎ ((first_written root log old ≤ k) × (k < area_start root.generation old + 32) × (sector_at now k ≡ sector_at (log_area (grown log more)) (k - area_start root.generation old)))
+      ⊎ ((first_written root log old ≤ k) × (k < area_start root.generation old + log_sectors_per_area) × (sector_at now k ≡ sector_at (log_area (grown log more)) (k - area_start root.generation old)))
 
 -- and the image has the old content with a prefix of the inputs behind its log
 abbrev pub AnAppendAddsAPrefix : Type 0

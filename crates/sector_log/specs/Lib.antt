@@ -6,5 +6,6 @@ pub mod Laws
 pub mod Layout
 pub mod Log
 pub mod Reading
+pub mod Sizes
 pub mod Store
 pub mod Words

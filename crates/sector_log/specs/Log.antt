@@ -3,6 +3,7 @@ use Rattle.std.specs.Prelude.{◌==◌, ◌&&◌, ◌++◌, ◌+◌, ◌-◌, �
 use Rattle.std.specs.List.{flat_map, list_all}
 use Rattle.std.specs.Int.{w16, to_le_bytes, from_le_bytes}
 use lib.ListN.{replicate}
+use Rattle.sector_log.specs.Sizes.{entries_per_sector, entries_per_old_sector, log_sectors_per_area}
 use Rattle.sector_log.specs.declared.Stored.{Stored}
 use Rattle.sector_log.specs.declared.root.Version.{Version}
 use Rattle.sector_log.specs.declared.root.Version.TheVariants.{One, Two}
@@ -25,8 +26,8 @@ log_magic Two = 71 ∷ 66 ∷ 76 ∷ 50 ∷ []
 
 -- how many entries fill a sector
 abbrev pub most : Version → ℕ
-most One = 100
-most Two = 84
+most One = entries_per_old_sector
+most Two = entries_per_sector
 
 -- the bytes of an entry
 abbrev pub width : Version → ℕ
@@ -75,11 +76,11 @@ log_sector index (e ∷ es) =
 -- n log sectors from this index on with these entries, as many in each as fit, and then blank ones
 abbrev pub log_sectors : ℕ → ℕ → List Stored → List (List ℕ)
 log_sectors zero index entries = []
-log_sectors (suc n) index entries = log_sector index (take 84 entries) ∷ log_sectors n (suc index) (drop 84 entries)
+log_sectors (suc n) index entries = log_sector index (take entries_per_sector entries) ∷ log_sectors n (suc index) (drop entries_per_sector entries)
 
--- the 32 log sectors of an area with these entries
+-- the log sectors of an area with these entries
 unfoldable pub log_area : List Stored → List (List ℕ)
-log_area entries = log_sectors 32 0 entries
+log_area entries = log_sectors log_sectors_per_area 0 entries
 
 -- these bytes, and zeros up to a whole sector
 abbrev pub padded : List ℕ → List ℕ

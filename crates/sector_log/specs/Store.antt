@@ -7,6 +7,7 @@ use Rattle.sector_log.specs.Content.{chosen, generation_in, area_length, area_st
 use Rattle.sector_log.specs.Layout.{replaced}
 use Rattle.sector_log.specs.Log.{log_area}
 use Rattle.sector_log.specs.Inputs.{inputs, is_entry}
+use Rattle.sector_log.specs.Sizes.{log_sectors_per_area, most_entries, most_inputs}
 use Rattle.sector_log.specs.declared.Stored.{Stored}
 use Rattle.sector_log.specs.declared.root.Version.TheVariants.{Two}
 
@@ -17,7 +18,7 @@ pub record IsStored (now : DiskState) (start : ℕ) (root : Root) (log : List St
   pub chosen_is : chosen now.sectors ≡ Some root
   pub start_is : area_start root.generation now.sectors ≡ start
   pub within : start + area_length now.sectors ≤ length now.sectors
-  pub fits : 32 + blob_sectors root.blob_length ≤ area_length now.sectors
+  pub fits : log_sectors_per_area + blob_sectors root.blob_length ≤ area_length now.sectors
   pub log_is : now.sectors ≡ replaced start (log_area log) now.sectors
 
 abbrev pub StoredUnlessBroken : DiskState → ℕ → Root → List Stored → Bool → Type 0
@@ -38,8 +39,8 @@ StandForInputs log = (k : ℕ) → k < length log → is_entry (slice_index_or l
 pub record Kept (log : List Stored) : Type 0 where
   pub six : HaveSix log
   pub entries : StandForInputs log
-  pub few : length (inputs log) ≤ 216000
-  pub small : length log ≤ 2688
+  pub few : length (inputs log) ≤ most_inputs
+  pub small : length log ≤ most_entries
 
 pub kept_prop : (log : List Stored) → IsProp (Kept log)
 kept_prop log = hlevel props
@@ -57,7 +58,7 @@ pub record IsNextGeneration (image : List (List ℕ)) (start : ℕ) (root : Root
   pub follows : root.generation ≡ generation_in image + 1
   pub within : start + area_length image ≤ length image
   pub other : (r : Root) → chosen image ≡ Some r → (area_start r.generation image + area_length image ≤ start) ⊎ (start + area_length image ≤ area_start r.generation image)
-  pub fits : 32 + blob_sectors root.blob_length ≤ area_length image
+  pub fits : log_sectors_per_area + blob_sectors root.blob_length ≤ area_length image
   pub blob_is : root.blob_length ≡ length blob
   pub whole : Fits root
   pub version_is : root.version ≡ Two

@@ -1,8 +1,10 @@
 //! Inputs as entries of a log.
 ghost use Rattle.std.specs.Prelude.{◌≡◌, ◌↔◌, ◌≤◌, ◌<◌, ◌+◌, ◌^◌, ◌++◌, true, IsTrue, length, take, drop, vec_capacity};
 ghost use Rattle.sector_log.specs.Inputs.{is_input, all_input, all_entries, inputs, run_length, single, joins, joins_last, longer, with_input, grown, AllFive};
+ghost use Rattle.sector_log.specs.Sizes.{most_entries, most_inputs};
 
 use crate::parse::is_zeros;
+use crate::sizes::ENTRIES_PER_SECTOR;
 use crate::{Entry, Stored};
 
 /// Whether the entry is a frame or seconds.
@@ -62,7 +64,7 @@ pub(crate) fn joins(last: &Stored, entry: &Entry) -> bool
     last.code[1] == entry.code[1]
 }
 
-/// The same of the last entry, where there is one.
+/// The same for the last entry, if there is one.
 fn joins_last(last: &Option<Stored>, input: &Entry) -> bool
     ensures { result ≡ joins_last last.now input.now }
 {
@@ -72,7 +74,7 @@ fn joins_last(last: &Option<Stored>, input: &Entry) -> bool
     }
 }
 
-/// The run with one frame more.
+/// The run, one frame longer.
 pub(crate) fn longer(run: &Stored) -> Stored
     requires { run_length run.now + 1 < 2 ^ 32 }
     ensures { result ≡ longer run.now }
@@ -85,12 +87,12 @@ pub(crate) fn longer(run: &Stored) -> Stored
     }
 }
 
-/// One input more, where the first `sealed` entries stay as they are.
+/// Adds one input; the first `sealed` entries stay as they are.
 fn add_input(log: &mut Vec<Stored>, sealed: usize, input: &Entry)
     requires sealed { sealed ≤ length log.old.items }
     requires room { length (with_input (drop sealed log.old.items) input.now) + sealed ≤ vec_capacity log.old }
     requires entries { all_entries log.old.items }
-    requires few { length (inputs log.old.items) < 216000 }
+    requires few { length (inputs log.old.items) < most_inputs }
     requires input { is_input input.now ≡ true }
     ensures items { log.new.items ≡ take sealed log.old.items ++ with_input (drop sealed log.old.items) input.now }
     ensures capacity { vec_capacity log.old ≤ vec_capacity log.new }
@@ -107,30 +109,30 @@ fn add_input(log: &mut Vec<Stored>, sealed: usize, input: &Entry)
     log.push_reserved(single(input));
 }
 
-/// Adds inputs behind the entries of full sectors, which stay as they are.
+/// Adds inputs after the entries of full sectors, which stay as they are.
 pub(crate) fn add_inputs(log: &mut Vec<Stored>, more: &[Entry])
     requires room { length (grown log.old.items more.now) ≤ vec_capacity log.old }
     requires entries { all_entries log.old.items }
-    requires few { length (inputs log.old.items) + length more.now ≤ 216000 }
+    requires few { length (inputs log.old.items) + length more.now ≤ most_inputs }
     requires input { all_input more.now }
     ensures items { log.new.items ≡ grown log.old.items more.now }
     ensures capacity { vec_capacity log.old ≤ vec_capacity log.new }
     ensures five { AllFive more.now }
 {
-    let sealed = log.len() / 84 * 84;
+    let sealed = log.len() / ENTRIES_PER_SECTOR * ENTRIES_PER_SECTOR;
     for input in more {
         add_input(log, sealed, input);
     }
 }
 
-/// How many entries a log has with these inputs.
+/// How many entries a log has once these inputs are added.
 pub(crate) fn grown_length(log: &[Stored], more: &[Entry]) -> usize
-    requires log { length log.now ≤ 2688 }
-    requires more { length more.now ≤ 216000 }
+    requires log { length log.now ≤ most_entries }
+    requires more { length more.now ≤ most_inputs }
     ensures { result ≡ length (grown log.now more.now) }
 {
     let mut count = log.len();
-    let mut last = if count % 84 == 0 {
+    let mut last = if count % ENTRIES_PER_SECTOR == 0 {
         None
     } else {
         Some(log[count - 1])

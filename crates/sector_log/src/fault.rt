@@ -5,7 +5,7 @@ ghost use Rattle.sector_log.specs.declared.fault.LogFault.TheVariants.{Device};
 use sector_device::{DeviceFault, SectorDevice};
 use thiserror::Error;
 
-/// Why a call of a log was refused, with the text of each.
+/// Why a call of a log was refused, with the text of each reason.
 #[derive(Clone, Copy, Debug, PartialEq, Eq, Error)]
 pub enum LogFault {
     /// Memory was refused.
@@ -26,7 +26,7 @@ pub enum LogFault {
     /// The inputs don't fit the log.
     #[error("log full")]
     LogFull,
-    /// A call of the device failed before.
+    /// An earlier call of the device failed.
     #[error("broken, open it again")]
     Broken,
 }

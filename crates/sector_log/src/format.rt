@@ -5,13 +5,15 @@ ghost use Rattle.sector_device.specs.DiskState.{sector_at};
 ghost use Rattle.sector_log.specs.Content.{root_bytes};
 ghost use Rattle.sector_log.specs.declared.root.Version.TheVariants.{Two};
 ghost use Rattle.sector_log.specs.Log.{log_sector, padded, fresh_area};
+ghost use Rattle.sector_log.specs.Sizes.{entries_per_sector, log_sectors_per_area};
 
 use crate::Stored;
 use crate::root::Root;
+use crate::sizes::LOG_SECTORS_PER_AREA;
 
-/// The log sector at this index with these entries, blank with none.
+/// The log sector at this index with these entries; blank if there are none.
 pub(crate) fn log_sector(index: u16, entries: &[Stored]) -> [u8; 512]
-    requires { length entries.now ≤ 84 }
+    requires { length entries.now ≤ entries_per_sector }
     ensures { result ≡ log_sector index entries.now }
 {
     let mut sector = [0; 512];
@@ -27,7 +29,7 @@ pub(crate) fn log_sector(index: u16, entries: &[Stored]) -> [u8; 512]
     sector
 }
 
-/// A sector with these bytes, and zeros behind them.
+/// A sector with these bytes, and zeros after them.
 fn padded_sector(part: &[u8]) -> [u8; 512]
     requires { length part.now ≤ 512 }
     ensures { result ≡ padded part.now }
@@ -37,21 +39,21 @@ fn padded_sector(part: &[u8]) -> [u8; 512]
     sector
 }
 
-/// The sector of this index in an area with a blank log and this blob.
+/// The sector at this index of an area with a blank log and this blob.
 pub(crate) fn area_sector(index: u64, blob: &[u8]) -> [u8; 512]
     requires size { length blob.now < 2 ^ 32 }
-    requires within { index < 32 + (length blob.now + 511) / 512 }
+    requires within { index < log_sectors_per_area + (length blob.now + 511) / 512 }
     ensures { result ≡ sector_at (fresh_area blob.now) index }
 {
-    if index < 32 {
+    if index < LOG_SECTORS_PER_AREA {
         return padded_sector(&[]);
     }
-    let from = (512 * (index - 32)) as usize;
+    let from = (512 * (index - LOG_SECTORS_PER_AREA)) as usize;
     let to = (from + 512).min(blob.len());
     padded_sector(&blob[from..to])
 }
 
-/// Puts bytes behind those that are there already, in a sector that is zeros from `at` on.
+/// Puts bytes after those that are there already, in a sector that is all zeros from `at` on.
 fn put(sector: &mut [u8; 512], at: usize, bytes: &[u8])
     requires { at + length bytes.now ≤ 512 }
     ensures { (done : List ℕ) → length done ≡ at → sector.old ≡ done ++ replicate (512 - at) 0 →

@@ -1,13 +1,15 @@
 //! What a log holds, as it was found.
 ghost use Rattle.std.specs.Prelude.{◌≡◌, ◌≤◌, ◌<◌, ◌+◌, ◌^◌, ◌&&◌, ℕ, length, Bool, if◌then◌else◌, nat_lt, nat_le};
 ghost use Rattle.sector_log.specs.Inputs.{is_run, is_seconds, run_length, is_entry, inputs_in, counted};
+ghost use Rattle.sector_log.specs.Sizes.{most_entries_read, most_inputs};
 
 use crate::Stored;
+use crate::sizes::MOST_INPUTS;
 
 /// What the chosen root says.
 #[derive(Clone, Copy, Debug, PartialEq, Eq)]
 pub struct Content {
-    /// What `begin` was given: the SHA-256 of the ROM in this project.
+    /// What `begin` was given: in this project, the SHA-256 of the ROM.
     pub id: [u8; 32],
     /// The count of inputs before the blob.
     pub base: u64,
@@ -15,7 +17,7 @@ pub struct Content {
     pub blob_length: u32,
 }
 
-/// What of a content is damaged.
+/// Which part of a content is damaged.
 #[derive(Clone, Copy, Debug, PartialEq, Eq)]
 pub enum Part {
     /// The blob does not fit an area of the device, and the log is not read.
@@ -23,7 +25,8 @@ pub enum Part {
         /// The sectors that the device would need.
         need: u64,
     },
-    /// The base and the inputs of the log exceed the greatest `u64` together. An entry that is no input counts as one.
+    /// The base and the inputs of the log together exceed the greatest `u64`. An entry that is not
+    /// an input counts as one.
     Count,
 }
 
@@ -54,7 +57,7 @@ pub(crate) fn is_run(entry: &Stored) -> bool
     if times == 0 {
         return false;
     }
-    times <= 216_000
+    times <= MOST_INPUTS
 }
 
 pub(crate) fn is_seconds(entry: &Stored) -> bool
@@ -66,7 +69,7 @@ pub(crate) fn is_seconds(entry: &Stored) -> bool
     entry.code[5] == 0
 }
 
-/// How many inputs an entry stands for, 0 where it stands for none.
+/// How many inputs an entry stands for; 0 if it stands for none.
 pub(crate) fn inputs_of(entry: &Stored) -> u32
     ensures { result ≡ (if is_entry entry.now then length (inputs_in entry.now) else 0) }
 {
@@ -79,16 +82,16 @@ pub(crate) fn inputs_of(entry: &Stored) -> u32
     0
 }
 
-/// The count with an entry that stands for so many inputs.
+/// The count once an entry that stands for this many inputs is added.
 fn counted_with(count: u64, inputs: u32) -> u64
     requires { count < 2 ^ 32 }
-    ensures count { result ≡ count + (if nat_lt 0 inputs && nat_le (count + inputs) 216000 then inputs else 1) }
-    ensures bound { (m : ℕ) → 216000 ≤ m → count ≤ m → result ≤ m + 1 }
+    ensures count { result ≡ count + (if nat_lt 0 inputs && nat_le (count + inputs) most_inputs then inputs else 1) }
+    ensures bound { (m : ℕ) → most_inputs ≤ m → count ≤ m → result ≤ m + 1 }
 {
     if inputs == 0 {
         return count + 1;
     }
-    if count + inputs as u64 > 216_000 {
+    if count + inputs as u64 > MOST_INPUTS as u64 {
         return count + 1;
     }
     count + inputs as u64
@@ -96,7 +99,7 @@ fn counted_with(count: u64, inputs: u32) -> u64
 
 /// How many inputs a log counts.
 pub(crate) fn counted(log: &[Stored]) -> u64
-    requires { length log.now ≤ 3200 }
+    requires { length log.now ≤ most_entries_read }
     ensures { result ≡ counted 0 log.now }
 {
     let mut count = 0;

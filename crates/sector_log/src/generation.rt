@@ -5,6 +5,7 @@ ghost use Rattle.sector_log.specs.declared.root.Version.TheVariants.{Two};
 ghost use Rattle.sector_log.specs.Calls.{HasOldOrNewContent, HasBegun, CanBegin, IsBeginCause};
 ghost use Rattle.sector_log.specs.Content.{generation_in};
 ghost use Rattle.sector_log.specs.Store.{IsStored, IsNextGeneration, root_after};
+ghost use Rattle.sector_log.specs.Sizes.{log_sectors_per_area};
 ghost use Rattle.sector_log.specs.declared.fault.LogFault.TheVariants.{Device};
 
 use crate::fault::LogFault;
@@ -13,7 +14,7 @@ use crate::root::{Root, Version, sectors_needed};
 use crate::writes::{fill_area, sync_once};
 use sector_device::{DeviceFault, SectorDevice};
 
-/// Writes a new generation. At any moment a stop leaves the old content or the new one.
+/// Writes a new generation. A power cut at any moment leaves the old content or the new one.
 fn write_generation<D: SectorDevice>(
     device: &mut D,
     start: u64,
@@ -22,19 +23,22 @@ fn write_generation<D: SectorDevice>(
 ) -> Result<(), DeviceFault>
     requires version { root.now.version ≡ Two }
     requires size { length blob.now < 2 ^ 32 }
-    requires room { start + 32 + (length blob.now + 511) / 512 ≤ length (D.disk device.old).sectors }
+    requires room { start + log_sectors_per_area + (length blob.now + 511) / 512 ≤ length (D.disk device.old).sectors }
     requires roots { 2 ≤ length (D.disk device.old).sectors }
     requires range { length (D.disk device.old).sectors < 2 ^ 64 }
 
     ensures count { length (D.disk device.new).sectors ≡ length (D.disk device.old).sectors }
     ensures honest { (D.disk device.new).honest ↔ (D.disk device.old).honest }
     ensures faults { CountsFaults (D.disk device.old).faults (D.disk device.new).faults result }
-    ensures moments { (D.disk device.old).honest → Settled (D.disk device.old) → IsNextGeneration (D.disk device.old).sectors start root.now blob.now →
+    ensures moments { (D.disk device.old).honest → Settled (D.disk device.old) →
+        IsNextGeneration (D.disk device.old).sectors start root.now blob.now →
         Throughout (D.disk device.old) (D.disk device.new) (HasOldOrNewContent (D.disk device.old).sectors root.now.id root.now.base blob.now) }
     ensures past { (D.disk device.old).honest → Settled (D.disk device.old) → Remembers (D.disk device.old) (D.disk device.new) }
-    ensures begun { OnOk result ((D.disk device.old).honest → Settled (D.disk device.old) → IsNextGeneration (D.disk device.old).sectors start root.now blob.now →
+    ensures begun { OnOk result ((D.disk device.old).honest → Settled (D.disk device.old) →
+        IsNextGeneration (D.disk device.old).sectors start root.now blob.now →
         HasBegun (D.disk device.old) (D.disk device.new) root.now.id root.now.base blob.now) }
-    ensures stored { OnOk result ((D.disk device.old).honest → Settled (D.disk device.old) → IsNextGeneration (D.disk device.old).sectors start root.now blob.now →
+    ensures stored { OnOk result ((D.disk device.old).honest → Settled (D.disk device.old) →
+        IsNextGeneration (D.disk device.old).sectors start root.now blob.now →
         IsStored (D.disk device.new) start root.now []) }
 {
     fill_area(device, start, blob)?;
@@ -43,7 +47,7 @@ fn write_generation<D: SectorDevice>(
     sync_once(device)
 }
 
-/// Why a device of so many sectors can't take a new generation after this one; `None` where it can.
+/// Why a device with `count` sectors can't take a new generation after `last`; `None` if it can.
 pub(crate) fn refusal(count: u64, last: u64, blob_length: usize) -> Option<LogFault>
     requires { blob_length < 2 ^ 32 }
     ensures some { IfSome result (λ why. IsBeginCause why blob_length count last × (why ≢ Device)) }
@@ -84,10 +88,12 @@ pub(crate) fn follow<D: SectorDevice>(
         Throughout (D.disk device.old) (D.disk device.new) (HasOldOrNewContent (D.disk device.old).sectors id base blob.now) }
     ensures past { (D.disk device.old).honest → Settled (D.disk device.old) → Remembers (D.disk device.old) (D.disk device.new) }
     ensures root { IfOk result (λ begun. begun.root ≡ root_after last id base (length blob.now)) }
-    ensures placed { IfOk result (λ begun. (begun.start + 32 ≤ length (D.disk device.new).sectors) × (begun.start + 32 < 2 ^ 64)) }
+    ensures placed { IfOk result (λ begun. (begun.start + log_sectors_per_area ≤ length (D.disk device.new).sectors) ×
+        (begun.start + log_sectors_per_area < 2 ^ 64)) }
     ensures begun { IfOk result (λ _. (D.disk device.old).honest → Settled (D.disk device.old) → last ≡ generation_in (D.disk device.old).sectors →
         HasBegun (D.disk device.old) (D.disk device.new) id base blob.now) }
-    ensures stored { IfOk result (λ begun. (D.disk device.old).honest → Settled (D.disk device.old) → last ≡ generation_in (D.disk device.old).sectors →
+    ensures stored { IfOk result (λ begun. (D.disk device.old).honest → Settled (D.disk device.old) →
+        last ≡ generation_in (D.disk device.old).sectors →
         IsStored (D.disk device.new) begun.start begun.root []) }
 {
     let count = device.count();

@@ -1,14 +1,16 @@
 //! Laws of the layout. The functions do nothing: the contract of each is the law.
 ghost use Rattle.sector_log.specs.Laws.{AnAppendAddsAPrefix, AnAppendAddsAPrefixToTheLog, AWriteOutsideKeepsTheContent, AFoundBlobFits, AFoundBlobHasItsLength, ALogOfInputsCountsThem, ALogOfInputsHasNoneWrong};
 
-/// Law: where the log ends in some sector and every later log sector is blank, after any of the writes of one append the image
-/// has the old content with a prefix of the inputs behind its log. `log` says the same of the log's sectors alone.
+/// Law: if the log ends in some sector and every later log sector is blank, then after any subset
+/// of the writes of one append the image has the old content with a prefix of the inputs added to
+/// its log. `log` says the same of the log's sectors alone.
 pub fn an_append_adds_a_prefix()
     ensures content { AnAppendAddsAPrefix }
     ensures log { AnAppendAddsAPrefixToTheLog }
 {}
 
-/// Law: a write outside sectors 0 and 1 and outside the area of the chosen root leaves the content and the generation.
+/// Law: a write outside sectors 0 and 1 and outside the area of the chosen root leaves the content
+/// and the generation as they were.
 pub fn a_write_outside_keeps_the_content()
     ensures { AWriteOutsideKeepsTheContent }
 {}
@@ -23,12 +25,13 @@ pub fn a_found_blob_has_its_length()
     ensures { AFoundBlobHasItsLength }
 {}
 
-/// Law: a log of which each entry is an input counts as many as it stands for.
+/// Law: a log in which each entry is an input counts as many inputs as it stands for.
 pub fn a_log_of_inputs_counts_them()
     ensures { ALogOfInputsCountsThem }
 {}
 
-/// Law: `first_wrong` finds nothing in a log exactly if each entry is an input and there are no more than 216,000 of them.
+/// Law: `first_wrong` finds nothing in a log exactly if each entry is an input and there are no
+/// more than 216,000 of them.
 pub fn a_log_of_inputs_has_none_wrong()
     ensures { ALogOfInputsHasNoneWrong }
 {}

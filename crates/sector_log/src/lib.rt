@@ -1,5 +1,5 @@
-//! A log of inputs behind a blob (a checkpoint), on a device of sectors: a stop of the host at any moment leaves the old
-//! content or the new one, and of an append a prefix.
+//! A blob (a checkpoint) followed by a log of inputs, on a device of sectors: a power cut of the
+//! host at any moment leaves the old content or the new one, and of an append a prefix.
 #![tactic(auto)]
 
 mod entries;
@@ -14,6 +14,7 @@ mod opening;
 mod parse;
 mod reading;
 mod root;
+mod sizes;
 mod store;
 mod writes;
 
@@ -30,17 +31,18 @@ pub use opening::open_log;
 pub use root::sectors_needed;
 pub use store::Store;
 
-/// One input, as it is given: `00`, buttons and three zeros for a frame, or `01` and the seconds, low byte first.
+/// One input, as it is given: `00`, buttons and three zeros for a frame, or `01` and the seconds,
+/// low byte first.
 #[derive(Clone, Copy, Debug, PartialEq, Eq)]
 pub struct Entry {
-    /// The kind, 0 or 1, and what belongs to it.
+    /// The kind, 0 or 1, and its data.
     pub code: [u8; 5],
 }
 
-/// One entry of the log, as it is kept: `00`, buttons and a length, low byte first, for a run of equal frames, or `01`, the
-/// seconds, low byte first, and `00`.
+/// One entry of the log, as it is kept: `00`, buttons and a length, low byte first, for a run of
+/// equal frames, or `01`, the seconds, low byte first, and `00`.
 #[derive(Clone, Copy, Debug, PartialEq, Eq)]
 pub struct Stored {
-    /// The kind, 0 or 1, and what belongs to it. An entry of version 1 is kept in this form too.
+    /// The kind, 0 or 1, and its data. An entry of version 1 is kept in this form too.
     pub code: [u8; 6],
 }

@@ -2,8 +2,10 @@
 ghost use Rattle.std.specs.Prelude.{◌≡◌, ◌≤◌, ◌<◌, length, take, drop, true, false, IfSome, IsNone};
 ghost use Rattle.std.specs.Int.{w32, to_le_bytes};
 ghost use Rattle.sector_log.specs.Inputs.{frame, seconds, is_input, is_entry, inputs_in, inputs_logged, HasFewTimes, first_wrong};
+ghost use Rattle.sector_log.specs.Sizes.{most_entries_read};
 
 use crate::found::{inputs_of, is_run, is_seconds, times};
+use crate::sizes::MOST_INPUTS;
 use crate::{Entry, Stored};
 
 /// What an entry of a log stands for.
@@ -11,7 +13,7 @@ use crate::{Entry, Stored};
 pub enum Logged {
     /// A run of equal frames.
     Frames {
-        /// The buttons that are held, one a bit.
+        /// The buttons that are held, one per bit.
         buttons: u8,
         /// How many frames, 1 to 216,000.
         times: u32,
@@ -32,7 +34,7 @@ impl Entry {
         }
     }
 
-    /// The input of so many seconds.
+    /// The input of `count` seconds.
     #[tactic(auto, unfolding(crate::specs::Inputs::is_input))]
     pub fn seconds(count: u32) -> Entry
         ensures is { result ≡ seconds count }
@@ -45,7 +47,7 @@ impl Entry {
     }
 }
 
-/// The seconds of an entry that is no run.
+/// The seconds of an entry that is not a run.
 fn seconds_of(entry: &Stored) -> u32
     ensures { to_le_bytes w32 result ≡ take 4 (drop 1 entry.now.code) }
 {
@@ -55,7 +57,7 @@ fn seconds_of(entry: &Stored) -> u32
 }
 
 impl Stored {
-    /// What the entry stands for; `None` where it is neither a run of 1 to 216,000 frames nor seconds.
+    /// What the entry stands for; `None` if it is neither a run of 1 to 216,000 frames nor seconds.
     pub fn logged(&self) -> Option<Logged>
         ensures none { IsNone result → is_entry self.now ≡ false }
         ensures some { IfSome result (λ logged. (is_entry self.now ≡ true) × (inputs_in self.now ≡ inputs_logged logged)) }
@@ -75,10 +77,10 @@ impl Stored {
     }
 }
 
-/// The index of the first entry of a log that is no input, or with which there would be more than 216,000 inputs; `None`
-/// where there is none.
+/// The index of the first entry of a log that is not an input, or with which there would be more
+/// than 216,000 inputs; `None` if there is none.
 pub fn first_wrong(log: &[Stored]) -> Option<u32>
-    requires { length log.now ≤ 3200 }
+    requires { length log.now ≤ most_entries_read }
     ensures { result ≡ first_wrong log.now }
 {
     let mut before = 0;
@@ -87,7 +89,7 @@ pub fn first_wrong(log: &[Stored]) -> Option<u32>
         if inputs == 0 {
             return Some(index as u32);
         }
-        if inputs > 216_000 - before {
+        if inputs > MOST_INPUTS - before {
             return Some(index as u32);
         }
         before += inputs;

@@ -6,6 +6,7 @@ ghost use Rattle.sector_log.specs.Calls.{HasOldOrNewContent, HasBegun, CanBegin,
 ghost use Rattle.sector_log.specs.Reading.{FoundIs, found_prop, BlobIs, blob_prop};
 ghost use Rattle.sector_log.specs.Content.{content, generation_in, chosen, version_of};
 ghost use Rattle.sector_log.specs.Found.{found_in, log_of, blob_in};
+ghost use Rattle.sector_log.specs.Sizes.{most_entries_read};
 ghost use Rattle.sector_log.specs.declared.fault.LogFault.TheVariants.{Memory, Device};
 ghost use Rattle.sector_log.specs.declared.root.Version.TheVariants.{Two};
 
@@ -17,7 +18,8 @@ use crate::root::{Root, last_generation, sectors_needed};
 use crate::store::Store;
 use sector_device::SectorDevice;
 
-/// A device whose log was read, and on which nothing can be appended: only `begin` makes a store of it.
+/// A device whose log was read, and to which nothing can be appended: only `begin` makes a store of
+/// it.
 #[derive(Drop)]
 pub struct Opened<D: SectorDevice> {
     pub(crate) device: D,
@@ -29,8 +31,8 @@ pub struct Opened<D: SectorDevice> {
     /// The blob was read.
     pub(crate) whole: bool,
     pub(crate) blob: Vec<u8>,
-    ghost reserved: { 3200 ≤ vec_capacity log },
-    ghost few: { length log.items ≤ 3200 },
+    ghost reserved: { most_entries_read ≤ vec_capacity log },
+    ghost few: { length log.items ≤ most_entries_read },
     ghost found: { FoundIs (D.disk device) root short log.items } by { found_prop (D.disk device) root short log.items },
     ghost blob_is: { BlobIs (D.disk device) most whole blob.items } by { blob_prop (D.disk device) most whole blob.items },
 }
@@ -38,7 +40,7 @@ pub struct Opened<D: SectorDevice> {
 impl<D: SectorDevice> Opened<D> {
     ghost use Rattle.sector_log.specs.Words.{device_under, found_generation, longest_blob, seen, left_by_begin, device_of, is_broken, entries_of, generation_of, id_of};
 
-    /// What reads give: nothing, a content, or one that is damaged.
+    /// What reads give: nothing, a content, or a damaged content.
     pub fn found(&self) -> Found
         ensures seen { result ≡ (seen self.now).found }
         ensures reads { (D.disk (device_under self.now)).honest → result ≡ found_in (content (D.disk (device_under self.now)).sectors) }
@@ -62,7 +64,7 @@ impl<D: SectorDevice> Opened<D> {
         Found::Content(content)
     }
 
-    /// The generation of the chosen root, 0 where there is none.
+    /// The generation of the chosen root; 0 if there is none.
     pub fn generation(&self) -> u64
         ensures generation { result ≡ found_generation self.now }
         ensures found { (D.disk (device_under self.now)).honest → result ≡ generation_in (D.disk (device_under self.now)).sectors }
@@ -70,7 +72,7 @@ impl<D: SectorDevice> Opened<D> {
         last_generation(self.root)
     }
 
-    /// The entries of the log, none where nothing is found or the blob does not fit the area.
+    /// The entries of the log; none if nothing is found or the blob does not fit the area.
     #[tactic(auto, unfolding(crate::specs::Words::seen))]
     pub fn entries(&self) -> &[Stored]
         ensures seen { result.now ≡ (seen self.now).log }
@@ -79,13 +81,15 @@ impl<D: SectorDevice> Opened<D> {
         &self.log
     }
 
-    /// The blob, where it fits its area and is no longer than the `most` of `open_log`.
+    /// The blob, if it fits its area and is no longer than the `most` of `open_log`.
     #[tactic(auto, unfolding(crate::specs::Words::seen))]
     pub fn blob(&self) -> Option<&[u8]>
         ensures seen_some { IfSome result (λ blob. (seen self.now).blob ≡ Some blob.now) }
         ensures seen_none { IsNone result → (seen self.now).blob ≡ None }
-        ensures some { IfSome result (λ blob. (D.disk (device_under self.now)).honest → blob_in (longest_blob self.now) (content (D.disk (device_under self.now)).sectors) ≡ Some blob.now) }
-        ensures none { IsNone result → (D.disk (device_under self.now)).honest → blob_in (longest_blob self.now) (content (D.disk (device_under self.now)).sectors) ≡ None }
+        ensures some { IfSome result (λ blob. (D.disk (device_under self.now)).honest →
+            blob_in (longest_blob self.now) (content (D.disk (device_under self.now)).sectors) ≡ Some blob.now) }
+        ensures none { IsNone result → (D.disk (device_under self.now)).honest →
+            blob_in (longest_blob self.now) (content (D.disk (device_under self.now)).sectors) ≡ None }
     {
         if self.whole { Some(&self.blob) } else { None }
     }
@@ -97,16 +101,20 @@ impl<D: SectorDevice> Opened<D> {
         self.device
     }
 
-    /// Begins a new generation with this blob and an empty log. At each moment a stop leaves the old content or the new one.
-    /// `Err`: `TooSmall`, `Worn`, both with the device as it was, or `Device`.
+    /// Begins a new generation with this blob and an empty log. A power cut at any moment leaves
+    /// the old content or the new one. `Err`: `TooSmall` or `Worn`, with the device as it was, or
+    /// `Device`.
     pub fn begin(self, id: [u8; 32], base: u64, blob: &[u8]) -> Result<Store<D>, Refused<D>>
         requires { length blob.now < 2 ^ 32 }
         ensures images { (D.disk (device_under self)).honest →
             HoldsSince (D.disk (device_under self)) (D.disk (left_by_begin result)) (HasOldOrNewContent (D.disk (device_under self)).sectors id base blob.now) }
-        ensures begun { IfOk result (λ store. (D.disk (device_under self)).honest → HasBegun (D.disk (device_under self)) (D.disk (device_of store)) id base blob.now) }
-        ensures version { IfOk result (λ store. (D.disk (device_under self)).honest → version_of (chosen (D.disk (device_of store)).sectors) ≡ Some Two) }
+        ensures begun { IfOk result (λ store. (D.disk (device_under self)).honest →
+            HasBegun (D.disk (device_under self)) (D.disk (device_of store)) id base blob.now) }
+        ensures version { IfOk result (λ store. (D.disk (device_under self)).honest →
+            version_of (chosen (D.disk (device_of store)).sectors) ≡ Some Two) }
         ensures can { IfOk result (λ _. CanBegin (length blob.now) (length (D.disk (device_under self)).sectors) (found_generation self)) }
-        ensures cause { IfErr result (λ refused. IsBeginCause refused.why (length blob.now) (length (D.disk (device_under self)).sectors) (found_generation self)) }
+        ensures cause { IfErr result (λ refused.
+            IsBeginCause refused.why (length blob.now) (length (D.disk (device_under self)).sectors) (found_generation self)) }
         ensures untouched { IfErr result (λ refused. (refused.why ≡ Device) ⊎ (refused.device ≡ device_under self)) }
         ensures generation { IfOk result (λ store. generation_of store ≡ found_generation self + 1) }
         ensures id { IfOk result (λ store. id_of store ≡ id) }

@@ -1,4 +1,4 @@
-//! Reading what stands on a device.
+//! Reading what is on a device.
 ghost use Rattle.std.specs.Prelude.{◌≡◌, ◌↔◌, ◌≤◌, ◌<◌, ◌+◌, ◌⊎◌, [], length, IfOk, IfErr};
 ghost use Rattle.sector_device.specs.DiskState.{Settled};
 ghost use Rattle.sector_log.specs.Calls.{HasLooked, faults_after};
@@ -10,11 +10,12 @@ ghost use Rattle.sector_log.specs.declared.fault.LogFault.TheVariants.{Memory, D
 use crate::fault::{LogFault, Refused};
 use crate::opened::Opened;
 use crate::reading::{look, look_blob};
+use crate::sizes::MOST_ENTRIES_READ;
 use sector_device::SectorDevice;
 use std::alloc::Global;
 
-/// Reads what stands on a device. It begins with a sync and writes nothing. Blobs of up to `most` bytes are kept.
-/// `Err`: `Memory` before any device call, `Device` where one failed.
+/// Reads what is on a device. It begins with a sync and writes nothing. Blobs of up to `most` bytes
+/// are kept. `Err`: `Memory` before any device call, `Device` if one failed.
 pub fn open_log<D: SectorDevice>(
     alloc: Global,
     device: D,
@@ -33,7 +34,7 @@ pub fn open_log<D: SectorDevice>(
     ensures faults { IfErr result (λ refused. (D.disk refused.device).faults ≡ faults_after refused.why (D.disk device).faults) }
 {
     let mut device = device;
-    let Ok(mut log) = Vec::with_capacity(alloc, 3200) else {
+    let Ok(mut log) = Vec::with_capacity(alloc, MOST_ENTRIES_READ) else {
         return Err(Refused {
             why: LogFault::Memory,
             device,

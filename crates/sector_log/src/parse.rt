@@ -1,11 +1,13 @@
 //! What the bytes of sectors say.
 ghost use Rattle.std.specs.Prelude.{◌≡◌, ◌==◌, ◌≤◌, ◌<◌, ◌+◌, ◌*◌, ◌++◌, length, take, drop, Some, None, Bool, true, false, if◌then◌else◌, vec_capacity};
 ghost use Rattle.sector_log.specs.Log.{begins_with, zeros, stored, width, most, count_in, is_log_sector, entries_at};
+ghost use Rattle.sector_log.specs.Sizes.{entries_per_old_sector};
 ghost use Rattle.sector_log.specs.Content.{is_valid_root, root_in, root_front, version_in, newer};
 ghost use Rattle.std.specs.Int.{w16, w32, w64, from_le_bytes};
 
 use crate::Stored;
 use crate::root::{Root, Version};
+use crate::sizes::{ENTRIES_PER_OLD_SECTOR, ENTRIES_PER_SECTOR};
 
 fn begins_with(magic: &[u8], bytes: &[u8]) -> bool
     requires { length magic.now ≤ length bytes.now }
@@ -108,7 +110,7 @@ pub(crate) fn parse_root(slot: u64, sector: &[u8; 512]) -> Option<Root>
     Some(root)
 }
 
-/// The one of greater generation.
+/// The one with the greater generation.
 pub(crate) fn newer(a: Option<Root>, b: Option<Root>) -> Option<Root>
     ensures { result ≡ newer a b }
 {
@@ -152,8 +154,8 @@ fn room(version: Version) -> u16
     ensures { result ≡ most version }
 {
     match version {
-        Version::One => 100,
-        Version::Two => 84,
+        Version::One => ENTRIES_PER_OLD_SECTOR as u16,
+        Version::Two => ENTRIES_PER_SECTOR as u16,
     }
 }
 
@@ -166,7 +168,7 @@ fn size(version: Version) -> usize
     }
 }
 
-/// How many entries a sector has at this index of the log.
+/// How many entries a sector at this index of the log has.
 fn entry_count(version: Version, index: u16, sector: &[u8; 512]) -> u16
     ensures count { result ≡ (if is_log_sector version index sector.now then count_in sector.now else 0) }
     ensures few { result ≤ most version }
@@ -191,17 +193,17 @@ fn entry_count(version: Version, index: u16, sector: &[u8; 512]) -> u16
     count
 }
 
-/// Adds the entries of a sector at this index of the log; whether the sector is full.
+/// Adds the entries of a sector at this index of the log, and answers whether the sector is full.
 pub(crate) fn read_entries(
     log: &mut Vec<Stored>,
     version: Version,
     index: u16,
     sector: &[u8; 512],
 ) -> bool
-    requires { length log.old.items + 100 ≤ vec_capacity log.old }
+    requires { length log.old.items + entries_per_old_sector ≤ vec_capacity log.old }
     ensures items { log.new.items ≡ log.old.items ++ entries_at version index sector.now }
     ensures capacity { vec_capacity log.old ≤ vec_capacity log.new }
-    ensures few { length log.new.items ≤ length log.old.items + 100 }
+    ensures few { length log.new.items ≤ length log.old.items + entries_per_old_sector }
     ensures full { result ≡ (length (entries_at version index sector.now) == most version) }
 {
     let count = entry_count(version, index, sector);

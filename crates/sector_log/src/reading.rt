@@ -1,4 +1,4 @@
-//! What stands on a device.
+//! What is on a device.
 ghost use Rattle.std.specs.Prelude.{◌≡◌, ◌↔◌, ◌≤◌, ◌<◌, ◌+◌, ◌/◌, ◌^◌, ◌++◌, [], length, take, drop, IfOk, vec_capacity, Bool, if◌then◌else◌, Option, Some, None};
 ghost use Rattle.sector_device.specs.DiskState.{CountsFaults, Settled};
 ghost use Rattle.sector_log.specs.Log.{log_from};
@@ -6,10 +6,12 @@ ghost use Rattle.std.specs.List.{flat_map};
 ghost use Rattle.sector_log.specs.Content.{root_at, newer, chosen, content};
 ghost use Rattle.sector_log.specs.Found.{blob_in};
 ghost use Rattle.sector_log.specs.Reading.{LooksOnly, IsFound};
+ghost use Rattle.sector_log.specs.Sizes.{log_sectors_per_area, most_entries_read};
 
 use crate::Stored;
 use crate::parse::{newer, parse_root, read_entries};
 use crate::root::{Root, Version};
+use crate::sizes::LOG_SECTORS_PER_AREA;
 use crate::writes::sync_once;
 use sector_device::{DeviceFault, SectorDevice};
 
@@ -26,7 +28,7 @@ fn read_root<D: SectorDevice>(device: &mut D, slot: u64) -> Result<Option<Root>,
     Ok(parse_root(slot, &sector))
 }
 
-/// The root of greater generation.
+/// The root with the greater generation.
 fn read_chosen<D: SectorDevice>(device: &mut D) -> Result<Option<Root>, DeviceFault>
     requires { 2 ≤ length (D.disk device.old).sectors }
     ensures count { length (D.disk device.new).sectors ≡ length (D.disk device.old).sectors }
@@ -41,28 +43,28 @@ fn read_chosen<D: SectorDevice>(device: &mut D) -> Result<Option<Root>, DeviceFa
     Ok(newer(zeroth, first))
 }
 
-/// Reads the log of an area, one sector in each turn.
+/// Reads the log of an area, one sector per turn.
 fn read_log<D: SectorDevice>(
     device: &mut D,
     start: u64,
     version: Version,
     log: &mut Vec<Stored>,
 ) -> Result<(), DeviceFault>
-    requires room { start + 32 ≤ length (D.disk device.old).sectors }
-    requires range { start + 32 < 2 ^ 64 }
+    requires room { start + log_sectors_per_area ≤ length (D.disk device.old).sectors }
+    requires range { start + log_sectors_per_area < 2 ^ 64 }
     requires empty { log.old.items ≡ [] }
-    requires reserved { 3200 ≤ vec_capacity log.old }
+    requires reserved { most_entries_read ≤ vec_capacity log.old }
     ensures count { length (D.disk device.new).sectors ≡ length (D.disk device.old).sectors }
     ensures honest { (D.disk device.new).honest ↔ (D.disk device.old).honest }
     ensures faults { CountsFaults (D.disk device.old).faults (D.disk device.new).faults result }
     ensures looked { (D.disk device.old).honest → LooksOnly (D.disk device.old) (D.disk device.new) }
     ensures capacity { vec_capacity log.old ≤ vec_capacity log.new }
-    ensures few { length log.new.items ≤ 3200 }
+    ensures few { length log.new.items ≤ most_entries_read }
     ensures log { IfOk result (λ _. (D.disk device.old).honest →
-        log_from version 0 (take 32 (drop start (D.disk device.old).sectors)) ≡ log.new.items) }
+        log_from version 0 (take log_sectors_per_area (drop start (D.disk device.old).sectors)) ≡ log.new.items) }
 {
     let mut sector = [0; 512];
-    for index in 0..32 {
+    for index in 0..LOG_SECTORS_PER_AREA as u16 {
         device.read(start + index as u64, &mut sector)?;
         if !read_entries(log, version, index, &sector) {
             return Ok(());
@@ -84,13 +86,13 @@ pub(crate) fn look<D: SectorDevice>(
     log: &mut Vec<Stored>,
 ) -> Result<Finding, DeviceFault>
     requires empty { log.old.items ≡ [] }
-    requires reserved { 3200 ≤ vec_capacity log.old }
+    requires reserved { most_entries_read ≤ vec_capacity log.old }
     ensures count { length (D.disk device.new).sectors ≡ length (D.disk device.old).sectors }
     ensures honest { (D.disk device.new).honest ↔ (D.disk device.old).honest }
     ensures faults { CountsFaults (D.disk device.old).faults (D.disk device.new).faults result }
     ensures looked { (D.disk device.old).honest → LooksOnly (D.disk device.old) (D.disk device.new) }
     ensures capacity { vec_capacity log.old ≤ vec_capacity log.new }
-    ensures few { length log.new.items ≤ 3200 }
+    ensures few { length log.new.items ≤ most_entries_read }
     ensures found { IfOk result (λ found. (D.disk device.old).honest → IsFound (D.disk device.new) found.root found.short log.new.items) }
 {
     sync_once(device)?;
@@ -109,7 +111,7 @@ pub(crate) fn look<D: SectorDevice>(
         });
     };
     let area = (count - 2) / 2;
-    if area < 32 + (root.blob_length as u64 + 511) / 512 {
+    if area < LOG_SECTORS_PER_AREA + (root.blob_length as u64 + 511) / 512 {
         return Ok(Finding {
             root: Some(root),
             short: true,
@@ -123,7 +125,7 @@ pub(crate) fn look<D: SectorDevice>(
     })
 }
 
-/// Puts bytes into room that was reserved.
+/// Puts bytes into reserved room.
 fn push_bytes(blob: &mut Vec<u8>, bytes: &[u8])
     requires { length blob.old.items + length bytes.now ≤ vec_capacity blob.old }
     ensures items { blob.new.items ≡ blob.old.items ++ bytes.now }
@@ -134,7 +136,7 @@ fn push_bytes(blob: &mut Vec<u8>, bytes: &[u8])
     }
 }
 
-/// Reads a blob from so many sectors, one in each turn.
+/// Reads a blob of `size` bytes from the `room` sectors at `start`, one sector per turn.
 fn read_blob<D: SectorDevice>(
     device: &mut D,
     start: u64,
@@ -164,7 +166,8 @@ fn read_blob<D: SectorDevice>(
     Ok(())
 }
 
-/// Reads the blob of the chosen root, where it fits its area and is no longer than `most`; whether it was read.
+/// Reads the blob of the chosen root, if it fits its area and is no longer than `most`, and answers
+/// whether it was read.
 pub(crate) fn look_blob<D: SectorDevice>(
     device: &mut D,
     found: Option<Root>,
@@ -192,10 +195,10 @@ pub(crate) fn look_blob<D: SectorDevice>(
         return Ok(false);
     }
     let area = (count - 2) / 2;
-    if area < 32 + (size + 511) / 512 {
+    if area < LOG_SECTORS_PER_AREA + (size + 511) / 512 {
         return Ok(false);
     }
-    let start = 2 + root.generation % 2 * area + 32;
-    read_blob(device, start, area - 32, size, blob)?;
+    let start = 2 + root.generation % 2 * area + LOG_SECTORS_PER_AREA;
+    read_blob(device, start, area - LOG_SECTORS_PER_AREA, size, blob)?;
     Ok(true)
 }

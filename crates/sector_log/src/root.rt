@@ -2,6 +2,8 @@
 ghost use Rattle.std.specs.Prelude.{◌≡◌};
 ghost use Rattle.sector_log.specs.Content.{last_generation, need};
 
+use crate::sizes::LOG_SECTORS_PER_AREA;
+
 /// The two forms of a log's sectors. New generations are written in the second.
 #[derive(Clone, Copy, Debug, PartialEq, Eq)]
 pub enum Version {
@@ -20,7 +22,7 @@ pub struct Root {
     pub blob_length: u32,
 }
 
-/// The generation of the chosen root, 0 where there is none.
+/// The generation of the chosen root; 0 if there is none.
 pub(crate) fn last_generation(root: Option<Root>) -> u64
     ensures { result ≡ last_generation root }
 {
@@ -30,9 +32,10 @@ pub(crate) fn last_generation(root: Option<Root>) -> u64
     }
 }
 
-/// The sectors that a device needs for a blob of so many bytes: two roots, and two areas of 32 log sectors and the blob's.
+/// How many sectors a device needs for a blob of this many bytes: two roots, and two areas of 32
+/// log sectors and the blob's sectors.
 pub fn sectors_needed(blob_length: u32) -> u64
     ensures { result ≡ need blob_length }
 {
-    2 + 2 * (32 + (blob_length as u64 + 511) / 512)
+    2 + 2 * (LOG_SECTORS_PER_AREA + (blob_length as u64 + 511) / 512)
 }

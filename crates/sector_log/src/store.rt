@@ -6,6 +6,7 @@ ghost use Rattle.sector_log.specs.Store.{IsStored, Kept, kept_prop, StoredUnless
 ghost use Rattle.sector_log.specs.Content.{content, chosen, version_of};
 ghost use Rattle.sector_log.specs.Found.{log_of};
 ghost use Rattle.sector_log.specs.Inputs.{inputs, all_input, grown, fits};
+ghost use Rattle.sector_log.specs.Sizes.{log_sectors_per_area, most_entries_read};
 ghost use Rattle.sector_log.specs.declared.fault.LogFault.TheVariants.{Device, Broken};
 ghost use Rattle.sector_log.specs.declared.root.Version.TheVariants.{Two};
 
@@ -13,11 +14,13 @@ use crate::entries::{add_inputs, grown_length};
 use crate::fault::LogFault;
 use crate::generation::{follow, refusal};
 use crate::root::Root;
+use crate::sizes::{ENTRIES_PER_SECTOR, MOST_ENTRIES, MOST_INPUTS};
 use crate::writes::{sync_once, write_log};
 use crate::{Entry, Stored};
 use sector_device::{DeviceFault, SectorDevice};
 
-/// The log of a generation that this process began. Inputs can be appended, until a call of the device fails.
+/// The log of a generation that this process began. Inputs can be appended until a call of the
+/// device fails.
 #[derive(Drop)]
 pub struct Store<D: SectorDevice> {
     device: D,
@@ -28,9 +31,9 @@ pub struct Store<D: SectorDevice> {
     /// How many inputs the log stands for.
     given: u32,
     broken: bool,
-    ghost placed: { start + 32 ≤ length (D.disk device).sectors },
-    ghost range: { start + 32 < 2 ^ 64 },
-    ghost reserved: { 3200 ≤ vec_capacity log },
+    ghost placed: { start + log_sectors_per_area ≤ length (D.disk device).sectors },
+    ghost range: { start + log_sectors_per_area < 2 ^ 64 },
+    ghost reserved: { most_entries_read ≤ vec_capacity log },
     ghost kept: { Kept log.items } by { kept_prop log.items },
     ghost count: { given ≡ length (inputs log.items) },
     ghost stored: { StoredUnlessBroken (D.disk device) start root log.items broken } by { stored_prop (D.disk device) start root log.items broken },
@@ -39,11 +42,11 @@ pub struct Store<D: SectorDevice> {
 impl<D: SectorDevice> Store<D> {
     ghost use Rattle.sector_log.specs.Words.{device_of, is_broken, entries_of, generation_of, id_of};
 
-    /// A store that a new generation leaves.
+    /// The store that a new generation leaves.
     pub(crate) fn at(device: D, start: u64, root: Root, log: Vec<Stored>) -> Self
-        requires placed { start + 32 ≤ length (D.disk device).sectors }
-        requires range { start + 32 < 2 ^ 64 }
-        requires reserved { 3200 ≤ vec_capacity log }
+        requires placed { start + log_sectors_per_area ≤ length (D.disk device).sectors }
+        requires range { start + log_sectors_per_area < 2 ^ 64 }
+        requires reserved { most_entries_read ≤ vec_capacity log }
         requires empty { log.items ≡ [] }
         requires stored { (D.disk device).honest → IsStored (D.disk device) start root [] }
         ensures device { result.device ≡ device }
@@ -61,39 +64,43 @@ impl<D: SectorDevice> Store<D> {
         }
     }
 
-    /// Whether a call of the device failed: only opening the log again helps.
+    /// Whether a call of the device has failed: then only opening the log again helps.
     pub fn is_broken(&self) -> bool
         ensures { result ≡ is_broken self.now }
     {
         self.broken
     }
 
-    /// Whether the inputs can be appended: their entries fit the log's sectors, and the log stands for no more than 216,000.
+    /// Whether the inputs can be appended: their entries fit the log's sectors, and the log then
+    /// stands for no more than 216,000 inputs.
     pub fn fits(&self, more: &[Entry]) -> bool
         ensures { result ≡ fits (entries_of self.now) more.now }
     {
-        if more.len() > (216_000 - self.given) as usize {
+        if more.len() > (MOST_INPUTS - self.given) as usize {
             return false;
         }
-        grown_length(&self.log, more) <= 2688
+        grown_length(&self.log, more) <= MOST_ENTRIES
     }
 
-    /// Adds inputs behind the log. At each moment a stop leaves the old log with a prefix of them. Adding none makes no device
-    /// call. `Err`: `Broken`, `LogFull`, both with the store as it was, or `Device`, which breaks it.
+    /// Adds inputs to the log. A power cut at any moment leaves the old log with a prefix of them.
+    /// Adding none makes no device call. `Err`: `Broken` or `LogFull`, with the store as it was, or
+    /// `Device`, which breaks it.
     pub fn append(&mut self, more: &[Entry]) -> Result<(), LogFault>
         requires { all_input more.now }
         ensures images { is_broken self.old ≡ false → (D.disk (device_of self.old)).honest →
             HoldsSince (D.disk (device_of self.old)) (D.disk (device_of self.new)) (HoldsPrefix (D.disk (device_of self.old)).sectors more.now) }
         ensures writes { is_broken self.old ≡ false → (D.disk (device_of self.old)).honest →
             HoldsSince (D.disk (device_of self.old)) (D.disk (device_of self.new)) (ChangesOpenLog (D.disk (device_of self.old)).sectors (length (entries_of self.old))) }
-        ensures appended { OnOk result ((D.disk (device_of self.old)).honest → IsAppended (D.disk (device_of self.old)) (D.disk (device_of self.new)) more.now) }
+        ensures appended { OnOk result ((D.disk (device_of self.old)).honest →
+            IsAppended (D.disk (device_of self.old)) (D.disk (device_of self.new)) more.now) }
         ensures can { OnOk result ((is_broken self.old ≡ false) × (fits (entries_of self.old) more.now ≡ true)) }
         ensures cause { IfErr result (λ why. IsAppendCause why (is_broken self.old) (fits (entries_of self.old) more.now)) }
         ensures unchanged { IfErr result (λ why. (why ≡ Device) ⊎ (self.new ≡ self.old)) }
         ensures nothing { length more.now ≡ 0 → self.new ≡ self.old }
         ensures broken { (is_broken self.new ≡ true) ↔ ((is_broken self.old ≡ true) ⊎ IsErrOf result LogFault.Device) }
         ensures entries { OnOk result (entries_of self.new ≡ grown (entries_of self.old) more.now) }
-        ensures reads { OnOk result ((D.disk (device_of self.old)).honest → log_of (content (D.disk (device_of self.new)).sectors) ≡ entries_of self.new) }
+        ensures reads { OnOk result ((D.disk (device_of self.old)).honest →
+            log_of (content (D.disk (device_of self.new)).sectors) ≡ entries_of self.new) }
         ensures generation { (generation_of self.new ≡ generation_of self.old) × (id_of self.new ≡ id_of self.old) }
         ensures count { length (D.disk (device_of self.new)).sectors ≡ length (D.disk (device_of self.old)).sectors }
         ensures honest { (D.disk (device_of self.new)).honest ↔ (D.disk (device_of self.old)).honest }
@@ -110,28 +117,33 @@ impl<D: SectorDevice> Store<D> {
         if more.is_empty() {
             return Ok(());
         }
-        let first = (self.log.len() / 84) as u16;
+        let first = (self.log.len() / ENTRIES_PER_SECTOR) as u16;
         // Until the sync below is done.
         self.broken = true;
         add_inputs(&mut self.log, more);
         self.given += more.len() as u32;
-        let end = ((self.log.len() + 83) / 84) as u16;
+        let end = ((self.log.len() + (ENTRIES_PER_SECTOR - 1)) / ENTRIES_PER_SECTOR) as u16;
         write_log(&mut self.device, self.start, &self.log, first, end)?;
         sync_once(&mut self.device)?;
         self.broken = false;
         Ok(())
     }
 
-    /// Begins a new generation with this blob and an empty log. At each moment a stop leaves the old content or the new one.
-    /// `Err`: `Broken`, `TooSmall`, `Worn`, these with the store as it was, or `Device`, which breaks it.
+    /// Begins a new generation with this blob and an empty log. A power cut at any moment leaves
+    /// the old content or the new one. `Err`: `Broken`, `TooSmall` or `Worn`, with the store as it
+    /// was, or `Device`, which breaks it.
     pub fn replace(&mut self, base: u64, blob: &[u8]) -> Result<(), LogFault>
         requires { length blob.now < 2 ^ 32 }
         ensures images { is_broken self.old ≡ false → (D.disk (device_of self.old)).honest →
             HoldsSince (D.disk (device_of self.old)) (D.disk (device_of self.new)) (HasOldOrNewContent (D.disk (device_of self.old)).sectors (id_of self.old) base blob.now) }
-        ensures begun { OnOk result ((D.disk (device_of self.old)).honest → HasBegun (D.disk (device_of self.old)) (D.disk (device_of self.new)) (id_of self.old) base blob.now) }
+        ensures begun { OnOk result ((D.disk (device_of self.old)).honest →
+            HasBegun (D.disk (device_of self.old)) (D.disk (device_of self.new)) (id_of self.old) base blob.now) }
         ensures version { OnOk result ((D.disk (device_of self.old)).honest → version_of (chosen (D.disk (device_of self.new)).sectors) ≡ Some Two) }
-        ensures can { OnOk result ((is_broken self.old ≡ false) × CanBegin (length blob.now) (length (D.disk (device_of self.old)).sectors) (generation_of self.old)) }
-        ensures cause { IfErr result (λ why. IsReplaceCause why (is_broken self.old) (length blob.now) (length (D.disk (device_of self.old)).sectors) (generation_of self.old)) }
+        ensures can { OnOk result ((is_broken self.old ≡ false) ×
+            CanBegin (length blob.now) (length (D.disk (device_of self.old)).sectors) (generation_of self.old)) }
+        ensures cause { IfErr result (λ why.
+            IsReplaceCause why (is_broken self.old) (length blob.now) (length (D.disk (device_of self.old)).sectors)
+            (generation_of self.old)) }
         ensures unchanged { IfErr result (λ why. (why ≡ Device) ⊎ (self.new ≡ self.old)) }
         ensures broken { (is_broken self.new ≡ true) ↔ ((is_broken self.old ≡ true) ⊎ IsErrOf result LogFault.Device) }
         ensures empty { OnOk result (entries_of self.new ≡ []) }
@@ -165,7 +177,7 @@ impl<D: SectorDevice> Store<D> {
         Ok(())
     }
 
-    /// The device, to be looked at.
+    /// A read-only view of the device.
     pub fn device(&self) -> &D
         ensures { result.now ≡ device_of self.now }
     {

@@ -1,25 +1,27 @@
-//! Runs of writes, one device call in each turn, and the sync behind them.
+//! Runs of writes, one device call per turn, and the sync after them.
 ghost use Rattle.std.specs.Prelude.{◌≡◌, ◌↔◌, ◌≤◌, ◌<◌, ◌+◌, ◌*◌, ◌/◌, ◌^◌, ℕ, length, take, drop, OnOk};
 ghost use Rattle.sector_device.specs.DiskState.{CountsFaults, HasSynced, Settled, sector_at};
 ghost use Rattle.sector_device.specs.Runs.{HoldsThroughout, Mixed, WrittenUpTo};
 ghost use Rattle.sector_log.specs.Log.{log_area, fresh_area};
 ghost use Rattle.sector_log.specs.Layout.{replaced};
+ghost use Rattle.sector_log.specs.Sizes.{entries_per_sector, log_sectors_per_area, most_entries};
 
 use crate::Stored;
 use crate::format::{area_sector, log_sector};
+use crate::sizes::{ENTRIES_PER_SECTOR, LOG_SECTORS_PER_AREA};
 use sector_device::{DeviceFault, SectorDevice};
 
-/// The entries that stand in the log's sector of this index.
+/// The entries in the log's sector at this index.
 fn chunk(log: &[Stored], index: u16) -> &[Stored]
-    requires { length log.now ≤ 2688 }
-    ensures { result.now ≡ take 84 (drop (84 * index) log.now) }
+    requires { length log.now ≤ most_entries }
+    ensures { result.now ≡ take entries_per_sector (drop (entries_per_sector * index) log.now) }
 {
-    let from = (84 * index as usize).min(log.len());
-    let to = (from + 84).min(log.len());
+    let from = (ENTRIES_PER_SECTOR * index as usize).min(log.len());
+    let to = (from + ENTRIES_PER_SECTOR).min(log.len());
     &log[from..to]
 }
 
-/// Writes the sectors of a log from the first that changed up to the end, one in each turn.
+/// Writes the sectors of a log from the first that changed up to the end, one per turn.
 pub(crate) fn write_log<D: SectorDevice>(
     device: &mut D,
     start: u64,
@@ -28,10 +30,10 @@ pub(crate) fn write_log<D: SectorDevice>(
     end: u16,
 ) -> Result<(), DeviceFault>
     requires order { first ≤ end }
-    requires end { end ≤ 32 }
-    requires room { start + 32 ≤ length (D.disk device.old).sectors }
-    requires range { start + 32 < 2 ^ 64 }
-    requires log { length log.now ≤ 2688 }
+    requires end { end ≤ log_sectors_per_area }
+    requires room { start + log_sectors_per_area ≤ length (D.disk device.old).sectors }
+    requires range { start + log_sectors_per_area < 2 ^ 64 }
+    requires log { length log.now ≤ most_entries }
 
     ensures count { length (D.disk device.new).sectors ≡ length (D.disk device.old).sectors }
     ensures honest { (D.disk device.new).honest ↔ (D.disk device.old).honest }
@@ -51,14 +53,14 @@ pub(crate) fn write_log<D: SectorDevice>(
     Ok(())
 }
 
-/// Fills an area with a blank log and a blob, one sector in each turn.
+/// Fills an area with a blank log and a blob, one sector per turn.
 pub(crate) fn fill_area<D: SectorDevice>(
     device: &mut D,
     start: u64,
     blob: &[u8],
 ) -> Result<(), DeviceFault>
     requires size { length blob.now < 2 ^ 32 }
-    requires room { start + 32 + (length blob.now + 511) / 512 ≤ length (D.disk device.old).sectors }
+    requires room { start + log_sectors_per_area + (length blob.now + 511) / 512 ≤ length (D.disk device.old).sectors }
     requires range { length (D.disk device.old).sectors < 2 ^ 64 }
 
     ensures count { length (D.disk device.new).sectors ≡ length (D.disk device.old).sectors }
@@ -70,14 +72,14 @@ pub(crate) fn fill_area<D: SectorDevice>(
     ensures written { OnOk result ((D.disk device.old).honest → Settled (D.disk device.old) →
         (D.disk device.new).sectors ≡ replaced start (fresh_area blob.now) (D.disk device.old).sectors) }
 {
-    let end = 32 + (blob.len() as u64 + 511) / 512;
+    let end = LOG_SECTORS_PER_AREA + (blob.len() as u64 + 511) / 512;
     for index in 0..end {
         device.write(start + index, &area_sector(index, blob))?;
     }
     Ok(())
 }
 
-/// One sync. A failed one is not tried again, since it makes nothing sure.
+/// One sync. A failed sync is not retried, since it makes nothing durable.
 pub(crate) fn sync_once<D: SectorDevice>(device: &mut D) -> Result<(), DeviceFault>
     ensures count { length (D.disk device.new).sectors ≡ length (D.disk device.old).sectors }
     ensures honest { (D.disk device.new).honest ↔ (D.disk device.old).honest }

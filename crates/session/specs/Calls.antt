@@ -55,10 +55,14 @@ IsSaved false rom all machine entries old new =
 
 -- ---- answers
 
+-- the most inputs that can be unsaved
+abbrev pub most_unsaved : ℕ
+most_unsaved = 3200
+
 -- to an input, with so many unsaved and so many inputs in all
 abbrev pub input_answer : (broken : Bool) → (pending all : ℕ) → Result Unit SessionError
 input_answer broken pending all =
-    if broken then Err Broken else (if pending == 3200 then Err SaveFirst else (if all == 2 ^ 64 - 1 then Err CountFull else Ok tt))
+    if broken then Err Broken else (if pending == most_unsaved then Err SaveFirst else (if all == 2 ^ 64 - 1 then Err CountFull else Ok tt))
 
 -- why nothing is saved: a call failed before; else the entries don't fit and the generations are used up; else a call failed
 abbrev pub IsSaveCause : SessionError → (broken fits : Bool) → (generation : ℕ) → Type 0

@@ -9,7 +9,7 @@ ghost use Rattle.sector_device.specs.Runs.{HoldsSince};
 ghost use Rattle.sector_log.specs.Calls.{HasOldOrNewContent, HasBegun, CanBegin};
 ghost use Rattle.sector_log.specs.Content.{need, generation_in};
 ghost use Rattle.sector_log.specs.Words.{device_under, found_generation};
-ghost use Rattle.session.specs.Calls.{IsAtRest, HasOldContentOrNewGame, faults_after};
+ghost use Rattle.session.specs.Calls.{IsAtRest, HasOldContentOrNewGame, most_unsaved, faults_after};
 ghost use Rattle.session.specs.Beginning.{session_fault, IsBeginRefusal};
 ghost use Rattle.session.specs.Found.{IsNewGameCause};
 ghost use Rattle.session.specs.Resting.{IsOfItsRom};
@@ -17,7 +17,7 @@ ghost use Rattle.session.specs.Words.{device_of, machine_of, rom_of, pending_of,
 ghost use Rattle.session.specs.declared.error.SessionError.TheVariants.{Device, Worn};
 
 use crate::error::{Refused, SessionError};
-use crate::session::Session;
+use crate::session::{MOST_UNSAVED, Session};
 use cartridge::Cartridge;
 use machine::Machine;
 use sector_device::SectorDevice;
@@ -25,7 +25,8 @@ use sector_log::{Entry, LogFault, Opened, open_log};
 use snapshot::encode;
 use std::alloc::{AllocError, Global};
 
-/// The sectors that a session of this cartridge needs: two roots, and two areas with a log and a snapshot.
+/// The sectors that a session of this cartridge needs: two roots, and two areas with a log and a
+/// snapshot.
 pub fn sectors_needed(cartridge: &Cartridge) -> u64
     ensures { result ≡ need (text_length (ram_length_of cartridge.now)) }
 {
@@ -40,7 +41,7 @@ pub(crate) fn text_length(cartridge: &Cartridge) -> usize
     snapshot::length(cartridge.ram_length())
 }
 
-/// What a refusal of the log is for a session.
+/// What a refusal of the log means for a session.
 pub(crate) fn fault_of(why: LogFault) -> SessionError
     ensures { result ≡ session_fault why }
 {
@@ -60,20 +61,21 @@ pub(crate) struct Room {
     pub text: Vec<u8>,
 }
 
-/// Makes the room that a session of this cartridge needs.
+/// Allocates the room that a session of this cartridge needs.
 pub(crate) fn make_room(alloc: Global, cartridge: &Cartridge) -> Result<Room, AllocError>
-    ensures pending { IfOk result (λ room. (room.pending.items ≡ []) × (3200 ≤ vec_capacity room.pending)) }
+    ensures pending { IfOk result (λ room. (room.pending.items ≡ []) × (most_unsaved ≤ vec_capacity room.pending)) }
     ensures text { IfOk result (λ room. (length room.text.items ≡ text_length (ram_length_of cartridge.now)) × (length room.text.items < 2 ^ 32)) }
 {
-    let pending = Vec::with_capacity(alloc, 3_200)?;
+    let pending = Vec::with_capacity(alloc, MOST_UNSAVED as usize)?;
     let text = vec![in alloc; 0u8; text_length(cartridge)]?;
     Ok(Room { pending, text })
 }
 
-/// Begins a game at power-on, whatever the device holds. At each moment a cut leaves what the device held or the new game.
+/// Begins a game at power-on, whatever the device holds. A power cut at any moment leaves what the
+/// device held or the new game.
 ///
-/// Refusals, in this order: `Memory`, `Device` while it is looked at what the device holds, `TooSmall`, `Worn`, all with what a cut
-/// may leave as it was; `Device` while writing.
+/// Refusals, in this order: `Memory`, `Device` while reading what the device holds, `TooSmall`,
+/// `Worn`, all with what a power cut may leave as it was; `Device` while writing.
 pub fn new_game<D: SectorDevice>(
     alloc: Global,
     device: D,
@@ -85,12 +87,16 @@ pub fn new_game<D: SectorDevice>(
 
     // what the device stands for, at Ok and at each moment
     ensures rests { IfOk result (λ s. (D.disk device).honest → IsAtRest cartridge.now (D.disk (device_of s)) 0 [] (start cartridge.now)) }
-    ensures images { (D.disk device).honest → HoldsSince (D.disk device) (D.disk (left_by result)) (HasOldContentOrNewGame cartridge.now (D.disk device)) }
-    ensures untouched { IfErr result (λ refused. (refused.why ≡ Device) ⊎ ((D.disk device).honest → HoldsSince (D.disk device) (D.disk refused.device) (D.disk device).image)) }
+    ensures images { (D.disk device).honest →
+        HoldsSince (D.disk device) (D.disk (left_by result)) (HasOldContentOrNewGame cartridge.now (D.disk device)) }
+    ensures untouched { IfErr result (λ refused. (refused.why ≡ Device) ⊎
+        ((D.disk device).honest → HoldsSince (D.disk device) (D.disk refused.device) (D.disk device).image)) }
 
     // when it is refused
-    ensures can { IfOk result (λ s. (need (text_length (ram_length_of cartridge.now)) ≤ length (D.disk device).sectors) × ((D.disk device).honest → generation_in (D.disk device).sectors < 2 ^ 64 - 1)) }
-    ensures cause { IfErr result (λ refused. IsNewGameCause (text_length (ram_length_of cartridge.now)) (length (D.disk device).sectors) refused.why) }
+    ensures can { IfOk result (λ s. (need (text_length (ram_length_of cartridge.now)) ≤ length (D.disk device).sectors) ×
+        ((D.disk device).honest → generation_in (D.disk device).sectors < 2 ^ 64 - 1)) }
+    ensures cause { IfErr result (λ refused.
+        IsNewGameCause (text_length (ram_length_of cartridge.now)) (length (D.disk device).sectors) refused.why) }
     ensures worn { IfErr result (λ refused. refused.why ≡ Worn → (D.disk device).honest → generation_in (D.disk device).sectors ≡ 2 ^ 64 - 1) }
 
     ensures count { length (D.disk (left_by result)).sectors ≡ length (D.disk device).sectors }
@@ -120,7 +126,7 @@ pub fn new_game<D: SectorDevice>(
     begin_with(opened, cartridge, 0, machine, room)
 }
 
-/// Begins a generation with a snapshot of the machine, and the session over it.
+/// Begins a generation with a snapshot of the machine, and the session on top of it.
 pub(crate) fn begin_with<D: SectorDevice>(
     opened: Opened<D>,
     cartridge: &Cartridge,
@@ -130,17 +136,21 @@ pub(crate) fn begin_with<D: SectorDevice>(
 ) -> Result<Session<D>, Refused<D>>
     requires rom { machine.processor.memory.banks.rom ≡ cartridge.now }
     requires own { IsOfItsRom machine }
-    requires pending { (room.pending.items ≡ []) × (3200 ≤ vec_capacity room.pending) }
+    requires pending { (room.pending.items ≡ []) × (most_unsaved ≤ vec_capacity room.pending) }
     requires text { (length room.text.items ≡ text_length (ram_length_of cartridge.now)) × (length room.text.items < 2 ^ 32) }
 
     ensures begun { IfOk result (λ s. (acknowledged_of s ≡ count) × (pending_of s ≡ []) × (is_broken s ≡ false) × (machine_of s ≡ machine)) }
     ensures of { IsMachineOf cartridge.now machine }
-    ensures new { IfOk result (λ s. (D.disk (device_under opened)).honest → HasBegun (D.disk (device_under opened)) (D.disk (device_of s)) (sha256 cartridge.now) count (text machine)) }
+    ensures new { IfOk result (λ s. (D.disk (device_under opened)).honest →
+        HasBegun (D.disk (device_under opened)) (D.disk (device_of s)) (sha256 cartridge.now) count (text machine)) }
     ensures images { (D.disk (device_under opened)).honest →
         HoldsSince (D.disk (device_under opened)) (D.disk (left_by result)) (HasOldOrNewContent (D.disk (device_under opened)).sectors (sha256 cartridge.now) count (text machine)) }
     ensures untouched { IfErr result (λ refused. (refused.why ≡ Device) ⊎ (refused.device ≡ device_under opened)) }
-    ensures can { IfOk result (λ s. CanBegin (text_length (ram_length_of cartridge.now)) (length (D.disk (device_under opened)).sectors) (found_generation opened)) }
-    ensures cause { IfErr result (λ refused. IsBeginRefusal refused.why (text_length (ram_length_of cartridge.now)) (length (D.disk (device_under opened)).sectors) (found_generation opened)) }
+    ensures can { IfOk result (λ s.
+        CanBegin (text_length (ram_length_of cartridge.now)) (length (D.disk (device_under opened)).sectors) (found_generation opened)) }
+    ensures cause { IfErr result (λ refused.
+        IsBeginRefusal refused.why (text_length (ram_length_of cartridge.now)) (length (D.disk (device_under opened)).sectors)
+        (found_generation opened)) }
     ensures count { length (D.disk (left_by result)).sectors ≡ length (D.disk (device_under opened)).sectors }
     ensures honest { (D.disk (left_by result)).honest ↔ (D.disk (device_under opened)).honest }
     ensures faults_ok { IfOk result (λ s. (D.disk (device_of s)).faults ≡ (D.disk (device_under opened)).faults) }

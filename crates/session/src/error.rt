@@ -5,7 +5,7 @@ use sector_log::LogFault;
 use snapshot::SnapError;
 use thiserror::Error;
 
-/// What is damaged of a content that was found.
+/// What is damaged in a content that was found.
 #[derive(Clone, Copy, Debug, PartialEq, Eq, Error)]
 pub enum Damage {
     /// The count of inputs exceeds the greatest `u64`.
@@ -14,12 +14,12 @@ pub enum Damage {
     /// The snapshot is not a legal one of this cartridge.
     #[error("snapshot")]
     Snapshot(SnapError),
-    /// The entry of the log at this index, from 0, is no input.
+    /// The entry of the log at this index, from 0, is not an input.
     #[error("entry {0}")]
     Entry(u32),
 }
 
-/// Why a call of a session was refused, with the text of each.
+/// Why a call of a session was refused, with the text of each reason.
 #[derive(Clone, Copy, Debug, PartialEq, Eq, Error)]
 pub enum SessionError {
     /// Memory was refused.
@@ -43,7 +43,7 @@ pub enum SessionError {
     /// The last generation is the greatest `u64`.
     #[error("generations used up")]
     Worn,
-    /// A call of the device failed before: only resuming helps.
+    /// An earlier call of the device failed: only resuming helps.
     #[error("broken, open it again")]
     Broken,
     /// There are 3,200 unsaved inputs.
@@ -61,6 +61,7 @@ pub enum SessionError {
 #[derive(Drop)]
 pub struct Refused<D: SectorDevice> {
     pub why: SessionError,
-    /// Unless `why` is `Device`, nothing was written to it; a call that looked at what it holds made a sync first.
+    /// Unless `why` is `Device`, nothing was written to it; a call that read what it holds made a
+    /// sync first.
     pub device: D,
 }

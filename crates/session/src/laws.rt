@@ -1,7 +1,8 @@
 //! Laws of what images stand for. The functions do nothing: the contract of each is the law.
 ghost use Rattle.session.specs.Laws.{MoreInputsStandFurther, ASnapshotStandsForItsMachine, EntriesGiveInputsBack};
 
-/// Law: a content with more inputs behind its log stands for these inputs further.
+/// Law: a content with more inputs added to its log stands for the position that many inputs
+/// further on.
 pub fn more_inputs_stand_further()
     ensures { MoreInputsStandFurther }
 {}
@@ -11,7 +12,7 @@ pub fn a_snapshot_stands_for_its_machine()
     ensures { ASnapshotStandsForItsMachine }
 {}
 
-/// Law: the entry of an input gives the input back.
+/// Law: the entry of an input gives back the input.
 pub fn entries_give_inputs_back()
     ensures { EntriesGiveInputsBack }
 {}

@@ -1,8 +1,10 @@
-//! Play sessions that survive a power cut: a machine, the inputs that it was given, and a device on which they are kept.
+//! Play sessions that survive a power cut: a machine, the inputs that it was given, and a device on
+//! which they are kept.
 //!
-//! What an image of the device stands for, a count of inputs and the machine after them, is the definition `stands` in
-//! `specs/Stands.antt`. A session saves by appending its inputs to the log on the device, or by a new generation with a
-//! snapshot of its machine. Whatever a cut leaves stands for a prefix of the inputs that holds every one that was acknowledged.
+//! What an image of the device stands for, a count of inputs and the machine after them, is defined
+//! by `stands` in `specs/Stands.antt`. A session saves by appending its inputs to the log on the
+//! device, or by a new generation with a snapshot of its machine. Whatever a power cut leaves
+//! stands for a prefix of the inputs that includes every acknowledged one.
 #![tactic(auto)]
 
 mod begin;
@@ -17,4 +19,4 @@ pub mod session;
 pub use begin::{new_game, sectors_needed};
 pub use error::{Damage, Refused, SessionError};
 pub use resuming::resume;
-pub use session::{Counts, Session};
+pub use session::{Counts, MOST_UNSAVED, Session};

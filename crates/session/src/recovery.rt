@@ -6,6 +6,7 @@ ghost use Rattle.snapshot.specs.Text.{text_length};
 ghost use Rattle.cartridge.specs.Header.{ram_length_of};
 ghost use Rattle.sector_log.specs.Inputs.{inputs, inputs_in, is_entry, first_wrong, counted};
 ghost use Rattle.sector_log.specs.Found.{IsSound};
+ghost use Rattle.sector_log.specs.Sizes.{most_entries_read};
 ghost use Rattle.sector_log.specs.Words.{seen, found_generation, longest_blob};
 ghost use Rattle.session.specs.Inputs.{logged, inputs_of};
 ghost use Rattle.session.specs.Recovery.{IsHeader, IsHeaderCause, IsRebuilt, IsRebuildCause, IsLogCause, IsRecovered, IsRecoveryCause};
@@ -18,7 +19,7 @@ use sector_log::{Content, Found, Logged, Opened, Part, Stored, first_wrong};
 use snapshot::{SnapError, decode};
 use std::alloc::Global;
 
-/// That many frames with these buttons.
+/// Plays `times` frames with these buttons.
 fn play_frames(machine: &mut Machine, buttons: u8, times: u32)
     ensures { machine.new ≡ after machine.old (replicate times (Frame buttons)) }
 {
@@ -27,7 +28,7 @@ fn play_frames(machine: &mut Machine, buttons: u8, times: u32)
     }
 }
 
-/// Gives the machine the inputs of one entry, and answers how many they are.
+/// Gives the machine the inputs of one entry, and answers how many there are.
 fn replay_entry(machine: &mut Machine, entry: &Stored) -> u32
     requires { is_entry entry.now ≡ true }
     ensures machine { machine.new ≡ after machine.old (inputs_of (inputs_in entry.now)) }
@@ -46,7 +47,8 @@ fn replay_entry(machine: &mut Machine, entry: &Stored) -> u32
     }
 }
 
-/// Gives the machine the inputs of a log, of which each entry is an input, and answers how many they are.
+/// Gives the machine the inputs of a log in which each entry is an input, and answers how many
+/// there are.
 fn replay(machine: &mut Machine, log: &[Stored]) -> u64
     requires { first_wrong log.now ≡ None }
     ensures machine { machine.new ≡ after machine.old (logged log.now) }
@@ -82,9 +84,10 @@ fn header_of(found: Found, digest: [u8; 32]) -> Result<Content, SessionError>
     }
 }
 
-/// Why a log is not replayed behind a legal snapshot: an entry that is no input, else that the generations are used up.
+/// Why a log is not replayed after a legal snapshot: an entry is not an input, or else the
+/// generations are used up.
 fn log_refusal(log: &[Stored], generation: u64) -> Result<(), SessionError>
-    requires { length log.now ≤ 3200 }
+    requires { length log.now ≤ most_entries_read }
     ensures ok { IfOk result (λ _. (first_wrong log.now ≡ None) × (generation < 2 ^ 64 - 1)) }
     ensures err { IfErr result (IsLogCause log.now generation) }
 {
@@ -97,7 +100,7 @@ fn log_refusal(log: &[Stored], generation: u64) -> Result<(), SessionError>
     Ok(())
 }
 
-/// The count of inputs and the machine that a snapshot and the log behind it stand for.
+/// The count of inputs and the machine that a snapshot and the log after it stand for.
 fn rebuilt(
     alloc: Global,
     content: &Content,
@@ -106,7 +109,7 @@ fn rebuilt(
     generation: u64,
     cartridge: &Cartridge,
 ) -> Result<(u64, Machine), SessionError>
-    requires few { length log.now ≤ 3200 }
+    requires few { length log.now ≤ most_entries_read }
     requires counts { content.now.base + counted 0 log.now < 2 ^ 64 }
     ensures ok { IfOk result (λ found. IsRebuilt cartridge.now content.now text.now log.now generation found.0 found.1) }
     ensures fits { IfOk result (λ found. found.0 < 2 ^ 64) }

@@ -1,4 +1,4 @@
-//! A game taken up again.
+//! Resuming a game.
 ghost use Rattle.std.specs.Prelude.{◌≡◌, ◌↔◌, ◌<◌, ◌-◌, ◌^◌, ◌⊎◌, [], false, length, Ok, Err, Some, None, IfOk, IfErr};
 ghost use Rattle.sector_device.specs.Runs.{HoldsSince};
 ghost use Rattle.sector_log.specs.Content.{content, generation_in};
@@ -17,11 +17,12 @@ use sector_device::SectorDevice;
 use sector_log::open_log;
 use std::alloc::Global;
 
-/// Takes up the game that the device stands for, and begins a new generation with it. At each moment a cut leaves an image that
-/// stands for what one stood for before.
+/// Resumes the game that the device stands for, and begins a new generation with it. A power cut at
+/// any moment leaves an image that stands for what one stood for before.
 ///
-/// Refusals, in this order: `Memory` for the buffers, `Device`, `NoSession`, `TooSmall`, `OtherCartridge`, `Damaged` (`Count`,
-/// `Snapshot`, `Entry`), `Worn`, `Memory` for the machine, all with nothing written; `Device` while writing.
+/// Refusals, in this order: `Memory` for the buffers, `Device`, `NoSession`, `TooSmall`,
+/// `OtherCartridge`, `Damaged` (`Count`, `Snapshot`, `Entry`), `Worn`, `Memory` for the machine,
+/// all with nothing written; `Device` while writing.
 pub fn resume<D: SectorDevice>(
     alloc: Global,
     device: D,
@@ -35,13 +36,17 @@ pub fn resume<D: SectorDevice>(
     // what the device stands for, at Ok and at each moment
     ensures rests { IfOk result (λ s. (D.disk device).honest → IsAtRest cartridge.now (D.disk (device_of s)) (acknowledged_of s) [] (machine_of s)) }
     ensures images { (D.disk device).honest → HoldsSince (D.disk device) (D.disk (left_by result)) (StandsAsBefore cartridge.now (D.disk device)) }
-    ensures nothing { (D.disk device).honest → stands cartridge.now (content (D.disk device).sectors) ≡ None → HoldsSince (D.disk device) (D.disk (left_by result)) (D.disk device).image }
-    ensures kept { IfErr result (λ refused. (refused.why ≡ Device) ⊎ ((D.disk device).honest → (D.disk refused.device).sectors ≡ (D.disk device).sectors)) }
-    ensures untouched { IfErr result (λ refused. (refused.why ≡ Device) ⊎ ((D.disk device).honest → HoldsSince (D.disk device) (D.disk refused.device) (D.disk device).image)) }
+    ensures nothing { (D.disk device).honest → stands cartridge.now (content (D.disk device).sectors) ≡ None →
+        HoldsSince (D.disk device) (D.disk (left_by result)) (D.disk device).image }
+    ensures kept { IfErr result (λ refused. (refused.why ≡ Device) ⊎
+        ((D.disk device).honest → (D.disk refused.device).sectors ≡ (D.disk device).sectors)) }
+    ensures untouched { IfErr result (λ refused. (refused.why ≡ Device) ⊎
+        ((D.disk device).honest → HoldsSince (D.disk device) (D.disk refused.device) (D.disk device).image)) }
 
     // when it is refused
     ensures can { IfOk result (λ s. (D.disk device).honest → generation_in (D.disk device).sectors < 2 ^ 64 - 1) }
-    ensures cause { IfErr result (λ refused. (D.disk device).honest → IsResumeCause cartridge.now (generation_in (D.disk device).sectors) (content (D.disk device).sectors) refused.why) }
+    ensures cause { IfErr result (λ refused. (D.disk device).honest →
+        IsResumeCause cartridge.now (generation_in (D.disk device).sectors) (content (D.disk device).sectors) refused.why) }
 
     ensures count { length (D.disk (left_by result)).sectors ≡ length (D.disk device).sectors }
     ensures honest { (D.disk (left_by result)).honest ↔ (D.disk device).honest }

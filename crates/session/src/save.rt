@@ -18,7 +18,7 @@ use sector_device::SectorDevice;
 use sector_log::{Entry, Store};
 use snapshot::encode;
 
-/// Adds an entry where room for it was reserved.
+/// Adds an entry for which room was reserved.
 pub(crate) fn push(entries: &mut Vec<Entry>, entry: Entry)
     requires { length entries.old.items < vec_capacity entries.old }
     ensures items { entries.new.items ≡ entries.old.items ++ entry ∷ [] }
@@ -27,7 +27,8 @@ pub(crate) fn push(entries: &mut Vec<Entry>, entry: Entry)
     entries.push_reserved(entry);
 }
 
-/// Writes entries behind the log where they fit, else a snapshot of the machine as a new generation.
+/// Appends entries to the log if they fit; otherwise writes a snapshot of the machine as a new
+/// generation.
 pub(crate) fn write_pending<D: SectorDevice>(
     store: &mut Store<D>,
     machine: &Machine,

@@ -9,7 +9,7 @@ ghost use Rattle.sector_device.specs.Runs.{HoldsSince};
 ghost use Rattle.sector_log.specs.Content.{need, content, generation_in};
 ghost use Rattle.sector_log.specs.Inputs.{is_input, fits};
 ghost use Rattle.sector_log.specs.Words.{device_of as device_of_store, is_broken as is_broken_store, id_of, entries_of};
-ghost use Rattle.session.specs.Calls.{IsAtRest, IsSaved, IsSaveCause, input_answer, faults_after};
+ghost use Rattle.session.specs.Calls.{IsAtRest, IsSaved, IsSaveCause, most_unsaved, input_answer, faults_after};
 ghost use Rattle.session.specs.Inputs.{entry_of, inputs_of};
 ghost use Rattle.session.specs.Resting.{IsOfItsRom, own_prop, RestsUnlessBroken, rests_prop};
 ghost use Rattle.session.specs.Stands.{stands, StandsWithin};
@@ -20,6 +20,9 @@ use crate::save::{push, write_pending};
 use machine::{Input, Machine};
 use sector_device::SectorDevice;
 use sector_log::{Entry, Store};
+
+/// The most inputs that can be unsaved.
+pub const MOST_UNSAVED: u64 = 3_200;
 
 /// How many inputs there are, and how many of them are saved.
 #[derive(Clone, Copy, Debug, PartialEq, Eq)]
@@ -32,7 +35,8 @@ pub struct Counts {
     pub pending: u64,
 }
 
-/// A game that is being played. `new_game` and `resume` make all its room: no call of it takes memory.
+/// A game that is being played. `new_game` and `resume` allocate all that it needs: no call of it
+/// takes memory.
 #[derive(Drop)]
 pub struct Session<D: SectorDevice> {
     pub(crate) store: Store<D>,
@@ -43,8 +47,8 @@ pub struct Session<D: SectorDevice> {
     pub(crate) text: Vec<u8>,
     pub(crate) acknowledged: u64,
     ghost inputs: { list_all is_input pending.items ≡ true },
-    ghost few: { length pending.items ≤ 3200 },
-    ghost reserved: { 3200 ≤ vec_capacity pending },
+    ghost few: { length pending.items ≤ most_unsaved },
+    ghost reserved: { most_unsaved ≤ vec_capacity pending },
     ghost counted: { acknowledged + length pending.items < 2 ^ 64 },
     ghost room: { length text.items ≡ text_length (length machine.processor.memory.banks.ram) },
     ghost short: { length text.items < 2 ^ 32 },
@@ -67,7 +71,7 @@ impl<D: SectorDevice> Session<D> {
     ) -> Self
         requires whole { is_broken_store store ≡ false }
         requires empty { pending.items ≡ [] }
-        requires reserved { 3200 ≤ vec_capacity pending }
+        requires reserved { most_unsaved ≤ vec_capacity pending }
         requires room { length text.items ≡ text_length (length machine.processor.memory.banks.ram) }
         requires short { length text.items < 2 ^ 32 }
         requires large { need (length text.items) ≤ length (D.disk (device_of_store store)).sectors }
@@ -90,7 +94,11 @@ impl<D: SectorDevice> Session<D> {
 
     /// How many inputs there are, how many are saved and how many are not.
     pub fn counts(&self) -> Counts
-        ensures { result ≡ record { all = acknowledged_of self.now + length (pending_of self.now); acknowledged = acknowledged_of self.now; pending = length (pending_of self.now) } }
+        ensures { result ≡ record {
+          all = acknowledged_of self.now + length (pending_of self.now);
+          acknowledged = acknowledged_of self.now;
+          pending = length (pending_of self.now);
+        } }
     {
         let pending = self.pending.len() as u64;
         Counts {
@@ -107,32 +115,37 @@ impl<D: SectorDevice> Session<D> {
         &self.machine
     }
 
-    /// The device, to look at. Unless the session is broken, every image of it stands for the saved inputs.
+    /// A read-only view of the device. Unless the session is broken, every image of it stands for
+    /// the saved inputs.
     pub fn device(&self) -> &D
         ensures device { result.now ≡ device_of self.now }
-        ensures rests { is_broken self.now ≡ false → (D.disk (device_of self.now)).honest → IsAtRest (rom_of self.now) (D.disk (device_of self.now)) (acknowledged_of self.now) (pending_of self.now) (machine_of self.now) }
+        ensures rests { is_broken self.now ≡ false → (D.disk (device_of self.now)).honest →
+            IsAtRest (rom_of self.now) (D.disk (device_of self.now)) (acknowledged_of self.now) (pending_of self.now) (machine_of self.now) }
     {
         self.store.device()
     }
 
     /// Gives the machine one input, which is not saved yet. It makes no device call.
     ///
-    /// Refusals, in this order, which change nothing: `Broken`; `SaveFirst` at 3,200 unsaved inputs; `CountFull` at `u64::MAX` inputs.
+    /// Refusals, in this order, none of which changes anything: `Broken`; `SaveFirst` at 3,200
+    /// unsaved inputs; `CountFull` at `u64::MAX` inputs.
     pub fn input(&mut self, input: Input) -> Result<(), SessionError>
-        ensures answer { result ≡ input_answer (is_broken self.old) (length (pending_of self.old)) (acknowledged_of self.old + length (pending_of self.old)) }
+        ensures answer { result ≡ input_answer (is_broken self.old) (length (pending_of self.old))
+            (acknowledged_of self.old + length (pending_of self.old)) }
         ensures machine { OnOk result (machine_of self.new ≡ applied input (machine_of self.old)) }
         ensures pending { OnOk result (pending_of self.new ≡ pending_of self.old ++ entry_of input ∷ []) }
         ensures given { OnOk result (inputs_of (pending_of self.new) ≡ inputs_of (pending_of self.old) ++ input ∷ []) }
         ensures refused { OnErr result (IsUnchanged self.old self.new) }
         ensures device { device_of self.new ≡ device_of self.old }
-        ensures kept { (acknowledged_of self.new ≡ acknowledged_of self.old) × (is_broken self.new ≡ is_broken self.old) × (rom_of self.new ≡ rom_of self.old) }
+        ensures kept { (acknowledged_of self.new ≡ acknowledged_of self.old) × (is_broken self.new ≡ is_broken self.old) ×
+            (rom_of self.new ≡ rom_of self.old) }
         ensures log { (log_in self.new ≡ log_in self.old) × (generation_in_use self.new ≡ generation_in_use self.old) }
     {
         if self.store.is_broken() {
             return Err(SessionError::Broken);
         }
         let pending = self.pending.len();
-        if pending == 3_200 {
+        if pending == MOST_UNSAVED as usize {
             return Err(SessionError::SaveFirst);
         }
         if self.acknowledged + pending as u64 == u64::MAX {
@@ -143,27 +156,34 @@ impl<D: SectorDevice> Session<D> {
         Ok(())
     }
 
-    /// Saves what is pending: behind the log where it fits, else as a new generation with a snapshot of the machine. At Ok no power
-    /// cut loses any of the inputs, and the answer is the count of all. With nothing pending it makes no device call.
+    /// Saves what is pending: behind the log if it fits, otherwise as a new generation with a
+    /// snapshot of the machine. On Ok no power cut loses any of the inputs, and the answer is the
+    /// count of all inputs. With nothing pending it makes no device call.
     ///
-    /// Refusals, in this order: `Broken`; `Worn`, where a new generation is needed and there is none, which changes nothing; `Device`,
-    /// after which the session is broken.
+    /// Refusals, in this order: `Broken`; `Worn`, if a new generation is needed and there is none
+    /// left, which changes nothing; `Device`, after which the session is broken.
     pub fn save(&mut self) -> Result<u64, SessionError>
         // what it answers
-        ensures ok { IfOk result (λ all. (all ≡ acknowledged_of self.old + length (pending_of self.old)) × (acknowledged_of self.new ≡ all) × (pending_of self.new ≡ []) × (is_broken self.old ≡ false) × (is_broken self.new ≡ false)) }
-        ensures cause { IfErr result (λ why. IsSaveCause why (is_broken self.old) (fits (log_in self.old) (pending_of self.old)) (generation_in_use self.old)) }
-        ensures worn { IfErr result (λ why. why ≡ SessionError.Worn → (D.disk (device_of self.new)).honest → generation_in (D.disk (device_of self.new)).sectors ≡ 2 ^ 64 - 1) }
+        ensures ok { IfOk result (λ all. (all ≡ acknowledged_of self.old + length (pending_of self.old)) ×
+            (acknowledged_of self.new ≡ all) × (pending_of self.new ≡ []) × (is_broken self.old ≡ false) × (is_broken self.new ≡ false)) }
+        ensures cause { IfErr result (λ why.
+            IsSaveCause why (is_broken self.old) (fits (log_in self.old) (pending_of self.old)) (generation_in_use self.old)) }
+        ensures worn { IfErr result (λ why. why ≡ SessionError.Worn → (D.disk (device_of self.new)).honest →
+            generation_in (D.disk (device_of self.new)).sectors ≡ 2 ^ 64 - 1) }
         ensures unchanged { IfErr result (λ why. (why ≡ SessionError.Device) ⊎ IsUnchanged self.old self.new) }
         ensures refused { OnErr result ((pending_of self.new ≡ pending_of self.old) × (acknowledged_of self.new ≡ acknowledged_of self.old)) }
         ensures broken { (is_broken self.new ≡ true) ↔ ((is_broken self.old ≡ true) ⊎ IsErrOf result SessionError.Device) }
-        ensures nothing { is_broken self.old ≡ false → pending_of self.old ≡ [] → IsUnchanged self.old self.new × (result ≡ Ok (acknowledged_of self.old)) }
+        ensures nothing { is_broken self.old ≡ false → pending_of self.old ≡ [] → IsUnchanged self.old self.new ×
+            (result ≡ Ok (acknowledged_of self.old)) }
         ensures machine { (machine_of self.new ≡ machine_of self.old) × (rom_of self.new ≡ rom_of self.old) }
 
         // what the device stands for: at the start, at each moment, and at Ok
-        ensures stood { is_broken self.old ≡ false → (D.disk (device_of self.old)).honest → IsAtRest (rom_of self.old) (D.disk (device_of self.old)) (acknowledged_of self.old) (pending_of self.old) (machine_of self.old) }
+        ensures stood { is_broken self.old ≡ false → (D.disk (device_of self.old)).honest →
+            IsAtRest (rom_of self.old) (D.disk (device_of self.old)) (acknowledged_of self.old) (pending_of self.old) (machine_of self.old) }
         ensures images { is_broken self.old ≡ false → (D.disk (device_of self.old)).honest →
             HoldsSince (D.disk (device_of self.old)) (D.disk (device_of self.new)) (StandsWithin (rom_of self.old) (stands (rom_of self.old) (content (D.disk (device_of self.old)).sectors)) (inputs_of (pending_of self.old))) }
-        ensures rests { IfOk result (λ all. (D.disk (device_of self.old)).honest → IsAtRest (rom_of self.old) (D.disk (device_of self.new)) all [] (machine_of self.old)) }
+        ensures rests { IfOk result (λ all. (D.disk (device_of self.old)).honest →
+            IsAtRest (rom_of self.old) (D.disk (device_of self.new)) all [] (machine_of self.old)) }
         ensures saved { IfOk result (λ all. (D.disk (device_of self.old)).honest → 0 < length (pending_of self.old) →
             IsSaved (fits (log_in self.old) (pending_of self.old)) (rom_of self.old) all (machine_of self.old) (pending_of self.old) (D.disk (device_of self.old)).sectors (D.disk (device_of self.new)).sectors) }
 
@@ -198,7 +218,8 @@ impl<D: SectorDevice> Session<D> {
     /// The device as it is. What is not saved is lost.
     pub fn into_device(self) -> D
         ensures device { result ≡ device_of self }
-        ensures rests { is_broken self ≡ false → (D.disk result).honest → IsAtRest (rom_of self) (D.disk result) (acknowledged_of self) (pending_of self) (machine_of self) }
+        ensures rests { is_broken self ≡ false → (D.disk result).honest →
+            IsAtRest (rom_of self) (D.disk result) (acknowledged_of self) (pending_of self) (machine_of self) }
     {
         self.store.into_device()
     }
@@ -207,7 +228,7 @@ impl<D: SectorDevice> Session<D> {
 impl<D: SectorDevice + Drop> Session<D> {
     ghost use Rattle.session.specs.Words.{machine_of};
 
-    /// The machine after all inputs. The device is let go: what is not saved is lost.
+    /// The machine after all inputs. The device is dropped: what is not saved is lost.
     pub fn into_machine(self) -> Machine
         ensures { result ≡ machine_of self }
     {

@@ -11,6 +11,7 @@ use Rattle.machine.specs.declared.machine_registers.MachineRegisters.{MachineReg
 use Rattle.machine.specs.Machine.{MachineState, start}
 use Rattle.machine.specs.MachineStores.{with_registers}
 use Rattle.snapshot.specs.Table.{kind_of_image}
+use Rattle.snapshot.specs.Text.{length_without_ram}
 
 abbrev pub word_at : List ℕ → (offset : ℕ) → ℕ
 word_at bytes offset = slice_index bytes offset + 256 * slice_index bytes (offset + 1)
@@ -134,13 +135,13 @@ with_stores bytes m =
             screen = record screen {
               vram = slice_range bytes 128 8320;
               oam = slice_range bytes 16512 16672;
-              rows = rows_in (slice_range bytes 16847 22607);
+              rows = rows_in (slice_range bytes 16847 length_without_ram);
             };
           };
           wram = slice_range bytes 8320 16512;
           hram = slice_range bytes 16672 16799;
           sound = slice_range bytes 16799 16847;
-          banks = record memory.banks { ram = slice_range bytes 22607 (length bytes) };
+          banks = record memory.banks { ram = slice_range bytes length_without_ram (length bytes) };
         };
       };
     }

@@ -9,7 +9,7 @@ use Rattle.bank_controllers.specs.State.{first_rom_bank, last_rom_bank, last_ram
 use Rattle.snapshot.specs.declared.field.SnapshotField.{SnapshotField}
 use Rattle.snapshot.specs.declared.field.Rule.{Rule}
 use Rattle.snapshot.specs.declared.field.Rule.TheVariants.{Any, Magic, Between, Bits, Zeros, HalfBytes}
-use Rattle.snapshot.specs.Text.{kind_byte}
+use Rattle.snapshot.specs.Text.{kind_byte, length_without_ram}
 
 -- ---- rules
 
@@ -153,7 +153,7 @@ table kind rumble ram =
     ∷ bytes 16672 127 Any
     ∷ bytes 16799 48 Any
     ∷ bytes 16847 5760 Any
-    ∷ bytes 22607 ram (ram_rule kind)
+    ∷ bytes length_without_ram ram (ram_rule kind)
     ∷ []
 
 -- the controller of an accepted image

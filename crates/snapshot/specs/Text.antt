@@ -77,6 +77,10 @@ stores_text b =
 unfoldable pub text : MachineState → List ℕ
 text m = fixed_fields (registers_of m) ++ stores_text m.processor.memory
 
+-- the length of a text without cartridge RAM, which comes last
+abbrev pub length_without_ram : ℕ
+length_without_ram = 22607
+
 -- the length of a text, by the bytes of cartridge RAM
 abbrev pub text_length : ℕ → ℕ
-text_length ram = 22607 + ram
+text_length ram = length_without_ram + ram

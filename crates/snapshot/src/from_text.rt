@@ -3,7 +3,7 @@
 ghost use Rattle.std.specs.Prelude.{◌≡◌, IfOk, IfErr, IfSome, IfNone, MatchResult, length, slice_range};
 ghost use Rattle.memory_map.specs.Stores.{FitsRegion};
 ghost use Rattle.machine.specs.Machine.{MachineState};
-ghost use Rattle.snapshot.specs.Text.{text, text_length};
+ghost use Rattle.snapshot.specs.Text.{text, text_length, length_without_ram};
 ghost use Rattle.snapshot.specs.Reading.{with_rows, with_stores, rows_in};
 ghost use Rattle.snapshot.specs.Legal.{IsMachineOf, IsLegalText, IsRefusal};
 
@@ -11,7 +11,7 @@ use crate::error::SnapError;
 use crate::picture::row_in;
 use crate::registers::registers_in;
 use crate::table::{first_illegal, table};
-use crate::to_text::length;
+use crate::to_text::{LENGTH_WITHOUT_RAM, length};
 use cartridge::Cartridge;
 use machine::{Machine, Region};
 use std::alloc::Global;
@@ -41,7 +41,7 @@ pub fn decode(alloc: Global, bytes: &[u8], cartridge: &Cartridge) -> Result<Mach
 fn fill_stores(machine: &mut Machine, bytes: &[u8])
     requires length { length bytes.now ≡ text_length (length machine.old.processor.memory.banks.ram) }
     requires rows { length machine.old.processor.memory.picture.screen.rows ≡ 144 }
-    requires ram { FitsRegion machine.old.processor.memory Region.CartRam (slice_range bytes.now 22607 (length bytes.now)) }
+    requires ram { FitsRegion machine.old.processor.memory Region.CartRam (slice_range bytes.now length_without_ram (length bytes.now)) }
     ensures { machine.new ≡ with_stores bytes.now machine.old }
 {
     machine.fill(Region::Vram, &bytes[128..8320]);
@@ -49,8 +49,8 @@ fn fill_stores(machine: &mut Machine, bytes: &[u8])
     machine.fill(Region::Oam, &bytes[16512..16672]);
     machine.fill(Region::Hram, &bytes[16672..16799]);
     machine.fill(Region::Sound, &bytes[16799..16847]);
-    set_rows(machine, &bytes[16847..22607]);
-    machine.fill(Region::CartRam, &bytes[22607..]);
+    set_rows(machine, &bytes[16847..LENGTH_WITHOUT_RAM]);
+    machine.fill(Region::CartRam, &bytes[LENGTH_WITHOUT_RAM..]);
 }
 
 /// The first fault of bytes, if they are not a legal text of this cartridge.

@@ -9,6 +9,7 @@ ghost use Rattle.snapshot.specs.Legal.{IsFirstIllegal};
 ghost use Rattle.snapshot.specs.Ascending.{IsAscending};
 
 use crate::field::{Rule, SnapshotField};
+use crate::to_text::LENGTH_WITHOUT_RAM;
 use cartridge::Controller;
 
 fn byte(offset: u32, rule: Rule) -> SnapshotField
@@ -198,7 +199,7 @@ pub(crate) fn table(kind: Controller, rumble: bool, ram: u32) -> [SnapshotField;
         bytes(16672, 127, Rule::Any),
         bytes(16799, 48, Rule::Any),
         bytes(16847, 5760, Rule::Any),
-        bytes(22607, ram, ram_rule(kind)),
+        bytes(LENGTH_WITHOUT_RAM as u32, ram, ram_rule(kind)),
     ]
 }
 

@@ -8,11 +8,14 @@ use crate::picture::write_picture;
 use crate::registers::fixed_fields;
 use machine::{Machine, Region};
 
+/// The length of a text without cartridge RAM, which comes last.
+pub(crate) const LENGTH_WITHOUT_RAM: usize = 22_607;
+
 /// The length of a text, by the bytes of cartridge RAM: 22,607 more. A sum that no `usize` holds is `usize::MAX`.
 pub fn length(ram: usize) -> usize
     ensures { result ≡ min (text_length ram) (2 ^ 64 - 1) }
 {
-    ram.saturating_add(22_607)
+    ram.saturating_add(LENGTH_WITHOUT_RAM)
 }
 
 /// Writes the text of a machine. Condition: the slice is as long as `length` says for the machine's RAM. It takes no memory.

@@ -4,10 +4,10 @@ use sector_device::SectorDevice;
 use session::SessionError;
 use thiserror::Error;
 
-/// Why a stream was refused, with the text of each.
+/// Why a stream was refused, with the text of each reason.
 #[derive(Clone, Copy, Debug, PartialEq, Eq, Error)]
 pub enum StreamError {
-    /// The game was not taken up, or an input, a save or the output was refused.
+    /// The game was not resumed, or an input, a save or the output was refused.
     #[error("{0}")]
     Session(SessionError),
     /// The number of the first wrong line, counted from 1.

@@ -10,10 +10,10 @@ use std::io::Read;
 
 const NEWLINE: u8 = b'\n';
 
-/// A line of more bytes is wrong.
+/// A line of more bytes than this is wrong.
 const MOST: usize = 64;
 
-/// What was read and not looked at.
+/// What was read and not yet examined.
 pub(crate) type Held = ArrayVec<u8, 1024>;
 
 /// How a read went.
@@ -36,7 +36,7 @@ pub enum Filled {
 /// What comes next.
 #[derive(Clone, Copy, Debug, PartialEq, Eq)]
 pub enum Next {
-    /// A line, and what it asks for: nothing where it is empty.
+    /// A line, and what it asks for: nothing if it is empty.
     Line(Option<Order>),
     /// A wrong line.
     Wrong,
@@ -53,7 +53,7 @@ fn place_of_newline(bytes: &[u8]) -> Option<usize>
     bytes.iter().position(|byte| *byte == NEWLINE)
 }
 
-/// The length of the first line: all where there is no newline.
+/// The length of the first line: all bytes if there is no newline.
 fn line_length(bytes: &[u8]) -> usize
     ensures { result ≡ position_or_len (λ byte. byte == 10) bytes.now }
 {
@@ -95,7 +95,7 @@ fn fill<R: Read>(held: &mut Held, input: &mut R) -> Filled
     Filled::Line
 }
 
-/// Lets go of the first bytes, of all where there are fewer.
+/// Drops the first `count` bytes, or all if there are fewer.
 fn let_go(held: &mut Held, count: usize)
     ensures { held.new.items ≡ drop count held.old.items }
 {
@@ -135,7 +135,8 @@ fn take_line(held: &mut Held) -> Next
 
 /// Reads the next line.
 pub(crate) fn read_next<R: Read>(held: &mut Held, input: &mut R) -> Next
-    ensures { IsNext result (left_of held.old.items (R.remaining input.old)) (left_of held.new.items (R.remaining input.new)) (R.remaining input.new) }
+    ensures { IsNext result (left_of held.old.items (R.remaining input.old)) (left_of held.new.items (R.remaining input.new))
+        (R.remaining input.new) }
 {
     match fill(held, input) {
         Filled::Line => take_line(held),

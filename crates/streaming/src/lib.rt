@@ -1,4 +1,4 @@
-//! Playing line by line: each line of an input is obeyed as soon as it is read, and answered.
+//! Plays line by line: each line of an input is obeyed and answered as soon as it is read.
 #![tactic(auto)]
 
 pub mod error;

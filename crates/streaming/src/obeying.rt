@@ -3,6 +3,7 @@ ghost use Rattle.std.specs.Prelude.{◌≡◌, ◌<◌, [], ◌∷◌, length, f
 ghost use Rattle.std.specs.Io.KnownBytes.{Appends};
 ghost use Rattle.exact_text.specs.Written.{AppendsProperPrefix};
 ghost use Rattle.picture_unit.specs.Pgm.{picture_text};
+ghost use Rattle.session.specs.Calls.{most_unsaved};
 ghost use Rattle.session.specs.Words.{device_of, machine_of, rom_of, pending_of, acknowledged_of, is_broken};
 ghost use Rattle.streaming.specs.Orders.{order_list};
 ghost use Rattle.streaming.specs.Answers.{last_orders};
@@ -18,10 +19,10 @@ use sector_device::SectorDevice;
 use session::{Session, SessionError};
 use std::io::{Read, Write};
 
-/// Where a stream ends.
+/// How a stream ends.
 #[derive(Clone, Copy, Debug, PartialEq, Eq)]
 pub enum End {
-    /// With its input.
+    /// At the end of its input.
     Whole,
     /// At a wrong line, with its number from 1.
     Wrong(u64),
@@ -31,8 +32,10 @@ pub enum End {
 
 /// Writes the picture of the machine as it is.
 fn draw<D: SectorDevice, W: Write>(session: &Session<D>, out: &mut W) -> Result<(), OutputFailed>
-    ensures ok { OnOk result (Appends (W.contents out.old) (W.contents out.new) (picture_text (machine_of session.now).processor.memory.picture.screen.rows)) }
-    ensures err { OnErr result (AppendsProperPrefix (W.contents out.old) (W.contents out.new) (picture_text (machine_of session.now).processor.memory.picture.screen.rows)) }
+    ensures ok { OnOk result (Appends (W.contents out.old) (W.contents out.new)
+        (picture_text (machine_of session.now).processor.memory.picture.screen.rows)) }
+    ensures err { OnErr result (AppendsProperPrefix (W.contents out.old) (W.contents out.new)
+        (picture_text (machine_of session.now).processor.memory.picture.screen.rows)) }
 {
     session.machine().picture().write_pgm(out)
 }
@@ -44,10 +47,13 @@ fn obey_move<D: SectorDevice, W: Write>(
     out: &mut W,
 ) -> Result<(), SessionError>
     requires whole { is_broken session.old ≡ false }
-    requires few { length (pending_of session.old) < 3200 }
-    ensures obeyed { OnOk result (Obeys (place (D.disk (device_of session.old)) session.old) (place (D.disk (device_of session.new)) session.new) (W.contents out.old) (W.contents out.new) (Order.Make one ∷ [])) }
-    ensures stopped { IfErr result (λ why. StopsAmong (place (D.disk (device_of session.old)) session.old) (place (D.disk (device_of session.new)) session.new) (W.contents out.old) (W.contents out.new) (Order.Make one ∷ []) why) }
-    ensures whole { OnOk result ((is_broken session.new ≡ false) × (length (pending_of session.new) < 3200)) }
+    requires few { length (pending_of session.old) < most_unsaved }
+    ensures obeyed { OnOk result (Obeys (place (D.disk (device_of session.old)) session.old)
+        (place (D.disk (device_of session.new)) session.new) (W.contents out.old) (W.contents out.new) (Order.Make one ∷ [])) }
+    ensures stopped { IfErr result (λ why.
+        StopsAmong (place (D.disk (device_of session.old)) session.old) (place (D.disk (device_of session.new)) session.new)
+        (W.contents out.old) (W.contents out.new) (Order.Make one ∷ []) why) }
+    ensures whole { OnOk result ((is_broken session.new ≡ false) × (length (pending_of session.new) < most_unsaved)) }
 {
     match make_move(session, one, out) {
         Ok(()) => Ok(()),
@@ -60,8 +66,11 @@ fn obey_picture<D: SectorDevice, W: Write>(
     session: &mut Session<D>,
     out: &mut W,
 ) -> Result<(), SessionError>
-    ensures obeyed { OnOk result (Obeys (place (D.disk (device_of session.old)) session.old) (place (D.disk (device_of session.new)) session.new) (W.contents out.old) (W.contents out.new) (Order.Picture ∷ [])) }
-    ensures stopped { IfErr result (λ why. StopsAmong (place (D.disk (device_of session.old)) session.old) (place (D.disk (device_of session.new)) session.new) (W.contents out.old) (W.contents out.new) (Order.Picture ∷ []) why) }
+    ensures obeyed { OnOk result (Obeys (place (D.disk (device_of session.old)) session.old)
+        (place (D.disk (device_of session.new)) session.new) (W.contents out.old) (W.contents out.new) (Order.Picture ∷ [])) }
+    ensures stopped { IfErr result (λ why.
+        StopsAmong (place (D.disk (device_of session.old)) session.old) (place (D.disk (device_of session.new)) session.new)
+        (W.contents out.old) (W.contents out.new) (Order.Picture ∷ []) why) }
     ensures same { session.new ≡ session.old }
 {
     match draw(session, out) {
@@ -77,10 +86,13 @@ fn obey<D: SectorDevice, W: Write>(
     out: &mut W,
 ) -> Result<(), SessionError>
     requires whole { is_broken session.old ≡ false }
-    requires few { length (pending_of session.old) < 3200 }
-    ensures obeyed { OnOk result (Obeys (place (D.disk (device_of session.old)) session.old) (place (D.disk (device_of session.new)) session.new) (W.contents out.old) (W.contents out.new) (order_list order)) }
-    ensures stopped { IfErr result (λ why. StopsAmong (place (D.disk (device_of session.old)) session.old) (place (D.disk (device_of session.new)) session.new) (W.contents out.old) (W.contents out.new) (order_list order) why) }
-    ensures whole { OnOk result ((is_broken session.new ≡ false) × (length (pending_of session.new) < 3200)) }
+    requires few { length (pending_of session.old) < most_unsaved }
+    ensures obeyed { OnOk result (Obeys (place (D.disk (device_of session.old)) session.old)
+        (place (D.disk (device_of session.new)) session.new) (W.contents out.old) (W.contents out.new) (order_list order)) }
+    ensures stopped { IfErr result (λ why.
+        StopsAmong (place (D.disk (device_of session.old)) session.old) (place (D.disk (device_of session.new)) session.new)
+        (W.contents out.old) (W.contents out.new) (order_list order) why) }
+    ensures whole { OnOk result ((is_broken session.new ≡ false) × (length (pending_of session.new) < most_unsaved)) }
 {
     match order {
         None => Ok(()),
@@ -96,10 +108,14 @@ fn obey_lines<D: SectorDevice, R: Read, W: Write>(
     out: &mut W,
 ) -> Result<End, SessionError>
     requires whole { is_broken session.old ≡ false }
-    requires few { length (pending_of session.old) < 3200 }
-    ensures obeyed { IfOk result (λ end. ObeysLines (place (D.disk (device_of session.old)) session.old) (place (D.disk (device_of session.new)) session.new) (R.remaining input.old) (R.remaining input.new) (W.contents out.old) (W.contents out.new) end) }
-    ensures stopped { IfErr result (λ why. StopsAmongLines (place (D.disk (device_of session.old)) session.old) (place (D.disk (device_of session.new)) session.new) (R.remaining input.old) (R.remaining input.new) (W.contents out.old) (W.contents out.new) why) }
-    ensures whole { OnOk result ((is_broken session.new ≡ false) × (length (pending_of session.new) < 3200)) }
+    requires few { length (pending_of session.old) < most_unsaved }
+    ensures obeyed { IfOk result (λ end.
+        ObeysLines (place (D.disk (device_of session.old)) session.old) (place (D.disk (device_of session.new)) session.new)
+        (R.remaining input.old) (R.remaining input.new) (W.contents out.old) (W.contents out.new) end) }
+    ensures stopped { IfErr result (λ why.
+        StopsAmongLines (place (D.disk (device_of session.old)) session.old) (place (D.disk (device_of session.new)) session.new)
+        (R.remaining input.old) (R.remaining input.new) (W.contents out.old) (W.contents out.new) why) }
+    ensures whole { OnOk result ((is_broken session.new ≡ false) × (length (pending_of session.new) < most_unsaved)) }
 {
     let mut held = ArrayVec::new();
     for number in 1..u64::MAX {
@@ -123,9 +139,13 @@ fn save_rest<D: SectorDevice, W: Write>(
     out: &mut W,
 ) -> Result<(), SessionError>
     requires whole { is_broken session.old ≡ false }
-    requires few { length (pending_of session.old) < 3200 }
-    ensures obeyed { OnOk result (Obeys (place (D.disk (device_of session.old)) session.old) (place (D.disk (device_of session.new)) session.new) (W.contents out.old) (W.contents out.new) (last_orders (length (pending_of session.old)))) }
-    ensures stopped { IfErr result (λ why. StopsAmong (place (D.disk (device_of session.old)) session.old) (place (D.disk (device_of session.new)) session.new) (W.contents out.old) (W.contents out.new) (last_orders (length (pending_of session.old))) why) }
+    requires few { length (pending_of session.old) < most_unsaved }
+    ensures obeyed { OnOk result (Obeys (place (D.disk (device_of session.old)) session.old)
+        (place (D.disk (device_of session.new)) session.new) (W.contents out.old) (W.contents out.new)
+        (last_orders (length (pending_of session.old)))) }
+    ensures stopped { IfErr result (λ why.
+        StopsAmong (place (D.disk (device_of session.old)) session.old) (place (D.disk (device_of session.new)) session.new)
+        (W.contents out.old) (W.contents out.new) (last_orders (length (pending_of session.old))) why) }
     ensures saved { OnOk result ((is_broken session.new ≡ false) × (pending_of session.new ≡ [])) }
 {
     if session.counts().pending == 0 {
@@ -134,7 +154,7 @@ fn save_rest<D: SectorDevice, W: Write>(
     obey_move(session, Move::Save, out)
 }
 
-/// Writes that the session was taken up, obeys the lines, and saves what is then unsaved.
+/// Writes that the session was resumed, obeys the lines, and saves what is then unsaved.
 pub(crate) fn stream_on<D: SectorDevice, R: Read, W: Write>(
     session: &mut Session<D>,
     input: &mut R,
@@ -142,8 +162,12 @@ pub(crate) fn stream_on<D: SectorDevice, R: Read, W: Write>(
 ) -> Result<End, SessionError>
     requires whole { is_broken session.old ≡ false }
     requires none { pending_of session.old ≡ [] }
-    ensures streamed { IfOk result (λ end. Streams (place (D.disk (device_of session.old)) session.old) (place (D.disk (device_of session.new)) session.new) (R.remaining input.old) (R.remaining input.new) (W.contents out.old) (W.contents out.new) end) }
-    ensures stopped { IfErr result (λ why. StopsStream (place (D.disk (device_of session.old)) session.old) (place (D.disk (device_of session.new)) session.new) (R.remaining input.old) (R.remaining input.new) (W.contents out.old) (W.contents out.new) why) }
+    ensures streamed { IfOk result (λ end.
+        Streams (place (D.disk (device_of session.old)) session.old) (place (D.disk (device_of session.new)) session.new)
+        (R.remaining input.old) (R.remaining input.new) (W.contents out.old) (W.contents out.new) end) }
+    ensures stopped { IfErr result (λ why.
+        StopsStream (place (D.disk (device_of session.old)) session.old) (place (D.disk (device_of session.new)) session.new)
+        (R.remaining input.old) (R.remaining input.new) (W.contents out.old) (W.contents out.new) why) }
     ensures saved { OnOk result ((is_broken session.new ≡ false) × (pending_of session.new ≡ [])) }
 {
     if let Err(_) = write_resumed(out, session.counts().all) {

@@ -10,14 +10,14 @@ const MOST: usize = 64;
 /// What a line asks for.
 #[derive(Clone, Copy, Debug, PartialEq, Eq)]
 pub enum Order {
-    /// A move, as a script has them.
+    /// A move, as in a script.
     Make(Move),
     /// The picture of the machine as it is now.
     Picture,
 }
 
-/// What one line asks for, without its newline: a line of a script, or `picture`. `None` where it is none of these, also where it has
-/// more than 64 bytes; an empty line asks for nothing.
+/// What one line asks for, without its newline: a line of a script, or `picture`. `None` if it is
+/// neither, or if it has more than 64 bytes; an empty line asks for nothing.
 pub fn read_order(line: &[u8]) -> Option<Order>
     ensures { result ≡ order_of line.now }
 {

@@ -11,15 +11,18 @@ use session::{Session, resume};
 use std::alloc::Global;
 use std::io::{Read, Write};
 
-/// Takes up the game on a device, writes `resumed N`, and obeys the lines of an input as they come, each before more is read. A line is
-/// one of a script, or `picture`, which writes the machine's picture as plain PGM; an empty one is counted and skipped, and the last may
-/// lack its newline. As in `play`, `saved N` is written after each save: one at each `save`, right after the input that makes 3,200
-/// unsaved, and at the end if any is unsaved.
+/// Resumes the game on a device, writes `resumed N`, and obeys the lines of an input as they come,
+/// each before more is read. A line is a line of a script, or `picture`, which writes the machine's
+/// picture as plain PGM; an empty one is counted and skipped, and the last may lack its newline. As
+/// in `play`, `saved N` is written after each save: one at each `save`, right after the input that
+/// makes 3,200 unsaved, and at the end if any is unsaved.
 ///
-/// Refusals: those of `resume`, with nothing read and nothing written; then whichever is met first of `Worn`, `Device`, `CountFull` and
-/// `Output`, as in `play`; `Line` with the number of the first wrong line, counted from 1, and `Input` where a read fails, both once
-/// what was given before is saved and told. A line of more than 64 bytes is wrong as soon as these are read, and so is the line of the
-/// number `u64::MAX`, whatever it is. No memory is taken but to take up the game.
+/// Refusals: those of `resume`, with nothing read and nothing written; then whichever comes first
+/// of `Worn`, `Device`, `CountFull` and `Output`, as in `play`; `Line` with the number of the first
+/// wrong line, counted from 1, and `Input` if a read fails, both once what was given before is
+/// saved and reported. A line of more than 64 bytes is wrong as soon as that many are read, and so
+/// is the line with the number `u64::MAX`, whatever it says. Memory is taken only to resume the
+/// game.
 pub fn stream<D: SectorDevice, R: Read, W: Write>(
     alloc: Global,
     device: D,
@@ -27,9 +30,13 @@ pub fn stream<D: SectorDevice, R: Read, W: Write>(
     input: &mut R,
     out: &mut W,
 ) -> Result<Session<D>, StreamRefused<D>>
-    ensures streamed { IfOk result (λ s. HasStreamedAll cartridge.now (D.disk device) (D.disk (device_of s)) (acknowledged_of s) (machine_of s) (R.remaining input.old) (R.remaining input.new) (W.contents out.old) (W.contents out.new)) }
+    ensures streamed { IfOk result (λ s.
+        HasStreamedAll cartridge.now (D.disk device) (D.disk (device_of s)) (acknowledged_of s) (machine_of s) (R.remaining input.old)
+        (R.remaining input.new) (W.contents out.old) (W.contents out.new)) }
     ensures whole { IfOk result (λ s. (pending_of s ≡ []) × (is_broken s ≡ false) × (rom_of s ≡ cartridge.now)) }
-    ensures refused { IfErr result (λ refused. IsStreamCause refused.why cartridge.now (D.disk device) (D.disk refused.device) (R.remaining input.old) (R.remaining input.new) (W.contents out.old) (W.contents out.new)) }
+    ensures refused { IfErr result (λ refused.
+        IsStreamCause refused.why cartridge.now (D.disk device) (D.disk refused.device) (R.remaining input.old) (R.remaining input.new)
+        (W.contents out.old) (W.contents out.new)) }
     ensures honest { (D.disk device).honest → (D.disk (left_by result)).honest }
     ensures faults_ok { IfOk result (λ s. (D.disk (device_of s)).faults ≡ (D.disk device).faults) }
     ensures faults { IfErr result (λ refused. (D.disk refused.device).faults ≡ faults_after_stream refused.why (D.disk device).faults) }

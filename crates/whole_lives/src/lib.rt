@@ -1,6 +1,7 @@
-//! Whole lives of a save file: any number of rounds of play, each cut at any device call with any of the unsynced writes kept.
+//! Whole lives of a save file: any number of rounds of play, each cut at any device call, with any
+//! of the unsynced writes kept.
 //!
-//! What a life is, in the words of a save file's history, is the definition `IsLife` in `specs/Lives.antt`.
+//! What a life is, as the history of a save file, is defined by `IsLife` in `specs/Lives.antt`.
 #![tactic(auto)]
 
 pub mod laws;

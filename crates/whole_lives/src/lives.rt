@@ -13,7 +13,8 @@ use sector_device::MemoryDevice;
 use session::{Refused, SessionError, resume};
 use std::alloc::Global;
 
-/// Plays the rounds on a device, and hands it on as the last cut left it, with the end of each round.
+/// Plays the rounds on a device, and hands the device on as the last cut left it, with the end of
+/// each round.
 fn live_rounds(
     alloc: Global,
     device: MemoryDevice,
@@ -21,11 +22,14 @@ fn live_rounds(
     rounds: &[Round],
 ) -> Result<(MemoryDevice, Vec<RoundEnd>), Refused<MemoryDevice>>
     ensures lived { IfOk result (λ r. LeavesLife cartridge.now (memory_disk (memory device)) (memory_disk (memory r.0)) rounds.now r.1.items) }
-    ensures left { IfErr result (λ refused. LeavesSomeLife cartridge.now (memory_disk (memory device)) (memory_disk (memory refused.device)) rounds.now) }
-    ensures cause { IfErr result (λ refused. IsLifeStop cartridge.now (memory_disk (memory device)) rounds.now (memory_disk (memory refused.device)).sectors refused.why) }
+    ensures left { IfErr result (λ refused.
+        LeavesSomeLife cartridge.now (memory_disk (memory device)) (memory_disk (memory refused.device)) rounds.now) }
+    ensures cause { IfErr result (λ refused.
+        IsLifeStop cartridge.now (memory_disk (memory device)) rounds.now (memory_disk (memory refused.device)).sectors refused.why) }
     ensures stand { IfOk result (λ r. EachStands cartridge.now (memory_disk (memory device)) → EachStands cartridge.now (memory_disk (memory r.0))) }
     ensures sound { IfErr result (λ refused. EachStands cartridge.now (memory_disk (memory device)) → IsSoundStop refused.why) }
-    ensures kept { IfErr result (λ refused. EachStands cartridge.now (memory_disk (memory device)) → EachStands cartridge.now (memory_disk (memory refused.device))) }
+    ensures kept { IfErr result (λ refused. EachStands cartridge.now (memory_disk (memory device)) →
+        EachStands cartridge.now (memory_disk (memory refused.device))) }
     ensures faults_ok { IfOk result (λ r. (memory device).faults ≤ (memory r.0).faults) }
     ensures faults { IfErr result (λ refused. CountsLifeFaults (memory device).faults (memory refused.device).faults refused.why) }
 {
@@ -50,12 +54,15 @@ fn live_rounds(
     Ok((left, ends))
 }
 
-/// Lives through rounds on a device. In each the fuse is set to its `calls`, the game is taken up, and its moves are made, with a save
-/// at each `Save` and right after the input that makes 3,200 unsaved, until they are made or the fuse is blown. Then the power is cut: the
-/// device becomes the image that keeps the chosen writes. Behind the last round the game is taken up once more, with no fuse.
+/// Lives through rounds on a device. In each round the fuse is set to its `calls`, the game is
+/// resumed, and its moves are made, with a save at each `Save` and right after the input that makes
+/// 3,200 unsaved, until they are made or the fuse is blown. Then the power is cut: the device
+/// becomes the image that keeps the chosen writes. After the last round the game is resumed once
+/// more, with no fuse.
 ///
-/// Refusals: those of `resume`; `Worn`, `Device` and `CountFull` of the moves; `Memory` for the ends and for an image. A `Device` by
-/// a round's fuse ends the round; any other refusal ends the life: so do a full record and a call that `fail_at` made fail.
+/// Refusals: those of `resume`; `Worn`, `Device` and `CountFull` of the moves; `Memory` for the
+/// ends and for an image. A `Device` by a round's fuse ends the round; any other refusal ends the
+/// life, as do a full record and a call that `fail_at` made fail.
 pub fn live(
     alloc: Global,
     device: MemoryDevice,
@@ -63,15 +70,23 @@ pub fn live(
     rounds: &[Round],
 ) -> Result<Lived, Refused<MemoryDevice>>
     // the ends, the count and the machine are those of a life, whatever the fuses and the cuts
-    ensures lived { IfOk result (λ lived. HasLived cartridge.now (memory_disk (memory device)) rounds.now lived.rounds.items (record { count = acknowledged_of lived.session; machine = machine_of lived.session })) }
-    ensures begun { IfOk result (λ lived. (pending_of lived.session ≡ []) × (is_broken lived.session ≡ false) × (rom_of lived.session ≡ cartridge.now)) }
-    ensures rests { IfOk result (λ lived. IsAtRest cartridge.now (memory_disk (memory (device_of lived.session))) (acknowledged_of lived.session) [] (machine_of lived.session)) }
+    ensures lived { IfOk result (λ lived.
+        HasLived cartridge.now (memory_disk (memory device)) rounds.now lived.rounds.items
+        (record { count = acknowledged_of lived.session; machine = machine_of lived.session })) }
+    ensures begun { IfOk result (λ lived. (pending_of lived.session ≡ []) × (is_broken lived.session ≡ false) ×
+        (rom_of lived.session ≡ cartridge.now)) }
+    ensures rests { IfOk result (λ lived.
+        IsAtRest cartridge.now (memory_disk (memory (device_of lived.session))) (acknowledged_of lived.session) []
+        (machine_of lived.session)) }
 
     // when it is refused, and what then is left
-    ensures left { IfErr result (λ refused. LeavesSomeLife cartridge.now (memory_disk (memory device)) (memory_disk (memory refused.device)) rounds.now) }
-    ensures cause { IfErr result (λ refused. IsLifeStop cartridge.now (memory_disk (memory device)) rounds.now (memory_disk (memory refused.device)).sectors refused.why) }
+    ensures left { IfErr result (λ refused.
+        LeavesSomeLife cartridge.now (memory_disk (memory device)) (memory_disk (memory refused.device)) rounds.now) }
+    ensures cause { IfErr result (λ refused.
+        IsLifeStop cartridge.now (memory_disk (memory device)) rounds.now (memory_disk (memory refused.device)).sectors refused.why) }
     ensures sound { IfErr result (λ refused. EachStands cartridge.now (memory_disk (memory device)) → IsSoundStop refused.why) }
-    ensures kept { IfErr result (λ refused. EachStands cartridge.now (memory_disk (memory device)) → EachStands cartridge.now (memory_disk (memory refused.device))) }
+    ensures kept { IfErr result (λ refused. EachStands cartridge.now (memory_disk (memory device)) →
+        EachStands cartridge.now (memory_disk (memory refused.device))) }
     ensures faults_ok { IfOk result (λ lived. (memory device).faults ≤ (memory (device_of lived.session)).faults) }
     ensures faults { IfErr result (λ refused. CountsLifeFaults (memory device).faults (memory refused.device).faults refused.why) }
 {

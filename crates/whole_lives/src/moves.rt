@@ -1,7 +1,7 @@
-//! Moves given to a session, saved where a save is due.
+//! Moves given to a session, saved when a save is due.
 ghost use Rattle.std.specs.Prelude.{◌≡◌, ◌<◌, ◌+◌, ◌++◌, ◌∷◌, [], length, replicate, false, OnOk, OnErr, IfErr};
 ghost use Rattle.machine.specs.declared.input.Input.TheVariants.{Frame};
-ghost use Rattle.session.specs.Calls.{faults_after};
+ghost use Rattle.session.specs.Calls.{most_unsaved, faults_after};
 ghost use Rattle.session.specs.Words.{device_of, machine_of, pending_of, acknowledged_of, is_broken};
 ghost use Rattle.playing.specs.Played.{IsPlayed};
 ghost use Rattle.playing.specs.Report.{inputs_of_move, inputs_of_moves};
@@ -10,7 +10,7 @@ ghost use Rattle.whole_lives.specs.Rounds.{Leaves, IsRoundStop};
 use machine::Input;
 use script::Move;
 use sector_device::SectorDevice;
-use session::{Session, SessionError};
+use session::{MOST_UNSAVED, Session, SessionError};
 
 /// Saves what is unsaved.
 fn save<D: SectorDevice>(session: &mut Session<D>) -> Result<(), SessionError>
@@ -24,8 +24,10 @@ fn save<D: SectorDevice>(session: &mut Session<D>) -> Result<(), SessionError>
     ensures saved { OnOk result ((pending_of session.new ≡ []) × (is_broken session.new ≡ false)) }
     ensures faults_ok { OnOk result ((D.disk (device_of session.new)).faults ≡ (D.disk (device_of session.old)).faults) }
     ensures faults { IfErr result (λ why. (D.disk (device_of session.new)).faults ≡ faults_after why (D.disk (device_of session.old)).faults) }
-    ensures counts { OnOk result (acknowledged_of session.new + length (pending_of session.new) ≡ acknowledged_of session.old + length (pending_of session.old)) }
-    ensures cause { IfErr result (λ why. IsRoundStop why (acknowledged_of session.old + length (pending_of session.old)) (D.disk (device_of session.new))) }
+    ensures counts { OnOk result (acknowledged_of session.new + length (pending_of session.new) ≡ acknowledged_of session.old + length
+        (pending_of session.old)) }
+    ensures cause { IfErr result (λ why.
+        IsRoundStop why (acknowledged_of session.old + length (pending_of session.old)) (D.disk (device_of session.new))) }
 {
     match session.save() {
         Ok(_) => Ok(()),
@@ -33,50 +35,54 @@ fn save<D: SectorDevice>(session: &mut Session<D>) -> Result<(), SessionError>
     }
 }
 
-/// Gives one input, and saves right after it where 3,200 are unsaved.
+/// Gives one input, and saves right after it if 3,200 are then unsaved.
 fn give<D: SectorDevice>(session: &mut Session<D>, input: Input) -> Result<(), SessionError>
     requires whole { is_broken session.old ≡ false }
-    requires few { length (pending_of session.old) < 3200 }
+    requires few { length (pending_of session.old) < most_unsaved }
     ensures played { OnOk result ((rom : _) (from : _) (given : _) →
         IsPlayed rom (D.disk (device_of session.old)) (acknowledged_of session.old) (pending_of session.old) (machine_of session.old) from given →
         IsPlayed rom (D.disk (device_of session.new)) (acknowledged_of session.new) (pending_of session.new) (machine_of session.new) from (given ++ input ∷ [])) }
     ensures stopped { OnErr result ((rom : _) (from : _) (given : _) →
         IsPlayed rom (D.disk (device_of session.old)) (acknowledged_of session.old) (pending_of session.old) (machine_of session.old) from given →
         Leaves rom (D.disk (device_of session.new)) (acknowledged_of session.new) from (given ++ input ∷ [])) }
-    ensures whole { OnOk result ((is_broken session.new ≡ false) × (length (pending_of session.new) < 3200)) }
+    ensures whole { OnOk result ((is_broken session.new ≡ false) × (length (pending_of session.new) < most_unsaved)) }
     ensures faults_ok { OnOk result ((D.disk (device_of session.new)).faults ≡ (D.disk (device_of session.old)).faults) }
     ensures faults { IfErr result (λ why. (D.disk (device_of session.new)).faults ≡ faults_after why (D.disk (device_of session.old)).faults) }
-    ensures counts { OnOk result (acknowledged_of session.new + length (pending_of session.new) ≡ acknowledged_of session.old + length (pending_of session.old) + 1) }
-    ensures cause { IfErr result (λ why. IsRoundStop why (acknowledged_of session.old + length (pending_of session.old) + 1) (D.disk (device_of session.new))) }
+    ensures counts { OnOk result (acknowledged_of session.new + length (pending_of session.new) ≡ acknowledged_of session.old + length
+        (pending_of session.old) + 1) }
+    ensures cause { IfErr result (λ why.
+        IsRoundStop why (acknowledged_of session.old + length (pending_of session.old) + 1) (D.disk (device_of session.new))) }
 {
     if let Err(why) = session.input(input) {
         return Err(why);
     }
-    if session.counts().pending == 3_200 {
+    if session.counts().pending == MOST_UNSAVED {
         return save(session);
     }
     Ok(())
 }
 
-/// Gives that many frames with these buttons.
+/// Gives `times` frames with these buttons.
 fn give_frames<D: SectorDevice>(
     session: &mut Session<D>,
     buttons: u8,
     times: u32,
 ) -> Result<(), SessionError>
     requires whole { is_broken session.old ≡ false }
-    requires few { length (pending_of session.old) < 3200 }
+    requires few { length (pending_of session.old) < most_unsaved }
     ensures played { OnOk result ((rom : _) (from : _) (given : _) →
         IsPlayed rom (D.disk (device_of session.old)) (acknowledged_of session.old) (pending_of session.old) (machine_of session.old) from given →
         IsPlayed rom (D.disk (device_of session.new)) (acknowledged_of session.new) (pending_of session.new) (machine_of session.new) from (given ++ replicate times (Frame buttons))) }
     ensures stopped { OnErr result ((rom : _) (from : _) (given : _) →
         IsPlayed rom (D.disk (device_of session.old)) (acknowledged_of session.old) (pending_of session.old) (machine_of session.old) from given →
         Leaves rom (D.disk (device_of session.new)) (acknowledged_of session.new) from (given ++ replicate times (Frame buttons))) }
-    ensures whole { OnOk result ((is_broken session.new ≡ false) × (length (pending_of session.new) < 3200)) }
+    ensures whole { OnOk result ((is_broken session.new ≡ false) × (length (pending_of session.new) < most_unsaved)) }
     ensures faults_ok { OnOk result ((D.disk (device_of session.new)).faults ≡ (D.disk (device_of session.old)).faults) }
     ensures faults { IfErr result (λ why. (D.disk (device_of session.new)).faults ≡ faults_after why (D.disk (device_of session.old)).faults) }
-    ensures counts { OnOk result (acknowledged_of session.new + length (pending_of session.new) ≡ acknowledged_of session.old + length (pending_of session.old) + times) }
-    ensures cause { IfErr result (λ why. IsRoundStop why (acknowledged_of session.old + length (pending_of session.old) + times) (D.disk (device_of session.new))) }
+    ensures counts { OnOk result (acknowledged_of session.new + length (pending_of session.new) ≡ acknowledged_of session.old + length
+        (pending_of session.old) + times) }
+    ensures cause { IfErr result (λ why.
+        IsRoundStop why (acknowledged_of session.old + length (pending_of session.old) + times) (D.disk (device_of session.new))) }
 {
     for _i in 0..times {
         if let Err(why) = give(session, Input::Frame(buttons)) {
@@ -89,18 +95,21 @@ fn give_frames<D: SectorDevice>(
 /// Makes one move.
 fn make_move<D: SectorDevice>(session: &mut Session<D>, one: Move) -> Result<(), SessionError>
     requires whole { is_broken session.old ≡ false }
-    requires few { length (pending_of session.old) < 3200 }
+    requires few { length (pending_of session.old) < most_unsaved }
     ensures played { OnOk result ((rom : _) (from : _) (given : _) →
         IsPlayed rom (D.disk (device_of session.old)) (acknowledged_of session.old) (pending_of session.old) (machine_of session.old) from given →
         IsPlayed rom (D.disk (device_of session.new)) (acknowledged_of session.new) (pending_of session.new) (machine_of session.new) from (given ++ inputs_of_move one)) }
     ensures stopped { OnErr result ((rom : _) (from : _) (given : _) →
         IsPlayed rom (D.disk (device_of session.old)) (acknowledged_of session.old) (pending_of session.old) (machine_of session.old) from given →
         Leaves rom (D.disk (device_of session.new)) (acknowledged_of session.new) from (given ++ inputs_of_move one)) }
-    ensures whole { OnOk result ((is_broken session.new ≡ false) × (length (pending_of session.new) < 3200)) }
+    ensures whole { OnOk result ((is_broken session.new ≡ false) × (length (pending_of session.new) < most_unsaved)) }
     ensures faults_ok { OnOk result ((D.disk (device_of session.new)).faults ≡ (D.disk (device_of session.old)).faults) }
     ensures faults { IfErr result (λ why. (D.disk (device_of session.new)).faults ≡ faults_after why (D.disk (device_of session.old)).faults) }
-    ensures counts { OnOk result (acknowledged_of session.new + length (pending_of session.new) ≡ acknowledged_of session.old + length (pending_of session.old) + length (inputs_of_move one)) }
-    ensures cause { IfErr result (λ why. IsRoundStop why (acknowledged_of session.old + length (pending_of session.old) + length (inputs_of_move one)) (D.disk (device_of session.new))) }
+    ensures counts { OnOk result (acknowledged_of session.new + length (pending_of session.new) ≡ acknowledged_of session.old + length
+        (pending_of session.old) + length (inputs_of_move one)) }
+    ensures cause { IfErr result (λ why.
+        IsRoundStop why (acknowledged_of session.old + length (pending_of session.old) + length (inputs_of_move one))
+        (D.disk (device_of session.new))) }
 {
     match one {
         Move::Frames { buttons, times } => give_frames(session, buttons, times),
@@ -109,14 +118,14 @@ fn make_move<D: SectorDevice>(session: &mut Session<D>, one: Move) -> Result<(),
     }
 }
 
-/// Makes the moves, and saves where a save is due: at each `Save`, and right after an input that makes 3,200 unsaved. What is unsaved
-/// behind the last move stays so.
+/// Makes the moves, and saves when a save is due: at each `Save`, and right after an input that
+/// makes 3,200 unsaved. What is unsaved after the last move stays unsaved.
 pub(crate) fn make_moves<D: SectorDevice>(
     session: &mut Session<D>,
     moves: &[Move],
 ) -> Result<(), SessionError>
     requires whole { is_broken session.old ≡ false }
-    requires few { length (pending_of session.old) < 3200 }
+    requires few { length (pending_of session.old) < most_unsaved }
     ensures played { OnOk result ((rom : _) (from : _) (given : _) →
         IsPlayed rom (D.disk (device_of session.old)) (acknowledged_of session.old) (pending_of session.old) (machine_of session.old) from given →
         IsPlayed rom (D.disk (device_of session.new)) (acknowledged_of session.new) (pending_of session.new) (machine_of session.new) from (given ++ inputs_of_moves moves.now)) }
@@ -125,8 +134,11 @@ pub(crate) fn make_moves<D: SectorDevice>(
         Leaves rom (D.disk (device_of session.new)) (acknowledged_of session.new) from (given ++ inputs_of_moves moves.now)) }
     ensures faults_ok { OnOk result ((D.disk (device_of session.new)).faults ≡ (D.disk (device_of session.old)).faults) }
     ensures faults { IfErr result (λ why. (D.disk (device_of session.new)).faults ≡ faults_after why (D.disk (device_of session.old)).faults) }
-    ensures counts { OnOk result (acknowledged_of session.new + length (pending_of session.new) ≡ acknowledged_of session.old + length (pending_of session.old) + length (inputs_of_moves moves.now)) }
-    ensures cause { IfErr result (λ why. IsRoundStop why (acknowledged_of session.old + length (pending_of session.old) + length (inputs_of_moves moves.now)) (D.disk (device_of session.new))) }
+    ensures counts { OnOk result (acknowledged_of session.new + length (pending_of session.new) ≡ acknowledged_of session.old + length
+        (pending_of session.old) + length (inputs_of_moves moves.now)) }
+    ensures cause { IfErr result (λ why.
+        IsRoundStop why (acknowledged_of session.old + length (pending_of session.old) + length (inputs_of_moves moves.now))
+        (D.disk (device_of session.new))) }
 {
     for one in moves {
         if let Err(why) = make_move(session, *one) {

@@ -1,4 +1,4 @@
-//! One round of a life: a game taken up, played, and cut.
+//! One round of a life: a game resumed, played, and cut.
 ghost use Rattle.std.specs.Prelude.{◌≡◌, ◌≤◌, ◌⊎◌, ◌<◌, ◌-◌, ◌^◌, Some, None, true, false, IfOk, IfErr};
 ghost use Rattle.playing.specs.Report.{inputs_of_moves};
 ghost use Rattle.sector_device.specs.Memory.{memory_disk, image_of};
@@ -22,34 +22,36 @@ pub struct Round {
     pub moves: Vec<Move>,
     /// How many device calls pass before the cut.
     pub calls: u64,
-    /// Which of the writes since the last successful sync the cut keeps: a missing choice is false, a further one is ignored.
+    /// Which of the writes since the last successful sync the cut keeps: a missing choice is false,
+    /// a further one is ignored.
     pub kept: Vec<bool>,
 }
 
 /// How a round ended.
 #[derive(Clone, Copy, Debug, PartialEq, Eq)]
 pub struct RoundEnd {
-    /// The count at which the game was taken up, or that it was cut before.
+    /// The count at which the game was resumed; `None` if the round was cut before that.
     pub resumed: Option<u64>,
     /// The greatest count known to be saved so far, in all rounds.
     pub saved: u64,
 }
 
-/// A life that came to its end.
+/// A life that reached its end.
 #[derive(Drop)]
 pub struct Lived {
     /// How each round ended.
     pub rounds: Vec<RoundEnd>,
-    /// The game as it was taken up behind the last round.
+    /// The game as it was resumed after the last round.
     pub session: Session<MemoryDevice>,
 }
 
-/// Ends a round by a refusal of its fuse. Any other refusal ends the life.
+/// Ends a round if its fuse caused the refusal. Any other refusal ends the life.
 fn ended_by(
     refused: Refused<MemoryDevice>,
     end: RoundEnd,
 ) -> Result<(MemoryDevice, RoundEnd), Refused<MemoryDevice>>
-    ensures ended { IfOk result (λ r. (r.0 ≡ refused.device) × (r.1 ≡ end) × (refused.why ≡ SessionError.Device) × ((memory refused.device).blown ≡ true)) }
+    ensures ended { IfOk result (λ r. (r.0 ≡ refused.device) × (r.1 ≡ end) × (refused.why ≡ SessionError.Device) ×
+        ((memory refused.device).blown ≡ true)) }
     ensures refused { IfErr result (λ r. (r.device ≡ refused.device) × (r.why ≡ refused.why)) }
 {
     if refused.why == SessionError::Device && refused.device.blown() {
@@ -67,7 +69,7 @@ fn with_fuse(device: MemoryDevice, calls: u64) -> MemoryDevice
     device
 }
 
-/// Takes up a game and makes the moves, until they are made or the fuse is blown.
+/// Resumes a game and makes the moves, until they are made or the fuse is blown.
 fn play_until_blown(
     alloc: Global,
     device: MemoryDevice,
@@ -75,12 +77,17 @@ fn play_until_blown(
     moves: &[Move],
     known: u64,
 ) -> Result<(MemoryDevice, RoundEnd), Refused<MemoryDevice>>
-    ensures leaves { IfOk result (λ r. LeavesRound cartridge.now (memory_disk (memory device)) (memory_disk (memory r.0)) (inputs_of_moves moves.now) r.1 known) }
-    ensures refused { IfErr result (λ refused. (end : RoundEnd) × LeavesRound cartridge.now (memory_disk (memory device)) (memory_disk (memory refused.device)) (inputs_of_moves moves.now) end known) }
-    ensures cause { IfErr result (λ refused. IsRoundRefusal cartridge.now (memory_disk (memory device)) (inputs_of_moves moves.now) (memory_disk (memory refused.device)).sectors refused.why) }
+    ensures leaves { IfOk result (λ r.
+        LeavesRound cartridge.now (memory_disk (memory device)) (memory_disk (memory r.0)) (inputs_of_moves moves.now) r.1 known) }
+    ensures refused { IfErr result (λ refused. (end : RoundEnd) ×
+        LeavesRound cartridge.now (memory_disk (memory device)) (memory_disk (memory refused.device)) (inputs_of_moves moves.now) end known) }
+    ensures cause { IfErr result (λ refused.
+        IsRoundRefusal cartridge.now (memory_disk (memory device)) (inputs_of_moves moves.now) (memory_disk (memory refused.device)).sectors
+        refused.why) }
     ensures stand { IfOk result (λ r. EachStands cartridge.now (memory_disk (memory device)) → EachStands cartridge.now (memory_disk (memory r.0))) }
     ensures sound { IfErr result (λ refused. EachStands cartridge.now (memory_disk (memory device)) → IsSoundStop refused.why) }
-    ensures kept { IfErr result (λ refused. EachStands cartridge.now (memory_disk (memory device)) → EachStands cartridge.now (memory_disk (memory refused.device))) }
+    ensures kept { IfErr result (λ refused. EachStands cartridge.now (memory_disk (memory device)) →
+        EachStands cartridge.now (memory_disk (memory refused.device))) }
     ensures faults_ok { IfOk result (λ r. (memory device).faults ≤ (memory r.0).faults) }
     ensures faults { IfErr result (λ refused. CountsLifeFaults (memory device).faults (memory refused.device).faults refused.why) }
 {
@@ -107,7 +114,8 @@ fn play_until_blown(
     }
 }
 
-/// Cuts the power: what is left is the device of the last successful sync with the chosen later writes.
+/// Cuts the power: what is left is the device as of the last successful sync, with the chosen later
+/// writes.
 fn cut(
     alloc: Global,
     device: MemoryDevice,
@@ -125,7 +133,7 @@ fn cut(
     }
 }
 
-/// One round: the fuse is set, the game is taken up and played, and the power is cut.
+/// One round: the fuse is set, the game is resumed and played, and the power is cut.
 pub(crate) fn one_round(
     alloc: Global,
     device: MemoryDevice,
@@ -133,13 +141,19 @@ pub(crate) fn one_round(
     round: &Round,
     known: u64,
 ) -> Result<(MemoryDevice, RoundEnd), Refused<MemoryDevice>>
-    ensures leaves { IfOk result (λ r. LeavesRound cartridge.now (memory_disk (memory device)) (memory_disk (memory r.0)) (inputs_of_round round.now) r.1 known) }
-    ensures refused { IfErr result (λ refused. (end : RoundEnd) × LeavesRound cartridge.now (memory_disk (memory device)) (memory_disk (memory refused.device)) (inputs_of_round round.now) end known) }
-    ensures cut { IfOk result (λ r. IsCutRound cartridge.now (memory_disk (memory device)) (round.now).kept.items (memory r.0) (inputs_of_round round.now) r.1 known) }
-    ensures cause { IfErr result (λ refused. IsRoundRefusal cartridge.now (memory_disk (memory device)) (inputs_of_round round.now) (memory_disk (memory refused.device)).sectors refused.why) }
+    ensures leaves { IfOk result (λ r.
+        LeavesRound cartridge.now (memory_disk (memory device)) (memory_disk (memory r.0)) (inputs_of_round round.now) r.1 known) }
+    ensures refused { IfErr result (λ refused. (end : RoundEnd) ×
+        LeavesRound cartridge.now (memory_disk (memory device)) (memory_disk (memory refused.device)) (inputs_of_round round.now) end known) }
+    ensures cut { IfOk result (λ r.
+        IsCutRound cartridge.now (memory_disk (memory device)) (round.now).kept.items (memory r.0) (inputs_of_round round.now) r.1 known) }
+    ensures cause { IfErr result (λ refused.
+        IsRoundRefusal cartridge.now (memory_disk (memory device)) (inputs_of_round round.now) (memory_disk (memory refused.device)).sectors
+        refused.why) }
     ensures stand { IfOk result (λ r. EachStands cartridge.now (memory_disk (memory device)) → EachStands cartridge.now (memory_disk (memory r.0))) }
     ensures sound { IfErr result (λ refused. EachStands cartridge.now (memory_disk (memory device)) → IsSoundStop refused.why) }
-    ensures kept { IfErr result (λ refused. EachStands cartridge.now (memory_disk (memory device)) → EachStands cartridge.now (memory_disk (memory refused.device))) }
+    ensures kept { IfErr result (λ refused. EachStands cartridge.now (memory_disk (memory device)) →
+        EachStands cartridge.now (memory_disk (memory refused.device))) }
     ensures faults_ok { IfOk result (λ r. (memory device).faults ≤ (memory r.0).faults) }
     ensures faults { IfErr result (λ refused. CountsLifeFaults (memory device).faults (memory refused.device).faults refused.why) }
 {

@@ -8,7 +8,8 @@ ghost use Rattle.memory_map.specs.Quiet.{AreQuiet};
 use super::Bus;
 
 impl Bus {
-    /// That many M-cycles pass for all units, in each of them in the order timer, serial, object DMA, picture.
+    /// Lets this many M-cycles pass for all units; in each M-cycle the order is timer, serial,
+    /// object DMA, picture.
     #[inline]
     pub fn pass(&mut self, cycles: u32)
         ensures { self.new ≡ iterate tick cycles self.old }
@@ -19,8 +20,8 @@ impl Bus {
         let _ = self.pass_few(cycles as u8);
     }
 
-    /// The same, for at most 255 M-cycles: faster, where nothing comes in them. Answers true only where IE and IF share no
-    /// bit then.
+    /// The same, for at most 255 M-cycles: faster if nothing happens in them. Answers true only if
+    /// IE and IF share no bit afterwards.
     #[inline(always)]
     pub fn pass_few(&mut self, cycles: u8) -> bool
         ensures ticks { self.new ≡ iterate tick cycles self.old }
@@ -39,7 +40,7 @@ impl Bus {
         true
     }
 
-    /// The same, where IE and IF may share a bit, or not all M-cycles are quiet.
+    /// The same, if IE and IF may share a bit, or not all M-cycles are quiet.
     #[inline(never)]
     fn pass_asked(&mut self, cycles: u8)
         ensures { self.new ≡ iterate tick cycles self.old }
@@ -91,7 +92,8 @@ impl Bus {
         self.timer.quiet().min(self.picture.quiet())
     }
 
-    /// In how many M-cycles IE and IF surely share no bit: before each of them they share none.
+    /// For how many M-cycles IE and IF are sure to share no bit: before each of them they share
+    /// none.
     #[inline]
     pub fn unshared_for(&self) -> u8
         ensures { (k : ℕ) → k < result → shared (iterate tick k self.now) ≡ 0 }
@@ -102,8 +104,9 @@ impl Bus {
         unshared
     }
 
-    /// After how many M-cycles the next event comes: a byte of a copy, a fall of the timer's signal, the end of a
-    /// transfer, the entry to a line, to mode 3 or to mode 0. None where none comes.
+    /// After how many M-cycles the next event comes: a byte of a copy, a fall of the timer's
+    /// signal, the end of a transfer, the entry to a line, to mode 3 or to mode 0. None if none
+    /// comes.
     pub fn due(&self) -> Option<u32>
         ensures { IsNextEvent tick happens self.now result }
     {
@@ -138,7 +141,7 @@ impl Bus {
         self.serial_requested |= requests.bits != 0;
     }
 
-    /// The copy and the picture, of which the picture sees what is copied.
+    /// Lets M-cycles pass for the copy and the picture; the picture sees what is copied.
     #[inline]
     fn pass_dma_and_picture(&mut self, cycles: u32)
         ensures { self.new ≡ iterate tick_dma_and_picture cycles self.old }

@@ -9,7 +9,8 @@ use super::Bus;
 use crate::control::select_bits;
 
 impl Bus {
-    /// The bits that IE and IF share, of the low five: VBlank 0, STAT 1, timer 2, serial 3, joypad 4.
+    /// The bits that IE and IF share, of the low five: VBlank 0, STAT 1, timer 2, serial 3, joypad
+    /// 4.
     pub fn shared(&self) -> u8
         ensures { result ≡ shared self.now }
     {
@@ -45,7 +46,7 @@ impl Bus {
             + 16 * u8::from(self.control.joypad)
     }
 
-    /// The low five bits of IF become those of the value.
+    /// Sets the low five bits of IF to those of the value.
     pub(super) fn set_interrupt_flag(&mut self, value: u8)
         ensures { self.new ≡ with_interrupt_flag value self.old }
     {

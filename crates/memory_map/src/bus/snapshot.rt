@@ -9,7 +9,7 @@ use crate::region::Region;
 use picture_unit::{Picture, PictureRegion};
 
 impl Bus {
-    /// What a snapshot holds of the registers: each field legal for this cartridge.
+    /// What a snapshot holds of the registers; each field is legal for this cartridge.
     pub fn state(&self) -> BusRegisters
         ensures state { result ≡ registers_of self.now }
         ensures legal { AreLegalFor self.now.banks result }
@@ -64,7 +64,8 @@ impl Bus {
         }
     }
 
-    /// Sets all bytes of a region. Condition: there are as many, and for the RAM of MBC2 each is below 16.
+    /// Sets all bytes of a region. Condition: there are as many as the region has, and for the RAM
+    /// of MBC2 each is below 16.
     #[tactic(auto, unfolding(picture_unit::specs::Stores::region_filled, picture_unit::specs::Stores::region_length))]
     pub fn fill(&mut self, region: Region, bytes: &[u8])
         requires { FitsRegion self.old region bytes.now }
@@ -88,14 +89,15 @@ impl Bus {
         }
     }
 
-    /// The picture unit, to look at.
+    /// A read-only view of the picture unit.
     pub fn picture(&self) -> &Picture
         ensures { result.now ≡ self.now.picture.screen }
     {
         &self.picture
     }
 
-    /// Sets the shades of a row of the picture. Condition: the row is below 144 and each shade at most 3.
+    /// Sets the shades of a row of the picture. Condition: the row is below 144, and each shade is
+    /// at most 3.
     pub fn set_row(&mut self, y: usize, row: &[u8; 160])
         requires y_in { y < 144 }
         requires shades { All (λ shade. shade < 4) row.now }
@@ -104,7 +106,7 @@ impl Bus {
         self.picture.set_row(y, row);
     }
 
-    /// That many seconds pass for the clock of an MBC3; without a clock nothing changes.
+    /// Lets this many seconds pass on the clock of an MBC3; without a clock nothing changes.
     pub fn pass_seconds(&mut self, seconds: u32)
         ensures { self.new ≡ record self.old { banks = iterate second seconds self.old.banks } }
     {

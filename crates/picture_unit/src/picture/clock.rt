@@ -8,7 +8,7 @@ use super::Picture;
 use crate::state::PictureRequests;
 
 impl Picture {
-    /// That many M-cycles pass: lines are entered and drawn, and interrupts requested.
+    /// Lets this many M-cycles pass: lines are entered and drawn, and interrupts are requested.
     #[inline]
     #[tactic(auto, unfolding(crate::specs::Picture::unrequested))]
     pub fn pass(&mut self, cycles: u32) -> PictureRequests
@@ -28,8 +28,8 @@ impl Picture {
         }
     }
 
-    /// That many M-cycles pass of those that `quiet` answers: the M-cycle of the line grows, and nothing else is done.
-    /// Condition: the line has as many M-cycles left.
+    /// Lets this many of the M-cycles that `quiet` answers pass: the M-cycle of the line grows, and
+    /// nothing else is done. Condition: the line has that many M-cycles left.
     #[inline]
     pub fn move_on(&mut self, cycles: u8)
         requires { 0 < cycles → self.old.state.m_cycle + cycles < 114 }
@@ -39,7 +39,8 @@ impl Picture {
         self.state.m_cycle += cycles;
     }
 
-    /// A number of M-cycles in which no line, mode 3 or mode 0 is entered and the STAT signal does not rise.
+    /// A number of M-cycles in which no line, mode 3 or mode 0 is entered and the STAT signal does
+    /// not rise.
     #[inline]
     pub fn quiet(&self) -> u8
         ensures quiet { AreQuiet result self.now.state }
@@ -65,8 +66,8 @@ impl Picture {
         requests
     }
 
-    /// After how many M-cycles a line, mode 3 or mode 0 is entered: the least number, or None with
-    /// LCDC bit 7 clear.
+    /// After how many M-cycles a line, mode 3 or mode 0 is entered: the least number, or None if
+    /// LCDC bit 7 is clear.
     pub fn due(&self) -> Option<u32>
         ensures { IsNextEvent tick is_entry (unrequested self.now) result }
     {

@@ -38,7 +38,7 @@ impl Picture {
         }
     }
 
-    /// Sets all bytes of VRAM or OAM. Condition: there are as many.
+    /// Sets all bytes of VRAM or OAM. Condition: there are as many as the region has.
     #[tactic(auto, unfolding(crate::specs::Stores::region_filled, crate::specs::Stores::region_length))]
     pub fn fill(&mut self, region: PictureRegion, bytes: &[u8])
         requires { length bytes.now ≡ region_length region }
@@ -60,7 +60,7 @@ impl Picture {
         &self.rows[y]
     }
 
-    /// Sets the shades of a row. Condition: the row is below 144 and each shade at most 3.
+    /// Sets the shades of a row. Condition: the row is below 144, and each shade is at most 3.
     pub fn set_row(&mut self, y: usize, row: &[u8; 160])
         requires y_in { y < 144 }
         requires shades { All (λ shade. shade < 4) row.now }

@@ -1,11 +1,10 @@
 use Rattle.gbkeep.proofs.fault.report.Goals as goal
-use Rattle.gbkeep.proofs.fault.report.Goals.{in-Cart, in-Step, in-Memory, in-File, in-Output, in-Address, in-Word, in-Device, in-Script, in-Session, in-Line, in-Input}
+use Rattle.gbkeep.proofs.fault.report.Goals.{in-Cart, in-Memory, in-File, in-Output, in-Address, in-Word, in-Device, in-Script, in-Session, in-Line, in-Input}
 
 pub returns-clause-line : goal.returns-clause-line
 returns-clause-line g c =
     elim c.match-fault.branch [
       | in-Cart w ↦ rw w.in-Cart.is tt
-      | in-Step w ↦ rw (w.in-Step.is, w.err-is) w.write_step_line.ensures
       | in-Memory w ↦ rw (w.in-Memory.is, w.err-is) w.write_line.ensures
       | in-File w ↦ rw (w.in-File.is, w.err-is) w.write_line-in-File.ensures
       | in-Output w ↦ rw (w.in-Output.is, w.err-is) w.write_line-in-Output.ensures

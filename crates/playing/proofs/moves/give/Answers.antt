@@ -25,10 +25,10 @@ pub returns-clause-whole : goal.returns-clause-whole
 returns-clause-whole g c =
     let more = ap length c.in_default.ensures.pending in
     let seen = ap (λ r. r.pending) c.counts.ensures in
-    (c.input.ensures.kept.1 ∙ c.requires.whole, omega (arith, more, seen, c.if-counts-eq3200.false, c.requires.few, length-append (pending_of c.args.session.now) (entry_of c.args.input ∷ [])))
+    (c.input.ensures.kept.1 ∙ c.requires.whole, omega (arith, more, seen, c.if-counts-eq-MOST_UNSAVED.false, c.requires.few, length-append (pending_of c.args.session.now) (entry_of c.args.input ∷ [])))
 
-pub returns-then-counts-eq3200-clause-going : goal.returns-then-counts-eq3200-clause-going
-returns-then-counts-eq3200-clause-going g c =
+pub returns-then-counts-eq-MOST_UNSAVED-clause-going : goal.returns-then-counts-eq-MOST_UNSAVED-clause-going
+returns-then-counts-eq-MOST_UNSAVED-clause-going g c =
     on_ok c.save_line.result c.save_line.ensures.going
     (λ next rom from given played.
     let was = c.args.session.now in
@@ -43,8 +43,8 @@ returns-then-counts-eq3200-clause-going g c =
     subst (λ d. Going rom (g.D.SectorDevice.disk d) (g.D.SectorDevice.disk (device_of now)) (acknowledged_of now) (pending_of now) (machine_of now) from given_now) c.input.ensures.device
     (next rom from given_now there.played))
 
-pub returns-then-counts-eq3200-clause-stopped : goal.returns-then-counts-eq3200-clause-stopped
-returns-then-counts-eq3200-clause-stopped g c =
+pub returns-then-counts-eq-MOST_UNSAVED-clause-stopped : goal.returns-then-counts-eq-MOST_UNSAVED-clause-stopped
+returns-then-counts-eq-MOST_UNSAVED-clause-stopped g c =
     on_err c.save_line.result c.save_line.ensures.stopped
     (λ next rom from given played.
     let was = c.args.session.now in
@@ -81,20 +81,20 @@ returns-in-Err-clause-cause g c =
     let full = input_refused c.in-Err.why (is_broken was) (length (pending_of was)) (acknowledged_of was + length (pending_of was)) c.requires.whole c.requires.few c.in-Err.ensures.answer in
     full_stops c.in-Err.why (acknowledged_of was + length (pending_of was) + 1) (g.D.SectorDevice.disk (device_of c.input.new.self)) full.0 (omega (arith, full.1))
 
-pub returns-then-counts-eq3200-clause-told : goal.returns-then-counts-eq3200-clause-told
-returns-then-counts-eq3200-clause-told g c =
+pub returns-then-counts-eq-MOST_UNSAVED-clause-told : goal.returns-then-counts-eq-MOST_UNSAVED-clause-told
+returns-then-counts-eq-MOST_UNSAVED-clause-told g c =
     let was = c.args.session.now in
     let mid = c.input.new.self in
     let more : length (pending_of mid) ≡ length (pending_of was) + 1 = ap length c.in_default.ensures.pending ∙ length-append (pending_of was) (entry_of c.args.input ∷ []) in
     let seen : c.counts.result.pending ≡ length (pending_of mid) = ap (λ r. r.pending) c.counts.ensures in
-    let due : length (pending_of was) + 1 ≡ 3200 = omega (arith, more, seen, c.if-counts-eq3200.true) in
+    let due : length (pending_of was) + 1 ≡ 3200 = omega (arith, more, seen, c.if-counts-eq-MOST_UNSAVED.true) in
     let all : acknowledged_of mid + length (pending_of mid) ≡ acknowledged_of was + length (pending_of was) + 1 = omega (arith, more, c.input.ensures.kept.0) in
     let line : saved_line (acknowledged_of mid + length (pending_of mid)) ∷ [] ≡ line_due (length (pending_of was)) (acknowledged_of was + length (pending_of was) + 1) =
     ap (λ (n : ℕ). saved_line n ∷ []) all ∙ sym (line_is_due (length (pending_of was)) (acknowledged_of was + length (pending_of was) + 1) due) in
     if_err c.save_line.result c.save_line.ensures.told (λ why told. told_by line told)
 
-pub returns-then-counts-eq3200-clause-cause : goal.returns-then-counts-eq3200-clause-cause
-returns-then-counts-eq3200-clause-cause g c =
+pub returns-then-counts-eq-MOST_UNSAVED-clause-cause : goal.returns-then-counts-eq-MOST_UNSAVED-clause-cause
+returns-then-counts-eq-MOST_UNSAVED-clause-cause g c =
     let was = c.args.session.now in
     let mid = c.input.new.self in
     let more : length (pending_of mid) ≡ length (pending_of was) + 1 = ap length c.in_default.ensures.pending ∙ length-append (pending_of was) (entry_of c.args.input ∷ []) in
@@ -104,7 +104,7 @@ returns-then-counts-eq3200-clause-cause g c =
 pub returns-clause-machine : goal.returns-clause-machine
 returns-clause-machine g c = c.in_default.ensures.machine ∙ sym (after_one (machine_of c.args.session.now) c.args.input)
 
-pub returns-then-counts-eq3200-clause-machine : goal.returns-then-counts-eq3200-clause-machine
-returns-then-counts-eq3200-clause-machine g c =
+pub returns-then-counts-eq-MOST_UNSAVED-clause-machine : goal.returns-then-counts-eq-MOST_UNSAVED-clause-machine
+returns-then-counts-eq-MOST_UNSAVED-clause-machine g c =
     on_ok c.save_line.result c.save_line.ensures.machine
     (λ same. same ∙ c.in_default.ensures.machine ∙ sym (after_one (machine_of c.args.session.now) c.args.input))

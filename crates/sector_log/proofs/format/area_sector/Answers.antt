@@ -3,8 +3,8 @@ use Rattle.sector_log.specs.Log.{padded}
 use Rattle.sector_log.proofs.Places.{fresh_log_at, fresh_blob_at, part_is}
 use Rattle.sector_log.proofs.format.area_sector.Goals as goal
 
-pub returns-then-index-lt32 : goal.returns-then-index-lt32
-returns-then-index-lt32 c = c.padded_sector.ensures ∙ sym (fresh_log_at c.args.index c.args.blob.now c.if-index-lt32.true)
+pub returns-then-index-lt-LOG_SECTORS_PER_AREA : goal.returns-then-index-lt-LOG_SECTORS_PER_AREA
+returns-then-index-lt-LOG_SECTORS_PER_AREA c = c.padded_sector.ensures ∙ sym (fresh_log_at c.args.index c.args.blob.now c.if-index-lt-LOG_SECTORS_PER_AREA.true)
 
 pub returns : goal.returns
 returns c =
@@ -12,4 +12,4 @@ returns c =
     let from = 512 * (c.args.index - 32) in
     c.padded_sector-2.ensures
     ∙ ap padded (part_is blob from c.min-to.result c.min-to.ensures)
-    ∙ sym (fresh_blob_at c.args.index blob c.if-index-lt32.false c.requires.within)
+    ∙ sym (fresh_blob_at c.args.index blob c.if-index-lt-LOG_SECTORS_PER_AREA.false c.requires.within)

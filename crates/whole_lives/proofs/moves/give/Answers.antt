@@ -18,10 +18,10 @@ pub returns-clause-whole : goal.returns-clause-whole
 returns-clause-whole g c =
     let more = ap length c.in_default.ensures.pending in
     let seen = ap (λ r. r.pending) c.counts.ensures in
-    (c.input.ensures.kept.1 ∙ c.requires.whole, omega (arith, more, seen, c.if-counts-eq3200.false, c.requires.few, length-append (pending_of c.args.session.now) (entry_of c.args.input ∷ [])))
+    (c.input.ensures.kept.1 ∙ c.requires.whole, omega (arith, more, seen, c.if-counts-eq-MOST_UNSAVED.false, c.requires.few, length-append (pending_of c.args.session.now) (entry_of c.args.input ∷ [])))
 
-pub returns-then-counts-eq3200-clause-played : goal.returns-then-counts-eq3200-clause-played
-returns-then-counts-eq3200-clause-played g c =
+pub returns-then-counts-eq-MOST_UNSAVED-clause-played : goal.returns-then-counts-eq-MOST_UNSAVED-clause-played
+returns-then-counts-eq-MOST_UNSAVED-clause-played g c =
     on_ok c.save.result c.save.ensures.played
     (λ next rom from given played.
     let was = c.args.session.now in
@@ -30,8 +30,8 @@ returns-then-counts-eq3200-clause-played g c =
     (played_input g.D.SectorDevice.disk rom (device_of was) (device_of mid) (acknowledged_of was) (acknowledged_of mid) (pending_of was) (pending_of mid) (machine_of was) (machine_of mid) from given c.args.input
     c.input.ensures.device c.input.ensures.kept.0 c.in_default.ensures.given c.in_default.ensures.machine played))
 
-pub returns-then-counts-eq3200-clause-stopped : goal.returns-then-counts-eq3200-clause-stopped
-returns-then-counts-eq3200-clause-stopped g c =
+pub returns-then-counts-eq-MOST_UNSAVED-clause-stopped : goal.returns-then-counts-eq-MOST_UNSAVED-clause-stopped
+returns-then-counts-eq-MOST_UNSAVED-clause-stopped g c =
     on_err c.save.result c.save.ensures.stopped
     (λ next rom from given played.
     let was = c.args.session.now in
@@ -55,8 +55,8 @@ returns-in-Err-clause-cause g c =
     let full = input_refused c.in-Err.why (is_broken was) (length (pending_of was)) (acknowledged_of was + length (pending_of was)) c.requires.whole c.requires.few c.in-Err.ensures.answer in
     round_stop c.in-Err.why all now (full_not_output c.in-Err.why full.0) (full_stops c.in-Err.why all now full.0 (omega (arith, full.1)))
 
-pub returns-then-counts-eq3200-clause-cause : goal.returns-then-counts-eq3200-clause-cause
-returns-then-counts-eq3200-clause-cause g c =
+pub returns-then-counts-eq-MOST_UNSAVED-clause-cause : goal.returns-then-counts-eq-MOST_UNSAVED-clause-cause
+returns-then-counts-eq-MOST_UNSAVED-clause-cause g c =
     let was = c.args.session.now in
     let mid = c.input.new.self in
     let more : length (pending_of mid) ≡ length (pending_of was) + 1 = ap length c.in_default.ensures.pending ∙ length-append (pending_of was) (entry_of c.args.input ∷ []) in

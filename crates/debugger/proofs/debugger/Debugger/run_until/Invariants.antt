@@ -1,4 +1,4 @@
-use Rattle.std.proofs.Common.{◌≡◌, true}
+use Rattle.std.proofs.Common.{◌≡◌, ◌≤◌, ◌-◌, true}
 use Rattle.machine.specs.Bus.{bus_rules}
 use Rattle.machine.specs.Plain.{IsPlain}
 use Rattle.debugger.specs.Run.{HasRun}
@@ -7,5 +7,9 @@ use Rattle.debugger.proofs.debugger.Debugger.run_until.Given as goal
 abbrev pub invariant-loop-made : goal.invariant-loop-made
 invariant-loop-made l = record {
   run : HasRun l.breaks l.made l.fn.self l.self;
+  most : l.made ≤ l.limit;
   plain : l.is_plain ≡ true → IsPlain bus_rules l.self.machine.processor;
 }
+
+abbrev pub decreases-loop-made : goal.decreases-loop-made
+decreases-loop-made l = l.limit - l.made

@@ -8,4 +8,4 @@ pub returns-clause-what : goal.returns-clause-what
 returns-clause-what c =
     let p = c.args.self.now in
     sym (ap (λ (s : Stepped). s.what)
-    (plainly_reported bus_rules c.read_three-bytes.result c.length_of_opcode.result _ p c.requires (c.read_three-bytes.ensures ∙ plainly_fetched bus_rules p c.requires) c.length_of_opcode.ensures refl))
+    (plainly_reported bus_rules c.read_three.new.bytes c.length_of_opcode-ran.result _ p c.requires (c.read_three.ensures ∙ plainly_fetched bus_rules p c.requires) c.length_of_opcode-ran.ensures refl))
