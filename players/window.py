@@ -106,6 +106,7 @@ class Window:
         pygame.font.init()
         self.size = (160 * scale, 144 * scale)
         self.screen = pygame.display.set_mode(self.size)
+        self.shades = None
         self.pressed = 0
         self.taken = 0
         self.paused = self.wants_picture = self.is_closed = False
@@ -124,6 +125,8 @@ class Window:
                 self.paused = not self.paused
             elif event.type == pygame.KEYDOWN and event.key == pygame.K_s:
                 self.wants_picture = True
+            elif event.type == pygame.VIDEOEXPOSE:
+                pygame.display.flip()
 
     def buttons(self):
         buttons, self.taken = self.pressed | self.taken, 0
@@ -133,10 +136,12 @@ class Window:
         return pygame.key.get_pressed()[pygame.K_TAB]
 
     def show(self, shades):
+        if shades == self.shades:
+            return
+        self.shades = shades
         picture = pygame.image.frombuffer(shades, (160, 144), 'P')
         picture.set_palette(COLOURS)
-        self.picture = pygame.transform.scale(picture.convert(self.screen), self.size)
-        self.screen.blit(self.picture, (0, 0))
+        pygame.transform.scale(picture.convert(self.screen), self.size, self.screen)
         pygame.display.flip()
 
     def show_line(self, line):
@@ -167,7 +172,7 @@ def play(window, game, clock, away, save):
         window.listen()
         if window.wants_picture:
             window.wants_picture = False
-            pygame.image.save(window.picture, next_name(save))
+            pygame.image.save(window.screen, next_name(save))
         if window.paused:
             time.sleep(0.02)
             due = time.monotonic()

@@ -25,6 +25,8 @@ AT_PLACE = re.compile(r"(?:\./)?(\S+?):\d+:\d+: error(?:\[[\w-]+\])?: (.*)")
 OPEN_GOAL = re.compile(r"note: (src/\S+:\d+):\d+: (it is not proved that .*)")
 FUNCTION = re.compile(r"fn [^:\s]+::(\S+): (not proved|no proof: .*)")
 IS_GONE = re.compile(r"has no `|has no field|is not in scope|is no name")
+UNCOVERED = re.compile(r"the borrow checker does not cover")
+UNPROVED = re.compile(r"`[\w-]+`: `search`: no proof of ")
 FOLLOWS = re.compile(r"which was (?:rejected|not admitted)|no proof: it calls")
 
 
@@ -89,7 +91,9 @@ def open_goal(said):
         error, note, function = AT_PLACE.match(line), OPEN_GOAL.match(line), FUNCTION.match(line)
         if error:
             path, what = error.groups()
-            if path.startswith(("src/", "specs/")):
+            if path.startswith("src/") and UNPROVED.match(what):
+                goals.append(f"{path}: {what}")
+            elif path.startswith(("src/", "specs/")):
                 raise ShowsNothing(f"it does not compile: {line}")
             first = first or line
             folder = os.path.dirname(path).removeprefix("proofs").lstrip("/")
@@ -102,6 +106,8 @@ def open_goal(said):
         elif function:
             name, why = function.groups()
             folder = name.replace("::", "/")
+            if UNCOVERED.search(why):
+                raise ShowsNothing(f"its form is one that no proof can be given for: {why}")
             if not FOLLOWS.search(why) and folder not in gone:
                 what = notes[0] if notes else refused.get(folder) or why
                 goals.append(f"{name}: {what}")
