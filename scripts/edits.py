@@ -26,7 +26,7 @@ OPEN_GOAL = re.compile(r"note: (src/\S+:\d+):\d+: (it is not proved that .*)")
 FUNCTION = re.compile(r"fn [^:\s]+::(\S+): (not proved|no proof: .*)")
 IS_GONE = re.compile(r"has no `|has no field|is not in scope|is no name")
 UNCOVERED = re.compile(r"the borrow checker does not cover")
-UNPROVED = re.compile(r"`[\w-]+`: `search`: no proof of ")
+UNPROVED = re.compile(r"`[\w-]+`: `search`: no proof of |`[\w-]+-value`: (as printed|computed), ")
 FOLLOWS = re.compile(r"which was (?:rejected|not admitted)|no proof: it calls")
 
 
