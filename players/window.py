@@ -17,6 +17,8 @@ from pathlib import Path
 try:
     os.environ.setdefault('PYGAME_HIDE_SUPPORT_PROMPT', '1')
     os.environ.setdefault('SDL_VIDEO_X11_WMCLASS', 'gbkeep')
+    # SDL would draw the window by OpenGL, which costs four times as much where the processor does that too
+    os.environ.setdefault('SDL_FRAMEBUFFER_ACCELERATION', '0')
     import pygame
 except ImportError:
     sys.exit("window.py: pygame is missing: install Debian's package python3-pygame, and start it by that Python (/usr/bin/python3)")

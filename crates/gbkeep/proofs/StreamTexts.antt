@@ -1,47 +1,43 @@
 -- What a stream wrote, and why one was refused.
 use Rattle.std.proofs.Common.{◌≡◌, ◌⊎◌, inl, inr, ◌+◌, List, ℕ, Option, subst}
-use Rattle.std.specs.Io.KnownBytes.{Appends, Keeps}
 use Rattle.cartridge.specs.Accepted.{IsAccepted}
 use Rattle.sector_device.specs.DiskState.{DiskState}
 use Rattle.session.specs.declared.error.SessionError.{SessionError}
 use Rattle.playing.specs.Played.{IsNotTakenUp}
-use Rattle.playing.specs.Report.{texts, HasTold}
 use Rattle.machine.specs.Machine.{MachineState}
 use Rattle.streaming.specs.Streamed.{HasStopped, HasStreamed, HasStreamedAll, IsStreamCause}
 use Rattle.streaming.specs.declared.error.StreamError.{StreamError}
 use Rattle.streaming.specs.declared.error.StreamError.TheVariants.{Session, Line, Input}
 use Rattle.streaming.specs.declared.obeying.End.{End}
 use Rattle.streaming.specs.declared.obeying.End.TheVariants.{Whole}
-use Rattle.command_line.specs.declared.Request.{Request}
 use Rattle.gbkeep.specs.declared.error.StreamPlayError.{StreamPlayError}
 use Rattle.gbkeep.specs.declared.error.StreamPlayError.TheVariants.{Cart, Stream}
 use Rattle.gbkeep.specs.declared.error.StreamPlayRefused.{StreamPlayRefused}
-use Rattle.gbkeep.specs.Program.{IsRefused, fault_of_stream}
-use Rattle.gbkeep.specs.Request.{HasAddress, IsGameRefused, IsInputRefused, OfAStream}
+use Rattle.gbkeep.specs.Program.{IsStreamRefused, fault_of_stream}
+use Rattle.gbkeep.specs.Request.{IsStreamedTo, IsStreamStopped}
 use Rattle.gbkeep.specs.Streaming.{IsStreamPlayCause}
 
-pub streamed_text : (rom : List ℕ) (before now : DiskState) (end : End) (before_in since_in old new : Option (List ℕ)) → HasStreamed rom before now end before_in since_in old new
-    → OfAStream (λ lines. Appends old new (texts lines))
-streamed_text rom before now end before_in since_in old new streamed = (streamed.from, streamed.lines, streamed.right, streamed.answered)
+pub streamed_to : (rom : List ℕ) (before now : DiskState) (end : End) (before_in since_in old new : Option (List ℕ)) → IsAccepted rom
+    → HasStreamed rom before now end before_in since_in old new → IsStreamedTo end before_in since_in old new
+streamed_to rom before now end before_in since_in old new accepted streamed =
+    (rom, accepted, (streamed.from, streamed.lines, streamed.right, streamed.read, streamed.answered))
 
-stopped_text : (rom : List ℕ) (before now : DiskState) (why : SessionError) (before_in since_in old new : Option (List ℕ))
+stopped : (rom : List ℕ) (before now : DiskState) (why : SessionError) (before_in since_in old new : Option (List ℕ)) → IsAccepted rom
     → (IsNotTakenUp rom before now why old new × (since_in ≡ before_in)) ⊎ HasStopped rom before now why before_in since_in old new
-    → Keeps old new ⊎ OfAStream (λ lines. (saved : ℕ) × HasTold why saved lines old new)
-stopped_text rom before now why before_in since_in old new (inl begun) = inl begun.0.report
-stopped_text rom before now why before_in since_in old new (inr stopped) = inr (stopped.from, stopped.lines, stopped.right, (stopped.from.count + stopped.least, stopped.told))
+    → IsStreamStopped why before_in since_in old new
+stopped rom before now why before_in since_in old new accepted (inl begun) = (rom, accepted, inl (begun.1, begun.0.report))
+stopped rom before now why before_in since_in old new accepted (inr it) =
+    (rom, accepted, inr (it.from, it.lines, it.right, (it.more, it.read), (it.from.count + it.least, it.told)))
 
-pub stream_refused : {D : Type 0} (request : Request) (rom : List ℕ) (device : D) (refused : StreamPlayRefused D) (before now : DiskState) (before_in since_in old new : Option (List ℕ)) (why : StreamPlayError)
-    → HasAddress request
-    → ((fault : SessionError) → IsAccepted rom → (Keeps old new ⊎ OfAStream (λ lines. (saved : ℕ) × HasTold fault saved lines old new)) → IsGameRefused request fault old new)
-    → (IsAccepted rom → OfAStream (λ lines. Appends old new (texts lines)) → IsInputRefused request old new)
-    → IsStreamPlayCause rom device refused before now before_in since_in old new why → IsRefused request (fault_of_stream why) old new
-stream_refused request rom device refused before now before_in since_in old new (Cart fault) address game input cause = (address, cause.3, (rom, cause.0))
-stream_refused request rom device refused before now before_in since_in old new (Stream (Session fault)) address game input cause =
-    game fault cause.0 (stopped_text rom before now fault before_in since_in old new cause.1)
-stream_refused request rom device refused before now before_in since_in old new (Stream (Line number)) address game input cause =
-    input cause.0 (streamed_text rom before now _ before_in since_in old new cause.1)
-stream_refused request rom device refused before now before_in since_in old new (Stream Input) address game input cause =
-    input cause.0 (streamed_text rom before now _ before_in since_in old new cause.1)
+pub stream_refused : {D : Type 0} (rom : List ℕ) (device : D) (refused : StreamPlayRefused D) (before now : DiskState) (before_in since_in old new : Option (List ℕ)) (why : StreamPlayError)
+    → IsStreamPlayCause rom device refused before now before_in since_in old new why → IsStreamRefused (fault_of_stream why) before_in since_in old new
+stream_refused rom device refused before now before_in since_in old new (Cart fault) cause = (cause.2, cause.3, (rom, cause.0))
+stream_refused rom device refused before now before_in since_in old new (Stream (Session fault)) cause =
+    stopped rom before now fault before_in since_in old new cause.0 cause.1
+stream_refused rom device refused before now before_in since_in old new (Stream (Line number)) cause =
+    streamed_to rom before now _ before_in since_in old new cause.0 cause.1
+stream_refused rom device refused before now before_in since_in old new (Stream Input) cause =
+    streamed_to rom before now _ before_in since_in old new cause.0 cause.1
 
 -- ---- of the image that was read as a cartridge
 

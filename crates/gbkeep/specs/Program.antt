@@ -9,6 +9,7 @@ use Rattle.clap.specs.declared.error.kind.ErrorKind.TheVariants.{DisplayHelp, Di
 use Rattle.command_line.specs.Commands.{gbkeep as command}
 use Rattle.command_line.specs.Words.{AsksFor, AskForSome, Word as WordText}
 use Rattle.command_line.specs.declared.Request.{Request}
+use Rattle.command_line.specs.declared.Request.TheVariants.{Info, List as Listing, Step, New, Play, Frame, Trace, Stream}
 use Rattle.session.specs.declared.error.SessionError.TheVariants.{Memory as GameMemory, Device as GameDevice, NoSession as GameNoSession, OtherCartridge as GameOtherCartridge, Worn as GameWorn, Broken as GameBroken, SaveFirst as GameSaveFirst, CountFull as GameCountFull, Output as GameOutput, TooSmall as GameTooSmall, Damaged as GameDamaged}
 use Rattle.gbkeep.specs.declared.asked.Asked.{Asked}
 use Rattle.gbkeep.specs.declared.asked.Asked.TheVariants.{Command, Help, Misuse, OutOfRange}
@@ -21,10 +22,11 @@ use Rattle.gbkeep.specs.declared.error.TraceError.TheVariants.{Cart as TraceCart
 use Rattle.gbkeep.specs.declared.fault.Fault.{Fault}
 use Rattle.gbkeep.specs.declared.error.StreamPlayError.{StreamPlayError}
 use Rattle.gbkeep.specs.declared.error.StreamPlayError.TheVariants.{Cart as StreamCart, Stream as StreamFault}
+use Rattle.streaming.specs.declared.obeying.End.TheVariants.{Whole, Wrong as WrongLine, Failed as FailedRead}
 use Rattle.streaming.specs.declared.error.StreamError.TheVariants.{Session as StreamSession, Line as StreamLine, Input as StreamInput}
 use Rattle.gbkeep.specs.declared.fault.Fault.TheVariants.{Cart, Memory, File, Output, Address, Word, Device, Script, Session, Line, Input}
 use Rattle.script.specs.Script.{IsRefused as IsScriptRefused}
-use Rattle.gbkeep.specs.Request.{HasAddress, HasSave, HasScript, IsDone, IsGameRefused, IsInputRefused, IsOutputRefused}
+use Rattle.gbkeep.specs.Request.{HasAddress, HasSave, HasScript, IsDone, IsGameRefused, IsOutputRefused, IsStreamStopped, IsStreamedTo}
 
 abbrev pub status_of : Fault → ℕ
 status_of (Cart fault) = 1
@@ -111,13 +113,58 @@ IsRefused request Word old new = ⊥
 IsRefused request (Device fault) old new = HasSave request × Keeps old new
 IsRefused request (Script fault) old new = HasScript request × Keeps old new × ((script : List ℕ) × IsScriptRefused script fault)
 IsRefused request (Session fault) old new = IsGameRefused request fault old new
-IsRefused request (Line number) old new = IsInputRefused request old new
-IsRefused request Input old new = IsInputRefused request old new
+IsRefused request (Line number) old new = ⊥
+IsRefused request Input old new = ⊥
 
--- a request was done or refused
+-- a request that reads no input was done or refused
 abbrev pub IsServed : Request → Result Unit Fault → Option (List ℕ) → Option (List ℕ) → Type 0
 IsServed request (Ok u) old new = IsDone request old new
 IsServed request (Err fault) old new = IsRefused request fault old new
+
+-- why a stream was refused, and what was read and went out then
+abbrev pub IsStreamRefused : Fault → (before since old new : Option (List ℕ)) → Type 0
+IsStreamRefused (Cart fault) before since old new = (since ≡ before) × Keeps old new × ((rom : List ℕ) × (refusal_of rom ≡ Some fault))
+IsStreamRefused Memory before since old new = (since ≡ before) × Keeps old new
+IsStreamRefused File before since old new = (since ≡ before) × Keeps old new
+IsStreamRefused Output before since old new = ⊥
+IsStreamRefused Address before since old new = ⊥
+IsStreamRefused Word before since old new = ⊥
+IsStreamRefused (Device fault) before since old new = (since ≡ before) × Keeps old new
+IsStreamRefused (Script fault) before since old new = ⊥
+IsStreamRefused (Session why) before since old new = IsStreamStopped why before since old new
+IsStreamRefused (Line number) before since old new = IsStreamedTo (WrongLine number) before since old new
+IsStreamRefused Input before since old new = IsStreamedTo FailedRead before since old new
+
+-- a stream was done or refused
+abbrev pub IsStreamServed : Result Unit Fault → (before since old new : Option (List ℕ)) → Type 0
+IsStreamServed (Ok u) before since old new = IsStreamedTo Whole before since old new
+IsStreamServed (Err fault) before since old new = IsStreamRefused fault before since old new
+
+-- ---- any request, with what was left of the input before and since
+
+abbrev pub IsDoneReading : Request → (before since old new : Option (List ℕ)) → Type 0
+IsDoneReading (Info cart) before since old new = (since ≡ before) × IsDone (Info cart) old new
+IsDoneReading (Listing cart address count) before since old new = (since ≡ before) × IsDone (Listing cart address count) old new
+IsDoneReading (Step cart count) before since old new = (since ≡ before) × IsDone (Step cart count) old new
+IsDoneReading (New cart save sectors) before since old new = (since ≡ before) × IsDone (New cart save sectors) old new
+IsDoneReading (Play cart save script) before since old new = (since ≡ before) × IsDone (Play cart save script) old new
+IsDoneReading (Frame cart save out) before since old new = (since ≡ before) × IsDone (Frame cart save out) old new
+IsDoneReading (Trace cart save count) before since old new = (since ≡ before) × IsDone (Trace cart save count) old new
+IsDoneReading (Stream cart save) before since old new = IsStreamedTo Whole before since old new
+
+abbrev pub IsRefusedReading : Request → Fault → (before since old new : Option (List ℕ)) → Type 0
+IsRefusedReading (Info cart) fault before since old new = (since ≡ before) × IsRefused (Info cart) fault old new
+IsRefusedReading (Listing cart address count) fault before since old new = (since ≡ before) × IsRefused (Listing cart address count) fault old new
+IsRefusedReading (Step cart count) fault before since old new = (since ≡ before) × IsRefused (Step cart count) fault old new
+IsRefusedReading (New cart save sectors) fault before since old new = (since ≡ before) × IsRefused (New cart save sectors) fault old new
+IsRefusedReading (Play cart save script) fault before since old new = (since ≡ before) × IsRefused (Play cart save script) fault old new
+IsRefusedReading (Frame cart save out) fault before since old new = (since ≡ before) × IsRefused (Frame cart save out) fault old new
+IsRefusedReading (Trace cart save count) fault before since old new = (since ≡ before) × IsRefused (Trace cart save count) fault old new
+IsRefusedReading (Stream cart save) fault before since old new = IsStreamRefused fault before since old new
+
+abbrev pub IsServedReading : Request → Result Unit Fault → (before since old new : Option (List ℕ)) → Type 0
+IsServedReading request (Ok u) before since old new = IsDoneReading request before since old new
+IsServedReading request (Err fault) before since old new = IsRefusedReading request fault before since old new
 
 -- `clap` answers this where help or the version is asked for
 abbrev pub is_help : ErrorKind → Bool
@@ -152,17 +199,17 @@ IsMisuse (Ok OutOfRange) = ⊤
 IsMisuse (Err fault) = fault ≡ Word
 
 -- what was asked for was done; nothing is said of what goes out where that is help
-abbrev pub IsFulfilled : Result Asked Fault → Option (List ℕ) → Option (List ℕ) → Type 0
-IsFulfilled (Ok (Command request)) old new = IsDone request old new
-IsFulfilled (Ok (Help text)) old new = ⊤
-IsFulfilled asked old new = ⊥
+abbrev pub IsFulfilled : Result Asked Fault → (before since old new : Option (List ℕ)) → Type 0
+IsFulfilled (Ok (Command request)) before since old new = IsDoneReading request before since old new
+IsFulfilled (Ok (Help text)) before since old new = since ≡ before
+IsFulfilled asked before since old new = ⊥
 
 -- this fault is why it was not done
-abbrev pub IsFaultOf : Result Asked Fault → Fault → Option (List ℕ) → Option (List ℕ) → Type 0
-IsFaultOf (Ok (Command request)) fault old new = IsRefused request fault old new
-IsFaultOf (Ok (Help text)) fault old new = fault ≡ Output
-IsFaultOf (Err why) fault old new = (fault ≡ why) × Keeps old new
-IsFaultOf asked fault old new = ⊥
+abbrev pub IsFaultOf : Result Asked Fault → Fault → (before since old new : Option (List ℕ)) → Type 0
+IsFaultOf (Ok (Command request)) fault before since old new = IsRefusedReading request fault before since old new
+IsFaultOf (Ok (Help text)) fault before since old new = (since ≡ before) × (fault ≡ Output)
+IsFaultOf (Err why) fault before since old new = (since ≡ before) × (fault ≡ why) × Keeps old new
+IsFaultOf asked fault before since old new = ⊥
 
 -- the line where the words are not understood; None where `clap` gives the text
 abbrev pub misuse_line : Result Asked Fault → Option (List ℕ)
@@ -170,21 +217,23 @@ misuse_line (Ok (Command request)) = line_of Address
 misuse_line (Ok asked) = None
 misuse_line (Err fault) = line_of fault
 
--- The program ended with this status on what was asked for. `old` and `new` are what went to the output before and since, and the
--- other two what went to standard error.
-pub record HasEnded (asked : Result Asked Fault) (old new errors_old errors_new : Option (List ℕ)) (status : ℕ) : Type 0 where
-  pub done : status ≡ 0 → IsFulfilled asked old new × Keeps errors_old errors_new
-  pub refused : status ≡ 1 → (fault : Fault) × (status_of fault ≡ 1) × IsFaultOf asked fault old new × HasLine (line_of fault) errors_old errors_new
+-- The program ended with this status on what was asked for. `before` and `since` are what was left of the input before and since, `old` and
+-- `new` what went to the output, and the last two what went to standard error.
+pub record HasEnded (asked : Result Asked Fault) (before since old new errors_old errors_new : Option (List ℕ)) (status : ℕ) : Type 0 where
+  pub done : status ≡ 0 → IsFulfilled asked before since old new × Keeps errors_old errors_new
+  pub refused : status ≡ 1 →
+      (fault : Fault) × (status_of fault ≡ 1) × IsFaultOf asked fault before since old new × HasLine (line_of fault) errors_old errors_new
   pub misuse : (status ≡ 2) ↔ IsMisuse asked
-  pub misused : status ≡ 2 → Keeps old new × HasLine (misuse_line asked) errors_old errors_new
+  pub misused : status ≡ 2 → (since ≡ before) × Keeps old new × HasLine (misuse_line asked) errors_old errors_new
   pub bound : status ≤ 2
 
 -- it ended so on what these words ask for
-abbrev pub Ends : List WordText → Option (List ℕ) → Option (List ℕ) → Option (List ℕ) → Option (List ℕ) → ℕ → Type 0
-Ends words old new errors_old errors_new status =
-    (asked : Result Asked Fault) × IsReading words asked × HasEnded asked old new errors_old errors_new status
+abbrev pub Ends : List WordText → (before since old new errors_old errors_new : Option (List ℕ)) → ℕ → Type 0
+Ends words before since old new errors_old errors_new status =
+    (asked : Result Asked Fault) × IsReading words asked × HasEnded asked before since old new errors_old errors_new status
 
 -- it ended so on some words, those of its process, or one of them is no text
-abbrev pub EndsOnSome : Option (List ℕ) → Option (List ℕ) → Option (List ℕ) → Option (List ℕ) → ℕ → Type 0
-EndsOnSome old new errors_old errors_new status =
-    ((words : List WordText) × Ends words old new errors_old errors_new status) ⊎ HasEnded (Err Word) old new errors_old errors_new status
+abbrev pub EndsOnSome : (before since old new errors_old errors_new : Option (List ℕ)) → ℕ → Type 0
+EndsOnSome before since old new errors_old errors_new status =
+    ((words : List WordText) × Ends words before since old new errors_old errors_new status)
+    ⊎ HasEnded (Err Word) before since old new errors_old errors_new status

@@ -1,5 +1,5 @@
 -- What a request wants of a ROM, and when the program has done it.
-use Rattle.std.specs.Prelude.{◌⊎◌, ◌≤◌, ℕ, List, [], codes, length, Option, IsOk, All}
+use Rattle.std.specs.Prelude.{◌≡◌, ◌⊎◌, ◌≤◌, ℕ, List, [], codes, length, Option, IsOk, All}
 use Rattle.std.specs.Str.Parse.{IsNumeral, digits_value}
 use Rattle.std.specs.Io.KnownBytes.{Appends, Keeps}
 use Rattle.exact_text.specs.Written.{AppendsProperPrefix}
@@ -19,6 +19,8 @@ use Rattle.session.specs.Stands.{Position}
 use Rattle.playing.specs.Report.{Line, texts, report_lines, report_of, HasTold}
 use Rattle.streaming.specs.Answers.{stream_lines}
 use Rattle.streaming.specs.Orders.{orders_of, IsRight}
+use Rattle.streaming.specs.Reading.{ReadsLines, ReadsTo}
+use Rattle.streaming.specs.declared.obeying.End.{End}
 use Rattle.debugger.specs.Listing.{lines_from}
 use Rattle.gbkeep.specs.Info.{info_of}
 use Rattle.gbkeep.specs.Playing.{moves_in}
@@ -68,16 +70,12 @@ IsCutShort moves why old new = Keeps old new ⊎ ((count saved : ℕ) × HasTold
 abbrev pub OfAScript : (List Move → Type 0) → Type 0
 OfAScript P = (script : List ℕ) × IsOk (moves_of script) × P (moves_in script)
 
--- what is written of some lines of an input from some position, of which P holds
-abbrev pub OfAStream : (List Line → Type 0) → Type 0
-OfAStream P = (from : Position) × (lines : List (List ℕ)) × All IsRight lines × P (stream_lines from (orders_of lines))
-
--- it was done on this ROM
+-- it was done on this ROM; a stream has words of its own below
 abbrev pub IsDoneOn : List ℕ → Request → Option (List ℕ) → Option (List ℕ) → Type 0
 IsDoneOn rom (Play cart save script) old new = IsAccepted rom × OfAScript (λ moves. IsReported moves old new)
 IsDoneOn rom (Frame cart save out) old new = IsAccepted rom × IsReported [] old new
 IsDoneOn rom (Trace cart save count) old new = IsAccepted rom × OfATrace rom count (Appends old new)
-IsDoneOn rom (Stream cart save) old new = IsAccepted rom × OfAStream (λ lines. Appends old new (texts lines))
+IsDoneOn rom (Stream cart save) old new = ⊥
 IsDoneOn rom (New cart save sectors) old new =
     IsAccepted rom × (need (text_length (ram_length_of rom)) ≤ sectors) × Appends old new (printed (New cart save sectors) rom)
 IsDoneOn rom request old new = IsAccepted rom × HasAddress request × Appends old new (printed request rom)
@@ -110,12 +108,10 @@ IsGameRefused (New cart save sectors) why old new =
 IsGameRefused (Play cart save script) why old new = (rom : List ℕ) × IsAccepted rom × OfAScript (λ moves. IsCutShort moves why old new)
 IsGameRefused (Frame cart save out) why old new = (rom : List ℕ) × IsAccepted rom × IsCutShort [] why old new
 IsGameRefused (Trace cart save count) why old new = Keeps old new × ((rom : List ℕ) × IsAccepted rom)
-IsGameRefused (Stream cart save) why old new =
-    (rom : List ℕ) × IsAccepted rom × (Keeps old new ⊎ OfAStream (λ lines. (saved : ℕ) × HasTold why saved lines old new))
 IsGameRefused request why old new = ⊥
 
--- the output failed on a ROM that is accepted: a proper prefix of the text went out, or before a picture the whole report. A report and the
--- answers of a stream end as a game that is refused.
+-- the output failed on a ROM that is accepted: a proper prefix of the text went out, or before a picture the whole report. A report ends
+-- as a game that is refused.
 abbrev pub IsOutputRefused : Request → Option (List ℕ) → Option (List ℕ) → Type 0
 IsOutputRefused (Info cart) old new = (rom : List ℕ) × IsAccepted rom × AppendsProperPrefix old new (printed (Info cart) rom)
 IsOutputRefused (Listing cart address count) old new =
@@ -128,7 +124,25 @@ IsOutputRefused (Frame cart save out) old new = (rom : List ℕ) × IsAccepted r
 IsOutputRefused (Trace cart save count) old new = (rom : List ℕ) × IsAccepted rom × OfATrace rom count (AppendsProperPrefix old new)
 IsOutputRefused (Stream cart save) old new = ⊥
 
--- it reads an input: all that the lines before a wrong one or a failed read ask for was done
-abbrev pub IsInputRefused : Request → Option (List ℕ) → Option (List ℕ) → Type 0
-IsInputRefused (Stream cart save) old new = (rom : List ℕ) × IsDoneOn rom (Stream cart save) old new
-IsInputRefused request old new = ⊥
+-- ---- a stream, the only request that reads the input, of which `before` was left and then `since`
+
+-- of the answers to some lines of the input, from some position, P holds: those up to this end
+abbrev pub OfAStream : End → (before since : Option (List ℕ)) → (List Line → Type 0) → Type 0
+OfAStream end before since P =
+    (from : Position) × (lines : List (List ℕ)) × All IsRight lines × ReadsTo end lines before since × P (stream_lines from (orders_of lines))
+
+-- or those that were read, with some bytes more, when one of them was refused
+abbrev pub OfABrokenStream : (before since : Option (List ℕ)) → (List Line → Type 0) → Type 0
+OfABrokenStream before since P =
+    (from : Position) × (lines : List (List ℕ)) × All IsRight lines
+    × ((more : List ℕ) × ReadsLines lines more before since) × P (stream_lines from (orders_of lines))
+
+-- all that the lines up to this end ask for was done and answered
+abbrev pub IsStreamedTo : End → (before since old new : Option (List ℕ)) → Type 0
+IsStreamedTo end before since old new = (rom : List ℕ) × IsAccepted rom × OfAStream end before since (λ lines. Appends old new (texts lines))
+
+-- why the game was not taken up, with nothing read and nothing written; or why a line was refused, with what was answered up to there
+abbrev pub IsStreamStopped : SessionError → (before since old new : Option (List ℕ)) → Type 0
+IsStreamStopped why before since old new =
+    (rom : List ℕ) × IsAccepted rom
+    × (((since ≡ before) × Keeps old new) ⊎ OfABrokenStream before since (λ lines. (saved : ℕ) × HasTold why saved lines old new))

@@ -1,7 +1,7 @@
 //! The program: words in, files and lines out.
 
 ghost use Rattle.std.specs.Prelude.{◌≡◌, ◌≤◌, ◌⊎◌, IfErr, map};
-ghost use Rattle.gbkeep.specs.Program.{Ends, EndsOnSome, HasEnded, IsPossible, IsServed, KeepsAtMisuse};
+ghost use Rattle.gbkeep.specs.Program.{Ends, EndsOnSome, HasEnded, IsPossible, IsServed, IsServedReading, KeepsAtMisuse};
 
 use crate::asked::{Asked, address_of, asked_by};
 use crate::bytes::{MOST_ROM, file_bytes};
@@ -27,7 +27,8 @@ pub fn run_program<R: Env + Files<File = File> + AllocGlobal, I: Read, O: Write,
 ) -> u8
     ensures status { result ≤ 2 }
     ensures misuse { KeepsAtMisuse (O.contents out.old) (O.contents out.new) result }
-    ensures ends { EndsOnSome (O.contents out.old) (O.contents out.new) (E.contents err.old) (E.contents err.new) result }
+    ensures ends { EndsOnSome (I.remaining input.old) (I.remaining input.new) (O.contents out.old) (O.contents out.new)
+        (E.contents err.old) (E.contents err.new) result }
 {
     match words(rt) {
         Ok(words) => run(rt, words.as_slice(), input, out, err),
@@ -59,7 +60,8 @@ pub fn run<R: Files<File = File> + AllocGlobal, S: AsStr, I: Read, O: Write, E: 
 ) -> u8
     ensures status { result ≤ 2 }
     ensures misuse { KeepsAtMisuse (O.contents out.old) (O.contents out.new) result }
-    ensures ends { Ends (map S.text words.now) (O.contents out.old) (O.contents out.new) (E.contents err.old) (E.contents err.new) result }
+    ensures ends { Ends (map S.text words.now) (I.remaining input.old) (I.remaining input.new) (O.contents out.old) (O.contents out.new)
+        (E.contents err.old) (E.contents err.new) result }
 {
     answer(rt, asked_by(rt.alloc(), words), input, out, err)
 }
@@ -73,7 +75,8 @@ fn answer<R: Files<File = File> + AllocGlobal, I: Read, O: Write, E: Write>(
     err: &mut E,
 ) -> u8
     requires { IsPossible asked }
-    ensures { HasEnded asked.entry (O.contents out.old) (O.contents out.new) (E.contents err.old) (E.contents err.new) result }
+    ensures { HasEnded asked.entry (I.remaining input.old) (I.remaining input.new) (O.contents out.old) (O.contents out.new)
+        (E.contents err.old) (E.contents err.new) result }
 {
     match asked {
         Ok(Asked::Command(request)) => match serve(rt, request, input, out) {
@@ -108,7 +111,7 @@ fn serve<R: Files<File = File> + AllocGlobal, I: Read, O: Write>(
     input: &mut I,
     out: &mut O,
 ) -> Result<(), Fault>
-    ensures { IsServed request.entry result (O.contents out.old) (O.contents out.new) }
+    ensures { IsServedReading request.entry result (I.remaining input.old) (I.remaining input.new) (O.contents out.old) (O.contents out.new) }
 {
     match request {
         Request::Info { cart } => info(rt, cart, out),

@@ -1,6 +1,6 @@
 //! The commands over save files.
 
-ghost use Rattle.gbkeep.specs.Program.{IsServed};
+ghost use Rattle.gbkeep.specs.Program.{IsServed, IsStreamServed};
 
 use crate::bytes::{MOST_ROM, MOST_SCRIPT, bytes_of, emptied_file, file_bytes, open_file};
 use crate::fault::Fault;
@@ -123,7 +123,7 @@ pub(crate) fn stream<R: Files<File = File> + AllocGlobal, I: Read, O: Write>(
     input: &mut I,
     out: &mut O,
 ) -> Result<(), Fault>
-    ensures { IsServed (Request.Stream cart.entry save.entry) result (O.contents out.old) (O.contents out.new) }
+    ensures { IsStreamServed result (I.remaining input.old) (I.remaining input.new) (O.contents out.old) (O.contents out.new) }
 {
     let rom = file_bytes(rt, cart, MOST_ROM)?;
     let device = FileDevice::attach(rt, Path::new(save))?;
