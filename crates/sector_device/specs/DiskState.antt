@@ -1,7 +1,7 @@
 -- What a device of sectors stands at, and what one call may make of it: the disk model of this project. A write adds at
 -- most, for each image, that image with the sector replaced; a successful sync leaves the one image that reads give; a
 -- fault leaves old or new.
-use Rattle.std.specs.Prelude.{◌<◌, ◌≡◌, ◌⊎◌, ◌+◌, ◌-◌, ◌^◌, min, ℕ, ◌≤◌, List, [], length, slice_index_or, slice_set, Result, OnOk, OnErr, IsErr}
+use Rattle.std.specs.Prelude.{◌<◌, ◌≡◌, ◌↔◌, ◌⊎◌, ◌+◌, ◌-◌, ◌^◌, min, ℕ, ◌≤◌, List, [], length, slice_index_or, slice_set, Result, OnOk, OnErr, IfErr, IsErr}
 
 abbrev pub sector_at : List (List ℕ) → ℕ → List ℕ
 sector_at image at = slice_index_or image at []
@@ -91,6 +91,27 @@ next_count n = min (n + 1) (2 ^ 64 - 1)
 pub record CountsFaults {T E : Type 0} (old new : ℕ) (result : Result T E) : Type 0 where
   pub ok : OnOk result (new ≡ old)
   pub err : OnErr result (new ≡ next_count old)
+
+-- What each call does on any device, honest or not. It holds as well of a run of calls that ends at the first one that fails.
+pub record HasCalled {T E : Type 0} (old now : DiskState) (result : Result T E) : Type 0 where
+  -- the number of sectors stays
+  pub count : length now.sectors ≡ length old.sectors
+  -- an honest device stays honest, and no other becomes honest
+  pub honest : now.honest ↔ old.honest
+  -- it counts as a fault exactly if it failed
+  pub faults : CountsFaults old.faults now.faults result
+
+-- The same of a call of a layer above: its error may have another cause than a failed call, and `faults_after` says what count of
+-- faults each error leaves.
+pub record HasAnswered {T E : Type 0} (faults_after : E → ℕ → ℕ) (old now : DiskState) (result : Result T E) : Type 0 where
+  -- the number of sectors stays
+  pub count : length now.sectors ≡ length old.sectors
+  -- an honest device stays honest, and no other becomes honest
+  pub honest : now.honest ↔ old.honest
+  -- at Ok no call failed
+  pub faults_ok : OnOk result (now.faults ≡ old.faults)
+  -- at an error as many did as it says
+  pub faults : IfErr result (λ why. now.faults ≡ faults_after why old.faults)
 
 -- for a run of calls: no fault is forgotten, and an error has one as its cause, or the count stands at the greatest `u64`
 pub record HasCause {T E : Type 0} (old new : ℕ) (result : Result T E) : Type 0 where

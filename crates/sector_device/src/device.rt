@@ -1,6 +1,6 @@
 //! A device of sectors as the layers above see it.
-ghost use Rattle.std.specs.Prelude.{◌≡◌, ◌<◌, ◌≤◌, ◌↔◌, ◌^◌, List, ℕ, length, IfErr};
-ghost use Rattle.sector_device.specs.DiskState.{DiskState, IsSized, CountsFaults, HasRead, HasWritten, HasSynced};
+ghost use Rattle.std.specs.Prelude.{◌≡◌, ◌<◌, ◌≤◌, ◌^◌, List, ℕ, length, IfErr};
+ghost use Rattle.sector_device.specs.DiskState.{DiskState, IsSized, HasCalled, HasRead, HasWritten, HasSynced};
 
 use thiserror::Error;
 
@@ -27,27 +27,21 @@ pub trait SectorDevice {
     /// Reads a sector.
     fn read(&mut self, at: u64, buffer: &mut [u8; 512]) -> Result<(), DeviceFault>
         requires { at < length (disk self.old).sectors }
-        ensures count { length (disk self.new).sectors ≡ length (disk self.old).sectors }
-        ensures honest { (disk self.new).honest ↔ (disk self.old).honest }
+        ensures called { HasCalled (disk self.old) (disk self.new) result }
         ensures read { (disk self.old).honest → HasRead at buffer.new (disk self.old) (disk self.new) result }
-        ensures faults { CountsFaults (disk self.old).faults (disk self.new).faults result }
         ensures device { IfErr result (λ fault. fault ≡ DeviceFault.Device) };
 
     /// Writes a sector. After a failed write the sector is old or new. A stop leaves the write or not, until a sync.
     fn write(&mut self, at: u64, bytes: &[u8; 512]) -> Result<(), DeviceFault>
         requires { at < length (disk self.old).sectors }
-        ensures count { length (disk self.new).sectors ≡ length (disk self.old).sectors }
-        ensures honest { (disk self.new).honest ↔ (disk self.old).honest }
+        ensures called { HasCalled (disk self.old) (disk self.new) result }
         ensures written { (disk self.old).honest → HasWritten at bytes.now (disk self.old) (disk self.new) result }
-        ensures faults { CountsFaults (disk self.old).faults (disk self.new).faults result }
         ensures device { IfErr result (λ fault. fault ≡ DeviceFault.Device) };
 
     /// At `Ok` a stop leaves what reads give. A failed sync makes nothing sure.
     fn sync(&mut self) -> Result<(), DeviceFault>
-        ensures count { length (disk self.new).sectors ≡ length (disk self.old).sectors }
-        ensures honest { (disk self.new).honest ↔ (disk self.old).honest }
+        ensures called { HasCalled (disk self.old) (disk self.new) result }
         ensures synced { (disk self.old).honest → HasSynced (disk self.old) (disk self.new) result }
-        ensures faults { CountsFaults (disk self.old).faults (disk self.new).faults result }
         ensures device { IfErr result (λ fault. fault ≡ DeviceFault.Device) };
 
     /// What reads give is an image.

@@ -1,6 +1,6 @@
 //! Sectors in a file.
-ghost use Rattle.std.specs.Prelude.{◌≡◌, ◌+◌, ◌*◌, ◌^◌, ◌<◌, ◌↔◌, [], List, ℕ, IsTrue, length, replicate, slice_index, IfOk, IfErr, IfSome, OnOk};
-ghost use Rattle.sector_device.specs.DiskState.{CountsFaults, HasRead, HasWritten, HasSynced, sector_at, next_count};
+ghost use Rattle.std.specs.Prelude.{◌≡◌, ◌+◌, ◌*◌, ◌^◌, ◌<◌, [], List, ℕ, IsTrue, length, replicate, slice_index, IfOk, IfErr, IfSome, OnOk};
+ghost use Rattle.sector_device.specs.DiskState.{HasCalled, HasRead, HasWritten, HasSynced, sector_at, next_count};
 ghost use Rattle.sector_device.specs.Records.{replayed, are_sectors, are_recordable};
 ghost use Rattle.sector_device.specs.RecordLaws.{only_last, counts_last, reads_image, images_sized, reads_fit};
 

@@ -1,6 +1,6 @@
 //! A device in memory that records its writes and syncs, and can be made to fail.
-ghost use Rattle.std.specs.Prelude.{◌≡◌, ◌≤◌, ◌<◌, ◌+◌, ◌^◌, ◌++◌, ◌∷◌, ◌&&◌, ◌↔◌, [], IsTrue, false, List, ℕ, length, IfOk, IfErr, Some, None, is_ok, is_some, replicate, vec_len, vec_capacity};
-ghost use Rattle.sector_device.specs.DiskState.{CountsFaults, HasRead, HasWritten, HasSynced, sector_at};
+ghost use Rattle.std.specs.Prelude.{◌≡◌, ◌≤◌, ◌<◌, ◌+◌, ◌^◌, ◌++◌, ◌∷◌, ◌&&◌, [], IsTrue, false, List, ℕ, length, IfOk, IfErr, Some, None, is_ok, is_some, replicate, vec_len, vec_capacity};
+ghost use Rattle.sector_device.specs.DiskState.{HasCalled, HasRead, HasWritten, HasSynced, sector_at};
 ghost use Rattle.sector_device.specs.Records.{replayed, cut, are_sectors, are_recordable, is_recordable};
 ghost use Rattle.sector_device.specs.Memory.{memory_disk, image_of, fuse_fails, fuse_after, passes, keeps_write, has_room, counted, failed, with_record, done_or_failed, read_called, write_called, sync_called};
 ghost use Rattle.sector_device.specs.RecordLaws.{only_last, counts_last, reads_image, images_sized, reads_fit};
@@ -259,11 +259,9 @@ impl SectorDevice for MemoryDevice {
     /// Fails only by the fuse or the failing call.
     fn read(&mut self, at: u64, buffer: &mut [u8; 512]) -> Result<(), DeviceFault>
         requires { at < length (memory_disk (memory self.old)).sectors }
-        ensures count { length (memory_disk (memory self.new)).sectors ≡ length (memory_disk (memory self.old)).sectors }
-        ensures honest { (memory_disk (memory self.new)).honest ↔ (memory_disk (memory self.old)).honest }
+        ensures called { HasCalled (memory_disk (memory self.old)) (memory_disk (memory self.new)) result }
         ensures read { (memory_disk (memory self.old)).honest →
             HasRead at buffer.new (memory_disk (memory self.old)) (memory_disk (memory self.new)) result }
-        ensures faults { CountsFaults (memory_disk (memory self.old)).faults (memory_disk (memory self.new)).faults result }
         ensures device { IfErr result (λ fault. fault ≡ DeviceFault.Device) }
         ensures state { memory self.new ≡ read_called (memory self.old) }
         ensures passes { is_ok result ≡ passes (memory self.old) }
@@ -278,11 +276,9 @@ impl SectorDevice for MemoryDevice {
     /// Fails only by the fuse, the failing call or for want of room in the record.
     fn write(&mut self, at: u64, bytes: &[u8; 512]) -> Result<(), DeviceFault>
         requires { at < length (memory_disk (memory self.old)).sectors }
-        ensures count { length (memory_disk (memory self.new)).sectors ≡ length (memory_disk (memory self.old)).sectors }
-        ensures honest { (memory_disk (memory self.new)).honest ↔ (memory_disk (memory self.old)).honest }
+        ensures called { HasCalled (memory_disk (memory self.old)) (memory_disk (memory self.new)) result }
         ensures written { (memory_disk (memory self.old)).honest →
             HasWritten at bytes.now (memory_disk (memory self.old)) (memory_disk (memory self.new)) result }
-        ensures faults { CountsFaults (memory_disk (memory self.old)).faults (memory_disk (memory self.new)).faults result }
         ensures device { IfErr result (λ fault. fault ≡ DeviceFault.Device) }
         ensures state { memory self.new ≡ write_called at bytes.now (memory self.old) }
         ensures passes { is_ok result ≡ (passes (memory self.old) && has_room (memory self.old)) }
@@ -296,10 +292,8 @@ impl SectorDevice for MemoryDevice {
 
     /// Fails only by the fuse, the failing call or for want of room in the record.
     fn sync(&mut self) -> Result<(), DeviceFault>
-        ensures count { length (memory_disk (memory self.new)).sectors ≡ length (memory_disk (memory self.old)).sectors }
-        ensures honest { (memory_disk (memory self.new)).honest ↔ (memory_disk (memory self.old)).honest }
+        ensures called { HasCalled (memory_disk (memory self.old)) (memory_disk (memory self.new)) result }
         ensures synced { (memory_disk (memory self.old)).honest → HasSynced (memory_disk (memory self.old)) (memory_disk (memory self.new)) result }
-        ensures faults { CountsFaults (memory_disk (memory self.old)).faults (memory_disk (memory self.new)).faults result }
         ensures device { IfErr result (λ fault. fault ≡ DeviceFault.Device) }
         ensures state { memory self.new ≡ sync_called (memory self.old) }
         ensures passes { is_ok result ≡ (passes (memory self.old) && has_room (memory self.old)) }

@@ -6,7 +6,7 @@ use Rattle.sector_device.specs.DiskState.{DiskState}
 use Rattle.sector_log.specs.Content.{Body, header_of, need, area, content, content_by, content_in}
 use Rattle.sector_log.specs.Inputs.{counted}
 use Rattle.sector_log.specs.Reading.{IsFound}
-use Rattle.sector_log.specs.Found.{found_by, found_in, is_short, no_body, log_of, log_in, blob_in, Seen, seen_in, IsSound, found_with}
+use Rattle.sector_log.specs.Found.{found_by, found_in, is_too_small, no_body, log_of, log_in, blob_in, Seen, seen_in, IsSound, found_with}
 use Rattle.sector_log.specs.declared.Stored.{Stored}
 use Rattle.sector_log.specs.declared.found.Content.{Content}
 use Rattle.sector_log.specs.declared.root.Root.{Root}
@@ -30,10 +30,10 @@ module _ (now : DiskState) (root : Root) (short : Bool) (log : List Stored) (fou
   body = (content_in root (area root.generation now.sectors)).body
 
   pub found_damaged : short ≡ true → Damaged (header_of root) (Length (need root.blob_length)) ≡ found_in (content now.sectors)
-  found_damaged is = by_short root body (sym (ap is_short here) ∙ found.short_is ∙ is) ∙ sym (ap found_in here)
+  found_damaged is = by_short root body (sym (ap is_too_small here) ∙ found.too_small_is ∙ is) ∙ sym (ap found_in here)
 
   whole : short ≡ false → found_in (content now.sectors) ≡ (if nat_lt (2 ^ 64 - 1) (root.base + counted 0 log) then Damaged (header_of root) Count else Sound (header_of root))
-  whole is = ap found_in here ∙ by_log root body log (sym (ap is_short here) ∙ found.short_is ∙ is) (sym (ap log_of here) ∙ found.log_is)
+  whole is = ap found_in here ∙ by_log root body log (sym (ap is_too_small here) ∙ found.too_small_is ∙ is) (sym (ap log_of here) ∙ found.log_is)
 
   pub found_too_many : short ≡ false → 2 ^ 64 - 1 < root.base + counted 0 log → Damaged (header_of root) Count ≡ found_in (content now.sectors)
   found_too_many is many =

@@ -11,7 +11,7 @@ use Rattle.sector_device.proofs.Runs.{throughout_weaker, throughout_then, rememb
 use Rattle.sector_log.specs.Calls.{HasLooked}
 use Rattle.sector_log.specs.Log.{most, entries_at, log_from}
 use Rattle.sector_log.specs.Content.{Body, root_at, newer, chosen, area_length, area_start, area, blob_sectors, content, content_by, content_in}
-use Rattle.sector_log.specs.Found.{log_of, log_in, is_short, no_body, blob_by, blob_in}
+use Rattle.sector_log.specs.Found.{log_of, log_in, is_too_small, no_body, blob_by, blob_in}
 use Rattle.sector_log.specs.Reading.{LooksOnly, IsFound}
 use Rattle.sector_log.specs.declared.Stored.{Stored}
 use Rattle.sector_log.specs.declared.root.Root.{Root}
@@ -89,7 +89,7 @@ pub nothing_chosen : (now : DiskState) → Settled now → chosen now.sectors �
 nothing_chosen now settled none = record {
   settled = settled;
   chosen_is = none;
-  short_is = ap (λ (r : Option Root). is_short (content_by r now.sectors)) none;
+  too_small_is = ap (λ (r : Option Root). is_too_small (content_by r now.sectors)) none;
   log_is = ap (λ (r : Option Root). log_of (content_by r now.sectors)) none;
 }
 
@@ -124,7 +124,7 @@ found_short now root settled many is few =
     record {
       settled = settled;
       chosen_is = is;
-      short_is = ap (λ (r : Option Root). is_short (content_by r now.sectors)) is ∙ ap no_body none;
+      too_small_is = ap (λ (r : Option Root). is_too_small (content_by r now.sectors)) is ∙ ap no_body none;
       log_is = ap (λ (r : Option Root). log_of (content_by r now.sectors)) is ∙ ap log_in none;
     }
 
@@ -140,7 +140,7 @@ found_log now root start log settled many is enough at log_is =
     record {
       settled = settled;
       chosen_is = is;
-      short_is = ap (λ (r : Option Root). is_short (content_by r now.sectors)) is ∙ ap no_body some;
+      too_small_is = ap (λ (r : Option Root). is_too_small (content_by r now.sectors)) is ∙ ap no_body some;
       log_is = ap (λ (r : Option Root). log_of (content_by r now.sectors)) is ∙ ap log_in some ∙ ap (log_from root.version 0) front ∙ log_is;
     }
 
@@ -235,6 +235,6 @@ pub found_looked : {a b : DiskState} (root : Option Root) (short : Bool) (log : 
 found_looked root short log f l = record {
   settled = settled_looked f.settled l;
   chosen_is = ap chosen l.sectors ∙ f.chosen_is;
-  short_is = ap (λ s. is_short (content s)) l.sectors ∙ f.short_is;
+  too_small_is = ap (λ s. is_too_small (content s)) l.sectors ∙ f.too_small_is;
   log_is = ap (λ s. log_of (content s)) l.sectors ∙ f.log_is;
 }

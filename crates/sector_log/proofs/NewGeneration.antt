@@ -139,12 +139,12 @@ module _ (base : List (List ℕ)) (start : ℕ) (root : Root) (blob : List ℕ) 
   roots_now : newer (root_at 0 rooted) (root_at 1 rooted) ≡ Some root
   roots_now = elim (cases_eq (root.generation % 2) 0) [
     | inl zeroth ↦
-        let mine : root_at 0 rooted ≡ Some root = root_written root next.version_is next.whole rooted 0 (sym zeroth) (ap (sector_at rooted) (sym zeroth) ∙ slot_here) in
+        let mine : root_at 0 rooted ≡ Some root = root_written root next.version_is next.root_fits rooted 0 (sym zeroth) (ap (sector_at rooted) (sym zeroth) ∙ slot_here) in
         let other : root_at 1 rooted ≡ root_at 1 base = slot_there 1 (omega arith) (λ e. omega (arith, zeroth)) in
         (λ i. newer (mine i) (other i)) ∙ wins_first root (root_at 0 base) (root_at 1 base) follows_newer
     | inr not_zeroth ↦
         let first : root.generation % 2 ≡ 1 = omega (arith, slot_small, not_zeroth) in
-        let mine : root_at 1 rooted ≡ Some root = root_written root next.version_is next.whole rooted 1 (sym first) (ap (sector_at rooted) (sym first) ∙ slot_here) in
+        let mine : root_at 1 rooted ≡ Some root = root_written root next.version_is next.root_fits rooted 1 (sym first) (ap (sector_at rooted) (sym first) ∙ slot_here) in
         let other : root_at 0 rooted ≡ root_at 0 base = slot_there 0 (omega arith) (λ e. omega (arith, first)) in
         (λ i. newer (other i) (mine i)) ∙ wins_second root (root_at 0 base) (root_at 1 base) follows_newer
   ]
@@ -281,7 +281,7 @@ module _ (base : List (List ℕ)) (start last : ℕ) (root : Root) (blob : List 
         (λ o. let even : r.generation % 2 ≡ 0 = omega (arith, was_of r is, grown, o.0) in let s = start_even r.generation even in let t = o.1 in inl (omega (arith, s, t))) slot;
     fits = let same : (root.blob_length + 511) / 512 ≡ (length blob + 511) / 512 = ap (λ n. (n + 511) / 512) blob_is in omega (arith, same, room);
     blob_is = blob_is;
-    whole = whole;
+    root_fits = whole;
     version_is = version;
     two = omega (arith, room);
   }

@@ -32,10 +32,10 @@ abbrev pub no_body : Option Body → Bool
 no_body None = true
 no_body (Some body) = false
 
--- the blob does not fit the area
-abbrev pub is_short : Option ImageContent → Bool
-is_short None = false
-is_short (Some found) = no_body found.body
+-- the area is too small for the blob
+abbrev pub is_too_small : Option ImageContent → Bool
+is_too_small None = false
+is_too_small (Some found) = no_body found.body
 
 abbrev pub blob_by : ℕ → ℕ → Option Body → Option (List ℕ)
 blob_by most size None = None
@@ -48,7 +48,7 @@ blob_in most (Some found) = blob_by most found.header.blob_length found.body
 
 -- ---- what an opened log holds
 
--- what was found when a log was opened: the roots' content, the log's entries, and the blob where it is whole and not too
+-- what was found when a log was opened: the roots' content, the log's entries, and the blob where it fits its area and is not too
 -- long to be kept
 pub record Seen : Type 0 where
   pub found : Found
@@ -65,6 +65,6 @@ pub record IsSound (seen : Seen) : Type 0 where
 
 -- what a chosen root says whose blob does not fit its area, or behind whose blob this log stands
 abbrev pub found_with : Option Root → Bool → List Stored → Found
-found_with None short log = Nothing
+found_with None too_small log = Nothing
 found_with (Some root) true log = Damaged (header_of root) (Length (need root.blob_length))
 found_with (Some root) false log = if nat_lt (2 ^ 64 - 1) (root.base + counted 0 log) then Damaged (header_of root) Count else Sound (header_of root)

@@ -5,6 +5,7 @@ pub mod Inputs
 pub mod Laws
 pub mod Layout
 pub mod Log
+pub mod Promises
 pub mod Reading
 pub mod Sizes
 pub mod Store

@@ -60,7 +60,7 @@ pub record IsNextGeneration (image : List (List ℕ)) (start : ℕ) (root : Root
   pub other : (r : Root) → chosen image ≡ Some r → (area_start r.generation image + area_length image ≤ start) ⊎ (start + area_length image ≤ area_start r.generation image)
   pub fits : log_sectors_per_area + blob_sectors root.blob_length ≤ area_length image
   pub blob_is : root.blob_length ≡ length blob
-  pub whole : Fits root
+  pub root_fits : Fits root
   pub version_is : root.version ≡ Two
   pub two : 2 ≤ length image
 

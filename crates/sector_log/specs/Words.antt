@@ -23,7 +23,7 @@ module _ {D : Type 0} {disk : Ghosts D} where
 
   -- what was found
   unfoldable pub seen : Opened D disk → Seen
-  seen o = record { found = found_with o.root o.short o.log.items; log = o.log.items; blob = if o.whole then Some o.blob.items else None }
+  seen o = record { found = found_with o.root o.too_small o.log.items; log = o.log.items; blob = if o.blob_read then Some o.blob.items else None }
 
   -- the device that `open_log` leaves
   abbrev pub left_by_open : Result (Opened D disk) (Refused D) → D

@@ -1,6 +1,6 @@
 //! A new generation: the other area, a sync, the root, a sync.
-ghost use Rattle.std.specs.Prelude.{◌≡◌, ◌≢◌, ◌↔◌, ◌≤◌, ◌<◌, ◌+◌, ◌/◌, ◌^◌, ◌-◌, [], length, IfOk, IfSome, IsNone, OnOk};
-ghost use Rattle.sector_device.specs.DiskState.{CountsFaults, Settled, Throughout, Remembers};
+ghost use Rattle.std.specs.Prelude.{◌≡◌, ◌≢◌, ◌≤◌, ◌<◌, ◌+◌, ◌/◌, ◌^◌, ◌-◌, [], length, IfOk, IfSome, IsNone, OnOk};
+ghost use Rattle.sector_device.specs.DiskState.{HasCalled, Settled, Throughout, Remembers};
 ghost use Rattle.sector_log.specs.declared.root.Version.TheVariants.{Two};
 ghost use Rattle.sector_log.specs.Calls.{HasOldOrNewContent, HasBegun, CanBegin, IsBeginCause};
 ghost use Rattle.sector_log.specs.Content.{generation_in};
@@ -27,9 +27,7 @@ fn write_generation<D: SectorDevice>(
     requires roots { 2 ≤ length (D.disk device.old).sectors }
     requires range { length (D.disk device.old).sectors < 2 ^ 64 }
 
-    ensures count { length (D.disk device.new).sectors ≡ length (D.disk device.old).sectors }
-    ensures honest { (D.disk device.new).honest ↔ (D.disk device.old).honest }
-    ensures faults { CountsFaults (D.disk device.old).faults (D.disk device.new).faults result }
+    ensures called { HasCalled (D.disk device.old) (D.disk device.new) result }
     ensures moments { (D.disk device.old).honest → Settled (D.disk device.old) →
         IsNextGeneration (D.disk device.old).sectors start root.now blob.now →
         Throughout (D.disk device.old) (D.disk device.new) (HasOldOrNewContent (D.disk device.old).sectors root.now.id root.now.base blob.now) }
@@ -71,7 +69,7 @@ pub(crate) struct Begun {
 }
 
 /// Begins the generation after this one, with a blob and an empty log.
-pub(crate) fn follow<D: SectorDevice>(
+pub(crate) fn begin_generation<D: SectorDevice>(
     device: &mut D,
     last: u64,
     id: [u8; 32],
@@ -81,9 +79,7 @@ pub(crate) fn follow<D: SectorDevice>(
     requires size { length blob.now < 2 ^ 32 }
     requires can { CanBegin (length blob.now) (length (D.disk device.old).sectors) last }
 
-    ensures count { length (D.disk device.new).sectors ≡ length (D.disk device.old).sectors }
-    ensures honest { (D.disk device.new).honest ↔ (D.disk device.old).honest }
-    ensures faults { CountsFaults (D.disk device.old).faults (D.disk device.new).faults result }
+    ensures called { HasCalled (D.disk device.old) (D.disk device.new) result }
     ensures moments { (D.disk device.old).honest → Settled (D.disk device.old) → last ≡ generation_in (D.disk device.old).sectors →
         Throughout (D.disk device.old) (D.disk device.new) (HasOldOrNewContent (D.disk device.old).sectors id base blob.now) }
     ensures past { (D.disk device.old).honest → Settled (D.disk device.old) → Remembers (D.disk device.old) (D.disk device.new) }

@@ -1,19 +1,18 @@
 //! What was found when a log was opened, and the start of a new generation.
-ghost use Rattle.std.specs.Prelude.{◌≡◌, ◌↔◌, ◌≤◌, ◌<◌, ◌+◌, ◌*◌, ◌/◌, ◌^◌, ◌-◌, ◌⊎◌, ℕ, [], length, IfOk, IfErr, IfSome, IsNone, Some, None, false, vec_capacity};
-ghost use Rattle.sector_device.specs.DiskState.{Settled};
+ghost use Rattle.std.specs.Prelude.{◌≡◌, ◌≤◌, ◌<◌, ◌+◌, ◌*◌, ◌/◌, ◌^◌, ◌-◌, ◌⊎◌, ℕ, [], length, IfOk, IfErr, IfSome, IsNone, Some, None, false, vec_capacity};
+ghost use Rattle.sector_device.specs.DiskState.{HasAnswered};
 ghost use Rattle.sector_device.specs.Runs.{HoldsSince};
-ghost use Rattle.sector_log.specs.Calls.{HasOldOrNewContent, HasBegun, CanBegin, IsBeginCause, faults_after};
+ghost use Rattle.sector_log.specs.Calls.{HasOldOrNewContent, IsBeginCause, faults_after};
 ghost use Rattle.sector_log.specs.Reading.{FoundIs, found_prop, BlobIs, blob_prop};
-ghost use Rattle.sector_log.specs.Content.{content, generation_in, chosen, version_of};
+ghost use Rattle.sector_log.specs.Content.{content, generation_in};
 ghost use Rattle.sector_log.specs.Found.{found_in, log_of, blob_in};
 ghost use Rattle.sector_log.specs.Sizes.{most_entries_read};
 ghost use Rattle.sector_log.specs.declared.fault.LogFault.TheVariants.{Memory, Device};
-ghost use Rattle.sector_log.specs.declared.root.Version.TheVariants.{Two};
 
 use crate::Stored;
 use crate::fault::{LogFault, Refused};
 use crate::found::{Content, Found, Part, counted};
-use crate::generation::{follow, refusal};
+use crate::generation::{begin_generation, refusal};
 use crate::root::{Root, last_generation, sectors_needed};
 use crate::store::Store;
 use sector_device::SectorDevice;
@@ -24,20 +23,21 @@ use sector_device::SectorDevice;
 pub struct Opened<D: SectorDevice> {
     pub(crate) device: D,
     pub(crate) root: Option<Root>,
-    /// The blob does not fit the area.
-    pub(crate) short: bool,
+    /// The area is too small for the blob.
+    pub(crate) too_small: bool,
     pub(crate) log: Vec<Stored>,
     pub(crate) most: usize,
     /// The blob was read.
-    pub(crate) whole: bool,
+    pub(crate) blob_read: bool,
     pub(crate) blob: Vec<u8>,
     ghost reserved: { most_entries_read ≤ vec_capacity log },
     ghost few: { length log.items ≤ most_entries_read },
-    ghost found: { FoundIs (D.disk device) root short log.items } by { found_prop (D.disk device) root short log.items },
-    ghost blob_is: { BlobIs (D.disk device) most whole blob.items } by { blob_prop (D.disk device) most whole blob.items },
+    ghost found: { FoundIs (D.disk device) root too_small log.items } by { found_prop (D.disk device) root too_small log.items },
+    ghost blob_is: { BlobIs (D.disk device) most blob_read blob.items } by { blob_prop (D.disk device) most blob_read blob.items },
 }
 
 impl<D: SectorDevice> Opened<D> {
+    ghost use Rattle.sector_log.specs.Promises.{HasBegunStore};
     ghost use Rattle.sector_log.specs.Words.{device_under, found_generation, longest_blob, seen, left_by_begin, device_of, is_broken, entries_of, generation_of, id_of};
 
     /// What reads give: nothing, a content, or a damaged content.
@@ -54,7 +54,7 @@ impl<D: SectorDevice> Opened<D> {
             base: root.base,
             blob_length: root.blob_length,
         };
-        if self.short {
+        if self.too_small {
             let need = sectors_needed(root.blob_length);
             return Found::Damaged(content, Part::Length { need });
         }
@@ -91,7 +91,11 @@ impl<D: SectorDevice> Opened<D> {
         ensures none { IsNone result → (D.disk (device_under self.now)).honest →
             blob_in (longest_blob self.now) (content (D.disk (device_under self.now)).sectors) ≡ None }
     {
-        if self.whole { Some(&self.blob) } else { None }
+        if self.blob_read {
+            Some(&self.blob)
+        } else {
+            None
+        }
     }
 
     /// The device as it is.
@@ -108,28 +112,18 @@ impl<D: SectorDevice> Opened<D> {
         requires { length blob.now < 2 ^ 32 }
         ensures images { (D.disk (device_under self)).honest →
             HoldsSince (D.disk (device_under self)) (D.disk (left_by_begin result)) (HasOldOrNewContent (D.disk (device_under self)).sectors id base blob.now) }
-        ensures begun { IfOk result (λ store. (D.disk (device_under self)).honest →
-            HasBegun (D.disk (device_under self)) (D.disk (device_of store)) id base blob.now) }
-        ensures version { IfOk result (λ store. (D.disk (device_under self)).honest →
-            version_of (chosen (D.disk (device_of store)).sectors) ≡ Some Two) }
-        ensures can { IfOk result (λ _. CanBegin (length blob.now) (length (D.disk (device_under self)).sectors) (found_generation self)) }
+        ensures begun { IfOk result (λ store. HasBegunStore (D.disk (device_under self)) (D.disk (device_of store)) self id base blob.now store) }
         ensures cause { IfErr result (λ refused.
             IsBeginCause refused.why (length blob.now) (length (D.disk (device_under self)).sectors) (found_generation self)) }
         ensures untouched { IfErr result (λ refused. (refused.why ≡ Device) ⊎ (refused.device ≡ device_under self)) }
-        ensures generation { IfOk result (λ store. generation_of store ≡ found_generation self + 1) }
-        ensures id { IfOk result (λ store. id_of store ≡ id) }
-        ensures empty { IfOk result (λ store. (is_broken store ≡ false) × (entries_of store ≡ [])) }
-        ensures count { length (D.disk (left_by_begin result)).sectors ≡ length (D.disk (device_under self)).sectors }
-        ensures honest { (D.disk (left_by_begin result)).honest ↔ (D.disk (device_under self)).honest }
-        ensures faults_ok { IfOk result (λ store. (D.disk (device_of store)).faults ≡ (D.disk (device_under self)).faults) }
-        ensures faults { IfErr result (λ refused. (D.disk refused.device).faults ≡ faults_after refused.why (D.disk (device_under self)).faults) }
+        ensures answered { HasAnswered (λ refused. faults_after refused.why) (D.disk (device_under self)) (D.disk (left_by_begin result)) result }
     {
         let Opened {
             mut device,
             root: found,
-            short: _,
+            too_small: _,
             most: _,
-            whole: _,
+            blob_read: _,
             blob: _,
             mut log,
         } = self;
@@ -137,7 +131,7 @@ impl<D: SectorDevice> Opened<D> {
         if let Some(why) = refusal(device.count(), last, blob.len()) {
             return Err(Refused { why, device });
         }
-        match follow(&mut device, last, id, base, blob) {
+        match begin_generation(&mut device, last, id, base, blob) {
             Ok(begun) => {
                 log.clear();
                 Ok(Store::at(device, begun.start, begun.root, log))

@@ -1,10 +1,9 @@
 //! Reading what is on a device.
-ghost use Rattle.std.specs.Prelude.{◌≡◌, ◌↔◌, ◌≤◌, ◌<◌, ◌+◌, ◌⊎◌, [], length, IfOk, IfErr};
-ghost use Rattle.sector_device.specs.DiskState.{Settled};
+ghost use Rattle.std.specs.Prelude.{◌≡◌, ◌⊎◌, IfOk, IfErr};
+ghost use Rattle.sector_device.specs.DiskState.{HasAnswered};
 ghost use Rattle.sector_log.specs.Calls.{HasLooked, faults_after};
-ghost use Rattle.sector_log.specs.Content.{content, generation_in};
-ghost use Rattle.sector_log.specs.Found.{IsSound, seen_in};
-ghost use Rattle.sector_log.specs.Words.{device_under, found_generation, longest_blob, seen, left_by_open};
+ghost use Rattle.sector_log.specs.Promises.{HasOpened};
+ghost use Rattle.sector_log.specs.Words.{device_under, left_by_open};
 ghost use Rattle.sector_log.specs.declared.fault.LogFault.TheVariants.{Memory, Device};
 
 use crate::fault::{LogFault, Refused};
@@ -22,16 +21,9 @@ pub fn open_log<D: SectorDevice>(
     most: usize,
 ) -> Result<Opened<D>, Refused<D>>
     ensures looked { (D.disk device).honest → HasLooked (D.disk device) (D.disk (left_by_open result)) }
-    ensures settled { IfOk result (λ opened. (D.disk device).honest → Settled (D.disk (device_under opened))) }
-    ensures generation { IfOk result (λ opened. (D.disk device).honest → found_generation opened ≡ generation_in (D.disk device).sectors) }
-    ensures most { IfOk result (λ opened. longest_blob opened ≡ most) }
-    ensures seen { IfOk result (λ opened. (D.disk device).honest → seen opened ≡ seen_in most (content (D.disk device).sectors)) }
-    ensures sound { IfOk result (λ opened. IsSound (seen opened)) }
-    ensures count { length (D.disk (left_by_open result)).sectors ≡ length (D.disk device).sectors }
-    ensures honest { (D.disk (left_by_open result)).honest ↔ (D.disk device).honest }
+    ensures opened { IfOk result (λ opened. HasOpened (D.disk device) (D.disk (device_under opened)) most opened) }
     ensures cause { IfErr result (λ refused. (refused.why ≡ Memory × refused.device ≡ device) ⊎ (refused.why ≡ Device)) }
-    ensures faults_ok { IfOk result (λ opened. (D.disk (device_under opened)).faults ≡ (D.disk device).faults) }
-    ensures faults { IfErr result (λ refused. (D.disk refused.device).faults ≡ faults_after refused.why (D.disk device).faults) }
+    ensures answered { HasAnswered (λ refused. faults_after refused.why) (D.disk device) (D.disk (left_by_open result)) result }
 {
     let mut device = device;
     let Ok(mut log) = Vec::with_capacity(alloc, MOST_ENTRIES_READ) else {
@@ -52,7 +44,7 @@ pub fn open_log<D: SectorDevice>(
             device,
         });
     };
-    let Ok(whole) = look_blob(&mut device, found.root, most, &mut blob) else {
+    let Ok(blob_read) = look_blob(&mut device, found.root, most, &mut blob) else {
         return Err(Refused {
             why: LogFault::Device,
             device,
@@ -61,10 +53,10 @@ pub fn open_log<D: SectorDevice>(
     Ok(Opened {
         device,
         root: found.root,
-        short: found.short,
+        too_small: found.too_small,
         log,
         most,
-        whole,
+        blob_read,
         blob,
     })
 }

@@ -1,6 +1,6 @@
 //! What is on a device.
-ghost use Rattle.std.specs.Prelude.{◌≡◌, ◌↔◌, ◌≤◌, ◌<◌, ◌+◌, ◌/◌, ◌^◌, ◌++◌, [], length, take, drop, IfOk, vec_capacity, Bool, if◌then◌else◌, Option, Some, None};
-ghost use Rattle.sector_device.specs.DiskState.{CountsFaults, Settled};
+ghost use Rattle.std.specs.Prelude.{◌≡◌, ◌≤◌, ◌<◌, ◌+◌, ◌/◌, ◌^◌, ◌++◌, [], length, take, drop, IfOk, vec_capacity, Bool, if◌then◌else◌, Option, Some, None};
+ghost use Rattle.sector_device.specs.DiskState.{HasCalled, Settled};
 ghost use Rattle.sector_log.specs.Log.{log_from};
 ghost use Rattle.std.specs.List.{flat_map};
 ghost use Rattle.sector_log.specs.Content.{root_at, newer, chosen, content};
@@ -17,9 +17,7 @@ use sector_device::{DeviceFault, SectorDevice};
 
 fn read_root<D: SectorDevice>(device: &mut D, slot: u64) -> Result<Option<Root>, DeviceFault>
     requires { slot < length (D.disk device.old).sectors }
-    ensures count { length (D.disk device.new).sectors ≡ length (D.disk device.old).sectors }
-    ensures honest { (D.disk device.new).honest ↔ (D.disk device.old).honest }
-    ensures faults { CountsFaults (D.disk device.old).faults (D.disk device.new).faults result }
+    ensures called { HasCalled (D.disk device.old) (D.disk device.new) result }
     ensures looked { (D.disk device.old).honest → LooksOnly (D.disk device.old) (D.disk device.new) }
     ensures root { IfOk result (λ root. (D.disk device.old).honest → root ≡ root_at slot (D.disk device.old).sectors) }
 {
@@ -31,9 +29,7 @@ fn read_root<D: SectorDevice>(device: &mut D, slot: u64) -> Result<Option<Root>,
 /// The root with the greater generation.
 fn read_chosen<D: SectorDevice>(device: &mut D) -> Result<Option<Root>, DeviceFault>
     requires { 2 ≤ length (D.disk device.old).sectors }
-    ensures count { length (D.disk device.new).sectors ≡ length (D.disk device.old).sectors }
-    ensures honest { (D.disk device.new).honest ↔ (D.disk device.old).honest }
-    ensures faults { CountsFaults (D.disk device.old).faults (D.disk device.new).faults result }
+    ensures called { HasCalled (D.disk device.old) (D.disk device.new) result }
     ensures looked { (D.disk device.old).honest → LooksOnly (D.disk device.old) (D.disk device.new) }
     ensures root { IfOk result (λ root. (D.disk device.old).honest →
         root ≡ newer (root_at 0 (D.disk device.old).sectors) (root_at 1 (D.disk device.old).sectors)) }
@@ -54,9 +50,7 @@ fn read_log<D: SectorDevice>(
     requires range { start + log_sectors_per_area < 2 ^ 64 }
     requires empty { log.old.items ≡ [] }
     requires reserved { most_entries_read ≤ vec_capacity log.old }
-    ensures count { length (D.disk device.new).sectors ≡ length (D.disk device.old).sectors }
-    ensures honest { (D.disk device.new).honest ↔ (D.disk device.old).honest }
-    ensures faults { CountsFaults (D.disk device.old).faults (D.disk device.new).faults result }
+    ensures called { HasCalled (D.disk device.old) (D.disk device.new) result }
     ensures looked { (D.disk device.old).honest → LooksOnly (D.disk device.old) (D.disk device.new) }
     ensures capacity { vec_capacity log.old ≤ vec_capacity log.new }
     ensures few { length log.new.items ≤ most_entries_read }
@@ -73,11 +67,11 @@ fn read_log<D: SectorDevice>(
     Ok(())
 }
 
-/// What was found: the chosen root, and whether its blob does not fit the area.
+/// What was found: the chosen root, and whether the area is too small for its blob.
 #[derive(Clone, Copy)]
 pub(crate) struct Finding {
     pub(crate) root: Option<Root>,
-    pub(crate) short: bool,
+    pub(crate) too_small: bool,
 }
 
 /// Syncs, and reads the chosen root and its log. It writes nothing.
@@ -87,41 +81,39 @@ pub(crate) fn look<D: SectorDevice>(
 ) -> Result<Finding, DeviceFault>
     requires empty { log.old.items ≡ [] }
     requires reserved { most_entries_read ≤ vec_capacity log.old }
-    ensures count { length (D.disk device.new).sectors ≡ length (D.disk device.old).sectors }
-    ensures honest { (D.disk device.new).honest ↔ (D.disk device.old).honest }
-    ensures faults { CountsFaults (D.disk device.old).faults (D.disk device.new).faults result }
+    ensures called { HasCalled (D.disk device.old) (D.disk device.new) result }
     ensures looked { (D.disk device.old).honest → LooksOnly (D.disk device.old) (D.disk device.new) }
     ensures capacity { vec_capacity log.old ≤ vec_capacity log.new }
     ensures few { length log.new.items ≤ most_entries_read }
-    ensures found { IfOk result (λ found. (D.disk device.old).honest → IsFound (D.disk device.new) found.root found.short log.new.items) }
+    ensures found { IfOk result (λ found. (D.disk device.old).honest → IsFound (D.disk device.new) found.root found.too_small log.new.items) }
 {
     sync_once(device)?;
     let count = device.count();
     if count < 2 {
         return Ok(Finding {
             root: None,
-            short: false,
+            too_small: false,
         });
     }
     let chosen = read_chosen(device)?;
     let Some(root) = chosen else {
         return Ok(Finding {
             root: None,
-            short: false,
+            too_small: false,
         });
     };
     let area = (count - 2) / 2;
     if area < LOG_SECTORS_PER_AREA + (root.blob_length as u64 + 511) / 512 {
         return Ok(Finding {
             root: Some(root),
-            short: true,
+            too_small: true,
         });
     }
     let start = 2 + root.generation % 2 * area;
     read_log(device, start, root.version, log)?;
     Ok(Finding {
         root: Some(root),
-        short: false,
+        too_small: false,
     })
 }
 
@@ -150,9 +142,7 @@ fn read_blob<D: SectorDevice>(
     requires small { size < 2 ^ 32 }
     requires empty { blob.old.items ≡ [] }
     requires reserved { size ≤ vec_capacity blob.old }
-    ensures count { length (D.disk device.new).sectors ≡ length (D.disk device.old).sectors }
-    ensures honest { (D.disk device.new).honest ↔ (D.disk device.old).honest }
-    ensures faults { CountsFaults (D.disk device.old).faults (D.disk device.new).faults result }
+    ensures called { HasCalled (D.disk device.old) (D.disk device.new) result }
     ensures looked { (D.disk device.old).honest → LooksOnly (D.disk device.old) (D.disk device.new) }
     ensures blob { IfOk result (λ _. (D.disk device.old).honest →
         take size (flat_map (λ s. s) (take room (drop start (D.disk device.old).sectors))) ≡ blob.new.items) }
@@ -176,9 +166,7 @@ pub(crate) fn look_blob<D: SectorDevice>(
 ) -> Result<bool, DeviceFault>
     requires empty { blob.old.items ≡ [] }
     requires reserved { most ≤ vec_capacity blob.old }
-    ensures count { length (D.disk device.new).sectors ≡ length (D.disk device.old).sectors }
-    ensures honest { (D.disk device.new).honest ↔ (D.disk device.old).honest }
-    ensures faults { CountsFaults (D.disk device.old).faults (D.disk device.new).faults result }
+    ensures called { HasCalled (D.disk device.old) (D.disk device.new) result }
     ensures looked { (D.disk device.old).honest → LooksOnly (D.disk device.old) (D.disk device.new) }
     ensures blob { IfOk result (λ read. (D.disk device.old).honest → chosen (D.disk device.old).sectors ≡ found →
         blob_in most (content (D.disk device.old).sectors) ≡ (if read then Some blob.new.items else None)) }

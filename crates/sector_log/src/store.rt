@@ -1,18 +1,16 @@
 //! A store: the log of a generation that this process began.
 ghost use Rattle.std.specs.Prelude.{◌≡◌, ◌≤◌, ◌<◌, ◌+◌, ◌-◌, ◌^◌, ◌⊎◌, ◌↔◌, [], ℕ, length, true, false, Some, OnOk, IfErr, IsErrOf, vec_capacity};
+ghost use Rattle.sector_device.specs.DiskState.{HasAnswered};
 ghost use Rattle.sector_device.specs.Runs.{HoldsSince};
-ghost use Rattle.sector_log.specs.Calls.{HoldsPrefix, ChangesOpenLog, IsAppended, IsAppendCause, HasOldOrNewContent, HasBegun, CanBegin, IsReplaceCause, faults_after};
+ghost use Rattle.sector_log.specs.Calls.{HoldsPrefix, ChangesOpenLog, IsAppendCause, HasOldOrNewContent, IsReplaceCause, faults_after};
 ghost use Rattle.sector_log.specs.Store.{IsStored, Kept, kept_prop, StoredUnlessBroken, stored_prop};
-ghost use Rattle.sector_log.specs.Content.{content, chosen, version_of};
-ghost use Rattle.sector_log.specs.Found.{log_of};
-ghost use Rattle.sector_log.specs.Inputs.{inputs, all_input, grown, fits};
+ghost use Rattle.sector_log.specs.Inputs.{inputs, all_input, fits};
 ghost use Rattle.sector_log.specs.Sizes.{log_sectors_per_area, most_entries_read};
 ghost use Rattle.sector_log.specs.declared.fault.LogFault.TheVariants.{Device, Broken};
-ghost use Rattle.sector_log.specs.declared.root.Version.TheVariants.{Two};
 
 use crate::entries::{add_inputs, grown_length};
 use crate::fault::LogFault;
-use crate::generation::{follow, refusal};
+use crate::generation::{begin_generation, refusal};
 use crate::root::Root;
 use crate::sizes::{ENTRIES_PER_SECTOR, MOST_ENTRIES, MOST_INPUTS};
 use crate::writes::{sync_once, write_log};
@@ -29,17 +27,18 @@ pub struct Store<D: SectorDevice> {
     root: Root,
     log: Vec<Stored>,
     /// How many inputs the log stands for.
-    given: u32,
+    input_count: u32,
     broken: bool,
     ghost placed: { start + log_sectors_per_area ≤ length (D.disk device).sectors },
     ghost range: { start + log_sectors_per_area < 2 ^ 64 },
     ghost reserved: { most_entries_read ≤ vec_capacity log },
     ghost kept: { Kept log.items } by { kept_prop log.items },
-    ghost count: { given ≡ length (inputs log.items) },
+    ghost count: { input_count ≡ length (inputs log.items) },
     ghost stored: { StoredUnlessBroken (D.disk device) start root log.items broken } by { stored_prop (D.disk device) start root log.items broken },
 }
 
 impl<D: SectorDevice> Store<D> {
+    ghost use Rattle.sector_log.specs.Promises.{HasAppended, HasReplaced};
     ghost use Rattle.sector_log.specs.Words.{device_of, is_broken, entries_of, generation_of, id_of};
 
     /// The store that a new generation leaves.
@@ -59,7 +58,7 @@ impl<D: SectorDevice> Store<D> {
             start,
             root,
             log,
-            given: 0,
+            input_count: 0,
             broken: false,
         }
     }
@@ -76,7 +75,7 @@ impl<D: SectorDevice> Store<D> {
     pub fn fits(&self, more: &[Entry]) -> bool
         ensures { result ≡ fits (entries_of self.now) more.now }
     {
-        if more.len() > (MOST_INPUTS - self.given) as usize {
+        if more.len() > (MOST_INPUTS - self.input_count) as usize {
             return false;
         }
         grown_length(&self.log, more) <= MOST_ENTRIES
@@ -91,21 +90,13 @@ impl<D: SectorDevice> Store<D> {
             HoldsSince (D.disk (device_of self.old)) (D.disk (device_of self.new)) (HoldsPrefix (D.disk (device_of self.old)).sectors more.now) }
         ensures writes { is_broken self.old ≡ false → (D.disk (device_of self.old)).honest →
             HoldsSince (D.disk (device_of self.old)) (D.disk (device_of self.new)) (ChangesOpenLog (D.disk (device_of self.old)).sectors (length (entries_of self.old))) }
-        ensures appended { OnOk result ((D.disk (device_of self.old)).honest →
-            IsAppended (D.disk (device_of self.old)) (D.disk (device_of self.new)) more.now) }
-        ensures can { OnOk result ((is_broken self.old ≡ false) × (fits (entries_of self.old) more.now ≡ true)) }
+        ensures appended { OnOk result (HasAppended (D.disk (device_of self.old)) (D.disk (device_of self.new)) self.old self.new more.now) }
         ensures cause { IfErr result (λ why. IsAppendCause why (is_broken self.old) (fits (entries_of self.old) more.now)) }
         ensures unchanged { IfErr result (λ why. (why ≡ Device) ⊎ (self.new ≡ self.old)) }
         ensures nothing { length more.now ≡ 0 → self.new ≡ self.old }
         ensures broken { (is_broken self.new ≡ true) ↔ ((is_broken self.old ≡ true) ⊎ IsErrOf result LogFault.Device) }
-        ensures entries { OnOk result (entries_of self.new ≡ grown (entries_of self.old) more.now) }
-        ensures reads { OnOk result ((D.disk (device_of self.old)).honest →
-            log_of (content (D.disk (device_of self.new)).sectors) ≡ entries_of self.new) }
         ensures generation { (generation_of self.new ≡ generation_of self.old) × (id_of self.new ≡ id_of self.old) }
-        ensures count { length (D.disk (device_of self.new)).sectors ≡ length (D.disk (device_of self.old)).sectors }
-        ensures honest { (D.disk (device_of self.new)).honest ↔ (D.disk (device_of self.old)).honest }
-        ensures faults_ok { OnOk result ((D.disk (device_of self.new)).faults ≡ (D.disk (device_of self.old)).faults) }
-        ensures faults { IfErr result (λ why. (D.disk (device_of self.new)).faults ≡ faults_after why (D.disk (device_of self.old)).faults) }
+        ensures answered { HasAnswered faults_after (D.disk (device_of self.old)) (D.disk (device_of self.new)) result }
     {
         if self.broken {
             // Nothing is known of what stands on the device.
@@ -121,7 +112,7 @@ impl<D: SectorDevice> Store<D> {
         // Until the sync below is done.
         self.broken = true;
         add_inputs(&mut self.log, more);
-        self.given += more.len() as u32;
+        self.input_count += more.len() as u32;
         let end = ((self.log.len() + (ENTRIES_PER_SECTOR - 1)) / ENTRIES_PER_SECTOR) as u16;
         write_log(&mut self.device, self.start, &self.log, first, end)?;
         sync_once(&mut self.device)?;
@@ -136,23 +127,14 @@ impl<D: SectorDevice> Store<D> {
         requires { length blob.now < 2 ^ 32 }
         ensures images { is_broken self.old ≡ false → (D.disk (device_of self.old)).honest →
             HoldsSince (D.disk (device_of self.old)) (D.disk (device_of self.new)) (HasOldOrNewContent (D.disk (device_of self.old)).sectors (id_of self.old) base blob.now) }
-        ensures begun { OnOk result ((D.disk (device_of self.old)).honest →
-            HasBegun (D.disk (device_of self.old)) (D.disk (device_of self.new)) (id_of self.old) base blob.now) }
-        ensures version { OnOk result ((D.disk (device_of self.old)).honest → version_of (chosen (D.disk (device_of self.new)).sectors) ≡ Some Two) }
-        ensures can { OnOk result ((is_broken self.old ≡ false) ×
-            CanBegin (length blob.now) (length (D.disk (device_of self.old)).sectors) (generation_of self.old)) }
+        ensures replaced { OnOk result (HasReplaced (D.disk (device_of self.old)) (D.disk (device_of self.new)) self.old self.new base blob.now) }
         ensures cause { IfErr result (λ why.
             IsReplaceCause why (is_broken self.old) (length blob.now) (length (D.disk (device_of self.old)).sectors)
             (generation_of self.old)) }
         ensures unchanged { IfErr result (λ why. (why ≡ Device) ⊎ (self.new ≡ self.old)) }
         ensures broken { (is_broken self.new ≡ true) ↔ ((is_broken self.old ≡ true) ⊎ IsErrOf result LogFault.Device) }
-        ensures empty { OnOk result (entries_of self.new ≡ []) }
-        ensures generation { OnOk result (generation_of self.new ≡ generation_of self.old + 1) }
         ensures id { id_of self.new ≡ id_of self.old }
-        ensures count { length (D.disk (device_of self.new)).sectors ≡ length (D.disk (device_of self.old)).sectors }
-        ensures honest { (D.disk (device_of self.new)).honest ↔ (D.disk (device_of self.old)).honest }
-        ensures faults_ok { OnOk result ((D.disk (device_of self.new)).faults ≡ (D.disk (device_of self.old)).faults) }
-        ensures faults { IfErr result (λ why. (D.disk (device_of self.new)).faults ≡ faults_after why (D.disk (device_of self.old)).faults) }
+        ensures answered { HasAnswered faults_after (D.disk (device_of self.old)) (D.disk (device_of self.new)) result }
     {
         if self.broken {
             return Err(LogFault::Broken);
@@ -162,7 +144,7 @@ impl<D: SectorDevice> Store<D> {
         }
         // Until the new generation stands.
         self.broken = true;
-        let begun = follow(
+        let begun = begin_generation(
             &mut self.device,
             self.root.generation,
             self.root.id,
@@ -172,7 +154,7 @@ impl<D: SectorDevice> Store<D> {
         self.start = begun.start;
         self.root = begun.root;
         self.log.clear();
-        self.given = 0;
+        self.input_count = 0;
         self.broken = false;
         Ok(())
     }

@@ -1,6 +1,6 @@
 //! Runs of writes, one device call per turn, and the sync after them.
-ghost use Rattle.std.specs.Prelude.{◌≡◌, ◌↔◌, ◌≤◌, ◌<◌, ◌+◌, ◌*◌, ◌/◌, ◌^◌, ℕ, length, take, drop, OnOk};
-ghost use Rattle.sector_device.specs.DiskState.{CountsFaults, HasSynced, Settled, sector_at};
+ghost use Rattle.std.specs.Prelude.{◌≡◌, ◌≤◌, ◌<◌, ◌+◌, ◌*◌, ◌/◌, ◌^◌, ℕ, length, take, drop, OnOk};
+ghost use Rattle.sector_device.specs.DiskState.{HasCalled, HasSynced, Settled, sector_at};
 ghost use Rattle.sector_device.specs.Runs.{HoldsThroughout, Mixed, WrittenUpTo};
 ghost use Rattle.sector_log.specs.Log.{log_area, fresh_area};
 ghost use Rattle.sector_log.specs.Layout.{replaced};
@@ -35,9 +35,7 @@ pub(crate) fn write_log<D: SectorDevice>(
     requires range { start + log_sectors_per_area < 2 ^ 64 }
     requires log { length log.now ≤ most_entries }
 
-    ensures count { length (D.disk device.new).sectors ≡ length (D.disk device.old).sectors }
-    ensures honest { (D.disk device.new).honest ↔ (D.disk device.old).honest }
-    ensures faults { CountsFaults (D.disk device.old).faults (D.disk device.new).faults result }
+    ensures called { HasCalled (D.disk device.old) (D.disk device.new) result }
     // A stop leaves some of the sectors old and the others new.
     ensures moments { (D.disk device.old).honest → Settled (D.disk device.old) →
         (let old = (D.disk device.old).sectors in let new = replaced start (log_area log.now) old in
@@ -63,9 +61,7 @@ pub(crate) fn fill_area<D: SectorDevice>(
     requires room { start + log_sectors_per_area + (length blob.now + 511) / 512 ≤ length (D.disk device.old).sectors }
     requires range { length (D.disk device.old).sectors < 2 ^ 64 }
 
-    ensures count { length (D.disk device.new).sectors ≡ length (D.disk device.old).sectors }
-    ensures honest { (D.disk device.new).honest ↔ (D.disk device.old).honest }
-    ensures faults { CountsFaults (D.disk device.old).faults (D.disk device.new).faults result }
+    ensures called { HasCalled (D.disk device.old) (D.disk device.new) result }
     ensures moments { (D.disk device.old).honest → Settled (D.disk device.old) →
         (let old = (D.disk device.old).sectors in let new = replaced start (fresh_area blob.now) old in
         HoldsThroughout (D.disk device.old) (D.disk device.new) (Mixed old new) (Mixed old new)) }
@@ -81,10 +77,8 @@ pub(crate) fn fill_area<D: SectorDevice>(
 
 /// One sync. A failed sync is not retried, since it makes nothing durable.
 pub(crate) fn sync_once<D: SectorDevice>(device: &mut D) -> Result<(), DeviceFault>
-    ensures count { length (D.disk device.new).sectors ≡ length (D.disk device.old).sectors }
-    ensures honest { (D.disk device.new).honest ↔ (D.disk device.old).honest }
+    ensures called { HasCalled (D.disk device.old) (D.disk device.new) result }
     ensures synced { (D.disk device.old).honest → HasSynced (D.disk device.old) (D.disk device.new) result }
-    ensures faults { CountsFaults (D.disk device.old).faults (D.disk device.new).faults result }
 {
     device.sync()
 }

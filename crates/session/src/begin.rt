@@ -1,10 +1,11 @@
 //! A new game.
-ghost use Rattle.std.specs.Prelude.{◌≡◌, ◌↔◌, ◌≤◌, ◌<◌, ◌-◌, ◌^◌, ◌⊎◌, [], false, true, length, vec_capacity, Ok, Err, IfOk, IfErr};
+ghost use Rattle.std.specs.Prelude.{◌≡◌, ◌≤◌, ◌<◌, ◌-◌, ◌^◌, ◌⊎◌, [], false, true, length, vec_capacity, Ok, Err, IfOk, IfErr};
 ghost use Rattle.sha2.specs.Sha256.{sha256};
 ghost use Rattle.cartridge.specs.Header.{ram_length_of};
 ghost use Rattle.machine.specs.Machine.{start};
 ghost use Rattle.snapshot.specs.Text.{text, text_length};
 ghost use Rattle.snapshot.specs.Legal.{IsMachineOf};
+ghost use Rattle.sector_device.specs.DiskState.{HasAnswered};
 ghost use Rattle.sector_device.specs.Runs.{HoldsSince};
 ghost use Rattle.sector_log.specs.Calls.{HasOldOrNewContent, HasBegun, CanBegin};
 ghost use Rattle.sector_log.specs.Content.{need, generation_in};
@@ -99,10 +100,7 @@ pub fn new_game<D: SectorDevice>(
         IsNewGameCause (text_length (ram_length_of cartridge.now)) (length (D.disk device).sectors) refused.why) }
     ensures worn { IfErr result (λ refused. refused.why ≡ Worn → (D.disk device).honest → generation_in (D.disk device).sectors ≡ 2 ^ 64 - 1) }
 
-    ensures count { length (D.disk (left_by result)).sectors ≡ length (D.disk device).sectors }
-    ensures honest { (D.disk (left_by result)).honest ↔ (D.disk device).honest }
-    ensures faults_ok { IfOk result (λ s. (D.disk (device_of s)).faults ≡ (D.disk device).faults) }
-    ensures faults { IfErr result (λ refused. (D.disk refused.device).faults ≡ faults_after refused.why (D.disk device).faults) }
+    ensures answered { HasAnswered (λ refused. faults_after refused.why) (D.disk device) (D.disk (left_by result)) result }
 {
     let Ok(room) = make_room(alloc, cartridge) else {
         return Err(Refused {
@@ -151,10 +149,7 @@ pub(crate) fn begin_with<D: SectorDevice>(
     ensures cause { IfErr result (λ refused.
         IsBeginRefusal refused.why (text_length (ram_length_of cartridge.now)) (length (D.disk (device_under opened)).sectors)
         (found_generation opened)) }
-    ensures count { length (D.disk (left_by result)).sectors ≡ length (D.disk (device_under opened)).sectors }
-    ensures honest { (D.disk (left_by result)).honest ↔ (D.disk (device_under opened)).honest }
-    ensures faults_ok { IfOk result (λ s. (D.disk (device_of s)).faults ≡ (D.disk (device_under opened)).faults) }
-    ensures faults { IfErr result (λ refused. (D.disk refused.device).faults ≡ faults_after refused.why (D.disk (device_under opened)).faults) }
+    ensures answered { HasAnswered (λ refused. faults_after refused.why) (D.disk (device_under opened)) (D.disk (left_by result)) result }
 {
     let Room { pending, mut text } = room;
     encode(&machine, &mut text);

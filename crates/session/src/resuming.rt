@@ -1,5 +1,6 @@
 //! Resuming a game.
-ghost use Rattle.std.specs.Prelude.{◌≡◌, ◌↔◌, ◌<◌, ◌-◌, ◌^◌, ◌⊎◌, [], false, length, Ok, Err, Some, None, IfOk, IfErr};
+ghost use Rattle.std.specs.Prelude.{◌≡◌, ◌<◌, ◌-◌, ◌^◌, ◌⊎◌, [], false, length, Ok, Err, Some, None, IfOk, IfErr};
+ghost use Rattle.sector_device.specs.DiskState.{HasAnswered};
 ghost use Rattle.sector_device.specs.Runs.{HoldsSince};
 ghost use Rattle.sector_log.specs.Content.{content, generation_in};
 ghost use Rattle.session.specs.Calls.{IsAtRest, StandsAsBefore, faults_after};
@@ -48,10 +49,7 @@ pub fn resume<D: SectorDevice>(
     ensures cause { IfErr result (λ refused. (D.disk device).honest →
         IsResumeCause cartridge.now (generation_in (D.disk device).sectors) (content (D.disk device).sectors) refused.why) }
 
-    ensures count { length (D.disk (left_by result)).sectors ≡ length (D.disk device).sectors }
-    ensures honest { (D.disk (left_by result)).honest ↔ (D.disk device).honest }
-    ensures faults_ok { IfOk result (λ s. (D.disk (device_of s)).faults ≡ (D.disk device).faults) }
-    ensures faults { IfErr result (λ refused. (D.disk refused.device).faults ≡ faults_after refused.why (D.disk device).faults) }
+    ensures answered { HasAnswered (λ refused. faults_after refused.why) (D.disk device) (D.disk (left_by result)) result }
 {
     let Ok(room) = make_room(alloc, cartridge) else {
         return Err(Refused {

@@ -4,6 +4,7 @@ ghost use Rattle.std.specs.List.{list_all};
 ghost use Rattle.machine.specs.Machine.{start};
 ghost use Rattle.snapshot.specs.Text.{text, text_length};
 ghost use Rattle.snapshot.specs.Legal.{IsLegalMachine};
+ghost use Rattle.sector_device.specs.DiskState.{HasAnswered};
 ghost use Rattle.sector_device.specs.Runs.{HoldsSince};
 ghost use Rattle.sector_log.specs.Content.{need};
 ghost use Rattle.sector_log.specs.Inputs.{is_input, fits};
@@ -51,10 +52,7 @@ pub(crate) fn write_pending<D: SectorDevice>(
         IsWritten (fits (entries_of store.old) pending.now) (D.disk (device_of store.old)) (D.disk (device_of store.new)) pending.now (id_of store.old) all (text machine.now) (entries_of store.old) (entries_of store.new)) }
     ensures legal { fits (entries_of store.old) pending.now ≡ false → IsLegalMachine machine.now }
     ensures id { id_of store.new ≡ id_of store.old }
-    ensures count { length (D.disk (device_of store.new)).sectors ≡ length (D.disk (device_of store.old)).sectors }
-    ensures honest { (D.disk (device_of store.new)).honest ↔ (D.disk (device_of store.old)).honest }
-    ensures faults_ok { OnOk result ((D.disk (device_of store.new)).faults ≡ (D.disk (device_of store.old)).faults) }
-    ensures faults { IfErr result (λ why. (D.disk (device_of store.new)).faults ≡ faults_after why (D.disk (device_of store.old)).faults) }
+    ensures answered { HasAnswered faults_after (D.disk (device_of store.old)) (D.disk (device_of store.new)) result }
 {
     if store.fits(pending) {
         return match store.append(pending) {

@@ -5,6 +5,7 @@ ghost use Rattle.sha2.specs.Sha256.{sha256};
 ghost use Rattle.machine.specs.Machine.{applied};
 ghost use Rattle.snapshot.specs.Text.{text_length};
 ghost use Rattle.snapshot.specs.Legal.{IsMachineOf};
+ghost use Rattle.sector_device.specs.DiskState.{HasAnswered};
 ghost use Rattle.sector_device.specs.Runs.{HoldsSince};
 ghost use Rattle.sector_log.specs.Content.{need, content, generation_in};
 ghost use Rattle.sector_log.specs.Inputs.{is_input, fits};
@@ -187,10 +188,7 @@ impl<D: SectorDevice> Session<D> {
         ensures saved { IfOk result (λ all. (D.disk (device_of self.old)).honest → 0 < length (pending_of self.old) →
             IsSaved (fits (log_in self.old) (pending_of self.old)) (rom_of self.old) all (machine_of self.old) (pending_of self.old) (D.disk (device_of self.old)).sectors (D.disk (device_of self.new)).sectors) }
 
-        ensures count { length (D.disk (device_of self.new)).sectors ≡ length (D.disk (device_of self.old)).sectors }
-        ensures honest { (D.disk (device_of self.new)).honest ↔ (D.disk (device_of self.old)).honest }
-        ensures faults_ok { OnOk result ((D.disk (device_of self.new)).faults ≡ (D.disk (device_of self.old)).faults) }
-        ensures faults { IfErr result (λ why. (D.disk (device_of self.new)).faults ≡ faults_after why (D.disk (device_of self.old)).faults) }
+        ensures answered { HasAnswered faults_after (D.disk (device_of self.old)) (D.disk (device_of self.new)) result }
     {
         if self.store.is_broken() {
             return Err(SessionError::Broken);

@@ -16,7 +16,7 @@ returns-in-Ok-write_saved-clause-going g c = λ rom from given played.
     let now = c.save.new.self in
     going_saved rom (g.D.SectorDevice.disk (device_of was)) (acknowledged_of was) (pending_of was) (machine_of was) from given played (rom_of was) refl
     (g.D.SectorDevice.disk (device_of now)) c.in-Ok.count (acknowledged_of now) (pending_of now) (machine_of now)
-    (c.in-Ok.ensures.honest.1 played.honest) c.in-Ok.ensures.ok.0 c.in-Ok.ensures.ok.1 c.in-Ok.ensures.ok.2 c.in-Ok.ensures.machine.0 (c.in-Ok.ensures.rests played.honest) (c.in-Ok.ensures.images c.requires played.honest)
+    (c.in-Ok.ensures.answered.honest.1 played.honest) c.in-Ok.ensures.ok.0 c.in-Ok.ensures.ok.1 c.in-Ok.ensures.ok.2 c.in-Ok.ensures.machine.0 (c.in-Ok.ensures.rests played.honest) (c.in-Ok.ensures.images c.requires played.honest)
 
 pub returns-in-Err-write_saved-clause-stopped : goal.returns-in-Err-write_saved-clause-stopped
 returns-in-Err-write_saved-clause-stopped g c = λ rom from given played.
@@ -25,14 +25,14 @@ returns-in-Err-write_saved-clause-stopped g c = λ rom from given played.
     stopped_after rom (g.D.SectorDevice.disk (device_of was)) (g.D.SectorDevice.disk (device_of now)) (acknowledged_of now) (pending_of now) (machine_of now) from given
     (going_saved rom (g.D.SectorDevice.disk (device_of was)) (acknowledged_of was) (pending_of was) (machine_of was) from given played (rom_of was) refl
     (g.D.SectorDevice.disk (device_of now)) c.in-Ok.count (acknowledged_of now) (pending_of now) (machine_of now)
-    (c.in-Ok.ensures.honest.1 played.honest) c.in-Ok.ensures.ok.0 c.in-Ok.ensures.ok.1 c.in-Ok.ensures.ok.2 c.in-Ok.ensures.machine.0 (c.in-Ok.ensures.rests played.honest) (c.in-Ok.ensures.images c.requires played.honest))
+    (c.in-Ok.ensures.answered.honest.1 played.honest) c.in-Ok.ensures.ok.0 c.in-Ok.ensures.ok.1 c.in-Ok.ensures.ok.2 c.in-Ok.ensures.machine.0 (c.in-Ok.ensures.rests played.honest) (c.in-Ok.ensures.images c.requires played.honest))
 
 pub returns-in-Err-clause-stopped : goal.returns-in-Err-clause-stopped
 returns-in-Err-clause-stopped g c = λ rom from given played.
     let was = c.args.session.now in
     let now = c.save.new.self in
     stopped_failed rom (g.D.SectorDevice.disk (device_of was)) (acknowledged_of was) (pending_of was) (machine_of was) from given played (rom_of was) refl
-    (g.D.SectorDevice.disk (device_of now)) (acknowledged_of now) (c.in-Err.ensures.honest.1 played.honest) c.in-Err.ensures.refused.1 (g.met.D.SectorDevice.counts_now (device_of now)) (c.in-Err.ensures.images c.requires played.honest)
+    (g.D.SectorDevice.disk (device_of now)) (acknowledged_of now) (c.in-Err.ensures.answered.honest.1 played.honest) c.in-Err.ensures.refused.1 (g.met.D.SectorDevice.counts_now (device_of now)) (c.in-Err.ensures.images c.requires played.honest)
 
 pub returns-in-Ok-write_saved-clause-report : goal.returns-in-Ok-write_saved-clause-report
 returns-in-Ok-write_saved-clause-report g c =

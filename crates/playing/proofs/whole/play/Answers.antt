@@ -20,7 +20,7 @@ returns-in-Ok-play_on-clause-played g c = λ honest.
     let now = c.play_on.new.session in
     let from : Position = record { count = acknowledged_of s; machine = machine_of s } in
     let begun : IsPlayed rom (g.D.SectorDevice.disk (device_of s)) (acknowledged_of s) (pending_of s) (machine_of s) from [] =
-    begun_played rom (g.D.SectorDevice.disk (device_of s)) (acknowledged_of s) (pending_of s) (machine_of s) (c.in-Ok.ensures.honest.1 honest) c.in-Ok.ensures.begun.2 c.in-Ok.ensures.begun.0 (c.in-Ok.ensures.rests honest) in
+    begun_played rom (g.D.SectorDevice.disk (device_of s)) (acknowledged_of s) (pending_of s) (machine_of s) (c.in-Ok.ensures.answered.honest.1 honest) c.in-Ok.ensures.begun.2 c.in-Ok.ensures.begun.0 (c.in-Ok.ensures.rests honest) in
     let going = c.in-Ok-play_on.ensures.going rom from [] begun in
     record {
       from = from;
@@ -34,7 +34,7 @@ returns-in-Ok-play_on-clause-images g c = λ honest.
     let s = c.in-Ok.session in
     let from : Position = record { count = acknowledged_of s; machine = machine_of s } in
     let begun : IsPlayed rom (g.D.SectorDevice.disk (device_of s)) (acknowledged_of s) (pending_of s) (machine_of s) from [] =
-    begun_played rom (g.D.SectorDevice.disk (device_of s)) (acknowledged_of s) (pending_of s) (machine_of s) (c.in-Ok.ensures.honest.1 honest) c.in-Ok.ensures.begun.2 c.in-Ok.ensures.begun.0 (c.in-Ok.ensures.rests honest) in
+    begun_played rom (g.D.SectorDevice.disk (device_of s)) (acknowledged_of s) (pending_of s) (machine_of s) (c.in-Ok.ensures.answered.honest.1 honest) c.in-Ok.ensures.begun.2 c.in-Ok.ensures.begun.0 (c.in-Ok.ensures.rests honest) in
     let going = c.in-Ok-play_on.ensures.going rom from [] begun in
     since_then (since_weaker (c.in-Ok.ensures.images honest) (λ image stands. inl stands))
     (since_weaker going.moments (λ image reaches. inr (record { from = from; stood = c.in-Ok.ensures.stands honest; reaches = reaches })))
@@ -61,7 +61,7 @@ returns-in-Err-play_on-clause-refused g c =
       report = c.in-Err-play_on.ensures.told c.in-Ok.ensures.begun.0;
       images = λ honest.
           let begun : IsPlayed rom (g.D.SectorDevice.disk (device_of s)) (acknowledged_of s) (pending_of s) (machine_of s) from [] =
-          begun_played rom (g.D.SectorDevice.disk (device_of s)) (acknowledged_of s) (pending_of s) (machine_of s) (c.in-Ok.ensures.honest.1 honest) c.in-Ok.ensures.begun.2 c.in-Ok.ensures.begun.0 (c.in-Ok.ensures.rests honest) in
+          begun_played rom (g.D.SectorDevice.disk (device_of s)) (acknowledged_of s) (pending_of s) (machine_of s) (c.in-Ok.ensures.answered.honest.1 honest) c.in-Ok.ensures.begun.2 c.in-Ok.ensures.begun.0 (c.in-Ok.ensures.rests honest) in
           let stopped = c.in-Err-play_on.ensures.stopped rom from [] begun in
           record { from = from; stood = c.in-Ok.ensures.stands honest; count_is = refl; least = stopped.least; saved_is = stopped.acknowledged_is; images = stopped.images };
     }))
@@ -73,7 +73,7 @@ returns-in-Ok-play_on-clause-reached g c = λ honest.
     let now = c.play_on.new.session in
     let from : Position = record { count = acknowledged_of s; machine = machine_of s } in
     let begun : IsPlayed rom (g.D.SectorDevice.disk (device_of s)) (acknowledged_of s) (pending_of s) (machine_of s) from [] =
-    begun_played rom (g.D.SectorDevice.disk (device_of s)) (acknowledged_of s) (pending_of s) (machine_of s) (c.in-Ok.ensures.honest.1 honest) c.in-Ok.ensures.begun.2 c.in-Ok.ensures.begun.0 (c.in-Ok.ensures.rests honest) in
+    begun_played rom (g.D.SectorDevice.disk (device_of s)) (acknowledged_of s) (pending_of s) (machine_of s) (c.in-Ok.ensures.answered.honest.1 honest) c.in-Ok.ensures.begun.2 c.in-Ok.ensures.begun.0 (c.in-Ok.ensures.rests honest) in
     let before = ap length c.in-Ok.ensures.begun.0 in
     let behind = ap length c.in-Ok-play_on.ensures.saved.0 in
     record {
@@ -89,7 +89,7 @@ returns-in-Err-play_on-clause-images g c = λ honest.
     let s = c.in-Ok.session in
     let from : Position = record { count = acknowledged_of s; machine = machine_of s } in
     let begun : IsPlayed rom (g.D.SectorDevice.disk (device_of s)) (acknowledged_of s) (pending_of s) (machine_of s) from [] =
-    begun_played rom (g.D.SectorDevice.disk (device_of s)) (acknowledged_of s) (pending_of s) (machine_of s) (c.in-Ok.ensures.honest.1 honest) c.in-Ok.ensures.begun.2 c.in-Ok.ensures.begun.0 (c.in-Ok.ensures.rests honest) in
+    begun_played rom (g.D.SectorDevice.disk (device_of s)) (acknowledged_of s) (pending_of s) (machine_of s) (c.in-Ok.ensures.answered.honest.1 honest) c.in-Ok.ensures.begun.2 c.in-Ok.ensures.begun.0 (c.in-Ok.ensures.rests honest) in
     let stopped = c.in-Err-play_on.ensures.stopped rom from [] begun in
     subst (λ d. HoldsSince (g.D.SectorDevice.disk c.args.device) (g.D.SectorDevice.disk d) (PlayImage rom (g.D.SectorDevice.disk c.args.device) (inputs_of_moves c.args.moves.now))) (sym c.into_device.ensures.device)
     (since_then (since_weaker (c.in-Ok.ensures.images honest) (λ image stands. inl stands))
@@ -107,7 +107,7 @@ returns-in-Ok-play_on-clause-honest g c = λ honest.
     let s = c.in-Ok.session in
     let from : Position = record { count = acknowledged_of s; machine = machine_of s } in
     let begun : IsPlayed rom (g.D.SectorDevice.disk (device_of s)) (acknowledged_of s) (pending_of s) (machine_of s) from [] =
-    begun_played rom (g.D.SectorDevice.disk (device_of s)) (acknowledged_of s) (pending_of s) (machine_of s) (c.in-Ok.ensures.honest.1 honest) c.in-Ok.ensures.begun.2 c.in-Ok.ensures.begun.0 (c.in-Ok.ensures.rests honest) in
+    begun_played rom (g.D.SectorDevice.disk (device_of s)) (acknowledged_of s) (pending_of s) (machine_of s) (c.in-Ok.ensures.answered.honest.1 honest) c.in-Ok.ensures.begun.2 c.in-Ok.ensures.begun.0 (c.in-Ok.ensures.rests honest) in
     (c.in-Ok-play_on.ensures.going rom from [] begun).played.honest
 
 pub returns-in-Err-play_on-clause-honest : goal.returns-in-Err-play_on-clause-honest
@@ -116,5 +116,5 @@ returns-in-Err-play_on-clause-honest g c = λ honest.
     let s = c.in-Ok.session in
     let from : Position = record { count = acknowledged_of s; machine = machine_of s } in
     let begun : IsPlayed rom (g.D.SectorDevice.disk (device_of s)) (acknowledged_of s) (pending_of s) (machine_of s) from [] =
-    begun_played rom (g.D.SectorDevice.disk (device_of s)) (acknowledged_of s) (pending_of s) (machine_of s) (c.in-Ok.ensures.honest.1 honest) c.in-Ok.ensures.begun.2 c.in-Ok.ensures.begun.0 (c.in-Ok.ensures.rests honest) in
+    begun_played rom (g.D.SectorDevice.disk (device_of s)) (acknowledged_of s) (pending_of s) (machine_of s) (c.in-Ok.ensures.answered.honest.1 honest) c.in-Ok.ensures.begun.2 c.in-Ok.ensures.begun.0 (c.in-Ok.ensures.rests honest) in
     subst (λ d. (g.D.SectorDevice.disk d).honest) (sym c.into_device.ensures.device) (c.in-Err-play_on.ensures.stopped rom from [] begun).honest

@@ -15,9 +15,9 @@ loop-index-preserved g c =
     let less : index < c.args.room = omega (arith, c.loop-index-test.true, c.requires.size) in
     let pushed : c.push_bytes.new.blob.items ≡ c.loop-index.blob.items ++ take c.min-part.result bytes = c.push_bytes.ensures.items in
     record {
-      count = c.read.ensures.count ∙ c.loop-index.invariant.count;
-      faults = c.in_ok-read.ensures.faults.ok ∙ c.loop-index.invariant.faults;
-      honest = both_then c.read.ensures.honest c.loop-index.invariant.honest;
+      count = c.read.ensures.called.count ∙ c.loop-index.invariant.count;
+      faults = c.in_ok-read.ensures.called.faults.ok ∙ c.loop-index.invariant.faults;
+      honest = both_then c.read.ensures.called.honest c.loop-index.invariant.honest;
       capacity = omega (arith, c.loop-index.invariant.capacity, c.push_bytes.ensures.capacity);
       done = omega (arith, ap length pushed, length-append c.loop-index.blob.items (take c.min-part.result bytes), length-take c.min-part.result bytes, long, c.loop-index.invariant.done, c.min-part.ensures, c.loop-index-test.true);
       looked = λ honest. let looked = c.loop-index.invariant.looked honest in looked_then looked (looked_read (c.read.ensures.read looked.honest));

@@ -19,9 +19,9 @@ pub loop-index-preserved : goal.loop-index-preserved
 loop-index-preserved g c =
     let old = g.D.SectorDevice.disk c.args.device.now in
     record {
-      count = c.read.ensures.count ∙ c.loop-index.invariant.count;
-      faults = c.in_ok-read.ensures.faults.ok ∙ c.loop-index.invariant.faults;
-      honest = both_then c.read.ensures.honest c.loop-index.invariant.honest;
+      count = c.read.ensures.called.count ∙ c.loop-index.invariant.count;
+      faults = c.in_ok-read.ensures.called.faults.ok ∙ c.loop-index.invariant.faults;
+      honest = both_then c.read.ensures.called.honest c.loop-index.invariant.honest;
       capacity = omega (arith, c.loop-index.invariant.capacity, c.read_entries.ensures.capacity);
       few = omega (arith, c.loop-index.invariant.few, c.read_entries.ensures.few);
       looked = λ honest. let looked = c.loop-index.invariant.looked honest in looked_then looked (looked_read (c.read.ensures.read looked.honest));

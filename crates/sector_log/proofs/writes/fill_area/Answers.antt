@@ -30,9 +30,9 @@ loop-index-preserved g c =
     let within : at < length old = omega (arith, c.requires.room, c.loop-index-test.true) in
     let is : c.area_sector.result ≡ sector_at new at = c.area_sector.ensures ∙ sym (replaced_at c.args.start (fresh_area blob) old fit c.loop-index.index (omega (arith, length-fresh_area blob, c.loop-index-test.true))) in
     record {
-      count = c.write.ensures.count ∙ c.loop-index.invariant.count;
-      faults = c.in_ok-write.ensures.faults.ok ∙ c.loop-index.invariant.faults;
-      honest = both_then c.write.ensures.honest c.loop-index.invariant.honest;
+      count = c.write.ensures.called.count ∙ c.loop-index.invariant.count;
+      faults = c.in_ok-write.ensures.called.faults.ok ∙ c.loop-index.invariant.faults;
+      honest = both_then c.write.ensures.called.honest c.loop-index.invariant.honest;
       moments = λ honest settled. let held = c.loop-index.invariant.moments honest settled in
           has_written held (c.write.ensures.written held.honest) (λ d mixed. mixed_set old new d at c.area_sector.result within is mixed);
       written = λ honest settled.

@@ -34,9 +34,9 @@ loop-index-preserved g c =
     let within : at < length old = omega (arith, c.requires.room) in
     let is : c.log_sector.result ≡ sector_at new at = c.log_sector.ensures ∙ ap (log_sector c.loop-index.index) c.chunk-entries.ensures ∙ sym (new_log_at c.args.start c.loop-index.index c.args.log.now old c.requires.room below) in
     record {
-      count = c.write.ensures.count ∙ c.loop-index.invariant.count;
-      faults = c.in_ok-write.ensures.faults.ok ∙ c.loop-index.invariant.faults;
-      honest = both_then c.write.ensures.honest c.loop-index.invariant.honest;
+      count = c.write.ensures.called.count ∙ c.loop-index.invariant.count;
+      faults = c.in_ok-write.ensures.called.faults.ok ∙ c.loop-index.invariant.faults;
+      honest = both_then c.write.ensures.called.honest c.loop-index.invariant.honest;
       below = omega (arith, c.loop-index-test.true);
       moments = λ honest settled. let held = c.loop-index.invariant.moments honest settled in
           has_written held (c.write.ensures.written held.honest) (λ d mixed. mixed_set old new d at c.log_sector.result within is mixed);

@@ -16,18 +16,18 @@ filled bytes out all rest n is size same =
 
 pub at-requires-clause-rests : goal.at-requires-clause-rests
 at-requires-clause-rests g c = λ whole honest_now.
-    let honest = c.in-Ok.ensures.honest.0 honest_now in
+    let honest = c.in-Ok.ensures.answered.honest.0 honest_now in
     let written = filled c.deref.result.now c.encode.new.out (text c.args.machine) (drop (length c.encode.new.out) c.args.room.text.items) c.args.room.text.len c.deref.ensures.value (omega arith) c.encode.ensures.text in
     begun_rests c.digest.result c.deref.result.now c.args.machine c.args.count
     (g.D.SectorDevice.disk (device_under c.args.opened)) (g.D.SectorDevice.disk (device_of_store c.in-Ok.store)) (entries_of c.in-Ok.store)
     (machine_of_rom c.args.machine.processor.memory.banks.rom c.args.machine refl c.requires.own c.encode.ensures.legal)
-    (omega arith) (c.digest.ensures ∙ ap sha256 (sym c.requires.rom)) written (c.in-Ok.ensures.begun honest) c.in-Ok.ensures.empty.1
+    (omega arith) (c.digest.ensures ∙ ap sha256 (sym c.requires.rom)) written (c.in-Ok.ensures.begun.begun honest) c.in-Ok.ensures.begun.empty
 
 pub returns-in-Ok-clause-new : goal.returns-in-Ok-clause-new
 returns-in-Ok-clause-new g c = λ honest.
     let written = filled c.deref.result.now c.encode.new.out (text c.args.machine) (drop (length c.encode.new.out) c.args.room.text.items) c.args.room.text.len c.deref.ensures.value (omega arith) c.encode.ensures.text in
     subst (λ d. HasBegun (g.D.SectorDevice.disk (device_under c.args.opened)) (g.D.SectorDevice.disk (device_of_store d)) (sha256 c.args.cartridge.now) c.args.count (text c.args.machine)) (sym c.at.ensures.store)
-    (begun_of c.args.count c.digest.ensures written (c.in-Ok.ensures.begun honest))
+    (begun_of c.args.count c.digest.ensures written (c.in-Ok.ensures.begun.begun honest))
 
 pub returns-in-Ok-clause-images : goal.returns-in-Ok-clause-images
 returns-in-Ok-clause-images g c = λ honest.

@@ -35,7 +35,7 @@ returns-clause-rests g c =
     if_ok c.begin_with.result c.begin_with.ensures.new
     (λ s new honest. subst (λ (m : MachineState). IsAtRest c.args.cartridge.now (g.D.SectorDevice.disk (device_of s)) 0 [] m) c.in-Ok-power_on.ensures
     (begun_at_rest c.args.cartridge.now (sha256 c.args.cartridge.now) (text c.in-Ok-power_on.machine) c.in-Ok-power_on.machine 0
-    (g.D.SectorDevice.disk (device_under c.in-Ok-open_log.opened)) (g.D.SectorDevice.disk (device_of s)) c.begin_with.ensures.of (omega arith) refl refl (new (c.in-Ok-open_log.ensures.honest.1 honest))))
+    (g.D.SectorDevice.disk (device_under c.in-Ok-open_log.opened)) (g.D.SectorDevice.disk (device_of s)) c.begin_with.ensures.of (omega arith) refl refl (new (c.in-Ok-open_log.ensures.answered.honest.1 honest))))
 
 pub returns-clause-images : goal.returns-clause-images
 returns-clause-images g c = λ honest.
@@ -43,7 +43,7 @@ returns-clause-images g c = λ honest.
     (g.met.D.SectorDevice.reads_are_an_image c.args.device honest) (c.in-Ok-open_log.ensures.looked honest)
     (subst (λ (m : MachineState). HoldsSince (g.D.SectorDevice.disk (device_under c.in-Ok-open_log.opened)) (g.D.SectorDevice.disk (left_by c.begin_with.result))
     (HasOldOrNewContent (g.D.SectorDevice.disk (device_under c.in-Ok-open_log.opened)).sectors (sha256 c.args.cartridge.now) 0 (text m))) c.in-Ok-power_on.ensures
-    (c.begin_with.ensures.images (c.in-Ok-open_log.ensures.honest.1 honest)))
+    (c.begin_with.ensures.images (c.in-Ok-open_log.ensures.answered.honest.1 honest)))
 
 pub returns-clause-untouched : goal.returns-clause-untouched
 returns-clause-untouched g c =
@@ -54,7 +54,7 @@ pub returns-clause-worn : goal.returns-clause-worn
 returns-clause-worn g c =
     if_err c.begin_with.result c.begin_with.ensures.cause
     (λ refused cause worn honest.
-    sym (c.in-Ok-open_log.ensures.generation honest)
+    sym (c.in-Ok-open_log.ensures.opened.generation_is honest)
     ∙ (subst (λ why. IsBeginRefusal why (text_length (ram_length_of c.args.cartridge.now)) (length (g.D.SectorDevice.disk (device_under c.in-Ok-open_log.opened)).sectors) (found_generation c.in-Ok-open_log.opened)) worn cause).1)
 
 pub returns-in-Err-clause-worn : goal.returns-in-Err-clause-worn
@@ -64,6 +64,6 @@ pub returns-clause-can : goal.returns-clause-can
 returns-clause-can g c =
     if_ok c.begin_with.result c.begin_with.ensures.can
     (λ s can. (
-      subst (λ (n : ℕ). need (text_length (ram_length_of c.args.cartridge.now)) ≤ n) c.in-Ok-open_log.ensures.count can.enough,
-      λ honest. subst (λ (n : ℕ). n < 18446744073709551615) (c.in-Ok-open_log.ensures.generation honest) can.unworn,
+      subst (λ (n : ℕ). need (text_length (ram_length_of c.args.cartridge.now)) ≤ n) c.in-Ok-open_log.ensures.answered.count can.enough,
+      λ honest. subst (λ (n : ℕ). n < 18446744073709551615) (c.in-Ok-open_log.ensures.opened.generation_is honest) can.unworn,
     ))

@@ -16,7 +16,7 @@ returns-in-Err-clause-images g c = λ honest. since_appended (fits (entries_of c
 
 pub returns-in-Ok-clause-written : goal.returns-in-Ok-clause-written
 returns-in-Ok-clause-written g c = λ honest.
-    written_behind _ _ _ _ _ _ _ _ _ (sym c.fits.ensures ∙ c.if-fits.true) (c.in-Ok.ensures.appended honest) c.in-Ok.ensures.entries (c.in-Ok.ensures.reads honest)
+    written_behind _ _ _ _ _ _ _ _ _ (sym c.fits.ensures ∙ c.if-fits.true) (c.in-Ok.ensures.appended.appended honest) c.in-Ok.ensures.appended.entries_are (c.in-Ok.ensures.appended.reads honest)
 
 pub returns-in-Ok-replace-clause-images : goal.returns-in-Ok-replace-clause-images
 returns-in-Ok-replace-clause-images g c = λ honest. since_replaced (fits (entries_of c.args.store.now) c.args.pending.now) c.args.pending.now (sym c.fits.ensures ∙ c.if-fits.false) c.encode.ensures.text (c.replace.ensures.images c.requires.open honest)

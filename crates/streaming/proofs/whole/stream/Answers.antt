@@ -24,7 +24,7 @@ returns-in-Ok-Whole-clause-streamed g c =
     let before = g.W.Write.contents c.args.out.now in
     let since = g.W.Write.contents c.stream_on.new.out in
     let taken = c.in-Ok.ensures in
-    let up : TakenUp rom old a = record { none = taken.begun.0; rom_is = taken.begun.2; honest = taken.honest.1; rests = taken.rests; stood = taken.stands; images = taken.images } in
+    let up : TakenUp rom old a = record { none = taken.begun.0; rom_is = taken.begun.2; honest = taken.answered.honest.1; rests = taken.rests; stood = taken.stands; images = taken.images } in
     streamed_all rom old a b before_in since_in before since up (subst (λ e. Streams a b before_in since_in before since e) c.in-Ok-Whole.field-0-is c.in-Ok-Whole.ensures.streamed) c.in-Ok-Whole.ensures.saved.1
 
 pub returns-in-Ok-Whole-clause-honest : goal.returns-in-Ok-Whole-clause-honest
@@ -40,7 +40,7 @@ returns-in-Ok-Whole-clause-honest g c =
     let before = g.W.Write.contents c.args.out.now in
     let since = g.W.Write.contents c.stream_on.new.out in
     let taken = c.in-Ok.ensures in
-    let up : TakenUp rom old a = record { none = taken.begun.0; rom_is = taken.begun.2; honest = taken.honest.1; rests = taken.rests; stood = taken.stands; images = taken.images } in
+    let up : TakenUp rom old a = record { none = taken.begun.0; rom_is = taken.begun.2; honest = taken.answered.honest.1; rests = taken.rests; stood = taken.stands; images = taken.images } in
     streamed_honest rom old a b before_in since_in before since up Whole (subst (λ e. Streams a b before_in since_in before since e) c.in-Ok-Whole.field-0-is c.in-Ok-Whole.ensures.streamed)
 
 pub returns-in-Ok-Wrong-clause-refused : goal.returns-in-Ok-Wrong-clause-refused
@@ -56,7 +56,7 @@ returns-in-Ok-Wrong-clause-refused g c =
     let before = g.W.Write.contents c.args.out.now in
     let since = g.W.Write.contents c.stream_on.new.out in
     let taken = c.in-Ok.ensures in
-    let up : TakenUp rom old a = record { none = taken.begun.0; rom_is = taken.begun.2; honest = taken.honest.1; rests = taken.rests; stood = taken.stands; images = taken.images } in
+    let up : TakenUp rom old a = record { none = taken.begun.0; rom_is = taken.begun.2; honest = taken.answered.honest.1; rests = taken.rests; stood = taken.stands; images = taken.images } in
     subst (λ d. HasStreamed rom old (g.D.SectorDevice.disk d) (Wrong c.in-Ok-Wrong.number) before_in since_in before since) (sym c.into_device.ensures.device)
     (streamed_to rom old a b before_in since_in before since up (Wrong c.in-Ok-Wrong.number) (subst (λ e. Streams a b before_in since_in before since e) c.in-Ok-Wrong.field-0-is c.in-Ok-Wrong.ensures.streamed) c.in-Ok-Wrong.ensures.saved.1)
 
@@ -73,7 +73,7 @@ returns-in-Ok-Wrong-clause-honest g c =
     let before = g.W.Write.contents c.args.out.now in
     let since = g.W.Write.contents c.stream_on.new.out in
     let taken = c.in-Ok.ensures in
-    let up : TakenUp rom old a = record { none = taken.begun.0; rom_is = taken.begun.2; honest = taken.honest.1; rests = taken.rests; stood = taken.stands; images = taken.images } in
+    let up : TakenUp rom old a = record { none = taken.begun.0; rom_is = taken.begun.2; honest = taken.answered.honest.1; rests = taken.rests; stood = taken.stands; images = taken.images } in
     subst (λ d. old.honest → (g.D.SectorDevice.disk d).honest) (sym c.into_device.ensures.device) (streamed_honest rom old a b before_in since_in before since up (Wrong c.in-Ok-Wrong.number) (subst (λ e. Streams a b before_in since_in before since e) c.in-Ok-Wrong.field-0-is c.in-Ok-Wrong.ensures.streamed))
 
 pub returns-in-Ok-Failed-clause-refused : goal.returns-in-Ok-Failed-clause-refused
@@ -89,7 +89,7 @@ returns-in-Ok-Failed-clause-refused g c =
     let before = g.W.Write.contents c.args.out.now in
     let since = g.W.Write.contents c.stream_on.new.out in
     let taken = c.in-Ok.ensures in
-    let up : TakenUp rom old a = record { none = taken.begun.0; rom_is = taken.begun.2; honest = taken.honest.1; rests = taken.rests; stood = taken.stands; images = taken.images } in
+    let up : TakenUp rom old a = record { none = taken.begun.0; rom_is = taken.begun.2; honest = taken.answered.honest.1; rests = taken.rests; stood = taken.stands; images = taken.images } in
     subst (λ d. HasStreamed rom old (g.D.SectorDevice.disk d) Failed before_in since_in before since) (sym c.into_device-in-Ok-Failed.ensures.device)
     (streamed_to rom old a b before_in since_in before since up Failed (subst (λ e. Streams a b before_in since_in before since e) c.in-Ok-Failed.field-0-is c.in-Ok-Failed.ensures.streamed) c.in-Ok-Failed.ensures.saved.1)
 
@@ -106,7 +106,7 @@ returns-in-Ok-Failed-clause-honest g c =
     let before = g.W.Write.contents c.args.out.now in
     let since = g.W.Write.contents c.stream_on.new.out in
     let taken = c.in-Ok.ensures in
-    let up : TakenUp rom old a = record { none = taken.begun.0; rom_is = taken.begun.2; honest = taken.honest.1; rests = taken.rests; stood = taken.stands; images = taken.images } in
+    let up : TakenUp rom old a = record { none = taken.begun.0; rom_is = taken.begun.2; honest = taken.answered.honest.1; rests = taken.rests; stood = taken.stands; images = taken.images } in
     subst (λ d. old.honest → (g.D.SectorDevice.disk d).honest) (sym c.into_device-in-Ok-Failed.ensures.device) (streamed_honest rom old a b before_in since_in before since up Failed (subst (λ e. Streams a b before_in since_in before since e) c.in-Ok-Failed.field-0-is c.in-Ok-Failed.ensures.streamed))
 
 pub returns-in-Err-stream_on-clause-refused : goal.returns-in-Err-stream_on-clause-refused
@@ -122,7 +122,7 @@ returns-in-Err-stream_on-clause-refused g c =
     let before = g.W.Write.contents c.args.out.now in
     let since = g.W.Write.contents c.stream_on.new.out in
     let taken = c.in-Ok.ensures in
-    let up : TakenUp rom old a = record { none = taken.begun.0; rom_is = taken.begun.2; honest = taken.honest.1; rests = taken.rests; stood = taken.stands; images = taken.images } in
+    let up : TakenUp rom old a = record { none = taken.begun.0; rom_is = taken.begun.2; honest = taken.answered.honest.1; rests = taken.rests; stood = taken.stands; images = taken.images } in
     inr (subst (λ d. HasStopped rom old (g.D.SectorDevice.disk d) c.in-Err-stream_on.why before_in since_in before since) (sym c.into_device-in-Err-stream_on.ensures.device)
     (stopped_stream rom old a b before_in since_in before since up c.in-Err-stream_on.why c.in-Err-stream_on.ensures.stopped))
 
@@ -139,5 +139,5 @@ returns-in-Err-stream_on-clause-honest g c =
     let before = g.W.Write.contents c.args.out.now in
     let since = g.W.Write.contents c.stream_on.new.out in
     let taken = c.in-Ok.ensures in
-    let up : TakenUp rom old a = record { none = taken.begun.0; rom_is = taken.begun.2; honest = taken.honest.1; rests = taken.rests; stood = taken.stands; images = taken.images } in
+    let up : TakenUp rom old a = record { none = taken.begun.0; rom_is = taken.begun.2; honest = taken.answered.honest.1; rests = taken.rests; stood = taken.stands; images = taken.images } in
     subst (λ d. old.honest → (g.D.SectorDevice.disk d).honest) (sym c.into_device-in-Err-stream_on.ensures.device) (stopped_honest rom old a b before_in since_in before since up c.in-Err-stream_on.why c.in-Err-stream_on.ensures.stopped)

@@ -184,7 +184,7 @@ returns-in-Err-made-clause-faults_ok c =
     if_ok c.ended_by-in-Err-made.result c.ended_by-in-Err-made.ensures.ended
     (λ r is.
     let moved : r.0.faults ≡ (device_of now).faults = ap (λ (d : MemoryDevice). d.faults) (is.0 ∙ c.into_device-device.ensures.device) in
-    omega (arith, grown, moved, c.in-Ok.ensures.faults_ok))
+    omega (arith, grown, moved, c.in-Ok.ensures.answered.faults_ok))
 
 pub returns-in-Err-made-clause-faults : goal.returns-in-Err-made-clause-faults
 returns-in-Err-made-clause-faults c =
@@ -192,7 +192,7 @@ returns-in-Err-made-clause-faults c =
     let now = c.make_moves-made.new.session in
     let first = c.args.device.faults in
     let counted : CountsLifeFaults first (device_of now).faults c.in-Err-made.why =
-    counts_refusal c.in-Err-made.why first (device_of s).faults (device_of now).faults (omega (arith, c.in-Ok.ensures.faults_ok)) (device_of s).faults_fit c.in-Err-made.ensures.faults in
+    counts_refusal c.in-Err-made.why first (device_of s).faults (device_of now).faults (omega (arith, c.in-Ok.ensures.answered.faults_ok)) (device_of s).faults_fit c.in-Err-made.ensures.faults in
     if_err c.ended_by-in-Err-made.result c.ended_by-in-Err-made.ensures.refused
     (λ r is.
     let moved : r.device.faults ≡ (device_of now).faults = ap (λ (d : MemoryDevice). d.faults) (is.0 ∙ c.into_device-device.ensures.device) in

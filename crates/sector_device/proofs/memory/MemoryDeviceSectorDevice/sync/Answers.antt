@@ -1,4 +1,4 @@
-use Rattle.std.proofs.Common.{subst, sym, ap, ◌∙◌, Ok, Err}
+use Rattle.std.proofs.Common.{subst, sym, ap, ◌∙◌, Ok, Err, rules}
 use Rattle.sector_device.specs.DiskState.{HasSynced}
 use Rattle.sector_device.specs.Memory.{MemoryState, memory_disk, passes, counted}
 use Rattle.sector_device.specs.MemoryDevice.{memory}
@@ -8,12 +8,16 @@ use Rattle.sector_device.specs.declared.device.DeviceFault.TheVariants.{Device}
 use Rattle.sector_device.proofs.Calls.{sync_meets, same_count, start_of_done}
 use Rattle.sector_device.proofs.memory.MemoryDeviceSectorDevice.sync.Goals as goal
 
-pub returns-then-sync_all-clause-count : goal.returns-then-sync_all-clause-count
-returns-then-sync_all-clause-count c =
+pub returns-then-sync_all-clause-called : goal.returns-then-sync_all-clause-called
+returns-then-sync_all-clause-called c =
     let old = c.args.self.now in
     let new = c.sync_all.new.self in
-    same_count old.at_start.items new.at_start.items old.recorded.items new.recorded.items old.start_sized new.start_sized old.recordable new.recordable
-    (ap (λ (m : MemoryState). m.at_start) c.sync_all.ensures.state ∙ start_of_done (passes (memory old)) (Sync (passes (memory old))) (counted (memory old)))
+    record {
+      count = same_count old.at_start.items new.at_start.items old.recorded.items new.recorded.items old.start_sized new.start_sized old.recordable new.recordable
+          (ap (λ (m : MemoryState). m.at_start) c.sync_all.ensures.state ∙ start_of_done (passes (memory old)) (Sync (passes (memory old))) (counted (memory old)));
+      honest = search rules;
+      faults = search rules;
+    }
 
 pub returns-then-sync_all-clause-synced : goal.returns-then-sync_all-clause-synced
 returns-then-sync_all-clause-synced c = λ _.
@@ -21,12 +25,16 @@ returns-then-sync_all-clause-synced c = λ _.
     subst (λ (m : MemoryState). HasSynced {E = DeviceFault} (memory_disk old) (memory_disk m) (Ok tt)) (sym c.sync_all.ensures.state)
     (sync_meets old (Ok tt) (sym c.if-sync_all.true ∙ c.sync_all.ensures.passes))
 
-pub returns-else-sync_all-clause-count : goal.returns-else-sync_all-clause-count
-returns-else-sync_all-clause-count c =
+pub returns-else-sync_all-clause-called : goal.returns-else-sync_all-clause-called
+returns-else-sync_all-clause-called c =
     let old = c.args.self.now in
     let new = c.sync_all.new.self in
-    same_count old.at_start.items new.at_start.items old.recorded.items new.recorded.items old.start_sized new.start_sized old.recordable new.recordable
-    (ap (λ (m : MemoryState). m.at_start) c.sync_all.ensures.state ∙ start_of_done (passes (memory old)) (Sync (passes (memory old))) (counted (memory old)))
+    record {
+      count = same_count old.at_start.items new.at_start.items old.recorded.items new.recorded.items old.start_sized new.start_sized old.recordable new.recordable
+          (ap (λ (m : MemoryState). m.at_start) c.sync_all.ensures.state ∙ start_of_done (passes (memory old)) (Sync (passes (memory old))) (counted (memory old)));
+      honest = search rules;
+      faults = search rules;
+    }
 
 pub returns-else-sync_all-clause-synced : goal.returns-else-sync_all-clause-synced
 returns-else-sync_all-clause-synced c = λ _.

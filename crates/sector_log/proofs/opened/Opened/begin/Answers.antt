@@ -1,4 +1,4 @@
-use Rattle.std.proofs.Common.{◌≡◌, Some, sym, ap, ◌∙◌, subst}
+use Rattle.std.proofs.Common.{rules, ◌≡◌, Some, sym, ap, ◌∙◌, subst}
 use Rattle.sector_device.specs.Runs.{HoldsSince}
 use Rattle.sector_log.specs.Content.{last_generation, chosen, version_of}
 use Rattle.sector_log.specs.Calls.{HasOldOrNewContent, HasBegun}
@@ -11,36 +11,41 @@ returns-in-Ok-clause-images g c = λ honest.
     let found = c.args.self.found honest in
     let was = c.last_generation-last.ensures ∙ ap last_generation (sym found.chosen_is) in
     subst (λ d. HoldsSince (g.D.SectorDevice.disk c.args.self.device) (g.D.SectorDevice.disk d) (HasOldOrNewContent (g.D.SectorDevice.disk c.args.self.device).sectors c.args.id c.args.base c.args.blob.now)) (sym c.at.ensures.device)
-    (since_old_or_new (g.D.SectorDevice.disk c.args.self.device) c.args.id c.args.base c.args.blob.now (g.met.D.SectorDevice.only_now c.args.self.device) found.settled (g.D.SectorDevice.disk c.follow.new.device) (c.follow.ensures.moments honest found.settled was) (c.follow.ensures.past honest found.settled))
+    (since_old_or_new (g.D.SectorDevice.disk c.args.self.device) c.args.id c.args.base c.args.blob.now (g.met.D.SectorDevice.only_now c.args.self.device) found.settled (g.D.SectorDevice.disk c.begin_generation.new.device) (c.begin_generation.ensures.moments honest found.settled was) (c.begin_generation.ensures.past honest found.settled))
 
 pub returns-clause-images : goal.returns-clause-images
 returns-clause-images g c = λ honest.
     let found = c.args.self.found honest in
     let was = c.last_generation-last.ensures ∙ ap last_generation (sym found.chosen_is) in
-    since_old_or_new (g.D.SectorDevice.disk c.args.self.device) c.args.id c.args.base c.args.blob.now (g.met.D.SectorDevice.only_now c.args.self.device) found.settled (g.D.SectorDevice.disk c.follow.new.device) (c.follow.ensures.moments honest found.settled was) (c.follow.ensures.past honest found.settled)
+    since_old_or_new (g.D.SectorDevice.disk c.args.self.device) c.args.id c.args.base c.args.blob.now (g.met.D.SectorDevice.only_now c.args.self.device) found.settled (g.D.SectorDevice.disk c.begin_generation.new.device) (c.begin_generation.ensures.moments honest found.settled was) (c.begin_generation.ensures.past honest found.settled)
 
 pub returns-in-Some-clause-images : goal.returns-in-Some-clause-images
 returns-in-Some-clause-images g c = λ honest.
     let found = c.args.self.found honest in
     since_nothing (g.D.SectorDevice.disk c.args.self.device) c.args.id c.args.base c.args.blob.now (g.met.D.SectorDevice.only_now c.args.self.device) found.settled
 
-pub returns-in-Ok-clause-begun : goal.returns-in-Ok-clause-begun
-returns-in-Ok-clause-begun g c = λ honest.
-    let found = c.args.self.found honest in
-    let was = c.last_generation-last.ensures ∙ ap last_generation (sym found.chosen_is) in
-    subst (λ d. HasBegun (g.D.SectorDevice.disk c.args.self.device) (g.D.SectorDevice.disk d) c.args.id c.args.base c.args.blob.now) (sym c.at.ensures.device)
-    (c.in-Ok.ensures.begun honest found.settled was)
-
 pub at-requires-clause-stored : goal.at-requires-clause-stored
 at-requires-clause-stored g c = λ honest_now.
-    let honest = c.follow.ensures.honest.0 honest_now in
+    let honest = c.begin_generation.ensures.called.honest.0 honest_now in
     let found = c.args.self.found honest in
     let was = c.last_generation-last.ensures ∙ ap last_generation (sym found.chosen_is) in
     c.in-Ok.ensures.stored honest found.settled was
 
-pub returns-in-Ok-clause-version : goal.returns-in-Ok-clause-version
-returns-in-Ok-clause-version g c = λ honest.
-    let found = c.args.self.found honest in
-    let was = c.last_generation-last.ensures ∙ ap last_generation (sym found.chosen_is) in
-    let now = c.in-Ok.ensures.stored honest found.settled was in
-    subst (λ d. version_of (chosen (g.D.SectorDevice.disk d).sectors) ≡ Some Two) (sym c.at.ensures.device) (ap version_of now.chosen_is ∙ ap Some now.version_is)
+pub returns-in-Ok-clause-begun : goal.returns-in-Ok-clause-begun
+returns-in-Ok-clause-begun g c = record {
+  could = search rules;
+  begun = λ honest.
+      let found = c.args.self.found honest in
+      let was = c.last_generation-last.ensures ∙ ap last_generation (sym found.chosen_is) in
+      subst (λ d. HasBegun (g.D.SectorDevice.disk c.args.self.device) (g.D.SectorDevice.disk d) c.args.id c.args.base c.args.blob.now) (sym c.at.ensures.device)
+      (c.in-Ok.ensures.begun honest found.settled was);
+  version_is = λ honest.
+      let found = c.args.self.found honest in
+      let was = c.last_generation-last.ensures ∙ ap last_generation (sym found.chosen_is) in
+      let now = c.in-Ok.ensures.stored honest found.settled was in
+      subst (λ d. version_of (chosen (g.D.SectorDevice.disk d).sectors) ≡ Some Two) (sym c.at.ensures.device) (ap version_of now.chosen_is ∙ ap Some now.version_is);
+  generation_is = search rules;
+  id_is = search rules;
+  unbroken = search rules;
+  empty = search rules;
+}

@@ -20,7 +20,7 @@ pub returns-then-self-clause-reads : goal.returns-then-self-clause-reads
 unfolding seen
 returns-then-self-clause-reads g c = λ honest.
     let self = c.args.self.now in
-    returns-then-self-clause-seen g c ∙ found_with_is (g.D.SectorDevice.disk self.device) self.root self.short self.log.items (self.found honest)
+    returns-then-self-clause-seen g c ∙ found_with_is (g.D.SectorDevice.disk self.device) self.root self.too_small self.log.items (self.found honest)
 
 pub returns-then-counted-root-clause-seen : goal.returns-then-counted-root-clause-seen
 unfolding seen
@@ -37,7 +37,7 @@ pub returns-then-counted-root-clause-reads : goal.returns-then-counted-root-clau
 unfolding seen
 returns-then-counted-root-clause-reads g c = λ honest.
     let self = c.args.self.now in
-    returns-then-counted-root-clause-seen g c ∙ found_with_is (g.D.SectorDevice.disk self.device) self.root self.short self.log.items (self.found honest)
+    returns-then-counted-root-clause-seen g c ∙ found_with_is (g.D.SectorDevice.disk self.device) self.root self.too_small self.log.items (self.found honest)
 
 pub returns-clause-seen : goal.returns-clause-seen
 unfolding seen
@@ -55,14 +55,14 @@ pub returns-clause-reads : goal.returns-clause-reads
 unfolding seen
 returns-clause-reads g c = λ honest.
     let self = c.args.self.now in
-    returns-clause-seen g c ∙ found_with_is (g.D.SectorDevice.disk self.device) self.root self.short self.log.items (self.found honest)
+    returns-clause-seen g c ∙ found_with_is (g.D.SectorDevice.disk self.device) self.root self.too_small self.log.items (self.found honest)
 
 pub returns-in_default-clause-seen : goal.returns-in_default-clause-seen
 unfolding seen
-returns-in_default-clause-seen g c = ap (λ (r : Option Root). found_with r c.args.self.now.short c.args.self.now.log.items) (sym c.in_default.is)
+returns-in_default-clause-seen g c = ap (λ (r : Option Root). found_with r c.args.self.now.too_small c.args.self.now.log.items) (sym c.in_default.is)
 
 pub returns-in_default-clause-reads : goal.returns-in_default-clause-reads
 unfolding seen
 returns-in_default-clause-reads g c = λ honest.
     let self = c.args.self.now in
-    returns-in_default-clause-seen g c ∙ found_with_is (g.D.SectorDevice.disk self.device) self.root self.short self.log.items (self.found honest)
+    returns-in_default-clause-seen g c ∙ found_with_is (g.D.SectorDevice.disk self.device) self.root self.too_small self.log.items (self.found honest)

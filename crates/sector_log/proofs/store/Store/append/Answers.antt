@@ -10,15 +10,61 @@ use Rattle.sector_log.proofs.Grown.{length-grown}
 use Rattle.sector_log.proofs.store.Store.append.Goals as goal
 
 pub returns-then-is_empty-clause-appended : goal.returns-then-is_empty-clause-appended
-returns-then-is_empty-clause-appended g c = λ honest.
-    let self = c.args.self.now in
-    let none : length c.args.more.now ≡ 0 = grind (arith, nat_tests) in
-    nothing_added (g.D.SectorDevice.disk self.device) self.start self.root self.log.items c.args.more.now (self.stored c.if-self.false honest) self.kept none
+returns-then-is_empty-clause-appended g c = record {
+  was_unbroken = c.if-self.false;
+  did_fit = sym c.fits.ensures ∙ c.if-not-fits.false;
+  appended = λ honest.
+      let self = c.args.self.now in
+      let none : length c.args.more.now ≡ 0 = grind (arith, nat_tests) in
+      nothing_added (g.D.SectorDevice.disk self.device) self.start self.root self.log.items c.args.more.now (self.stored c.if-self.false honest) self.kept none;
+  entries_are =
+      let none : length c.args.more.now ≡ 0 = grind (arith, nat_tests) in
+      nothing_grown c.args.self.now.log.items c.args.more.now none;
+  reads = λ honest.
+      let self = c.args.self.now in
+      log_stored (g.D.SectorDevice.disk self.device) self.start self.root self.log.items (self.stored c.if-self.false honest) self.kept;
+}
 
-pub returns-then-is_empty-clause-entries : goal.returns-then-is_empty-clause-entries
-returns-then-is_empty-clause-entries g c =
-    let none : length c.args.more.now ≡ 0 = grind (arith, nat_tests) in
-    nothing_grown c.args.self.now.log.items c.args.more.now none
+pub returns-clause-appended : goal.returns-clause-appended
+returns-clause-appended g c = record {
+  was_unbroken = c.if-self.false;
+  did_fit = sym c.fits.ensures ∙ c.if-not-fits.false;
+  appended = λ honest.
+      let self = c.args.self.now in
+      let means = fits_means self.log.items c.args.more.now (sym c.fits.ensures ∙ c.if-not-fits.false) in
+      let rests = self.stored c.if-self.false honest in
+      let all : c.deref.result.now ≡ grown self.log.items c.args.more.now = c.deref.ensures.value ∙ c.add_inputs.ensures.items in
+      let held = c.write_log.ensures.moments honest rests.settled in
+      let size : c.len.result ≡ length self.log.items = search rules in
+      let now : c.len-2.result ≡ length c.add_inputs.new.log.items = search rules in
+      let first : c.len.result / 84 ≡ length self.log.items / 84 = ap (λ n. n / 84) size in
+      let end : (c.len-2.result + 83) / 84 ≡ (length (grown self.log.items c.args.more.now) + 83) / 84 = ap (λ n. (n + 83) / 84) (now ∙ ap length c.add_inputs.ensures.items) in
+      let synced = c.in_ok-sync_once.ensures.synced held.honest in
+      added (g.D.SectorDevice.disk self.device) self.start self.root self.log.items c.deref.result.now c.args.more.now rests self.kept c.add_inputs.ensures.five c.requires means.1 means.0 all
+      ((c.len-2.result + 83) / 84) end (g.D.SectorDevice.disk c.write_log.new.device) (g.D.SectorDevice.disk c.sync_once.new.device) synced.settled synced.sectors
+      (c.in_ok-write_log.ensures.written honest rests.settled
+      (front (g.D.SectorDevice.disk self.device) self.start self.root self.log.items c.deref.result.now c.args.more.now rests self.kept c.add_inputs.ensures.five c.requires means.1 means.0 all (c.len.result / 84) first));
+  entries_are = c.add_inputs.ensures.items;
+  reads = λ honest.
+      let self = c.args.self.now in
+      let means = fits_means self.log.items c.args.more.now (sym c.fits.ensures ∙ c.if-not-fits.false) in
+      let rests = self.stored c.if-self.false honest in
+      let all : c.deref.result.now ≡ grown self.log.items c.args.more.now = c.deref.ensures.value ∙ c.add_inputs.ensures.items in
+      let held = c.write_log.ensures.moments honest rests.settled in
+      let size : c.len.result ≡ length self.log.items = search rules in
+      let now : c.len-2.result ≡ length c.add_inputs.new.log.items = search rules in
+      let first : c.len.result / 84 ≡ length self.log.items / 84 = ap (λ n. n / 84) size in
+      let end : (c.len-2.result + 83) / 84 ≡ (length (grown self.log.items c.args.more.now) + 83) / 84 = ap (λ n. (n + 83) / 84) (now ∙ ap length c.add_inputs.ensures.items) in
+      let synced = c.in_ok-sync_once.ensures.synced held.honest in
+      let kept = kept_after self.log.items c.deref.result.now c.args.more.now self.kept c.add_inputs.ensures.five c.requires means.1 means.0 all in
+      log_stored (g.D.SectorDevice.disk c.sync_once.new.device) self.start self.root c.deref.result.now
+      (rests_again (g.D.SectorDevice.disk self.device) self.start self.root self.log.items c.deref.result.now c.args.more.now rests self.kept c.add_inputs.ensures.five c.requires means.1 means.0 all
+      ((c.len-2.result + 83) / 84) end (g.D.SectorDevice.disk c.write_log.new.device) (g.D.SectorDevice.disk c.sync_once.new.device) synced.settled synced.sectors
+      (c.in_ok-write_log.ensures.written honest rests.settled
+      (front (g.D.SectorDevice.disk self.device) self.start self.root self.log.items c.deref.result.now c.args.more.now rests self.kept c.add_inputs.ensures.five c.requires means.1 means.0 all (c.len.result / 84) first)))
+      kept
+      ∙ c.deref.ensures.value;
+}
 
 pub add_inputs-requires-clause-room : goal.add_inputs-requires-clause-room
 add_inputs-requires-clause-room g c =
@@ -40,7 +86,7 @@ overflow_cast-self g c =
 pub overflow_add-self : goal.overflow_add-self
 overflow_add-self g c =
     let means = fits_means c.args.self.now.log.items c.args.more.now (sym c.fits.ensures ∙ c.if-not-fits.false) in
-    let few : c.args.self.now.given + length c.args.more.now ≤ 216000 = omega (arith, means.1, c.args.self.now.count) in
+    let few : c.args.self.now.input_count + length c.args.more.now ≤ 216000 = omega (arith, means.1, c.args.self.now.count) in
     omega (arith, few)
 
 pub overflow_cast-end : goal.overflow_cast-end
@@ -96,23 +142,6 @@ returns-clause-images g c = λ open_before honest.
     since_prefix (g.D.SectorDevice.disk self.device) self.start self.root self.log.items c.deref.result.now c.args.more.now rests self.kept c.add_inputs.ensures.five c.requires means.1 means.0 all
     (g.met.D.SectorDevice.only_now self.device) (g.D.SectorDevice.disk c.sync_once.new.device) (has_synced held (c.sync_once.ensures.synced held.honest))
 
-pub returns-clause-appended : goal.returns-clause-appended
-returns-clause-appended g c = λ honest.
-    let self = c.args.self.now in
-    let means = fits_means self.log.items c.args.more.now (sym c.fits.ensures ∙ c.if-not-fits.false) in
-    let rests = self.stored c.if-self.false honest in
-    let all : c.deref.result.now ≡ grown self.log.items c.args.more.now = c.deref.ensures.value ∙ c.add_inputs.ensures.items in
-    let held = c.write_log.ensures.moments honest rests.settled in
-    let size : c.len.result ≡ length self.log.items = search rules in
-    let now : c.len-2.result ≡ length c.add_inputs.new.log.items = search rules in
-    let first : c.len.result / 84 ≡ length self.log.items / 84 = ap (λ n. n / 84) size in
-    let end : (c.len-2.result + 83) / 84 ≡ (length (grown self.log.items c.args.more.now) + 83) / 84 = ap (λ n. (n + 83) / 84) (now ∙ ap length c.add_inputs.ensures.items) in
-    let synced = c.in_ok-sync_once.ensures.synced held.honest in
-    added (g.D.SectorDevice.disk self.device) self.start self.root self.log.items c.deref.result.now c.args.more.now rests self.kept c.add_inputs.ensures.five c.requires means.1 means.0 all
-    ((c.len-2.result + 83) / 84) end (g.D.SectorDevice.disk c.write_log.new.device) (g.D.SectorDevice.disk c.sync_once.new.device) synced.settled synced.sectors
-    (c.in_ok-write_log.ensures.written honest rests.settled
-    (front (g.D.SectorDevice.disk self.device) self.start self.root self.log.items c.deref.result.now c.args.more.now rests self.kept c.add_inputs.ensures.five c.requires means.1 means.0 all (c.len.result / 84) first))
-
 pub invariant_of-self : goal.invariant_of-self
 invariant_of-self g c =
     let self = c.args.self.now in
@@ -154,7 +183,7 @@ invariant_of-self-2-clause-count g c =
 pub invariant_of-self-2-clause-stored : goal.invariant_of-self-2-clause-stored
 invariant_of-self-2-clause-stored g c = λ open_now honest_now.
     let self = c.args.self.now in
-    let honest = c.write_log.ensures.honest.0 (c.sync_once.ensures.honest.0 honest_now) in
+    let honest = c.write_log.ensures.called.honest.0 (c.sync_once.ensures.called.honest.0 honest_now) in
     let means = fits_means self.log.items c.args.more.now (sym c.fits.ensures ∙ c.if-not-fits.false) in
     let rests = self.stored c.if-self.false honest in
     let all : c.deref.result.now ≡ grown self.log.items c.args.more.now = c.deref.ensures.value ∙ c.add_inputs.ensures.items in
@@ -179,32 +208,6 @@ pub returns-then-not-fits-clause-images : goal.returns-then-not-fits-clause-imag
 returns-then-not-fits-clause-images g c = λ open_before honest.
     let self = c.args.self.now in
     since_nothing_appended (g.D.SectorDevice.disk self.device) self.start self.root self.log.items c.args.more.now (self.stored open_before honest) self.kept (g.met.D.SectorDevice.only_now self.device)
-
-pub returns-then-is_empty-clause-reads : goal.returns-then-is_empty-clause-reads
-returns-then-is_empty-clause-reads g c = λ honest.
-    let self = c.args.self.now in
-    log_stored (g.D.SectorDevice.disk self.device) self.start self.root self.log.items (self.stored c.if-self.false honest) self.kept
-
-pub returns-clause-reads : goal.returns-clause-reads
-returns-clause-reads g c = λ honest.
-    let self = c.args.self.now in
-    let means = fits_means self.log.items c.args.more.now (sym c.fits.ensures ∙ c.if-not-fits.false) in
-    let rests = self.stored c.if-self.false honest in
-    let all : c.deref.result.now ≡ grown self.log.items c.args.more.now = c.deref.ensures.value ∙ c.add_inputs.ensures.items in
-    let held = c.write_log.ensures.moments honest rests.settled in
-    let size : c.len.result ≡ length self.log.items = search rules in
-    let now : c.len-2.result ≡ length c.add_inputs.new.log.items = search rules in
-    let first : c.len.result / 84 ≡ length self.log.items / 84 = ap (λ n. n / 84) size in
-    let end : (c.len-2.result + 83) / 84 ≡ (length (grown self.log.items c.args.more.now) + 83) / 84 = ap (λ n. (n + 83) / 84) (now ∙ ap length c.add_inputs.ensures.items) in
-    let synced = c.in_ok-sync_once.ensures.synced held.honest in
-    let kept = kept_after self.log.items c.deref.result.now c.args.more.now self.kept c.add_inputs.ensures.five c.requires means.1 means.0 all in
-    log_stored (g.D.SectorDevice.disk c.sync_once.new.device) self.start self.root c.deref.result.now
-    (rests_again (g.D.SectorDevice.disk self.device) self.start self.root self.log.items c.deref.result.now c.args.more.now rests self.kept c.add_inputs.ensures.five c.requires means.1 means.0 all
-    ((c.len-2.result + 83) / 84) end (g.D.SectorDevice.disk c.write_log.new.device) (g.D.SectorDevice.disk c.sync_once.new.device) synced.settled synced.sectors
-    (c.in_ok-write_log.ensures.written honest rests.settled
-    (front (g.D.SectorDevice.disk self.device) self.start self.root self.log.items c.deref.result.now c.args.more.now rests self.kept c.add_inputs.ensures.five c.requires means.1 means.0 all (c.len.result / 84) first)))
-    kept
-    ∙ c.deref.ensures.value
 
 pub returns-in_err-write_log-clause-writes : goal.returns-in_err-write_log-clause-writes
 returns-in_err-write_log-clause-writes g c = λ open_before honest.

@@ -54,13 +54,13 @@ invariant_of-self-in-Ok-clause-large g c =
     let kept : self.text.len ≡ length self.text.items = search rules in
     let same = buffer_length c.write_pending.new.buffer (drop (length c.write_pending.new.buffer) self.text.items) self.text.len long ∙ kept in
     subst (λ (n : ℕ). need n ≤ length (g.D.SectorDevice.disk (device_of_store c.write_pending.new.store)).sectors) (sym same)
-    (subst (λ (n : ℕ). need (length self.text.items) ≤ n) (sym c.in-Ok.ensures.count) self.large)
+    (subst (λ (n : ℕ). need (length self.text.items) ≤ n) (sym c.in-Ok.ensures.answered.count) self.large)
 
 pub invariant_of-self-in-Ok-clause-rests : goal.invariant_of-self-in-Ok-clause-rests
 invariant_of-self-in-Ok-clause-rests g c = λ whole_now honest_now.
     let self = c.args.self.now in
     let size : c.len.result ≡ length self.pending.items = search rules in
-    let honest = c.in-Ok.ensures.honest.0 honest_now in
+    let honest = c.in-Ok.ensures.answered.honest.0 honest_now in
     rests_after (g.D.SectorDevice.disk (device_of_store self.store)) (entries_of self.store) self.acknowledged self.pending.items self.machine (self.rests (sym c.is_broken.ensures ∙ c.if-is_broken.false) honest) self.counted
     (fits (entries_of self.store)) (g.D.SectorDevice.disk (device_of_store c.write_pending.new.store)) (id_of self.store) c.deref.result.now (self.acknowledged + c.len.result) c.deref.ensures.value (ap (λ (n : ℕ). self.acknowledged + n) size) self.id
     (entries_of c.write_pending.new.store) c.clear.new.self.items c.clear.ensures.items (λ e. machine_of_rom self.machine.processor.memory.banks.rom self.machine refl self.own (c.in-Ok.ensures.legal e)) (c.in-Ok.ensures.written honest)
@@ -79,12 +79,12 @@ invariant_of-self-in-Err-1 g c =
       room = same ∙ self.room;
       short = subst (λ (n : ℕ). n < 2 ^ 32) (sym same) self.short;
       large = subst (λ (n : ℕ). need n ≤ length (g.D.SectorDevice.disk (device_of_store c.write_pending.new.store)).sectors) (sym same)
-          (subst (λ (n : ℕ). need (length self.text.items) ≤ n) (sym c.write_pending.ensures.count) self.large);
+          (subst (λ (n : ℕ). need (length self.text.items) ≤ n) (sym c.write_pending.ensures.answered.count) self.large);
       id = c.write_pending.ensures.id ∙ self.id;
       own = self.own;
       rests = λ whole_now honest_now.
           let whole : is_broken_store self.store ≡ false = sym c.is_broken.ensures ∙ c.if-is_broken.false in
-          let honest = c.write_pending.ensures.honest.0 honest_now in
+          let honest = c.write_pending.ensures.answered.honest.0 honest_now in
           ⊎_elim
           (λ (device : c.in-Err.why ≡ Device). let broke : is_broken_store c.write_pending.new.store ≡ true = c.in-Err.ensures.broken.1 (ap Err device) in absurd (cc))
           (λ stays. subst (λ s. Rests (g.D.SectorDevice.disk (device_of_store s)) (entries_of s) self.acknowledged self.pending.items self.machine) (sym stays) (self.rests whole honest))
@@ -134,7 +134,7 @@ returns-in-Err-clause-worn g c = λ worn honest_now.
     ⊎_elim
     (λ (device : c.in-Err.why ≡ Device). absurd (cc))
     (λ same.
-    let honest = c.write_pending.ensures.honest.0 honest_now in
+    let honest = c.write_pending.ensures.answered.honest.0 honest_now in
     let cause = subst (λ (why : SessionError). IsSaveCause why false (fits (entries_of self.store) c.deref.result.now) (generation_of self.store)) worn c.in-Err.ensures.cause in
     let there = self.store.stored whole honest in
     subst (λ s. generation_in (g.D.SectorDevice.disk (device_of_store s)).sectors ≡ 2 ^ 64 - 1) (sym same) (ap last_generation there.chosen_is ∙ cause.2))

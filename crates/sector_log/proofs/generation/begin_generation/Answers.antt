@@ -3,8 +3,8 @@ use Rattle.sector_log.specs.declared.root.Root.{Root}
 use Rattle.sector_log.specs.Content.{area_length}
 use Rattle.sector_log.specs.Store.{IsNextGeneration, Fits, root_after}
 use Rattle.sector_log.proofs.NewGeneration.{is_next}
-use Rattle.sector_log.proofs.generation.follow.Goals as goal
-use Rattle.sector_log.proofs.generation.follow.Goals.{then-root-eq0, else-root-eq0}
+use Rattle.sector_log.proofs.generation.begin_generation.Goals as goal
+use Rattle.sector_log.proofs.generation.begin_generation.Goals.{then-root-eq0, else-root-eq0}
 
 pub returns-in-Err-clause-moments : goal.returns-in-Err-clause-moments
 returns-in-Err-clause-moments g c = λ honest settled was.
