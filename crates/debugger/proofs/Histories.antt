@@ -5,16 +5,16 @@ use Rattle.std.proofs.lemmas.List.{drop-append-le, drop-drop}
 use Rattle.std.proofs.Math.Nat.{eq-or-lt_of_le}
 use Rattle.std.specs.List.{Contains}
 use Rattle.circular_buffer.specs.Buffer.{Buffer, buffer, keep_last}
-use Rattle.machine.specs.Bus.{bus_rules}
+use Rattle.memory_map.specs.BusRules.{bus_rules}
 use Rattle.machine.specs.Machine.{MachineState}
-use Rattle.machine.specs.Rules.{Rules}
-use Rattle.machine.specs.Steps.{step_of, after_steps}
-use Rattle.machine.specs.declared.processor.Processor.{Processor}
-use Rattle.machine.specs.declared.step.Seen.{Seen}
-use Rattle.machine.specs.declared.step.What.{What}
-use Rattle.machine.specs.declared.step.What.TheVariants.{Dispatch, Wait, Ran}
+use Rattle.sm83_processor.specs.Rules.{Rules}
+use Rattle.sm83_processor.specs.Steps.{step_of, after_steps}
+use Rattle.sm83_processor.specs.declared.processor.Processor.{Processor}
+use Rattle.sm83_processor.specs.declared.step.Seen.{Seen}
+use Rattle.sm83_processor.specs.declared.step.What.{What}
+use Rattle.sm83_processor.specs.declared.step.What.TheVariants.{Dispatch, Wait, Ran}
 use Rattle.memory_map.specs.State.{BusState}
-use Rattle.machine.proofs.Runs.{after_steps-zero, after_steps-add_one}
+use Rattle.sm83_processor.proofs.Runs.{after_steps-zero, after_steps-add_one}
 use Rattle.debugger.specs.Run.{HasRun, pc_after}
 use Rattle.debugger.specs.History.{DebuggerState, HoldsAtMost, after_run, instruction_in, instructions_in}
 

@@ -1,14 +1,14 @@
 -- What a debugger holds: the machine, and the last instructions that it ran, the oldest first.
 use Rattle.std.specs.Prelude.{ℕ, zero, suc, ◌≤◌, List, [], ◌∷◌, ◌++◌, length}
 use Rattle.circular_buffer.specs.Buffer.{keep_last}
-use Rattle.machine.specs.Bus.{bus_rules}
+use Rattle.memory_map.specs.BusRules.{bus_rules}
 use Rattle.machine.specs.Machine.{MachineState}
-use Rattle.machine.specs.Rules.{Rules}
-use Rattle.machine.specs.Steps.{step_of, after_steps}
-use Rattle.machine.specs.declared.processor.Processor.{Processor}
-use Rattle.machine.specs.declared.step.Seen.{Seen}
-use Rattle.machine.specs.declared.step.What.{What}
-use Rattle.machine.specs.declared.step.What.TheVariants.{Dispatch, Wait, Ran}
+use Rattle.sm83_processor.specs.Rules.{Rules}
+use Rattle.sm83_processor.specs.Steps.{step_of, after_steps}
+use Rattle.sm83_processor.specs.declared.processor.Processor.{Processor}
+use Rattle.sm83_processor.specs.declared.step.Seen.{Seen}
+use Rattle.sm83_processor.specs.declared.step.What.{What}
+use Rattle.sm83_processor.specs.declared.step.What.TheVariants.{Dispatch, Wait, Ran}
 
 pub record DebuggerState : Type 0 where
   pub machine : MachineState

@@ -2,9 +2,9 @@
 use Rattle.std.specs.Prelude.{ℕ, List, ◌++◌, ◌%◌, codes, slice_index}
 use Rattle.exact_text.specs.Hex.{byte_text}
 use Rattle.opcode_table.specs.Listing.{list_line}
-use Rattle.machine.specs.declared.step.Seen.{Seen}
-use Rattle.machine.specs.declared.step.What.{What}
-use Rattle.machine.specs.declared.step.What.TheVariants.{Dispatch, Wait, Ran}
+use Rattle.sm83_processor.specs.declared.step.Seen.{Seen}
+use Rattle.sm83_processor.specs.declared.step.What.{What}
+use Rattle.sm83_processor.specs.declared.step.What.TheVariants.{Dispatch, Wait, Ran}
 
 -- an instruction as it was fetched
 abbrev pub line_seen : Seen → List ℕ

@@ -1,8 +1,8 @@
 -- A run up to a break.
 use Rattle.std.specs.Prelude.{◌≡◌, ℕ, ◌<◌, List}
 use Rattle.std.specs.List.{Contains}
-use Rattle.machine.specs.Bus.{bus_rules}
-use Rattle.machine.specs.Steps.{after_steps}
+use Rattle.memory_map.specs.BusRules.{bus_rules}
+use Rattle.sm83_processor.specs.Steps.{after_steps}
 use Rattle.debugger.specs.declared.stop.Stop.{Stop}
 use Rattle.debugger.specs.declared.stop.Stop.TheVariants.{Break, Limit}
 use Rattle.debugger.specs.History.{DebuggerState, after_run}

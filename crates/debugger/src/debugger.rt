@@ -45,9 +45,9 @@ impl Model for Debugger {
 }
 
 impl Debugger {
-    ghost use Rattle.machine.specs.Bus.{bus_rules};
-    ghost use Rattle.machine.specs.Steps.{step_of};
-    ghost use Rattle.machine.specs.Plain.{IsPlain};
+    ghost use Rattle.memory_map.specs.BusRules.{bus_rules};
+    ghost use Rattle.sm83_processor.specs.Steps.{step_of};
+    ghost use Rattle.sm83_processor.specs.Plain.{IsPlain};
     ghost use Rattle.debugger.specs.History.{after_run};
     ghost use Rattle.debugger.specs.Listing.{lines_from};
     ghost use Rattle.debugger.specs.Run.{HasRun, IsStop};

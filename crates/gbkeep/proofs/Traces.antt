@@ -13,9 +13,9 @@ use Rattle.session.specs.Calls.{IsAtRest}
 use Rattle.session.specs.Stands.{Position, stands}
 use Rattle.session.specs.declared.error.SessionError.{SessionError}
 use Rattle.command_line.specs.declared.Request.{Request}
-use Rattle.machine.specs.Rules.{Rules}
-use Rattle.machine.specs.Steps.{step_of, after_steps}
-use Rattle.machine.specs.declared.processor.Processor.{Processor}
+use Rattle.sm83_processor.specs.Rules.{Rules}
+use Rattle.sm83_processor.specs.Steps.{step_of, after_steps}
+use Rattle.sm83_processor.specs.declared.processor.Processor.{Processor}
 use Rattle.debugger.specs.Report.{line_of}
 use Rattle.debugger.proofs.Lines.{IsWrittenBut, none_written}
 use Rattle.gbkeep.specs.declared.error.TraceError.{TraceError}

@@ -2,7 +2,7 @@
 use Rattle.std.specs.Prelude.{ℕ, List, ◌++◌, codes, if◌then◌else◌}
 use Rattle.exact_text.specs.Hex.{byte_text, word_text}
 use Rattle.sm83_alu.specs.Flags.{flags_byte}
-use Rattle.machine.specs.declared.processor.Processor.{Processor}
+use Rattle.sm83_processor.specs.declared.processor.Processor.{Processor}
 
 unfoldable pub register_line : {M : Type 0} → Processor M → List ℕ
 register_line p = let r = p.registers in

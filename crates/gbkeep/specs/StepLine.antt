@@ -3,9 +3,9 @@ use Rattle.std.specs.Prelude.{◌≡◌, ℕ, List, Option, Some}
 use Rattle.std.specs.Io.KnownBytes.{Keeps}
 use Rattle.exact_text.specs.Written.{AppendsProperPrefix}
 use Rattle.cartridge.specs.Accepted.{IsAccepted, refusal_of}
-use Rattle.machine.specs.Bus.{bus_rules}
+use Rattle.memory_map.specs.BusRules.{bus_rules}
 use Rattle.machine.specs.Machine.{start}
-use Rattle.machine.specs.Steps.{after_steps}
+use Rattle.sm83_processor.specs.Steps.{after_steps}
 use Rattle.gbkeep.specs.declared.error.TextError.{TextError}
 use Rattle.gbkeep.specs.declared.error.TextError.TheVariants.{Cart, Memory, Output}
 use Rattle.gbkeep.specs.Line.{register_line}

@@ -4,7 +4,7 @@ ghost use Rattle.std.specs.Prelude.{◌≡◌, IfErr, IfSome, OnErr, OnOk};
 ghost use Rattle.std.specs.Io.KnownBytes.{Appends};
 ghost use Rattle.cartridge.specs.Accepted.{IsAccepted};
 ghost use Rattle.exact_text.specs.Written.{AppendsProperPrefix};
-ghost use Rattle.machine.specs.Bus.{bus_rules};
+ghost use Rattle.memory_map.specs.BusRules.{bus_rules};
 ghost use Rattle.snapshot.specs.Legal.{IsMachineOf};
 ghost use Rattle.sector_device.specs.Runs.{HoldsSince};
 ghost use Rattle.session.specs.Calls.{StandsAsBefore};

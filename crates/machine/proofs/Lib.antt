@@ -1,11 +1,4 @@
-pub mod Examples
 pub mod Frames
 pub mod KeptByInputs
-pub mod Disabling
-pub mod OpcodeLengths
-pub mod Lowest
-pub mod Runs
 pub mod Waiting
-pub mod PlainSteps
-pub mod UsualStates
 pub mod PlainFrames

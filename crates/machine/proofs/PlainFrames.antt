@@ -4,14 +4,14 @@ use Rattle.std.specs.Fn.{iterate}
 use Rattle.memory_map.specs.State.{BusState}
 use Rattle.memory_map.specs.Bus.{read_at}
 use Rattle.memory_map.specs.Ticks.{tick}
-use Rattle.machine.specs.Bus.{bus_rules}
+use Rattle.memory_map.specs.BusRules.{bus_rules}
 use Rattle.machine.specs.Machine.{steps_until}
-use Rattle.machine.specs.Opcodes.{instruction_at, executed_behind, cycles_with}
-use Rattle.machine.specs.Plain.{IsPlain}
-use Rattle.machine.specs.Steps.{passing}
-use Rattle.machine.specs.declared.processor.Processor.{Processor}
-use Rattle.machine.proofs.Frames.{step-bounds}
-use Rattle.machine.proofs.PlainSteps.{one_on, plainly_after, plainly_cycles}
+use Rattle.sm83_processor.specs.Opcodes.{instruction_at, executed_behind, cycles_with}
+use Rattle.sm83_processor.specs.Plain.{IsPlain}
+use Rattle.sm83_processor.specs.Steps.{passing}
+use Rattle.sm83_processor.specs.declared.processor.Processor.{Processor}
+use Rattle.sm83_processor.proofs.StepCycles.{step-bounds}
+use Rattle.sm83_processor.proofs.PlainSteps.{one_on, plainly_after, plainly_cycles}
 use Rattle.machine.proofs.Waiting.{stepped_on}
 
 -- from one processor in a frame to another, further on in the same frame

@@ -11,14 +11,15 @@ use Rattle.memory_map.specs.Joypad.{p1_value}
 use Rattle.memory_map.specs.Bus.{shared, acknowledged, read_at, register_value}
 use Rattle.memory_map.specs.Ticks.{tick, happens}
 use Rattle.memory_map.proofs.QuietTicks.{ComesAfter, bus_settles, shared_before, ticks_keep_p1}
-use Rattle.machine.specs.Rules.{Rules}
-use Rattle.machine.specs.Bus.{bus_rules}
-use Rattle.machine.specs.Execution.{at_pc, pushed, executed}
-use Rattle.machine.specs.Steps.{Step, step_of, passing, waited, lowest_interrupt, vector_of, dispatched, decoded_at, begun, settled, ran, dispatched_or_ran, step_unstopped}
+use Rattle.sm83_processor.specs.Rules.{Rules}
+use Rattle.memory_map.specs.BusRules.{bus_rules}
+use Rattle.sm83_processor.specs.Execution.{at_pc, pushed, executed}
+use Rattle.sm83_processor.specs.Steps.{Step, step_of, passing, waited, lowest_interrupt, vector_of, dispatched, decoded_at, begun, settled, ran, dispatched_or_ran, step_unstopped}
 use Rattle.machine.specs.Machine.{steps_until}
 use Rattle.machine.specs.Waiting.{Waits, within}
-use Rattle.machine.specs.declared.processor.Processor.{Processor}
-use Rattle.machine.proofs.Frames.{step-bounds, ran-bounds, steps_until-step, steps_until-end}
+use Rattle.sm83_processor.specs.declared.processor.Processor.{Processor}
+use Rattle.sm83_processor.proofs.StepCycles.{step-bounds, ran-bounds}
+use Rattle.machine.proofs.Frames.{steps_until-step, steps_until-end}
 
 -- ---- any number of steps that is enough gives the same frame
 

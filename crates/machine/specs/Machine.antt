@@ -6,13 +6,13 @@ use Rattle.cartridge.specs.Header.{stored_checksum_of}
 use Rattle.bank_controllers.specs.CartridgeState.{second}
 use Rattle.memory_map.specs.State.{BusState, bus_at_power_on}
 use Rattle.memory_map.specs.Bus.{buttons_set}
-use Rattle.machine.specs.declared.processor.Processor.{Processor}
-use Rattle.machine.specs.declared.processor.ProcessorState.{ProcessorState}
+use Rattle.sm83_processor.specs.declared.processor.Processor.{Processor}
+use Rattle.sm83_processor.specs.declared.processor.ProcessorState.{ProcessorState}
 use Rattle.machine.specs.declared.input.Input.{Input}
 use Rattle.machine.specs.declared.input.Input.TheVariants.{Frame, Seconds}
-use Rattle.machine.specs.Rules.{Rules}
-use Rattle.machine.specs.Steps.{step_of, after_steps}
-use Rattle.machine.specs.Bus.{bus_rules}
+use Rattle.sm83_processor.specs.Rules.{Rules}
+use Rattle.sm83_processor.specs.Steps.{step_of, after_steps}
+use Rattle.memory_map.specs.BusRules.{bus_rules}
 
 -- the processor with the bus, and the M-cycles by which the last frame was longer than a frame
 pub record MachineState : Type 0 where

@@ -1,9 +1,9 @@
 -- Laws of frames and inputs, which public functions state.
 use Rattle.std.specs.Prelude.{◌≡◌, ℕ, ◌<◌, List, ◌++◌}
 use Rattle.bank_controllers.specs.CartridgeState.{IsSameCartridge}
-use Rattle.machine.specs.declared.processor.Processor.{Processor}
+use Rattle.sm83_processor.specs.declared.processor.Processor.{Processor}
 use Rattle.machine.specs.declared.input.Input.{Input}
-use Rattle.machine.specs.Rules.{Rules}
+use Rattle.sm83_processor.specs.Rules.{Rules}
 use Rattle.machine.specs.Machine.{MachineState, IsFrame, frame_of, after}
 
 -- a frame ends with the first step that completes 17,556 M-cycles, over every memory

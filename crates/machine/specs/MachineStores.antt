@@ -4,25 +4,25 @@ use Rattle.bank_controllers.specs.CartridgeState.{CartridgeState}
 use Rattle.memory_map.specs.Stores as bus
 use Rattle.memory_map.specs.State.{BusState}
 use Rattle.picture_unit.specs.Picture.{Screen}
-use Rattle.machine.specs.declared.machine_registers.MachineRegisters.{MachineRegisters}
+use Rattle.machine.specs.declared.machine_without_memory.MachineWithoutMemory.{MachineWithoutMemory}
 use Rattle.machine.specs.Machine.{MachineState}
 
-abbrev pub registers_of : MachineState → MachineRegisters
-registers_of m = record {
+abbrev pub without_memory : MachineState → MachineWithoutMemory
+without_memory m = record {
   registers = m.processor.registers;
   state = m.processor.state;
   overrun = m.overrun;
-  bus = bus.registers_of m.processor.memory;
+  bus = bus.without_memory m.processor.memory;
 }
 
-abbrev pub with_registers : MachineRegisters → MachineState → MachineState
-with_registers r m = record {
-  processor = record { registers = r.registers; state = r.state; memory = bus.with_registers r.bus m.processor.memory };
+abbrev pub restored : MachineWithoutMemory → MachineState → MachineState
+restored r m = record {
+  processor = record { registers = r.registers; state = r.state; memory = bus.restored r.bus m.processor.memory };
   overrun = r.overrun;
 }
 
 -- which fields are legal for this cartridge
-pub record AreLegalFor (cartridge : CartridgeState) (r : MachineRegisters) : Type 0 where
+pub record AreLegalFor (cartridge : CartridgeState) (r : MachineWithoutMemory) : Type 0 where
   pub overrun : r.overrun < 6
   pub bus : bus.AreLegalFor cartridge r.bus
 

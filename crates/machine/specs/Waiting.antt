@@ -1,9 +1,9 @@
 -- A processor that waits for many M-cycles, for private functions alone.
 use Rattle.std.specs.Prelude.{◌≡◌, ℕ, ◌<◌, min, Option, Some, None}
 use Rattle.memory_map.specs.State.{BusState}
-use Rattle.machine.specs.Bus.{bus_rules}
-use Rattle.machine.specs.Steps.{step_of, passing, waited}
-use Rattle.machine.specs.declared.processor.Processor.{Processor}
+use Rattle.memory_map.specs.BusRules.{bus_rules}
+use Rattle.sm83_processor.specs.Steps.{step_of, passing, waited}
+use Rattle.sm83_processor.specs.declared.processor.Processor.{Processor}
 
 -- each of the next n steps is a wait
 abbrev pub Waits : ℕ → Processor BusState → Type 0

@@ -1,12 +1,6 @@
 //! Laws of the definitions. The functions do nothing: the contract of each is a law.
 
-ghost use Rattle.machine.specs.Steps.{DispatchesLowest};
 ghost use Rattle.machine.specs.MachineLaws.{FrameIsLeast, InputsAddUp, CartridgeStays};
-
-/// Of the interrupts that IE and IF share, the lowest is dispatched.
-pub fn dispatch_takes_the_lowest_bit()
-    ensures { DispatchesLowest }
-{}
 
 /// A frame ends with the first step that completes its 17,556 M-cycles, over every memory.
 pub fn frame_ends_with_the_first_step_that_completes_it<M>()

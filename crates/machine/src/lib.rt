@@ -1,30 +1,17 @@
-//! The Game Boy: the processor, the SM83, over any memory, and the whole machine over the bus.
+//! The whole Game Boy: the processor over the bus, its frames and its inputs.
 //!
-//! A step is a wait, the dispatch of an interrupt or one instruction. What it should do is defined
-//! in `specs/Steps.antt` and `specs/Execution.antt`; `Processor::step` is proved to do exactly that
-//! over every memory that meets the trait `Memory`, and `Machine` is the processor over the bus.
+//! What it should do is defined in `specs/Machine.antt`, over the step of the processor
+//! (`sm83_processor/specs/Steps.antt`) and the rules of the bus (`memory_map/specs/BusRules.antt`).
 #![tactic(auto)]
 
-mod bus_memory;
 mod frame;
 pub mod input;
-mod instructions;
 pub mod laws;
-mod lengths;
 pub mod machine;
-pub mod machine_registers;
-pub mod memory;
-mod opcodes;
-pub mod processor;
-mod registers;
-mod registers16;
-mod run;
-pub mod step;
+pub mod machine_without_memory;
 
 pub use input::Input;
 pub use machine::Machine;
-pub use machine_registers::MachineRegisters;
-pub use memory::Memory;
-pub use memory_map::{BusRegisters, Region};
-pub use processor::{Processor, ProcessorState};
-pub use step::{Seen, Stepped, What};
+pub use machine_without_memory::MachineWithoutMemory;
+pub use memory_map::{BusWithoutMemory, Region};
+pub use sm83_processor::{Memory, Processor, ProcessorState, Seen, Stepped, What};

@@ -1,15 +1,19 @@
 //! The whole machine.
 
 ghost use Rattle.std.specs.Prelude.{◌≡◌, ◌<◌, ◌≤◌, IfOk, length, All, slice_set, true};
+ghost use Rattle.memory_map.specs.BusRules.{bus_rules};
+ghost use Rattle.sm83_processor.specs.Steps.{step_of, after_steps};
+ghost use Rattle.sm83_processor.specs.Plain.{IsPlain};
+ghost use Rattle.sm83_processor.specs.declared.step.What.{What};
 
+use crate::frame::run_frame;
 use crate::input::Input;
-use crate::machine_registers::MachineRegisters;
-use crate::processor::{Processor, ProcessorState};
-use crate::step::{Seen, Stepped};
+use crate::machine_without_memory::MachineWithoutMemory;
 use cartridge::Cartridge;
 use memory_map::{Bus, Region};
 use picture_unit::Picture;
 use sm83_alu::{Flags, Registers};
+use sm83_processor::{Processor, ProcessorState, REPORTED, Seen, Stepped, length_of_opcode};
 use std::alloc::{AllocError, Global};
 use std::marker::Model;
 
@@ -72,15 +76,28 @@ fn state_at_power_on() -> ProcessorState
 
 ghost use Rattle.machine.specs.Machine.{registers_at_power_on, state_at_power_on};
 
+/// A step that is plain: puts the instruction that ran into `ran`, before it runs, and says whether
+/// the next step is plain.
+#[inline(always)]
+fn run_and_report(processor: &mut Processor<Bus>, ran: &mut Seen) -> bool
+    requires { IsPlain bus_rules processor.old }
+    ensures after { processor.new ≡ (step_of bus_rules processor.old).after }
+    ensures what { (step_of bus_rules processor.old).stepped.what ≡ What.Ran ran.new }
+    ensures plain { result ≡ true → IsPlain bus_rules processor.new }
+{
+    let pc = processor.registers.pc;
+    ran.pc = pc;
+    processor.memory.read_three(pc, &mut ran.bytes);
+    let opcode = ran.bytes[0];
+    ran.length = length_of_opcode(opcode);
+    processor.run_plain_opcode::<REPORTED>(opcode).1
+}
+
 impl Machine {
     ghost use Rattle.memory_map.specs.Bus.{peeked};
     ghost use Rattle.memory_map.specs.Stores.{region_of, region_filled, FitsRegion};
-    ghost use Rattle.machine.specs.Bus.{bus_rules};
-    ghost use Rattle.machine.specs.Steps.{step_of, after_steps};
     ghost use Rattle.machine.specs.Machine.{start, frame_played, applied};
-    ghost use Rattle.machine.specs.Plain.{IsPlain};
-    ghost use Rattle.machine.specs.declared.step.What.{What};
-    ghost use Rattle.machine.specs.MachineStores.{registers_of, with_registers, row_set, AreLegalFor};
+    ghost use Rattle.machine.specs.MachineStores.{without_memory, restored, row_set, AreLegalFor};
 
     /// The machine at power-on with this cartridge. Refused if there is no memory.
     pub fn power_on(alloc: Global, cartridge: &Cartridge) -> Result<Machine, AllocError>
@@ -124,7 +141,7 @@ impl Machine {
         ensures what { (step_of bus_rules self.old.processor).stepped.what ≡ What.Ran ran.new }
         ensures plain { result ≡ true → IsPlain bus_rules self.new.processor }
     {
-        self.processor.run_and_report(ran)
+        run_and_report(&mut self.processor, ran)
     }
 
     /// Makes `count` steps.
@@ -140,7 +157,7 @@ impl Machine {
         ensures { self.new ≡ frame_played buttons self.old }
     {
         self.processor.memory.set_buttons(buttons);
-        self.overrun = self.processor.run_frame(self.overrun);
+        self.overrun = run_frame(&mut self.processor, self.overrun);
     }
 
     /// Gives the machine one input.
@@ -191,12 +208,12 @@ impl Machine {
 
     /// What a snapshot holds besides the stores of bytes and the rows of the picture; each field is
     /// legal for this cartridge.
-    pub fn state(&self) -> MachineRegisters
-        ensures state { result ≡ registers_of self.now }
+    pub fn state(&self) -> MachineWithoutMemory
+        ensures state { result ≡ without_memory self.now }
         ensures legal { AreLegalFor self.now.processor.memory.banks result }
         ensures rows { length self.now.processor.memory.picture.screen.rows ≡ 144 }
     {
-        MachineRegisters {
+        MachineWithoutMemory {
             registers: self.processor.registers,
             state: self.processor.state,
             overrun: self.overrun,
@@ -205,9 +222,9 @@ impl Machine {
     }
 
     /// Sets these fields. Condition: they are legal for this cartridge.
-    pub fn restore(&mut self, state: &MachineRegisters)
+    pub fn restore(&mut self, state: &MachineWithoutMemory)
         requires { AreLegalFor self.old.processor.memory.banks state.now }
-        ensures { self.new ≡ with_registers state.now self.old }
+        ensures { self.new ≡ restored state.now self.old }
     {
         self.processor.registers = state.registers;
         self.processor.state = state.state;

@@ -1,6 +1,6 @@
 -- M-cycles without an event request nothing.
-use Rattle.std.proofs.Common.{◌≡◌, ℕ, zero, suc, ◌+◌, ◌-◌, ◌*◌, ◌%◌, ◌<◌, ◌≤◌, Bool, Option, Some, None, true, false, cond, refl, sym, ap, ◌∙◌, arith}
-use Rattle.std.specs.Prelude.{◌||◌, ◌==◌, not, ◌&&◌, bit_and}
+use Rattle.std.proofs.Common.{◌≡◌, ℕ, zero, suc, ◌+◌, ◌-◌, ◌*◌, ◌%◌, ◌<◌, Bool, Option, Some, None, true, false, cond, refl, ap, ◌∙◌, arith}
+use Rattle.std.specs.Prelude.{◌||◌, ◌==◌, bit_and}
 use Rattle.std.specs.Fn.{iterate}
 use Rattle.repeated_steps.specs.NextEvent.{IsNextEvent}
 use Rattle.repeated_steps.proofs.Iterates.{iterate-keeps}
@@ -9,7 +9,6 @@ use Rattle.timer_unit.specs.Serial as serial
 use Rattle.picture_unit.specs.Picture as picture
 use Rattle.picture_unit.specs.PictureJump.{IsSettled}
 use Rattle.picture_unit.proofs.Settled.{quiet_requests, tick_settles}
-use Rattle.memory_map.specs.declared.control.Control.{Control}
 use Rattle.memory_map.specs.Joypad.{p1_value}
 use Rattle.memory_map.specs.State.{BusState}
 use Rattle.memory_map.specs.Bus.{digit, shared}

@@ -2,6 +2,7 @@ pub mod Map
 pub mod Joypad
 pub mod State
 pub mod Bus
+pub mod BusRules
 pub mod Ticks
 pub mod Stores
 pub mod Laws

@@ -5,15 +5,15 @@ use Rattle.timer_unit.specs.Serial.{IsLegalSerial}
 use Rattle.picture_unit.specs.Picture.{IsLegalPicture}
 use Rattle.bank_controllers.specs.State.{IsLegalBanks}
 use Rattle.bank_controllers.specs.CartridgeState.{CartridgeState, IsLegalRam}
-use Rattle.memory_map.specs.declared.bus_registers.BusRegisters.{BusRegisters}
+use Rattle.memory_map.specs.declared.bus_without_memory.BusWithoutMemory.{BusWithoutMemory}
 use Rattle.memory_map.specs.declared.region.Region.{Region}
 use Rattle.memory_map.specs.declared.region.Region.TheVariants.{Vram, Wram, Oam, Hram, Sound, CartRam}
 use Rattle.memory_map.specs.Joypad.{select_bits}
 use Rattle.memory_map.specs.State.{BusState}
 use Rattle.memory_map.specs.Bus.{interrupt_flag, with_interrupt_flag, with_vram, with_oam}
 
-abbrev pub registers_of : BusState → BusRegisters
-registers_of b = record {
+abbrev pub without_memory : BusState → BusWithoutMemory
+without_memory b = record {
   ie = b.control.ie;
   interrupt_flag = interrupt_flag b;
   buttons = b.control.buttons;
@@ -26,8 +26,8 @@ registers_of b = record {
   banks = b.banks.state;
 }
 
-abbrev pub with_registers : BusRegisters → BusState → BusState
-with_registers r b = with_interrupt_flag r.interrupt_flag (record b {
+abbrev pub restored : BusWithoutMemory → BusState → BusState
+restored r b = with_interrupt_flag r.interrupt_flag (record b {
   timer = record b.timer { timer = r.timer };
   serial = record b.serial { serial = r.serial };
   picture = record b.picture { screen = record b.picture.screen { state = r.picture } };
@@ -36,7 +36,7 @@ with_registers r b = with_interrupt_flag r.interrupt_flag (record b {
 })
 
 -- which fields are legal for this cartridge
-pub record AreLegalFor (cartridge : CartridgeState) (r : BusRegisters) : Type 0 where
+pub record AreLegalFor (cartridge : CartridgeState) (r : BusWithoutMemory) : Type 0 where
   pub ie : r.ie < 256
   pub interrupt_flag : r.interrupt_flag < 32
   pub buttons : r.buttons < 256

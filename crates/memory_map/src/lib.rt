@@ -7,14 +7,15 @@
 #![tactic(auto)]
 
 mod bus;
-mod bus_registers;
+mod bus_memory;
+mod bus_without_memory;
 mod control;
 mod laws;
 mod place;
 mod region;
 
 pub use bus::Bus;
-pub use bus_registers::BusRegisters;
+pub use bus_without_memory::BusWithoutMemory;
 pub use control::Control;
 pub use laws::{each_row_of_the_map_is_mapped, oam_holds_the_source_page};
 pub use place::Place;

@@ -8,9 +8,9 @@ use Rattle.cartridge.specs.Header.{controller_of, has_rumble, ram_length_of}
 use Rattle.cartridge.specs.declared.controller.Controller.{Controller}
 use Rattle.bank_controllers.specs.CartridgeState.{IsLegalRam, cartridge_at_power_on}
 use Rattle.bank_controllers.proofs.Legal.{ram_at_power_on}
-use Rattle.machine.specs.declared.machine_registers.MachineRegisters.{MachineRegisters}
+use Rattle.machine.specs.declared.machine_without_memory.MachineWithoutMemory.{MachineWithoutMemory}
 use Rattle.machine.specs.Machine.{MachineState, start}
-use Rattle.machine.specs.MachineStores.{with_registers, AreLegalFor}
+use Rattle.machine.specs.MachineStores.{restored, AreLegalFor}
 use Rattle.snapshot.specs.declared.field.SnapshotField.{SnapshotField}
 use Rattle.snapshot.specs.declared.error.SnapError.{SnapError}
 use Rattle.snapshot.specs.declared.error.SnapError.TheVariants.{SnapLength, Field, Memory}
@@ -47,13 +47,13 @@ start_ram image text kind e legal = (
 )
 
 pub made_is :
-    (image text : List ℕ) (kind : Controller) (r : MachineRegisters) (first second third : MachineState)
+    (image text : List ℕ) (kind : Controller) (r : MachineWithoutMemory) (first second third : MachineState)
     → first ≡ start image → r ≡ registers_in kind text → controller_of image ≡ Some kind
-    → second ≡ with_registers r first → third ≡ with_stores text second → third ≡ machine_in image text
+    → second ≡ restored r first → third ≡ with_stores text second → third ≡ machine_in image text
 unfolding machine_in
 made_is image text kind r first second third e1 er ek e2 e3 =
     let same : r ≡ registers_in (kind_of_image image) text = er ∙ ap (λ (k : Controller). registers_in k text) (sym (kind_is image kind ek)) in
-    e3 ∙ ap (with_stores text) (e2 ∙ ap (with_registers r) e1 ∙ ap (λ (r : MachineRegisters). with_registers r (start image)) same)
+    e3 ∙ ap (with_stores text) (e2 ∙ ap (restored r) e1 ∙ ap (λ (r : MachineWithoutMemory). restored r (start image)) same)
 
 pub made_legal :
     (image text : List ℕ) (kind : Controller) → ((i : ℕ) → get_or text i 0 < 256) → IsLegalText image text → controller_of image ≡ Some kind

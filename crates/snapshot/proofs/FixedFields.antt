@@ -5,8 +5,8 @@ use Rattle.std.specs.List.{range_with_len}
 use Rattle.std.proofs.lemmas.List.FromFn.{fill_by_all}
 use Rattle.sm83_alu.specs.Flags.{digit_of}
 use Rattle.cartridge.specs.declared.controller.Controller.{Controller}
-use Rattle.machine.specs.declared.processor.ProcessorState.{ProcessorState}
-use Rattle.machine.specs.declared.machine_registers.MachineRegisters.{MachineRegisters}
+use Rattle.sm83_processor.specs.declared.processor.ProcessorState.{ProcessorState}
+use Rattle.machine.specs.declared.machine_without_memory.MachineWithoutMemory.{MachineWithoutMemory}
 use Rattle.snapshot.specs.Text.{fixed_fields, kind_byte, processor_byte, picture_byte}
 use Rattle.snapshot.specs.Reading.{has, processor_of, registers_in}
 use Rattle.snapshot.proofs.Bytes.{word_back, low_back, high_back, digit_test, test_digit, six_back, six_again, two_back, two_again, flags_back, flags_again}
@@ -15,7 +15,7 @@ pub state_back : (s : ProcessorState) → processor_of (processor_byte s) ≡ s
 state_back s = let six = six_back s.ime s.enable s.halted s.stopped s.locked s.repeat in rw (six.0, six.1, six.2, six.3, six.4, six.5) refl
 
 -- the registers of registers' bytes
-pub registers_back : (kind : Controller) (m : MachineRegisters) (rest : List ℕ) → kind ≡ m.bus.banks.kind → registers_in kind (fixed_fields m ++ rest) ≡ m
+pub registers_back : (kind : Controller) (m : MachineWithoutMemory) (rest : List ℕ) → kind ≡ m.bus.banks.kind → registers_in kind (fixed_fields m ++ rest) ≡ m
 registers_back kind m rest same =
     let two = two_back m.bus.picture.seen m.bus.picture.signal in
     let six = six_back m.state.ime m.state.enable m.state.halted m.state.stopped m.state.locked m.state.repeat in

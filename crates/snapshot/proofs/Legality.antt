@@ -8,8 +8,8 @@ use Rattle.sm83_alu.specs.Flags.{digit_of}
 use Rattle.cartridge.specs.declared.controller.Controller.{Controller}
 use Rattle.bank_controllers.specs.State.{first_rom_bank, last_rom_bank, last_ram_bank, has_ram_enable, has_mode, has_clock, IsLegalBanks}
 use Rattle.bank_controllers.specs.CartridgeState.{CartridgeState}
-use Rattle.machine.specs.declared.processor.ProcessorState.{ProcessorState}
-use Rattle.machine.specs.declared.machine_registers.MachineRegisters.{MachineRegisters}
+use Rattle.sm83_processor.specs.declared.processor.ProcessorState.{ProcessorState}
+use Rattle.machine.specs.declared.machine_without_memory.MachineWithoutMemory.{MachineWithoutMemory}
 use Rattle.machine.specs.MachineStores.{AreLegalFor}
 use Rattle.snapshot.specs.declared.field.SnapshotField.{SnapshotField}
 use Rattle.snapshot.specs.declared.field.Rule.TheVariants.{Any, Magic}
@@ -193,7 +193,7 @@ kind_fits : (kind own : Controller) → own ≡ kind → (nat_le (kind_byte kind
 kind_fits kind own e = let same : kind_byte own ≡ kind_byte kind = ap kind_byte e in between_true (kind_byte kind) (kind_byte own) (kind_byte kind) (omega arith) (omega arith)
 
 pub text_is_legal :
-    (cartridge : CartridgeState) (ram : ℕ) (r : MachineRegisters) (rest : List ℕ)
+    (cartridge : CartridgeState) (ram : ℕ) (r : MachineWithoutMemory) (rest : List ℕ)
     → AreLegalFor cartridge r
     → list_all (λ b. b == 0) (slice_range (fixed_fields r ++ rest) 67 128) ≡ true
     → is_legal (bytes 22607 ram (ram_rule cartridge.state.kind)) (fixed_fields r ++ rest) ≡ true

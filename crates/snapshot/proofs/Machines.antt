@@ -12,9 +12,9 @@ use Rattle.cartridge.specs.declared.controller.Controller.TheVariants.{Plain, Mb
 use Rattle.bank_controllers.specs.CartridgeState.{CartridgeState, IsLegalRam, cartridge_at_power_on}
 use Rattle.memory_map.specs.Bus.{is_set, digit}
 use Rattle.memory_map.specs.State.{BusState}
-use Rattle.machine.specs.declared.machine_registers.MachineRegisters.{MachineRegisters}
+use Rattle.machine.specs.declared.machine_without_memory.MachineWithoutMemory.{MachineWithoutMemory}
 use Rattle.machine.specs.Machine.{MachineState}
-use Rattle.machine.specs.MachineStores.{registers_of, AreLegalFor}
+use Rattle.machine.specs.MachineStores.{without_memory, AreLegalFor}
 use Rattle.snapshot.specs.Text.{fixed_fields, unused, picture_bytes, stores_text, text, text_length}
 use Rattle.snapshot.specs.Table.{bytes, is_legal, ram_rule, table, kind_of_image, table_of}
 use Rattle.snapshot.specs.Reading.{registers_in, rows_in, machine_in}
@@ -27,7 +27,7 @@ use Rattle.snapshot.proofs.Legality.{AreLegalFields, registers_legal, fields_are
 
 -- ---- a machine by its parts
 
-assemble : MachineRegisters → (vram wram oam hram sound : List ℕ) → List (List ℕ) → (ram rom : List ℕ) → Bool → MachineState
+assemble : MachineWithoutMemory → (vram wram oam hram sound : List ℕ) → List (List ℕ) → (ram rom : List ℕ) → Bool → MachineState
 assemble r vram wram oam hram sound rows ram rom rumble = record {
   processor = record {
     registers = r.registers;
@@ -85,7 +85,7 @@ five_again n h =
 
 assembled_again :
     (m : MachineState)
-    → assemble (registers_of m) m.processor.memory.picture.screen.vram m.processor.memory.wram m.processor.memory.picture.screen.oam m.processor.memory.hram m.processor.memory.sound m.processor.memory.picture.screen.rows m.processor.memory.banks.ram m.processor.memory.banks.rom m.processor.memory.banks.rumble
+    → assemble (without_memory m) m.processor.memory.picture.screen.vram m.processor.memory.wram m.processor.memory.picture.screen.oam m.processor.memory.hram m.processor.memory.sound m.processor.memory.picture.screen.rows m.processor.memory.banks.ram m.processor.memory.banks.rom m.processor.memory.banks.rumble
     ≡ m
 unfolding assemble
 assembled_again m =
@@ -94,14 +94,14 @@ assembled_again m =
     rw (five.0, five.1, five.2, five.3, five.4) refl
 
 registers_of_assembled :
-    (r : MachineRegisters) (vram wram oam hram sound : List ℕ) (rows : List (List ℕ)) (ram rom : List ℕ) (rumble : Bool)
+    (r : MachineWithoutMemory) (vram wram oam hram sound : List ℕ) (rows : List (List ℕ)) (ram rom : List ℕ) (rumble : Bool)
     → r.bus.interrupt_flag < 32
-    → registers_of (assemble r vram wram oam hram sound rows ram rom rumble) ≡ r
+    → without_memory (assemble r vram wram oam hram sound rows ram rom rumble) ≡ r
 unfolding assemble
 registers_of_assembled r vram wram oam hram sound rows ram rom rumble h = rw (five_again r.bus.interrupt_flag h) refl
 
 assembled_alike :
-    (r r' : MachineRegisters) (vram vram' wram wram' oam oam' hram hram' sound sound' : List ℕ) (rows rows' : List (List ℕ)) (ram ram' rom rom' : List ℕ) (rumble rumble' : Bool)
+    (r r' : MachineWithoutMemory) (vram vram' wram wram' oam oam' hram hram' sound sound' : List ℕ) (rows rows' : List (List ℕ)) (ram ram' rom rom' : List ℕ) (rumble rumble' : Bool)
     → r ≡ r' → vram ≡ vram' → wram ≡ wram' → oam ≡ oam' → hram ≡ hram' → sound ≡ sound' → rows ≡ rows' → ram ≡ ram' → rom ≡ rom' → rumble ≡ rumble'
     → assemble r vram wram oam hram sound rows ram rom rumble ≡ assemble r' vram' wram' oam' hram' sound' rows' ram' rom' rumble'
 assembled_alike r r' vram vram' wram wram' oam oam' hram hram' sound sound' rows rows' ram ram' rom rom' rumble rumble' e0 e1 e2 e3 e4 e5 e6 e7 e8 e9 = cc
@@ -114,19 +114,19 @@ unused_length = refl
 
 text_parts :
     (m : MachineState) → IsLegalMachine m
-    → AreParts (text m) (fixed_fields (registers_of m)) unused m.processor.memory.picture.screen.vram m.processor.memory.wram m.processor.memory.picture.screen.oam m.processor.memory.hram m.processor.memory.sound (picture_bytes m.processor.memory.picture.screen.rows) m.processor.memory.banks.ram
+    → AreParts (text m) (fixed_fields (without_memory m)) unused m.processor.memory.picture.screen.vram m.processor.memory.wram m.processor.memory.picture.screen.oam m.processor.memory.hram m.processor.memory.sound (picture_bytes m.processor.memory.picture.screen.rows) m.processor.memory.banks.ram
 unfolding text
 text_parts m legal =
-    parts_of (fixed_fields (registers_of m)) unused m.processor.memory.picture.screen.vram m.processor.memory.wram m.processor.memory.picture.screen.oam m.processor.memory.hram m.processor.memory.sound (picture_bytes m.processor.memory.picture.screen.rows) m.processor.memory.banks.ram refl unused_length legal.stores.vram legal.stores.wram legal.stores.oam legal.stores.hram legal.stores.sound (picture_length m.processor.memory.picture.screen.rows)
+    parts_of (fixed_fields (without_memory m)) unused m.processor.memory.picture.screen.vram m.processor.memory.wram m.processor.memory.picture.screen.oam m.processor.memory.hram m.processor.memory.sound (picture_bytes m.processor.memory.picture.screen.rows) m.processor.memory.banks.ram refl unused_length legal.stores.vram legal.stores.wram legal.stores.oam legal.stores.hram legal.stores.sound (picture_length m.processor.memory.picture.screen.rows)
 
 pub text_long : (m : MachineState) → IsLegalMachine m → length (text m) ≡ text_length (length m.processor.memory.banks.ram)
 unfolding text
 text_long m legal =
-    parts_length (fixed_fields (registers_of m)) unused m.processor.memory.picture.screen.vram m.processor.memory.wram m.processor.memory.picture.screen.oam m.processor.memory.hram m.processor.memory.sound (picture_bytes m.processor.memory.picture.screen.rows) m.processor.memory.banks.ram refl unused_length legal.stores.vram legal.stores.wram legal.stores.oam legal.stores.hram legal.stores.sound (picture_length m.processor.memory.picture.screen.rows)
+    parts_length (fixed_fields (without_memory m)) unused m.processor.memory.picture.screen.vram m.processor.memory.wram m.processor.memory.picture.screen.oam m.processor.memory.hram m.processor.memory.sound (picture_bytes m.processor.memory.picture.screen.rows) m.processor.memory.banks.ram refl unused_length legal.stores.vram legal.stores.wram legal.stores.oam legal.stores.hram legal.stores.sound (picture_length m.processor.memory.picture.screen.rows)
 
-registers_of_text : (kind : Controller) (m : MachineState) → kind ≡ m.processor.memory.banks.state.kind → registers_in kind (text m) ≡ registers_of m
+registers_of_text : (kind : Controller) (m : MachineState) → kind ≡ m.processor.memory.banks.state.kind → registers_in kind (text m) ≡ without_memory m
 unfolding text
-registers_of_text kind m same = registers_back kind (registers_of m) (stores_text m.processor.memory) same
+registers_of_text kind m same = registers_back kind (without_memory m) (stores_text m.processor.memory) same
 
 -- the machine that a machine's text stands for is that machine
 pub machine_back : (image : List ℕ) (m : MachineState) → IsMachineOf image m → machine_in image (text m) ≡ m
@@ -179,7 +179,7 @@ table_fields image m of =
     ap (λ (k : ℕ). take k (drop 22607 (text m))) count ∙ ap (take (length b.banks.ram)) p.ram ∙ take_all (length b.banks.ram) b.banks.ram (omega arith) in
     let zeros : list_all (λ b. b == 0) (slice_range (text m) 67 128) ≡ true = ap (list_all (λ b. b == 0)) p.unused ∙ zeros_all in
     let own : AreLegalFields b.banks.state.kind b.banks.rumble n (text m) =
-    text_is_legal b.banks n (registers_of m) (stores_text b) legal.registers zeros (ram_fits b.banks.state.kind b.banks.ram n (text m) legal.stores.ram end) in
+    text_is_legal b.banks n (without_memory m) (stores_text b) legal.registers zeros (ram_fits b.banks.state.kind b.banks.ram n (text m) legal.stores.ram end) in
     let kind : AreLegalFields (kind_of_image image) b.banks.rumble n (text m) = subst (λ (k : Controller). AreLegalFields k b.banks.rumble n (text m)) of.kind own in
     subst (λ (r : Bool). AreLegalFields (kind_of_image image) r n (text m)) of.rumble kind
 
@@ -196,9 +196,9 @@ one_machine image m n first second same = sym (machine_back image m first) ∙ a
 -- ---- the machine of a text
 
 text_of_assembled :
-    (r : MachineRegisters) (vram wram oam hram sound : List ℕ) (rows : List (List ℕ)) (ram rom : List ℕ) (rumble : Bool)
+    (r : MachineWithoutMemory) (vram wram oam hram sound : List ℕ) (rows : List (List ℕ)) (ram rom : List ℕ) (rumble : Bool)
     → text (assemble r vram wram oam hram sound rows ram rom rumble)
-    ≡ fixed_fields (registers_of (assemble r vram wram oam hram sound rows ram rom rumble)) ++ (unused ++ (vram ++ (wram ++ (oam ++ (hram ++ (sound ++ (picture_bytes rows ++ ram)))))))
+    ≡ fixed_fields (without_memory (assemble r vram wram oam hram sound rows ram rom rumble)) ++ (unused ++ (vram ++ (wram ++ (oam ++ (hram ++ (sound ++ (picture_bytes rows ++ ram)))))))
 unfolding text assemble
 text_of_assembled r vram wram oam hram sound rows ram rom rumble = refl
 
@@ -247,7 +247,7 @@ text_again image bytes fit h =
     let kind : Controller = kind_of_image image in
     let fields = fields_of image bytes h in
     let long : length bytes ≡ 22607 + ram_length_of image = h.length in
-    let r : MachineRegisters = registers_in kind bytes in
+    let r : MachineWithoutMemory = registers_in kind bytes in
     let own = registers_of_assembled r (slice_range bytes 128 8320) (slice_range bytes 8320 16512) (slice_range bytes 16512 16672) (slice_range bytes 16672 16799) (slice_range bytes 16799 16847) (rows_in (slice_range bytes 16847 22607)) (slice_range bytes 22607 (length bytes)) image (has_rumble image) (flag_below image bytes fit h) in
     let front : fixed_fields r ≡ take 67 bytes = registers_again kind bytes (fields_are kind (has_rumble image) (ram_length_of image) bytes (omega (arith, long)) fit fields) in
     let unused_long : length (slice_range bytes 67 128) ≡ 61 = part_length bytes 67 128 (lit≤ tt) (omega (arith, long)) in
@@ -286,7 +286,7 @@ assembled_legal :
 unfolding assemble
 assembled_legal image bytes zeros fit h legal all =
     let kind : Controller = kind_of_image image in
-    let r : MachineRegisters = registers_in kind bytes in
+    let r : MachineWithoutMemory = registers_in kind bytes in
     let long : length bytes ≡ 22607 + ram_length_of image = h.length in
     let ram : List ℕ = slice_range bytes 22607 (length bytes) in
     let cartridge : CartridgeState = record { rom = image; ram = ram; rumble = has_rumble image; state = r.bus.banks } in
@@ -295,7 +295,7 @@ assembled_legal image bytes zeros fit h legal all =
     let ram_all : IsLegalRam kind ram = ram_legal kind zeros bytes (ram_length_of image) legal all long (ram_in kind (has_rumble image) (ram_length_of image) bytes (fields_of image bytes h)) in
     record {
       legal = record {
-        registers = subst (λ (s : MachineRegisters). AreLegalFor cartridge s) (sym own) registers;
+        registers = subst (λ (s : MachineWithoutMemory). AreLegalFor cartridge s) (sym own) registers;
         stores = record {
           vram = part_length bytes 128 8320 (lit≤ tt) (omega (arith, long));
           wram = part_length bytes 8320 16512 (lit≤ tt) (omega (arith, long));

@@ -10,7 +10,7 @@ use Rattle.bank_controllers.proofs.Legal.{ram_at_power_on, power_on-legal}
 use Rattle.picture_unit.specs.Picture.{blank_rows, screen_at_power_on, state_at_power_on}
 use Rattle.memory_map.specs.State.{zeros}
 use Rattle.machine.specs.Machine.{start}
-use Rattle.machine.specs.MachineStores.{AreLegalFor, registers_of}
+use Rattle.machine.specs.MachineStores.{AreLegalFor, without_memory}
 use Rattle.snapshot.specs.Table.{kind_of_image}
 use Rattle.snapshot.specs.Legal.{IsRow}
 use Rattle.snapshot.specs.Laws.{ALegalTextIsAMachine, TheStartIsAMachine}
@@ -25,7 +25,7 @@ known (Some k) some = (k, refl)
 blank_row : IsRow (replicate 160 0)
 blank_row = record { columns = length-replicate {A = ℕ} 160 0; shades = All-replicate (λ (v : ℕ). v < 4) 160 0 (omega arith) }
 
-start_registers : (image : List ℕ) → AreLegalFor (start image).processor.memory.banks (registers_of (start image))
+start_registers : (image : List ℕ) → AreLegalFor (start image).processor.memory.banks (without_memory (start image))
 unfolding cartridge_at_power_on screen_at_power_on state_at_power_on
 start_registers image = record {
   overrun = omega arith;

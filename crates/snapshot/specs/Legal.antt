@@ -5,7 +5,7 @@ use Rattle.cartridge.specs.Header.{has_rumble, ram_length_of}
 use Rattle.bank_controllers.specs.CartridgeState.{IsLegalRam}
 use Rattle.memory_map.specs.State.{BusState}
 use Rattle.machine.specs.Machine.{MachineState}
-use Rattle.machine.specs.MachineStores.{AreLegalFor, registers_of}
+use Rattle.machine.specs.MachineStores.{AreLegalFor, without_memory}
 use Rattle.snapshot.specs.declared.field.SnapshotField.{SnapshotField}
 use Rattle.snapshot.specs.declared.error.SnapError.{SnapError}
 use Rattle.snapshot.specs.declared.error.SnapError.TheVariants.{SnapLength, Field, Memory}
@@ -32,7 +32,7 @@ pub record AreLegalStores (b : BusState) : Type 0 where
 
 -- each field and each store in its range, for the machine's own cartridge
 pub record IsLegalMachine (m : MachineState) : Type 0 where
-  pub registers : AreLegalFor m.processor.memory.banks (registers_of m)
+  pub registers : AreLegalFor m.processor.memory.banks (without_memory m)
   pub stores : AreLegalStores m.processor.memory
 
 -- a legal machine with this image as its ROM, and the kind, the motor and the length of RAM that the image asks for

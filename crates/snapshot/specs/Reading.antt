@@ -6,10 +6,10 @@ use Rattle.cartridge.specs.declared.controller.Controller.{Controller}
 use Rattle.bank_controllers.specs.declared.clock.ClockRegisters.{ClockRegisters}
 use Rattle.picture_unit.specs.Picture.{Screen}
 use Rattle.memory_map.specs.State.{BusState}
-use Rattle.machine.specs.declared.processor.ProcessorState.{ProcessorState}
-use Rattle.machine.specs.declared.machine_registers.MachineRegisters.{MachineRegisters}
+use Rattle.sm83_processor.specs.declared.processor.ProcessorState.{ProcessorState}
+use Rattle.machine.specs.declared.machine_without_memory.MachineWithoutMemory.{MachineWithoutMemory}
 use Rattle.machine.specs.Machine.{MachineState, start}
-use Rattle.machine.specs.MachineStores.{with_registers}
+use Rattle.machine.specs.MachineStores.{restored}
 use Rattle.snapshot.specs.Table.{kind_of_image}
 use Rattle.snapshot.specs.Text.{length_without_ram}
 
@@ -40,7 +40,7 @@ clock_at bytes offset = record {
 }
 
 -- of a cartridge with this controller
-abbrev pub registers_in : Controller → List ℕ → MachineRegisters
+abbrev pub registers_in : Controller → List ℕ → MachineWithoutMemory
 registers_in kind bytes = record {
   registers = record {
     a = slice_index bytes 8;
@@ -148,4 +148,4 @@ with_stores bytes m =
 
 -- the machine of this image that a text stands for
 unfoldable pub machine_in : (image bytes : List ℕ) → MachineState
-machine_in image bytes = with_stores bytes (with_registers (registers_in (kind_of_image image) bytes) (start image))
+machine_in image bytes = with_stores bytes (restored (registers_in (kind_of_image image) bytes) (start image))

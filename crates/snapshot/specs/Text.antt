@@ -5,10 +5,10 @@ use Rattle.sm83_alu.specs.Flags.{digit_of, flags_byte}
 use Rattle.cartridge.specs.declared.controller.Controller.{Controller}
 use Rattle.cartridge.specs.declared.controller.Controller.TheVariants.{Plain, Mbc1, Mbc2, Mbc3, Mbc3Clock, Mbc5}
 use Rattle.memory_map.specs.State.{BusState}
-use Rattle.machine.specs.declared.processor.ProcessorState.{ProcessorState}
-use Rattle.machine.specs.declared.machine_registers.MachineRegisters.{MachineRegisters}
+use Rattle.sm83_processor.specs.declared.processor.ProcessorState.{ProcessorState}
+use Rattle.machine.specs.declared.machine_without_memory.MachineWithoutMemory.{MachineWithoutMemory}
 use Rattle.machine.specs.Machine.{MachineState}
-use Rattle.machine.specs.MachineStores.{registers_of}
+use Rattle.machine.specs.MachineStores.{without_memory}
 
 abbrev pub low : ℕ → ℕ
 low word = word % 256
@@ -34,7 +34,7 @@ kind_byte Mbc3Clock = 4
 kind_byte Mbc5 = 5
 
 -- bytes 0 to 66, which begin with GBSNAP01
-abbrev pub fixed_fields : MachineRegisters → List ℕ
+abbrev pub fixed_fields : MachineWithoutMemory → List ℕ
 fixed_fields m =
     0x47 ∷ 0x42 ∷ 0x53 ∷ 0x4E ∷ 0x41 ∷ 0x50 ∷ 0x30 ∷ 0x31
     ∷ m.registers.a ∷ flags_byte m.registers.flags ∷ m.registers.b ∷ m.registers.c
@@ -75,7 +75,7 @@ stores_text b =
     unused ++ (b.picture.screen.vram ++ (b.wram ++ (b.picture.screen.oam ++ (b.hram ++ (b.sound ++ (picture_bytes b.picture.screen.rows ++ b.banks.ram))))))
 
 unfoldable pub text : MachineState → List ℕ
-text m = fixed_fields (registers_of m) ++ stores_text m.processor.memory
+text m = fixed_fields (without_memory m) ++ stores_text m.processor.memory
 
 -- the length of a text without cartridge RAM, which comes last
 abbrev pub length_without_ram : ℕ

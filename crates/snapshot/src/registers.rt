@@ -9,7 +9,7 @@ use crate::field::{byte_at, word_at};
 use crate::table::kind_byte;
 use bank_controllers::{BanksState, ClockRegisters};
 use cartridge::Controller;
-use machine::{BusRegisters, MachineRegisters, ProcessorState};
+use machine::{BusWithoutMemory, MachineWithoutMemory, ProcessorState};
 use picture_unit::PictureState;
 use sm83_alu::{Flags, Registers};
 use timer_unit::{SerialState, TimerState};
@@ -50,7 +50,7 @@ fn picture_byte(seen: bool, signal: bool) -> u8
 }
 
 /// Bytes 0 to 66.
-pub(crate) fn fixed_fields(state: MachineRegisters) -> [u8; 67]
+pub(crate) fn fixed_fields(state: MachineWithoutMemory) -> [u8; 67]
     ensures { result ≡ fixed_fields state }
 {
     let Registers {
@@ -65,7 +65,7 @@ pub(crate) fn fixed_fields(state: MachineRegisters) -> [u8; 67]
         sp,
         pc,
     } = state.registers;
-    let BusRegisters {
+    let BusWithoutMemory {
         ie,
         interrupt_flag,
         buttons,
@@ -235,14 +235,14 @@ fn banks_state(kind: Controller, bytes: &[u8]) -> BanksState
 }
 
 /// What the first 67 bytes of a text stand for, for a cartridge with this controller.
-pub(crate) fn registers_in(kind: Controller, bytes: &[u8]) -> MachineRegisters
+pub(crate) fn registers_in(kind: Controller, bytes: &[u8]) -> MachineWithoutMemory
     ensures { result ≡ registers_in kind bytes.now }
 {
-    MachineRegisters {
+    MachineWithoutMemory {
         registers: processor_registers(bytes),
         state: processor_of(byte_at(bytes, 20)),
         overrun: byte_at(bytes, 21),
-        bus: BusRegisters {
+        bus: BusWithoutMemory {
             ie: byte_at(bytes, 22),
             interrupt_flag: byte_at(bytes, 23),
             buttons: byte_at(bytes, 24),

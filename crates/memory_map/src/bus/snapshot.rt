@@ -1,21 +1,21 @@
 ghost use Rattle.std.specs.Prelude.{◌≡◌, ◌<◌, length, All, Some, slice_get, slice_set};
 ghost use Rattle.std.specs.Fn.{iterate};
 ghost use Rattle.bank_controllers.specs.CartridgeState.{second};
-ghost use Rattle.memory_map.specs.Stores.{registers_of, with_registers, AreLegalFor, region_of, region_filled, FitsRegion};
+ghost use Rattle.memory_map.specs.Stores.{without_memory, restored, AreLegalFor, region_of, region_filled, FitsRegion};
 
 use super::Bus;
-use crate::bus_registers::BusRegisters;
+use crate::bus_without_memory::BusWithoutMemory;
 use crate::region::Region;
 use picture_unit::{Picture, PictureRegion};
 
 impl Bus {
     /// What a snapshot holds of the registers; each field is legal for this cartridge.
-    pub fn state(&self) -> BusRegisters
-        ensures state { result ≡ registers_of self.now }
+    pub fn state(&self) -> BusWithoutMemory
+        ensures state { result ≡ without_memory self.now }
         ensures legal { AreLegalFor self.now.banks result }
         ensures rows { length self.now.picture.screen.rows ≡ 144 }
     {
-        BusRegisters {
+        BusWithoutMemory {
             ie: self.control.ie,
             interrupt_flag: self.interrupt_flag(),
             buttons: self.control.buttons,
@@ -30,9 +30,9 @@ impl Bus {
     }
 
     /// Sets the registers. Condition: they are legal for this cartridge.
-    pub fn restore(&mut self, state: &BusRegisters)
+    pub fn restore(&mut self, state: &BusWithoutMemory)
         requires { AreLegalFor self.old.banks state.now }
-        ensures { self.new ≡ with_registers state.now self.old }
+        ensures { self.new ≡ restored state.now self.old }
     {
         self.calm = 0;
         self.quiet = 0;

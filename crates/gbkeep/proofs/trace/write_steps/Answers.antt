@@ -1,9 +1,9 @@
 use Rattle.std.proofs.Common.{◌≡◌, ap, subst, List, ℕ}
 use Rattle.std.specs.Io.KnownBytes.{Appends}
 use Rattle.exact_text.specs.Written.{AppendsProperPrefix}
-use Rattle.machine.specs.Bus.{bus_rules}
-use Rattle.machine.specs.Steps.{step_of}
-use Rattle.machine.specs.declared.step.Stepped.{Stepped}
+use Rattle.memory_map.specs.BusRules.{bus_rules}
+use Rattle.sm83_processor.specs.Steps.{step_of}
+use Rattle.sm83_processor.specs.declared.step.Stepped.{Stepped}
 use Rattle.debugger.specs.Report.{line_of}
 use Rattle.debugger.proofs.Lines.{one_more_written, part_failed, all_written}
 use Rattle.gbkeep.proofs.Traces.{none_stepped, next_step, no_step_left}

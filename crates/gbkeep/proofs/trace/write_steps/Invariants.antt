@@ -1,5 +1,5 @@
 use Rattle.std.proofs.Common.{◌-◌}
-use Rattle.machine.specs.Bus.{bus_rules}
+use Rattle.memory_map.specs.BusRules.{bus_rules}
 use Rattle.debugger.proofs.Lines.{IsWrittenBut}
 use Rattle.gbkeep.specs.Tracing.{step_lines}
 use Rattle.gbkeep.proofs.trace.write_steps.Given as goal

@@ -2,7 +2,7 @@ use Rattle.std.proofs.Common.{subst}
 use Rattle.std.specs.Io.KnownBytes.{Appends}
 use Rattle.exact_text.specs.Written.{AppendsProperPrefix}
 use Rattle.exact_text.proofs.Writes.{appends_twice, whole_then_prefix, prefix_of_longer}
-use Rattle.machine.specs.Bus.{bus_rules}
+use Rattle.memory_map.specs.BusRules.{bus_rules}
 use Rattle.machine.specs.Machine.{MachineState}
 use Rattle.playing.specs.Report.{resumed_line}
 use Rattle.gbkeep.specs.Tracing.{step_lines}

@@ -2,12 +2,12 @@ use Rattle.std.proofs.Common.{◌∙◌, ℕ, ap, subst, sym, refl, arith}
 use Rattle.std.specs.List.{Contains}
 use Rattle.std.proofs.lemmas.List.{length-set, take_more_set}
 use Rattle.circular_buffer.specs.Buffer.{buffer}
-use Rattle.machine.specs.Bus.{bus_rules}
+use Rattle.memory_map.specs.BusRules.{bus_rules}
 use Rattle.machine.specs.Machine.{MachineState}
-use Rattle.machine.specs.Steps.{step_of}
-use Rattle.machine.specs.declared.processor.Processor.{Processor}
-use Rattle.machine.proofs.Runs.{after_steps-zero, after_steps-add_one}
-use Rattle.machine.specs.Plain.{IsPlain}
+use Rattle.sm83_processor.specs.Steps.{step_of}
+use Rattle.sm83_processor.specs.declared.processor.Processor.{Processor}
+use Rattle.sm83_processor.proofs.Runs.{after_steps-zero, after_steps-add_one}
+use Rattle.sm83_processor.specs.Plain.{IsPlain}
 use Rattle.memory_map.specs.State.{BusState}
 use Rattle.debugger.specs.History.{DebuggerState}
 use Rattle.debugger.proofs.Histories.{instructions_and, no_instruction, not_both, past_more}

@@ -1,9 +1,9 @@
 use Rattle.std.proofs.Common.{◌≡◌, ℕ, ◌<◌, ◌≤◌, ◌-◌, length, take, true}
 use Rattle.std.specs.List.{Contains}
 use Rattle.circular_buffer.specs.Buffer.{buffer}
-use Rattle.machine.specs.Bus.{bus_rules}
-use Rattle.machine.specs.Plain.{IsPlain}
-use Rattle.machine.specs.Steps.{after_steps}
+use Rattle.memory_map.specs.BusRules.{bus_rules}
+use Rattle.sm83_processor.specs.Plain.{IsPlain}
+use Rattle.sm83_processor.specs.Steps.{after_steps}
 use Rattle.debugger.specs.History.{instructions_in}
 use Rattle.debugger.specs.Run.{pc_after}
 use Rattle.debugger.proofs.Histories.{IsGoing}

@@ -1,7 +1,7 @@
 use Rattle.std.proofs.Common.{◌∙◌, ℕ, ap, subst, sym, arith}
 use Rattle.std.specs.List.{Contains}
-use Rattle.machine.specs.Bus.{bus_rules}
-use Rattle.machine.specs.Plain.{IsPlain}
+use Rattle.memory_map.specs.BusRules.{bus_rules}
+use Rattle.sm83_processor.specs.Plain.{IsPlain}
 use Rattle.debugger.specs.History.{DebuggerState}
 use Rattle.debugger.proofs.Histories.{not_begun, one_more, past_more, run_on}
 use Rattle.debugger.proofs.debugger.Debugger.run_until.Goals as goal

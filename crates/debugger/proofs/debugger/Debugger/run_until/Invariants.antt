@@ -1,6 +1,6 @@
 use Rattle.std.proofs.Common.{◌≡◌, ◌≤◌, ◌-◌, true}
-use Rattle.machine.specs.Bus.{bus_rules}
-use Rattle.machine.specs.Plain.{IsPlain}
+use Rattle.memory_map.specs.BusRules.{bus_rules}
+use Rattle.sm83_processor.specs.Plain.{IsPlain}
 use Rattle.debugger.specs.Run.{HasRun}
 use Rattle.debugger.proofs.debugger.Debugger.run_until.Given as goal
 

@@ -1,5 +1,5 @@
 use Rattle.std.proofs.Common.{◌∙◌, [], ◌∷◌, ap, sym}
-use Rattle.machine.specs.declared.step.Stepped.{Stepped}
+use Rattle.sm83_processor.specs.declared.step.Stepped.{Stepped}
 use Rattle.debugger.specs.History.{instruction_in}
 use Rattle.debugger.proofs.Histories.{nothing_kept, other_steps, step_kept}
 use Rattle.debugger.proofs.debugger.Debugger.step.Goals as goal

@@ -1,5 +1,0 @@
-use Rattle.machine.proofs.Lowest.{lowest_is_lowest}
-use Rattle.machine.proofs.laws.dispatch_takes_the_lowest_bit.Goals as goal
-
-pub returns : goal.returns
-returns c = lowest_is_lowest

@@ -1,0 +1,33 @@
+//! The bus as the memory of the processor: Rust wants the impl where the type or the trait is.
+
+use crate::bus::Bus;
+use sm83_processor::Memory;
+
+impl Memory for Bus {
+    ghost use Rattle.memory_map.specs.BusRules.{bus_rules};
+
+    ghost rules = { bus_rules };
+
+    #[inline]
+    fn read(&self, address: u16) -> u8 {
+        Bus::read(self, address)
+    }
+
+    fn write(&mut self, address: u16, value: u8) {
+        Bus::write(self, address, value);
+    }
+
+    #[inline]
+    fn shared(&self) -> u8 {
+        Bus::shared(self)
+    }
+
+    fn acknowledge(&mut self, bit: u8) {
+        Bus::acknowledge(self, bit);
+    }
+
+    #[inline]
+    fn pass(&mut self, cycles: u8) {
+        let _ = Bus::pass_few(self, cycles);
+    }
+}

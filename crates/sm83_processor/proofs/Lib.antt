@@ -1,0 +1,9 @@
+pub mod Examples
+pub mod StepCycles
+pub mod KeptBySteps
+pub mod Disabling
+pub mod OpcodeLengths
+pub mod Lowest
+pub mod Runs
+pub mod PlainSteps
+pub mod UsualStates

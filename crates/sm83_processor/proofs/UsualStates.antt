@@ -1,0 +1,185 @@
+-- Which instructions leave a processor in its usual state.
+use Rattle.std.proofs.Common.{◌≡◌, ◌∙◌, ℕ, ◌<◌, ◌≤◌, Bool, true, false, refl, sym, ap, arith, eqb-true}
+use Rattle.std.specs.Prelude.{◌==◌, ◌||◌, not, if◌then◌else◌}
+use Rattle.std.proofs.lemmas.Bool.{agree_below, agree_below_at}
+use Rattle.std.proofs.lemmas.Bool.Decides.{nat_tests}
+use Rattle.opcode_table.specs.Table.{loads_and_steps, jumps_and_stack, bit_instruction, instruction_of}
+use Rattle.opcode_table.specs.declared.instruction.Operand8.{Operand8}
+use Rattle.opcode_table.specs.declared.instruction.Operand8.TheVariants as operand
+use Rattle.opcode_table.specs.declared.instruction.Instr.{Instr}
+use Rattle.opcode_table.specs.declared.instruction.Instr.TheVariants.{Nop, StoreSp, Stop, JumpRelative, JumpRelativeIf, LoadRegister16, AddHl, StoreAccumulator, LoadAccumulator, IncrementRegister16, DecrementRegister16, Increment, Decrement, LoadByte, Accumulator, Load, Halt, Operate, OperateByte, ReturnIf, StoreHigh, AddSp, LoadHigh, LoadHlSp, Pop, Return, ReturnFromInterrupt, JumpHl, LoadSpHl, JumpIf, StoreHighC, StoreAt, LoadHighC, LoadAt, Jump, DisableInterrupts, EnableInterrupts, CallIf, Push, Call, Restart, Shift, TestBit, ResetBit, SetBit, Undefined}
+use Rattle.sm83_processor.specs.Rules.{Rules}
+use Rattle.sm83_processor.specs.RegisterOperations.{condition_holds}
+use Rattle.sm83_processor.specs.Execution.{executed, with_operand, with_flags, jumped_relative, returned, called, at_pc}
+use Rattle.sm83_processor.specs.Opcodes.{instruction_at, executed_behind, low_at, high_at}
+use Rattle.sm83_processor.specs.Plain.{IsUsual}
+use Rattle.sm83_processor.specs.declared.processor.Processor.{Processor}
+use Rattle.sm83_processor.specs.declared.processor.ProcessorState.{ProcessorState}
+
+-- ---- by instruction
+
+abbrev changes_state : Instr → Bool
+changes_state Stop = true
+changes_state Halt = true
+changes_state ReturnFromInterrupt = true
+changes_state DisableInterrupts = true
+changes_state EnableInterrupts = true
+changes_state (Undefined o) = true
+changes_state _ = false
+
+abbrev waits_then : Instr → Bool
+waits_then Stop = true
+waits_then Halt = true
+waits_then _ = false
+
+absurd_state : {A : Type 0} → true ≡ false → A
+absurd_state e = cc
+
+operand_state : {M : Type 0} (r : Rules M) (p : Operand8) (n : ℕ) (s : Processor M) → (with_operand r p n s).state ≡ s.state
+operand_state r operand.B n s = refl
+operand_state r operand.C n s = refl
+operand_state r operand.D n s = refl
+operand_state r operand.E n s = refl
+operand_state r operand.H n s = refl
+operand_state r operand.L n s = refl
+operand_state r operand.AtHl n s = refl
+operand_state r operand.A n s = refl
+
+either_state : {M : Type 0} (b : Bool) (t s : Processor M) → t.state ≡ s.state → (if b then t else s).state ≡ s.state
+either_state true t s e = e
+either_state false t s e = refl
+
+state_kept : {M : Type 0} (r : Rules M) (i : Instr) (s : Processor M) → changes_state i ≡ false → (executed r i s).state ≡ s.state
+state_kept r Nop s kept = refl
+state_kept r (StoreSp x) s kept = refl
+state_kept r Stop s kept = absurd_state kept
+state_kept r (JumpRelative x) s kept = refl
+state_kept r (JumpRelativeIf c b) s kept = either_state (condition_holds c s.registers.flags) (jumped_relative b s) s refl
+state_kept r (LoadRegister16 x y) s kept = refl
+state_kept r (AddHl x) s kept = refl
+state_kept r (StoreAccumulator x) s kept = refl
+state_kept r (LoadAccumulator x) s kept = refl
+state_kept r (IncrementRegister16 x) s kept = refl
+state_kept r (DecrementRegister16 x) s kept = refl
+state_kept r (Increment p) s kept = operand_state r p _ (with_flags _ s)
+state_kept r (Decrement p) s kept = operand_state r p _ (with_flags _ s)
+state_kept r (LoadByte p b) s kept = operand_state r p _ s
+state_kept r (Accumulator x) s kept = refl
+state_kept r (Load p q) s kept = operand_state r p _ s
+state_kept r Halt s kept = absurd_state kept
+state_kept r (Operate x y) s kept = refl
+state_kept r (OperateByte x y) s kept = refl
+state_kept r (ReturnIf c) s kept = either_state (condition_holds c s.registers.flags) (returned r s) s refl
+state_kept r (StoreHigh x) s kept = refl
+state_kept r (AddSp x) s kept = refl
+state_kept r (LoadHigh x) s kept = refl
+state_kept r (LoadHlSp x) s kept = refl
+state_kept r (Pop x) s kept = refl
+state_kept r Return s kept = refl
+state_kept r ReturnFromInterrupt s kept = absurd_state kept
+state_kept r JumpHl s kept = refl
+state_kept r LoadSpHl s kept = refl
+state_kept r (JumpIf c w) s kept = either_state (condition_holds c s.registers.flags) (at_pc w s) s refl
+state_kept r StoreHighC s kept = refl
+state_kept r (StoreAt x) s kept = refl
+state_kept r LoadHighC s kept = refl
+state_kept r (LoadAt x) s kept = refl
+state_kept r (Jump x) s kept = refl
+state_kept r DisableInterrupts s kept = absurd_state kept
+state_kept r EnableInterrupts s kept = absurd_state kept
+state_kept r (CallIf c w) s kept = either_state (condition_holds c s.registers.flags) (called r w s) s refl
+state_kept r (Push x) s kept = refl
+state_kept r (Call x) s kept = refl
+state_kept r (Restart x) s kept = refl
+state_kept r (Shift h p) s kept = operand_state r p _ (with_flags _ s)
+state_kept r (TestBit x y) s kept = refl
+state_kept r (ResetBit n p) s kept = operand_state r p _ s
+state_kept r (SetBit n p) s kept = operand_state r p _ s
+state_kept r (Undefined o) s kept = absurd_state kept
+
+record GoesOn (new old : ProcessorState) : Type 0 where
+  stopped : new.stopped ≡ old.stopped
+  halted : new.halted ≡ old.halted
+  repeat : new.repeat ≡ old.repeat
+
+same_goes_on : (new old : ProcessorState) → new ≡ old → GoesOn new old
+same_goes_on new old e = record {
+  stopped = ap (λ (s : ProcessorState). s.stopped) e;
+  halted = ap (λ (s : ProcessorState). s.halted) e;
+  repeat = ap (λ (s : ProcessorState). s.repeat) e;
+}
+
+goes_on_in : {M : Type 0} (r : Rules M) (i : Instr) (s : Processor M) → waits_then i ≡ false → (b : Bool) → b ≡ changes_state i → GoesOn (executed r i s).state s.state
+goes_on_in r i s goes false e = same_goes_on _ _ (state_kept r i s (sym e))
+goes_on_in r Stop s goes true e = absurd_state goes
+goes_on_in r Halt s goes true e = absurd_state goes
+goes_on_in r ReturnFromInterrupt s goes true e = record { stopped = refl; halted = refl; repeat = refl }
+goes_on_in r DisableInterrupts s goes true e = record { stopped = refl; halted = refl; repeat = refl }
+goes_on_in r EnableInterrupts s goes true e = record { stopped = refl; halted = refl; repeat = refl }
+goes_on_in r (Undefined o) s goes true e = record { stopped = refl; halted = refl; repeat = refl }
+goes_on_in r _ s goes true e = absurd_state e
+
+-- ---- by opcode
+
+pub not_true : (b : Bool) → not b ≡ true → b ≡ false
+not_true true e = sym e
+not_true false e = refl
+
+low_opcodes : (b c : ℕ) → agree_below (λ o. changes_state (instruction_of o b c)) (λ o. o == 0x10 || o == 0x76) 192 ≡ true
+unfolding instruction_of loads_and_steps jumps_and_stack
+low_opcodes b c = refl
+
+pub usual_behind : {M : Type 0} (r : Rules M) (o : ℕ) (p q : Processor M) → o < 192 → (o == 0x10) ≡ false → (o == 0x76) ≡ false
+    → q ≡ executed_behind r (instruction_at r o p) p → IsUsual p.state → IsUsual q.state
+usual_behind {M} r o p q below no_stop no_halt e usual =
+    let i = instruction_at r o p in
+    let table = agree_below_at (λ k. changes_state (instruction_of k (low_at r p) (high_at r p))) (λ k. k == 0x10 || k == 0x76) 192 o (low_opcodes (low_at r p) (high_at r p)) below in
+    let kept : changes_state i ≡ false = table ∙ ap (λ (t : Bool). t || o == 0x76) no_stop ∙ no_halt in
+    let same : q.state ≡ p.state = ap (λ (s : Processor M). s.state) e ∙ state_kept r i _ kept in
+    record {
+      locked = ap (λ (s : ProcessorState). s.locked) same ∙ usual.locked;
+      stopped = ap (λ (s : ProcessorState). s.stopped) same ∙ usual.stopped;
+      halted = ap (λ (s : ProcessorState). s.halted) same ∙ usual.halted;
+      enable = ap (λ (s : ProcessorState). s.enable) same ∙ usual.enable;
+      repeat = ap (λ (s : ProcessorState). s.repeat) same ∙ usual.repeat;
+    }
+
+choice_goes : (t : Bool) (i j : Instr) → waits_then i ≡ false → waits_then j ≡ false → waits_then (if t then i else j) ≡ false
+choice_goes true i j p q = p
+choice_goes false i j p q = q
+
+bit_instruction_goes : (x z y : ℕ) → waits_then (bit_instruction x z y) ≡ false
+unfolding bit_instruction
+bit_instruction_goes x z y = choice_goes (x == 0) _ _ refl (choice_goes (x == 1) _ _ refl (choice_goes (x == 2) _ _ refl refl))
+
+all_opcodes : (b c : ℕ) → agree_below (λ o. if o == 0xCB then false else waits_then (instruction_of o b c)) (λ o. o == 0x10 || o == 0x76) 256 ≡ true
+unfolding instruction_of loads_and_steps jumps_and_stack
+all_opcodes b c = refl
+
+prefixed : (b c : ℕ) → waits_then (instruction_of 0xCB b c) ≡ false
+unfolding instruction_of
+prefixed b c = bit_instruction_goes _ _ _
+
+high_goes : (o b c : ℕ) → 192 ≤ o → o < 256 → waits_then (instruction_of o b c) ≡ false
+high_goes o b c from below =
+    let table = agree_below_at (λ k. if k == 0xCB then false else waits_then (instruction_of k b c)) (λ k. k == 0x10 || k == 0x76) 256 o (all_opcodes b c) below in
+    let none : (o == 0x10 || o == 0x76) ≡ false = grind (arith, nat_tests) in
+    let cases : (t : Bool) → t ≡ (o == 0xCB) → (if t then false else waits_then (instruction_of o b c)) ≡ false → waits_then (instruction_of o b c) ≡ false =
+    λ t. elim t as (λ v. v ≡ (o == 0xCB) → (if v then false else waits_then (instruction_of o b c)) ≡ false → waits_then (instruction_of o b c) ≡ false) [
+      | true ↦ λ is same. (let prefix : o ≡ 0xCB = eqb-true o 0xCB (sym is) in ap (λ k. waits_then (instruction_of k b c)) prefix ∙ prefixed b c)
+      | false ↦ λ is same. same
+    ] in
+    cases (o == 0xCB) refl (table ∙ none)
+
+pub usual_behind_jump : {M : Type 0} (r : Rules M) (o : ℕ) (p q : Processor M) → 192 ≤ o → o < 256 → q.state.locked ≡ false → q.state.enable ≡ false
+    → q ≡ executed_behind r (instruction_at r o p) p → IsUsual p.state → IsUsual q.state
+usual_behind_jump {M} r o p q from below unlocked none e usual =
+    let i = instruction_at r o p in
+    let on = goes_on_in r i _ (high_goes o (low_at r p) (high_at r p) from below) (changes_state i) refl in
+    record {
+      locked = unlocked;
+      stopped = ap (λ (s : Processor M). s.state.stopped) e ∙ on.stopped ∙ usual.stopped;
+      halted = ap (λ (s : Processor M). s.state.halted) e ∙ on.halted ∙ usual.halted;
+      enable = none;
+      repeat = ap (λ (s : Processor M). s.state.repeat) e ∙ on.repeat ∙ usual.repeat;
+    }

@@ -1,0 +1,38 @@
+-- An instruction by its opcode, for the calls that run one whose opcode has been read.
+use Rattle.std.specs.Prelude.{ℕ, ◌+◌, ◌-◌, ◌%◌, false, if◌then◌else◌}
+use Rattle.sm83_processor.specs.Rules.{Rules}
+use Rattle.sm83_processor.specs.RegisterOperations.{next_address, is_taken}
+use Rattle.sm83_processor.specs.Execution.{executed}
+use Rattle.sm83_processor.specs.Steps.{byte_at, second_address}
+use Rattle.sm83_processor.specs.declared.processor.Processor.{Processor}
+use Rattle.sm83_alu.specs.declared.register_file.Flags.{Flags}
+use Rattle.opcode_table.specs.declared.instruction.Instr.{Instr}
+use Rattle.opcode_table.specs.Table.{instruction_of}
+use Rattle.opcode_table.specs.Timing.{length_of, cycles_of, cycles_taken_of}
+
+-- the opcode is taken: PC is at the byte behind it
+abbrev pub opened : {M : Type 0} → Processor M → Processor M
+opened s = record s { registers = record s.registers { pc = second_address s }; state = record s.state { repeat = false } }
+
+-- the bytes at PC
+abbrev pub low_at : {M : Type 0} → Rules M → Processor M → ℕ
+low_at rules s = byte_at rules s.registers.pc s
+
+abbrev pub high_at : {M : Type 0} → Rules M → Processor M → ℕ
+high_at rules s = byte_at rules (next_address s.registers.pc) s
+
+-- the instruction of an opcode that is taken
+abbrev pub instruction_at : {M : Type 0} → Rules M → ℕ → Processor M → Instr
+instruction_at rules opcode s = instruction_of opcode (low_at rules s) (high_at rules s)
+
+-- PC goes behind an instruction of n bytes, of which the first is taken
+abbrev pub past : {M : Type 0} → ℕ → Processor M → Processor M
+past n s = record s { registers = record s.registers { pc = (s.registers.pc + (n - 1)) % 65536 } }
+
+-- an instruction whose opcode is taken
+abbrev pub executed_behind : {M : Type 0} → Rules M → Instr → Processor M → Processor M
+executed_behind rules i s = executed rules i (past (length_of i) s)
+
+-- its M-cycles with these flags
+abbrev pub cycles_with : Instr → Flags → ℕ
+cycles_with i f = if is_taken i f then cycles_taken_of i else cycles_of i

@@ -1,0 +1,23 @@
+//! The processor of the Game Boy, the SM83, over any memory.
+//!
+//! A step is a wait, the dispatch of an interrupt or one instruction. What it should do is defined
+//! in `specs/Steps.antt` and `specs/Execution.antt`; `Processor::step` is proved to do exactly that
+//! over every memory that meets the trait `Memory`.
+#![tactic(auto)]
+
+mod instructions;
+pub mod laws;
+mod lengths;
+pub mod memory;
+mod opcodes;
+pub mod processor;
+mod register_operations;
+mod register_pairs;
+mod run;
+pub mod step;
+
+pub use lengths::length_of_opcode;
+pub use memory::Memory;
+pub use opcodes::{IN_FRAME, REPORTED};
+pub use processor::{Processor, ProcessorState};
+pub use step::{Seen, Stepped, What};

@@ -1,0 +1,422 @@
+//! One instruction by its opcode. The last arm of each match is its last opcode, the only one left
+//! by the others.
+
+ghost use Rattle.std.specs.Prelude.{◌≡◌, ◌<◌, ◌≤◌, ◌%◌, ◌/◌, true};
+ghost use Rattle.sm83_processor.specs.Opcodes.{opened, instruction_at, executed_behind, cycles_with};
+ghost use Rattle.sm83_processor.specs.Plain.{IsUsual};
+ghost use Rattle.opcode_table.specs.Table.{bit_instruction};
+ghost use Rattle.opcode_table.specs.Operands.{operand8_of, shift_of};
+ghost use Rattle.opcode_table.specs.declared.instruction.Instr.{Instr};
+
+use crate::memory::Memory;
+use crate::processor::Processor;
+use opcode_table::{
+    AccumulatorOperation, Condition, Indirect, Operand8, Operation, Register16, Shift,
+    StackRegister16,
+};
+
+/// The opcode of STOP.
+const STOP: u8 = 0x10;
+
+/// The opcode of HALT.
+const HALT: u8 = 0x76;
+
+/// As the parameter `WAY` of a call: a step of any kind.
+pub(crate) const APART: u8 = 0;
+
+/// As the parameter `WAY` of a call: plain steps in a frame.
+pub const IN_FRAME: u8 = 1;
+
+/// As the parameter `WAY` of a call: plain steps that are counted.
+pub(crate) const COUNTED: u8 = 2;
+
+/// As the parameter `WAY` of a call: plain steps that are reported.
+pub const REPORTED: u8 = 3;
+
+impl<M: Memory> Processor<M> {
+    /// Executes the instruction of this opcode, with PC just after the opcode. Answers its
+    /// M-cycles, and whether the next one may begin as plainly as this one did, unless an interrupt
+    /// comes. WAY names the caller: code is made separately for each, so that it can be inlined
+    /// into the caller's loop.
+    #[inline(always)]
+    pub fn run_opcode<const WAY: u8>(&mut self, opcode: u8) -> (u8, bool)
+        ensures after { self.new ≡ executed_behind M.rules (instruction_at M.rules opcode self.old) self.old }
+        ensures cycles { result.0 ≡ cycles_with (instruction_at M.rules opcode self.old) self.old.registers.flags }
+        ensures usual { result.1 ≡ true → IsUsual self.old.state → IsUsual self.new.state }
+    {
+        match opcode {
+            0x00..=0x3f => (self.run_load_or_step::<WAY>(opcode), opcode != STOP),
+            0x40..=0x7f => (self.run_load_of_opcode::<WAY>(opcode), opcode != HALT),
+            0x80..=0xbf => (self.run_operation_of_opcode::<WAY>(opcode), true),
+            _ => {
+                let cycles = self.run_jump_or_stack::<WAY>(opcode);
+                (cycles, !self.state.locked && !self.state.enable)
+            }
+        }
+    }
+
+    /// Executes the instruction at PC, which has this opcode, and answers its M-cycles.
+    #[inline(never)]
+    pub(crate) fn run_opcode_apart(&mut self, opcode: u8) -> u8
+        ensures after { self.new ≡ executed_behind M.rules (instruction_at M.rules opcode (opened self.old)) (opened self.old) }
+        ensures cycles { result ≡ cycles_with (instruction_at M.rules opcode (opened self.old)) self.old.registers.flags }
+    {
+        self.registers.pc = self.second();
+        self.state.repeat = false;
+        self.run_opcode::<APART>(opcode).0
+    }
+
+    /// Opcodes 00 to 3F.
+    #[tactic(auto, unfolding(opcode_table::specs::Table::instruction_of, opcode_table::specs::Table::loads_and_steps))]
+    fn run_load_or_step<const WAY: u8>(&mut self, opcode: u8) -> u8
+        requires { opcode < 64 }
+        ensures after { self.new ≡ executed_behind M.rules (instruction_at M.rules opcode self.old) self.old }
+        ensures cycles { result ≡ cycles_with (instruction_at M.rules opcode self.old) self.old.registers.flags }
+    {
+        match opcode {
+            0x00 => self.run_nop(),
+            0x01 => self.run_load_register16(Register16::Bc, self.word()),
+            0x02 => self.run_store_accumulator(Indirect::Bc),
+            0x03 => self.run_increment_register16(Register16::Bc),
+            0x04 => self.run_increment(Operand8::B),
+            0x05 => self.run_decrement(Operand8::B),
+            0x06 => self.run_load_byte(Operand8::B, self.low()),
+            0x07 => self.run_accumulator(AccumulatorOperation::RotateLeft),
+            0x08 => self.run_store_sp(self.word()),
+            0x09 => self.run_add_hl(Register16::Bc),
+            0x0a => self.run_load_accumulator(Indirect::Bc),
+            0x0b => self.run_decrement_register16(Register16::Bc),
+            0x0c => self.run_increment(Operand8::C),
+            0x0d => self.run_decrement(Operand8::C),
+            0x0e => self.run_load_byte(Operand8::C, self.low()),
+            0x0f => self.run_accumulator(AccumulatorOperation::RotateRight),
+            0x10 => self.run_stop(),
+            0x11 => self.run_load_register16(Register16::De, self.word()),
+            0x12 => self.run_store_accumulator(Indirect::De),
+            0x13 => self.run_increment_register16(Register16::De),
+            0x14 => self.run_increment(Operand8::D),
+            0x15 => self.run_decrement(Operand8::D),
+            0x16 => self.run_load_byte(Operand8::D, self.low()),
+            0x17 => self.run_accumulator(AccumulatorOperation::RotateLeftThrough),
+            0x18 => self.run_jump_relative(self.low()),
+            0x19 => self.run_add_hl(Register16::De),
+            0x1a => self.run_load_accumulator(Indirect::De),
+            0x1b => self.run_decrement_register16(Register16::De),
+            0x1c => self.run_increment(Operand8::E),
+            0x1d => self.run_decrement(Operand8::E),
+            0x1e => self.run_load_byte(Operand8::E, self.low()),
+            0x1f => self.run_accumulator(AccumulatorOperation::RotateRightThrough),
+            0x20 => self.run_jump_relative_if(Condition::NotZero, self.low()),
+            0x21 => self.run_load_register16(Register16::Hl, self.word()),
+            0x22 => self.run_store_accumulator(Indirect::HlUp),
+            0x23 => self.run_increment_register16(Register16::Hl),
+            0x24 => self.run_increment(Operand8::H),
+            0x25 => self.run_decrement(Operand8::H),
+            0x26 => self.run_load_byte(Operand8::H, self.low()),
+            0x27 => self.run_accumulator(AccumulatorOperation::DecimalAdjust),
+            0x28 => self.run_jump_relative_if(Condition::Zero, self.low()),
+            0x29 => self.run_add_hl(Register16::Hl),
+            0x2a => self.run_load_accumulator(Indirect::HlUp),
+            0x2b => self.run_decrement_register16(Register16::Hl),
+            0x2c => self.run_increment(Operand8::L),
+            0x2d => self.run_decrement(Operand8::L),
+            0x2e => self.run_load_byte(Operand8::L, self.low()),
+            0x2f => self.run_accumulator(AccumulatorOperation::Complement),
+            0x30 => self.run_jump_relative_if(Condition::NotCarry, self.low()),
+            0x31 => self.run_load_register16(Register16::Sp, self.word()),
+            0x32 => self.run_store_accumulator(Indirect::HlDown),
+            0x33 => self.run_increment_register16(Register16::Sp),
+            0x34 => self.run_increment(Operand8::AtHl),
+            0x35 => self.run_decrement(Operand8::AtHl),
+            0x36 => self.run_load_byte(Operand8::AtHl, self.low()),
+            0x37 => self.run_accumulator(AccumulatorOperation::SetCarry),
+            0x38 => self.run_jump_relative_if(Condition::Carry, self.low()),
+            0x39 => self.run_add_hl(Register16::Sp),
+            0x3a => self.run_load_accumulator(Indirect::HlDown),
+            0x3b => self.run_decrement_register16(Register16::Sp),
+            0x3c => self.run_increment(Operand8::A),
+            0x3d => self.run_decrement(Operand8::A),
+            0x3e => self.run_load_byte(Operand8::A, self.low()),
+            _ => self.run_accumulator(AccumulatorOperation::FlipCarry),
+        }
+    }
+
+    /// Opcodes 40 to 7F.
+    #[tactic(auto, unfolding(opcode_table::specs::Table::instruction_of))]
+    fn run_load_of_opcode<const WAY: u8>(&mut self, opcode: u8) -> u8
+        requires from { 64 ≤ opcode }
+        requires below { opcode < 128 }
+        ensures after { self.new ≡ executed_behind M.rules (instruction_at M.rules opcode self.old) self.old }
+        ensures cycles { result ≡ cycles_with (instruction_at M.rules opcode self.old) self.old.registers.flags }
+    {
+        match opcode {
+            0x40 => self.run_load(Operand8::B, Operand8::B),
+            0x41 => self.run_load(Operand8::B, Operand8::C),
+            0x42 => self.run_load(Operand8::B, Operand8::D),
+            0x43 => self.run_load(Operand8::B, Operand8::E),
+            0x44 => self.run_load(Operand8::B, Operand8::H),
+            0x45 => self.run_load(Operand8::B, Operand8::L),
+            0x46 => self.run_load(Operand8::B, Operand8::AtHl),
+            0x47 => self.run_load(Operand8::B, Operand8::A),
+            0x48 => self.run_load(Operand8::C, Operand8::B),
+            0x49 => self.run_load(Operand8::C, Operand8::C),
+            0x4a => self.run_load(Operand8::C, Operand8::D),
+            0x4b => self.run_load(Operand8::C, Operand8::E),
+            0x4c => self.run_load(Operand8::C, Operand8::H),
+            0x4d => self.run_load(Operand8::C, Operand8::L),
+            0x4e => self.run_load(Operand8::C, Operand8::AtHl),
+            0x4f => self.run_load(Operand8::C, Operand8::A),
+            0x50 => self.run_load(Operand8::D, Operand8::B),
+            0x51 => self.run_load(Operand8::D, Operand8::C),
+            0x52 => self.run_load(Operand8::D, Operand8::D),
+            0x53 => self.run_load(Operand8::D, Operand8::E),
+            0x54 => self.run_load(Operand8::D, Operand8::H),
+            0x55 => self.run_load(Operand8::D, Operand8::L),
+            0x56 => self.run_load(Operand8::D, Operand8::AtHl),
+            0x57 => self.run_load(Operand8::D, Operand8::A),
+            0x58 => self.run_load(Operand8::E, Operand8::B),
+            0x59 => self.run_load(Operand8::E, Operand8::C),
+            0x5a => self.run_load(Operand8::E, Operand8::D),
+            0x5b => self.run_load(Operand8::E, Operand8::E),
+            0x5c => self.run_load(Operand8::E, Operand8::H),
+            0x5d => self.run_load(Operand8::E, Operand8::L),
+            0x5e => self.run_load(Operand8::E, Operand8::AtHl),
+            0x5f => self.run_load(Operand8::E, Operand8::A),
+            0x60 => self.run_load(Operand8::H, Operand8::B),
+            0x61 => self.run_load(Operand8::H, Operand8::C),
+            0x62 => self.run_load(Operand8::H, Operand8::D),
+            0x63 => self.run_load(Operand8::H, Operand8::E),
+            0x64 => self.run_load(Operand8::H, Operand8::H),
+            0x65 => self.run_load(Operand8::H, Operand8::L),
+            0x66 => self.run_load(Operand8::H, Operand8::AtHl),
+            0x67 => self.run_load(Operand8::H, Operand8::A),
+            0x68 => self.run_load(Operand8::L, Operand8::B),
+            0x69 => self.run_load(Operand8::L, Operand8::C),
+            0x6a => self.run_load(Operand8::L, Operand8::D),
+            0x6b => self.run_load(Operand8::L, Operand8::E),
+            0x6c => self.run_load(Operand8::L, Operand8::H),
+            0x6d => self.run_load(Operand8::L, Operand8::L),
+            0x6e => self.run_load(Operand8::L, Operand8::AtHl),
+            0x6f => self.run_load(Operand8::L, Operand8::A),
+            0x70 => self.run_load(Operand8::AtHl, Operand8::B),
+            0x71 => self.run_load(Operand8::AtHl, Operand8::C),
+            0x72 => self.run_load(Operand8::AtHl, Operand8::D),
+            0x73 => self.run_load(Operand8::AtHl, Operand8::E),
+            0x74 => self.run_load(Operand8::AtHl, Operand8::H),
+            0x75 => self.run_load(Operand8::AtHl, Operand8::L),
+            0x76 => self.run_halt(),
+            0x77 => self.run_load(Operand8::AtHl, Operand8::A),
+            0x78 => self.run_load(Operand8::A, Operand8::B),
+            0x79 => self.run_load(Operand8::A, Operand8::C),
+            0x7a => self.run_load(Operand8::A, Operand8::D),
+            0x7b => self.run_load(Operand8::A, Operand8::E),
+            0x7c => self.run_load(Operand8::A, Operand8::H),
+            0x7d => self.run_load(Operand8::A, Operand8::L),
+            0x7e => self.run_load(Operand8::A, Operand8::AtHl),
+            _ => self.run_load(Operand8::A, Operand8::A),
+        }
+    }
+
+    /// Opcodes 80 to BF.
+    #[tactic(auto, unfolding(opcode_table::specs::Table::instruction_of))]
+    fn run_operation_of_opcode<const WAY: u8>(&mut self, opcode: u8) -> u8
+        requires from { 128 ≤ opcode }
+        requires below { opcode < 192 }
+        ensures after { self.new ≡ executed_behind M.rules (instruction_at M.rules opcode self.old) self.old }
+        ensures cycles { result ≡ cycles_with (instruction_at M.rules opcode self.old) self.old.registers.flags }
+    {
+        match opcode {
+            0x80 => self.run_operate(Operation::Add, Operand8::B),
+            0x81 => self.run_operate(Operation::Add, Operand8::C),
+            0x82 => self.run_operate(Operation::Add, Operand8::D),
+            0x83 => self.run_operate(Operation::Add, Operand8::E),
+            0x84 => self.run_operate(Operation::Add, Operand8::H),
+            0x85 => self.run_operate(Operation::Add, Operand8::L),
+            0x86 => self.run_operate(Operation::Add, Operand8::AtHl),
+            0x87 => self.run_operate(Operation::Add, Operand8::A),
+            0x88 => self.run_operate(Operation::AddCarry, Operand8::B),
+            0x89 => self.run_operate(Operation::AddCarry, Operand8::C),
+            0x8a => self.run_operate(Operation::AddCarry, Operand8::D),
+            0x8b => self.run_operate(Operation::AddCarry, Operand8::E),
+            0x8c => self.run_operate(Operation::AddCarry, Operand8::H),
+            0x8d => self.run_operate(Operation::AddCarry, Operand8::L),
+            0x8e => self.run_operate(Operation::AddCarry, Operand8::AtHl),
+            0x8f => self.run_operate(Operation::AddCarry, Operand8::A),
+            0x90 => self.run_operate(Operation::Subtract, Operand8::B),
+            0x91 => self.run_operate(Operation::Subtract, Operand8::C),
+            0x92 => self.run_operate(Operation::Subtract, Operand8::D),
+            0x93 => self.run_operate(Operation::Subtract, Operand8::E),
+            0x94 => self.run_operate(Operation::Subtract, Operand8::H),
+            0x95 => self.run_operate(Operation::Subtract, Operand8::L),
+            0x96 => self.run_operate(Operation::Subtract, Operand8::AtHl),
+            0x97 => self.run_operate(Operation::Subtract, Operand8::A),
+            0x98 => self.run_operate(Operation::SubtractCarry, Operand8::B),
+            0x99 => self.run_operate(Operation::SubtractCarry, Operand8::C),
+            0x9a => self.run_operate(Operation::SubtractCarry, Operand8::D),
+            0x9b => self.run_operate(Operation::SubtractCarry, Operand8::E),
+            0x9c => self.run_operate(Operation::SubtractCarry, Operand8::H),
+            0x9d => self.run_operate(Operation::SubtractCarry, Operand8::L),
+            0x9e => self.run_operate(Operation::SubtractCarry, Operand8::AtHl),
+            0x9f => self.run_operate(Operation::SubtractCarry, Operand8::A),
+            0xa0 => self.run_operate(Operation::And, Operand8::B),
+            0xa1 => self.run_operate(Operation::And, Operand8::C),
+            0xa2 => self.run_operate(Operation::And, Operand8::D),
+            0xa3 => self.run_operate(Operation::And, Operand8::E),
+            0xa4 => self.run_operate(Operation::And, Operand8::H),
+            0xa5 => self.run_operate(Operation::And, Operand8::L),
+            0xa6 => self.run_operate(Operation::And, Operand8::AtHl),
+            0xa7 => self.run_operate(Operation::And, Operand8::A),
+            0xa8 => self.run_operate(Operation::Xor, Operand8::B),
+            0xa9 => self.run_operate(Operation::Xor, Operand8::C),
+            0xaa => self.run_operate(Operation::Xor, Operand8::D),
+            0xab => self.run_operate(Operation::Xor, Operand8::E),
+            0xac => self.run_operate(Operation::Xor, Operand8::H),
+            0xad => self.run_operate(Operation::Xor, Operand8::L),
+            0xae => self.run_operate(Operation::Xor, Operand8::AtHl),
+            0xaf => self.run_operate(Operation::Xor, Operand8::A),
+            0xb0 => self.run_operate(Operation::Or, Operand8::B),
+            0xb1 => self.run_operate(Operation::Or, Operand8::C),
+            0xb2 => self.run_operate(Operation::Or, Operand8::D),
+            0xb3 => self.run_operate(Operation::Or, Operand8::E),
+            0xb4 => self.run_operate(Operation::Or, Operand8::H),
+            0xb5 => self.run_operate(Operation::Or, Operand8::L),
+            0xb6 => self.run_operate(Operation::Or, Operand8::AtHl),
+            0xb7 => self.run_operate(Operation::Or, Operand8::A),
+            0xb8 => self.run_operate(Operation::Compare, Operand8::B),
+            0xb9 => self.run_operate(Operation::Compare, Operand8::C),
+            0xba => self.run_operate(Operation::Compare, Operand8::D),
+            0xbb => self.run_operate(Operation::Compare, Operand8::E),
+            0xbc => self.run_operate(Operation::Compare, Operand8::H),
+            0xbd => self.run_operate(Operation::Compare, Operand8::L),
+            0xbe => self.run_operate(Operation::Compare, Operand8::AtHl),
+            _ => self.run_operate(Operation::Compare, Operand8::A),
+        }
+    }
+
+    /// Opcodes C0 to FF.
+    #[tactic(auto, unfolding(opcode_table::specs::Table::instruction_of, opcode_table::specs::Table::jumps_and_stack))]
+    fn run_jump_or_stack<const WAY: u8>(&mut self, opcode: u8) -> u8
+        requires { 192 ≤ opcode }
+        ensures after { self.new ≡ executed_behind M.rules (instruction_at M.rules opcode self.old) self.old }
+        ensures cycles { result ≡ cycles_with (instruction_at M.rules opcode self.old) self.old.registers.flags }
+    {
+        match opcode {
+            0xc0 => self.run_return_if(Condition::NotZero),
+            0xc1 => self.run_pop(StackRegister16::Bc),
+            0xc2 => self.run_jump_if(Condition::NotZero, self.word()),
+            0xc3 => self.run_jump(self.word()),
+            0xc4 => self.run_call_if(Condition::NotZero, self.word()),
+            0xc5 => self.run_push(StackRegister16::Bc),
+            0xc6 => self.run_operate_byte(Operation::Add, self.low()),
+            0xc7 => self.run_restart(0x00),
+            0xc8 => self.run_return_if(Condition::Zero),
+            0xc9 => self.run_return(),
+            0xca => self.run_jump_if(Condition::Zero, self.word()),
+            0xcb => self.run_bit_opcode(self.low()),
+            0xcc => self.run_call_if(Condition::Zero, self.word()),
+            0xcd => self.run_call(self.word()),
+            0xce => self.run_operate_byte(Operation::AddCarry, self.low()),
+            0xcf => self.run_restart(0x08),
+            0xd0 => self.run_return_if(Condition::NotCarry),
+            0xd1 => self.run_pop(StackRegister16::De),
+            0xd2 => self.run_jump_if(Condition::NotCarry, self.word()),
+            0xd3 => self.run_undefined(0xd3),
+            0xd4 => self.run_call_if(Condition::NotCarry, self.word()),
+            0xd5 => self.run_push(StackRegister16::De),
+            0xd6 => self.run_operate_byte(Operation::Subtract, self.low()),
+            0xd7 => self.run_restart(0x10),
+            0xd8 => self.run_return_if(Condition::Carry),
+            0xd9 => self.run_return_from_interrupt(),
+            0xda => self.run_jump_if(Condition::Carry, self.word()),
+            0xdb => self.run_undefined(0xdb),
+            0xdc => self.run_call_if(Condition::Carry, self.word()),
+            0xdd => self.run_undefined(0xdd),
+            0xde => self.run_operate_byte(Operation::SubtractCarry, self.low()),
+            0xdf => self.run_restart(0x18),
+            0xe0 => self.run_store_high(self.low()),
+            0xe1 => self.run_pop(StackRegister16::Hl),
+            0xe2 => self.run_store_high_c(),
+            0xe3 => self.run_undefined(0xe3),
+            0xe4 => self.run_undefined(0xe4),
+            0xe5 => self.run_push(StackRegister16::Hl),
+            0xe6 => self.run_operate_byte(Operation::And, self.low()),
+            0xe7 => self.run_restart(0x20),
+            0xe8 => self.run_add_sp(self.low()),
+            0xe9 => self.run_jump_hl(),
+            0xea => self.run_store_at(self.word()),
+            0xeb => self.run_undefined(0xeb),
+            0xec => self.run_undefined(0xec),
+            0xed => self.run_undefined(0xed),
+            0xee => self.run_operate_byte(Operation::Xor, self.low()),
+            0xef => self.run_restart(0x28),
+            0xf0 => self.run_load_high(self.low()),
+            0xf1 => self.run_pop(StackRegister16::Af),
+            0xf2 => self.run_load_high_c(),
+            0xf3 => self.run_disable_interrupts(),
+            0xf4 => self.run_undefined(0xf4),
+            0xf5 => self.run_push(StackRegister16::Af),
+            0xf6 => self.run_operate_byte(Operation::Or, self.low()),
+            0xf7 => self.run_restart(0x30),
+            0xf8 => self.run_load_hl_sp(self.low()),
+            0xf9 => self.run_load_sp_hl(),
+            0xfa => self.run_load_at(self.word()),
+            0xfb => self.run_enable_interrupts(),
+            0xfc => self.run_undefined(0xfc),
+            0xfd => self.run_undefined(0xfd),
+            0xfe => self.run_operate_byte(Operation::Compare, self.low()),
+            _ => self.run_restart(0x38),
+        }
+    }
+
+    /// Executes the instruction after an opcode CB, and answers its M-cycles.
+    #[inline(never)]
+    fn run_bit_opcode(&mut self, byte: u8) -> u8
+        ensures after { self.new ≡ executed_behind M.rules (bit_instruction (byte / 64) (byte % 8) (byte / 8 % 8)) self.old }
+        ensures cycles { result ≡ cycles_with (bit_instruction (byte / 64) (byte % 8) (byte / 8 % 8)) self.old.registers.flags }
+    {
+        match byte % 8 {
+            0 => self.run_bit_operation(byte, Operand8::B),
+            1 => self.run_bit_operation(byte, Operand8::C),
+            2 => self.run_bit_operation(byte, Operand8::D),
+            3 => self.run_bit_operation(byte, Operand8::E),
+            4 => self.run_bit_operation(byte, Operand8::H),
+            5 => self.run_bit_operation(byte, Operand8::L),
+            6 => self.run_bit_operation(byte, Operand8::AtHl),
+            _ => self.run_bit_operation(byte, Operand8::A),
+        }
+    }
+
+    #[inline(always)]
+    #[tactic(auto, unfolding(opcode_table::specs::Table::bit_instruction))]
+    fn run_bit_operation(&mut self, byte: u8, operand: Operand8) -> u8
+        requires { operand ≡ operand8_of (byte % 8) }
+        ensures after { self.new ≡ executed_behind M.rules (bit_instruction (byte / 64) (byte % 8) (byte / 8 % 8)) self.old }
+        ensures cycles { result ≡ cycles_with (bit_instruction (byte / 64) (byte % 8) (byte / 8 % 8)) self.old.registers.flags }
+    {
+        let bit = byte / 8 % 8;
+        match byte / 64 {
+            0 => self.run_shift_of_number(bit, operand),
+            1 => self.run_test_bit(bit, operand),
+            2 => self.run_reset_bit(bit, operand),
+            _ => self.run_set_bit(bit, operand),
+        }
+    }
+
+    #[inline(always)]
+    fn run_shift_of_number(&mut self, number: u8, operand: Operand8) -> u8
+        requires { number < 8 }
+        ensures after { self.new ≡ executed_behind M.rules (Instr.Shift (shift_of number) operand) self.old }
+        ensures cycles { result ≡ cycles_with (Instr.Shift (shift_of number) operand) self.old.registers.flags }
+    {
+        match number {
+            0 => self.run_shift(Shift::RotateLeft, operand),
+            1 => self.run_shift(Shift::RotateRight, operand),
+            2 => self.run_shift(Shift::RotateLeftThrough, operand),
+            3 => self.run_shift(Shift::RotateRightThrough, operand),
+            4 => self.run_shift(Shift::ShiftLeftArithmetic, operand),
+            5 => self.run_shift(Shift::ShiftRightArithmetic, operand),
+            6 => self.run_shift(Shift::Swap, operand),
+            _ => self.run_shift(Shift::ShiftRightLogical, operand),
+        }
+    }
+}
