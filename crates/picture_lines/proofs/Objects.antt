@@ -1,11 +1,11 @@
 -- The objects that are selected for a line, as a loop over OAM finds them.
-use Rattle.std.proofs.Common.{◌≡◌, ℕ, ◌+◌, ◌<◌, ◌≤◌, Bool, true, false, cond, List, [], ◌∷◌, ◌++◌, length, take, map, subst, arith, rules, length-append}
+use Rattle.std.proofs.Common.{◌≡◌, ℕ, ◌+◌, ◌<◌, ◌≤◌, Bool, true, false, cond, List, [], ◌∷◌, ◌++◌, length, take, map, subst, refl, ap, arith, rules, length-append}
 use Rattle.std.specs.List.{filter, range_with_len, AllPass}
-use Rattle.std.specs.Prelude.{if◌then◌else◌}
+use Rattle.std.specs.Prelude.{if◌then◌else◌, nat_le, nat_lt}
 use Rattle.std.proofs.lemmas.List.{length-take, take_all, take-append-le, append-nil}
 use Rattle.std.proofs.lemmas.List.FromFn.{filter_of_map_range_with_len_more}
 use Rattle.std.proofs.lemmas.List.Elements.{filter_passes, All-take}
-use Rattle.picture_lines.specs.Pixel.{selected_objects, covers_line, object_at, objects_of}
+use Rattle.picture_lines.specs.Pixel.{selected_objects, object_height, covers_line, object_at, objects_of}
 use Rattle.picture_lines.specs.Bits.{has_bit}
 use Rattle.picture_lines.specs.declared.registers.LineRegisters.{LineRegisters}
 use Rattle.picture_lines.specs.declared.object_entry.Object.{Object}
@@ -55,3 +55,52 @@ selected_objects-found s oam selected n on all found =
 pub selected_objects_when_off : (s : LineRegisters) (all : List Object) → has_bit s.lcdc 1 ≡ false → [] ≡ selected_objects s all
 unfolding selected_objects
 selected_objects_when_off s all off = rw off
+
+-- lines of the same height that an object covers as it covers another
+module _ (s t : LineRegisters) (o : Object) (same : has_bit s.lcdc 2 ≡ has_bit t.lcdc 2) where
+  same_height : object_height s ≡ object_height t
+  unfolding object_height
+  same_height = ap (λ b. if b then 16 else 8) same
+
+  pub covers-above : t.ly + 16 < o.y → s.ly + 16 < o.y → covers_line s o ≡ covers_line t o
+  unfolding covers_line
+  covers-above in_t in_s =
+      let a : nat_le o.y (s.ly + 16) ≡ false = grind arith
+      in let b : nat_le o.y (t.ly + 16) ≡ false = grind arith
+      in rw (a, b) refl
+
+  pub covers-within : o.y ≤ t.ly + 16 → t.ly ≤ s.ly → s.ly + 16 < o.y + object_height t → covers_line s o ≡ covers_line t o
+  unfolding covers_line
+  covers-within from later to =
+      let a : nat_le o.y (s.ly + 16) ≡ true = grind arith
+      in let b : nat_le o.y (t.ly + 16) ≡ true = grind arith
+      in let c : nat_lt (s.ly + 16) (o.y + object_height t) ≡ true = grind arith
+      in let d : nat_lt (t.ly + 16) (o.y + object_height t) ≡ true = grind arith
+      in rw (same_height, a, b, c, d) refl
+
+  pub covers-below : o.y + object_height t ≤ t.ly + 16 → t.ly ≤ s.ly → covers_line s o ≡ covers_line t o
+  unfolding covers_line
+  covers-below over later =
+      let a : nat_le o.y (s.ly + 16) ≡ true = grind arith
+      in let b : nat_le o.y (t.ly + 16) ≡ true = grind arith
+      in let c : nat_lt (s.ly + 16) (o.y + object_height t) ≡ false = grind arith
+      in let d : nat_lt (t.ly + 16) (o.y + object_height t) ≡ false = grind arith
+      in rw (same_height, a, b, c, d) refl
+
+if_height : (b : Bool) → (if b then 16 else 8) ≤ 16
+if_height true = omega arith
+if_height false = omega arith
+
+pub height-small : (s : LineRegisters) → object_height s ≤ 16
+unfolding object_height
+height-small s = if_height (has_bit s.lcdc 2)
+
+pub selected_objects_when_on : (s : LineRegisters) (all : List Object) → has_bit s.lcdc 1 ≡ true → take 10 (filter (covers_line s) all) ≡ selected_objects s all
+unfolding selected_objects
+selected_objects_when_on s all on = rw on refl
+
+pub chosen_found : (s : LineRegisters) (oam : List ℕ) (selected : List Object) (n : ℕ) → n ≡ 40 → selected ≡ take 10 (filter (covers_line s) (map (object_at oam) (range_with_len 0 n))) → selected ≡ take 10 (filter (covers_line s) (objects_of oam))
+unfolding objects_of
+chosen_found s oam selected n all found =
+    let P : ℕ → Type 0 = λ m. selected ≡ take 10 (filter (covers_line s) (map (object_at oam) (range_with_len 0 m)))
+    in subst P all found

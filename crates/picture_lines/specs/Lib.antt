@@ -4,3 +4,4 @@ pub mod WinnerLaw
 -- what only the code needs
 pub mod Tiles
 pub mod Layers
+pub mod Choice

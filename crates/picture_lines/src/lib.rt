@@ -3,6 +3,7 @@
 #![tactic(auto)]
 
 mod bits;
+mod chosen;
 mod kernels;
 mod line;
 mod object_entry;
@@ -10,6 +11,7 @@ mod plain;
 mod registers;
 mod tiles;
 
+pub use chosen::ChosenObjects;
 pub use kernels::{map_shades, tile_colours};
 pub use object_entry::Object;
 pub use plain::winner_is_least;

@@ -1,11 +1,13 @@
 ghost use Rattle.std.specs.Prelude.{◌≡◌, ℕ, ◌+◌, ◌*◌, ◌-◌, ◌/◌, ◌%◌, ◌<◌, ◌≤◌, length, slice_index, All, List, drop, [], ◌∷◌, if◌then◌else◌};
 ghost use Rattle.std.specs.List.{AllPass};
 ghost use lib.Lanes.{put_chunk};
-ghost use Rattle.picture_lines.specs.Pixel.{map_row as map_row_of, map_colour, background_colour, background_shade, object_colour, object_palette, covers_line, drawn_row};
+ghost use Rattle.picture_lines.specs.Pixel.{map_row as map_row_of, map_colour, background_colour, background_shade, object_colour, object_palette, covers_line, shade_at, drawn_row};
+ghost use Rattle.picture_lines.specs.Choice.{IsChoice};
 ghost use Rattle.picture_lines.specs.Bits.{shade_of};
 ghost use Rattle.picture_lines.specs.Layers.{IsBackground, IsLayered};
 
 use crate::bits::has_bit;
+use crate::chosen::ChosenObjects;
 use crate::kernels::map_shades;
 use crate::object_entry::Object;
 use crate::plain::{map_start, shade_over, tile_number};
@@ -250,6 +252,27 @@ impl LineRegisters {
         row.copy_from_slice(&shades[8..168]);
     }
 
+    // Draws a line with these objects, by whole tile rows.
+    fn draw_selected(&self, tiles: &mut TileMemory, selected: &[Object], row: &mut [u8; 160])
+        requires line_in { self.now.ly < 144 }
+        requires covered { AllPass (covers_line self.now) selected.now }
+        ensures tiles { tiles.new ≡ tiles.old }
+        ensures shades { (x : ℕ) → x < 160 →
+            slice_index row.new x ≡ shade_at self.now tiles.old selected.now x }
+    {
+        if selected.is_empty() {
+            return self.draw_background(tiles, row);
+        }
+        let background = self.background(tiles);
+        let mut overlay = self.bare_overlay(&background);
+        let mut index = selected.len();
+        while index > 0 {
+            index -= 1;
+            self.put_object(tiles, selected, index, &background, &mut overlay);
+        }
+        row.copy_from_slice(&overlay.shades[8..168]);
+    }
+
     /// Draws the line, by whole tile rows.
     pub fn draw(&self, tiles: &mut TileMemory, oam: &[u8], row: &mut [u8; 160])
         requires line_in { self.now.ly < 144 }
@@ -259,16 +282,30 @@ impl LineRegisters {
         ensures shades { All (λ shade. shade < 4) row.new }
     {
         let selected = self.selected_objects(oam);
-        if selected.is_empty() {
-            return self.draw_background(tiles, row);
+        self.draw_selected(tiles, &selected, row);
+    }
+
+    /// The same, where the objects of an earlier line are looked at first: they are chosen anew only
+    /// where others may cover this line.
+    pub fn draw_with(
+        &self,
+        tiles: &mut TileMemory,
+        oam: &[u8],
+        chosen: &mut ChosenObjects,
+        row: &mut [u8; 160],
+    )
+        requires line_in { self.now.ly < 144 }
+        requires oam { length oam.now ≡ 160 }
+        requires chosen { IsChoice chosen.old oam.now }
+        ensures chosen { IsChoice chosen.new oam.now }
+        ensures tiles { tiles.new ≡ tiles.old }
+        ensures row { row.new ≡ drawn_row self.now tiles.old oam.now }
+        ensures shades { All (λ shade. shade < 4) row.new }
+    {
+        if !has_bit(self.lcdc, 1) {
+            return self.draw_selected(tiles, &[], row);
         }
-        let background = self.background(tiles);
-        let mut overlay = self.bare_overlay(&background);
-        let mut index = selected.len();
-        while index > 0 {
-            index -= 1;
-            self.put_object(tiles, &selected, index, &background, &mut overlay);
-        }
-        row.copy_from_slice(&overlay.shades[8..168]);
+        self.choose(oam, chosen);
+        self.draw_selected(tiles, &chosen.objects, row);
     }
 }

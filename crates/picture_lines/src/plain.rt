@@ -127,14 +127,14 @@ impl LineRegisters {
     }
 
     #[tactic(auto, unfolding(crate::specs::Pixel::object_height))]
-    fn object_height(&self) -> usize
+    pub(crate) fn object_height(&self) -> usize
         ensures { result ≡ height_of self.now }
     {
         if has_bit(self.lcdc, 2) { 16 } else { 8 }
     }
 
     #[tactic(auto, unfolding(crate::specs::Pixel::covers_line, crate::specs::Pixel::object_height))]
-    fn covers_line(&self, object: &Object) -> bool
+    pub(crate) fn covers_line(&self, object: &Object) -> bool
         requires { self.now.ly < 144 }
         ensures { result ≡ covers self.now object.now }
     {
@@ -259,7 +259,7 @@ impl LineRegisters {
 }
 
 #[tactic(auto, unfolding(crate::specs::Pixel::object_at))]
-fn object_at(oam: &[u8], index: usize) -> Object
+pub(crate) fn object_at(oam: &[u8], index: usize) -> Object
     requires { 4 * index + 3 < length oam.now }
     ensures { result ≡ entry_at oam.now index }
 {

@@ -2,5 +2,6 @@ pub mod Quiet
 pub mod Writing
 pub mod PictureLaws
 pub mod Settled
+pub mod Kept
 pub mod SignalLaws
 pub mod WindowLaws

@@ -6,7 +6,7 @@ mod snapshot;
 use crate::pgm::write_rows;
 use crate::state::PictureState;
 use exact_text::OutputFailed;
-use picture_lines::TileMemory;
+use picture_lines::{ChosenObjects, LineRegisters, TileMemory};
 use std::alloc::{AllocError, Global};
 use std::io::Write;
 use std::marker::Model;
@@ -24,12 +24,22 @@ pub struct Picture {
     quiet: u8,
     tiles: TileMemory,
     oam: Vec<u8>,
+    // The objects of the line that was drawn last.
+    objects: ChosenObjects,
     rows: Vec<[u8; 160]>,
+    // Whether VRAM, OAM or a row has changed since a line was drawn: no row is then known to be what
+    // its line would be drawn as.
+    is_changed: bool,
+    // The rows of which that is known, and what they were drawn by.
+    is_kept: [bool; 144],
+    drawn_by: [LineRegisters; 144],
 }
 
 impl Model for Picture {
     ghost use Rattle.picture_unit.specs.Picture.{Screen, IsWhole};
     ghost use Rattle.picture_unit.specs.PictureJump.{AreQuiet};
+    ghost use Rattle.picture_unit.specs.Keeping.{AreKept};
+    ghost use Rattle.picture_lines.specs.Choice.{IsChoice};
 
     ghost Value = { Screen };
 
@@ -43,6 +53,8 @@ impl Model for Picture {
     ghost invariant = { λ p. record {
       whole : IsWhole p.state p.oam.items p.rows.items;
       quiet : AreQuiet p.quiet p.state;
+      kept : AreKept p.is_changed p.is_kept p.drawn_by p.tiles p.oam.items p.rows.items;
+      objects : IsChoice p.objects p.oam.items;
     } };
 }
 
@@ -63,12 +75,18 @@ impl Picture {
         let tiles = TileMemory::new(alloc)?;
         let oam = Vec::from_elem(alloc, 0u8, 160)?;
         let rows = Vec::from_elem(alloc, [0u8; 160], 144)?;
+        let objects = ChosenObjects::none();
+        let state = PictureState::at_power_on();
         Ok(Picture {
-            state: PictureState::at_power_on(),
+            state,
             quiet: 0,
             tiles,
             oam,
+            objects,
             rows,
+            is_changed: true,
+            is_kept: [false; 144],
+            drawn_by: [state.line_registers(); 144],
         })
     }
 
@@ -108,6 +126,10 @@ impl Picture {
         if offset as usize >= self.tiles.bytes().len() {
             return;
         }
+        if self.tiles.byte(offset as usize) == value {
+            return;
+        }
+        self.is_changed = true;
         self.tiles.write(offset as usize, value);
     }
 
@@ -154,6 +176,11 @@ impl Picture {
         if offset as usize >= self.oam.len() {
             return;
         }
+        if self.oam[offset as usize] == value {
+            return;
+        }
+        self.objects.forget();
+        self.is_changed = true;
         self.oam[offset as usize] = value;
     }
 
@@ -247,6 +274,7 @@ impl Picture {
         self.state.window_line = 0;
         self.state.seen = false;
         self.state.signal = false;
+        self.is_changed = true;
         blank(&mut self.rows);
     }
 

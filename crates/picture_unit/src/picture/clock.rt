@@ -1,11 +1,13 @@
-ghost use Rattle.std.specs.Prelude.{◌≡◌, ◌<◌, ◌+◌, true};
+ghost use Rattle.std.specs.Prelude.{◌≡◌, ◌<◌, ◌+◌, true, false, slice_set, slice_index_or, replicate, if◌then◌else◌};
 ghost use Rattle.std.specs.Fn.{iterate};
 ghost use Rattle.repeated_steps.specs.NextEvent.{IsNextEvent};
 ghost use Rattle.picture_unit.specs.Picture.{unrequested, is_on, tick, ticks, is_entry, line_drawn, drawn};
+ghost use Rattle.picture_lines.specs.Pixel.{drawn_row};
 ghost use Rattle.picture_unit.specs.PictureJump.{next_entry, skipped, with_requests, AreQuiet};
 
 use super::Picture;
 use crate::state::PictureRequests;
+use picture_lines::LineRegisters;
 
 impl Picture {
     /// Lets this many M-cycles pass: lines are entered and drawn, and interrupts are requested.
@@ -188,10 +190,55 @@ impl Picture {
         ensures { self.new ≡ line_drawn self.old }
     {
         let registers = self.state.line_registers();
-        let y = registers.ly as usize;
-        registers.draw(&mut self.tiles, &self.oam, &mut self.rows[y]);
+        self.draw_row(&registers);
         if registers.is_window_drawn() {
             self.state.window_line = self.state.window_line.wrapping_add(1);
         }
     }
+
+    // Draws a row, unless it is kept since it was drawn by the same registers.
+    fn draw_row(&mut self, registers: &LineRegisters)
+        requires { registers.now.ly < 144 }
+        ensures { self.new ≡ record self.old {
+          rows = slice_set self.old.rows registers.now.ly (drawn_row registers.now self.old.vram self.old.oam);
+        } }
+    {
+        forget_when(self.is_changed, &mut self.is_kept);
+        self.is_changed = false;
+        if is_drawn_by(&self.is_kept, &self.drawn_by, registers) {
+            return;
+        }
+        let y = registers.ly as usize;
+        registers.draw_with(
+            &mut self.tiles,
+            &self.oam,
+            &mut self.objects,
+            &mut self.rows[y],
+        );
+        self.is_kept[y] = true;
+        self.drawn_by[y] = *registers;
+    }
+}
+
+// Keeps no row where something has changed.
+fn forget_when(is_changed: bool, is_kept: &mut [bool; 144])
+    ensures { is_kept.new ≡ (if is_changed then replicate 144 false else is_kept.old) }
+{
+    if is_changed {
+        *is_kept = [false; 144];
+    }
+}
+
+// Whether the row of a line is kept, and was drawn by these registers.
+fn is_drawn_by(
+    is_kept: &[bool; 144],
+    drawn_by: &[LineRegisters; 144],
+    registers: &LineRegisters,
+) -> bool
+    requires { registers.now.ly < 144 }
+    ensures kept { result ≡ true → slice_index_or is_kept.now registers.now.ly false ≡ true }
+    ensures same { result ≡ true → slice_index_or drawn_by.now registers.now.ly registers.now ≡ registers.now }
+{
+    let by = drawn_by[registers.ly as usize];
+    is_kept[registers.ly as usize] && by == *registers
 }

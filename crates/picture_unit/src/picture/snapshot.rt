@@ -22,6 +22,7 @@ impl Picture {
         ensures { self.new ≡ record self.old { state = state.now } }
     {
         self.quiet = 0;
+        self.is_changed = true;
         self.state = *state;
         self.tiles.mark_stale();
     }
@@ -44,6 +45,8 @@ impl Picture {
         requires { length bytes.now ≡ region_length region }
         ensures { self.new ≡ region_filled self.old region bytes.now }
     {
+        self.objects.forget();
+        self.is_changed = true;
         match region {
             PictureRegion::Vram => self.tiles.fill(bytes),
             PictureRegion::Oam => self.oam.copy_from_slice(bytes),
@@ -66,6 +69,7 @@ impl Picture {
         requires shades { All (λ shade. shade < 4) row.now }
         ensures { self.new ≡ record self.old { rows = slice_set self.old.rows y row.now } }
     {
+        self.is_changed = true;
         self.rows[y] = *row;
     }
 }

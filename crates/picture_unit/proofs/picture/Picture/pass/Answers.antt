@@ -17,6 +17,8 @@ invariant_of-self c =
     record {
       whole = search (rules, within);
       quiet = fewer_quiet c.self.inside.quiet c.args.cycles (c.self.inside.quiet - c.args.cycles) c.self.inside.state (omega (arith, c.from.ensures)) c.self.invariant.quiet;
+      kept = c.self.invariant.kept;
+      objects = c.self.invariant.objects;
     }
 
 pub returns : goal.returns

@@ -13,4 +13,6 @@ pub invariant_of-self : goal.invariant_of-self
 invariant_of-self c = record {
   whole = c.self-2.invariant.whole;
   quiet = quiet_before_entry c.self-2.inside.state c.args.cycles c.next_entry-entry.result _ _ (ap (λ (s : Screen). s.state) c.self-2.view_is) c.advance-requests.ensures.on c.requires c.advance-requests.ensures.ticks c.next_entry-entry.ensures.entry c.next_entry-entry.ensures.ahead;
+  kept = c.self-2.invariant.kept;
+  objects = c.self-2.invariant.objects;
 }

@@ -4,6 +4,7 @@ use Rattle.std.proofs.lemmas.List.{length-replicate, take-append-le, take_all}
 use Rattle.std.proofs.lemmas.List.Elements.{All-replicate}
 use Rattle.picture_lines.proofs.Backgrounds.{zeros-small}
 use Rattle.picture_unit.proofs.Quiet.{none_quiet}
+use Rattle.picture_unit.proofs.Kept.{none_kept}
 use Rattle.picture_unit.proofs.picture.Picture.switch_off.Goals as goal
 
 pub invariant_of-self : goal.invariant_of-self
@@ -39,4 +40,6 @@ invariant_of-self c =
         shades = rw whole (All-replicate (λ row. All (λ shade. shade < 4) row) 144 (replicate 160 0) (zeros-small 160));
       };
       quiet = none_quiet _;
+      kept = none_kept _ _ _ _ _;
+      objects = c.self.invariant.objects;
     }
