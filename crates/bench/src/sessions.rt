@@ -8,7 +8,7 @@ use machine::{Input, Machine, Region};
 use playing::play;
 use script::Move;
 use sector_device::{FileDevice, MemoryDevice, SectorDevice};
-use sector_log::{Entry, are_inputs, open_log};
+use sector_log::{Entry, Store, are_inputs, open_log};
 use session::{Session, new_game, resume};
 use snapshot::{encode, length};
 use std::alloc::Global;
@@ -79,41 +79,64 @@ fn save<D: SectorDevice>(session: &mut Session<D>) -> io::Result<()> {
     Ok(())
 }
 
+fn begun<D: SectorDevice + Drop>(
+    alloc: Global,
+    device: D,
+    cartridge: &Cartridge,
+) -> io::Result<Session<D>> {
+    let Ok(session) = new_game(alloc, device, cartridge) else {
+        return Err(failed());
+    };
+    Ok(session)
+}
+
+fn resumed<D: SectorDevice + Drop>(
+    alloc: Global,
+    device: D,
+    cartridge: &Cartridge,
+) -> io::Result<Session<D>> {
+    let Ok(session) = resume(alloc, device, cartridge) else {
+        return Err(failed());
+    };
+    Ok(session)
+}
+
+fn played<D: SectorDevice + Drop>(
+    alloc: Global,
+    device: D,
+    cartridge: &Cartridge,
+    moves: &[Move],
+) -> io::Result<Session<D>> {
+    let mut report = Vec::new(alloc);
+    let Ok(session) = play(alloc, device, cartridge, moves, &mut report) else {
+        return Err(failed());
+    };
+    Ok(session)
+}
+
 /// The device calls of a new game, a save, a resume and a play of nothing, the same in each run.
 fn count(rt: &HostRuntime) -> io::Result<()> {
     let alloc = rt.alloc();
     let cartridge = cartridge(alloc, &CLOCK)?;
     let device = Counting::new(MemoryDevice::new(alloc, 188, 1000)?);
     let made = calls_of(&device);
-    let Ok(mut session) = new_game(alloc, device, &cartridge) else {
-        return Err(failed());
-    };
-    let begun = calls_so_far(&session);
-    line(rt, "new_game on 188 sectors", made, begun)?;
+    let mut session = begun(alloc, device, &cartridge)?;
+    let first = calls_so_far(&session);
+    line(rt, "new_game on 188 sectors", made, first)?;
     give(&mut session, 1, SECOND)?;
     let given = calls_so_far(&session);
-    line(rt, "60 inputs", begun, given)?;
+    line(rt, "60 inputs", first, given)?;
     save(&mut session)?;
     let saved = calls_so_far(&session);
     line(rt, "save of 60 inputs, in one sector", given, saved)?;
     save(&mut session)?;
     let again = calls_so_far(&session);
     line(rt, "save of nothing", saved, again)?;
-    let Ok(session) = resume(alloc, session.into_device(), &cartridge) else {
-        return Err(failed());
-    };
-    let resumed = calls_so_far(&session);
-    line(rt, "resume", again, resumed)?;
-    let mut report = Vec::new(alloc);
-    let Ok(session) = play(alloc, session.into_device(), &cartridge, &[], &mut report) else {
-        return Err(failed());
-    };
-    line(
-        rt,
-        "play of an empty script",
-        resumed,
-        calls_so_far(&session),
-    )
+    let session = resumed(alloc, session.into_device(), &cartridge)?;
+    let found = calls_so_far(&session);
+    line(rt, "resume", again, found)?;
+    let session = played(alloc, session.into_device(), &cartridge, &[])?;
+    line(rt, "play of an empty script", found, calls_so_far(&session))
 }
 
 /// A new file, and no other of its name.
@@ -153,9 +176,7 @@ fn median(times: &mut Vec<u64>) -> u64 {
 fn time_saves(rt: &HostRuntime) -> io::Result<()> {
     let alloc = rt.alloc();
     let cartridge = cartridge(alloc, &CLOCK)?;
-    let Ok(mut session) = new_game(alloc, new_file(rt, 189)?, &cartridge) else {
-        return Err(failed());
-    };
+    let mut session = begun(alloc, new_file(rt, 189)?, &cartridge)?;
     let file = OpenOptions::new().write(true).open(rt, PATH)?;
     let mut machine = Machine::power_on(alloc, &cartridge)?;
     let mut saves = Vec::new(alloc);
@@ -223,11 +244,8 @@ fn play_on_file(rt: &HostRuntime, cartridge: &Cartridge, moves: &[Move]) -> io::
     let Ok(device) = FileDevice::attach(rt, Path::new(PATH)) else {
         return Err(failed());
     };
-    let mut report = Vec::new(rt.alloc());
-    match play(rt.alloc(), device, cartridge, moves, &mut report) {
-        Ok(_) => Ok(()),
-        Err(_) => Err(failed()),
-    }
+    played(rt.alloc(), device, cartridge, moves)?;
+    Ok(())
 }
 
 /// Ten minutes of the busy loop on a file, with a save in each second.
@@ -242,10 +260,7 @@ fn time_play(rt: &HostRuntime) -> io::Result<()> {
         })?;
         moves.push(Move::Save)?;
     }
-    let Ok(session) = new_game(alloc, new_file(rt, 156)?, &cartridge) else {
-        return Err(failed());
-    };
-    drop(session);
+    drop(begun(alloc, new_file(rt, 156)?, &cartridge)?);
     let took = time_once(rt, || play_on_file(rt, &cartridge, &moves))?;
     fs::remove_file(rt, PATH)?;
     print_time(
@@ -257,33 +272,50 @@ fn time_play(rt: &HostRuntime) -> io::Result<()> {
     print_time(rt, "the same frames alone", alone)
 }
 
-/// A device with a game of so many frames in its log.
-fn logged(alloc: Global, cartridge: &Cartridge, frames: u32) -> io::Result<MemoryDevice> {
+/// The snapshot of the machine at power-on.
+fn first_snapshot(alloc: Global, cartridge: &Cartridge) -> io::Result<Vec<u8>> {
     let machine = Machine::power_on(alloc, cartridge)?;
     let ram = machine.store(Region::CartRam).len();
     if ram > 131_072 {
         return Err(failed());
     }
-    let mut text = vec![in alloc; 0u8; length(ram)]?;
-    encode(&machine, &mut text);
+    let mut bytes = vec![in alloc; 0u8; length(ram)]?;
+    encode(&machine, &mut bytes);
+    Ok(bytes)
+}
+
+/// The log of a new game.
+fn first_log(alloc: Global, cartridge: &Cartridge) -> io::Result<Store<MemoryDevice>> {
+    let snapshot = first_snapshot(alloc, cartridge)?;
     let Ok(opened) = open_log(alloc, MemoryDevice::new(alloc, 156, 10_000)?, 0) else {
         return Err(failed());
     };
-    if text.len() > 1_000_000 {
+    if snapshot.len() > 1_000_000 {
         return Err(failed());
     }
-    let Ok(mut store) = opened.begin(cartridge.digest(), 0, &text) else {
+    let Ok(store) = opened.begin(cartridge.digest(), 0, &snapshot) else {
         return Err(failed());
     };
+    Ok(store)
+}
+
+fn append_frames(alloc: Global, store: &mut Store<MemoryDevice>, frames: u32) -> io::Result<()> {
+    let entries = Vec::from_elem(alloc, Entry { code: [0; 5] }, frames as usize)?;
+    if frames > 0 && (!are_inputs(&entries) || store.append(&entries).is_err()) {
+        return Err(failed());
+    }
+    Ok(())
+}
+
+/// A device with a game of so many frames in its log.
+fn logged(alloc: Global, cartridge: &Cartridge, frames: u32) -> io::Result<MemoryDevice> {
+    let mut store = first_log(alloc, cartridge)?;
     let mut left = frames;
     // a log is full at 67 pieces and a half
     for _piece in 0..68 {
         let piece = left.min(3_200);
         left = left - piece;
-        let entries = Vec::from_elem(alloc, Entry { code: [0; 5] }, piece as usize)?;
-        if piece > 0 && (!are_inputs(&entries) || store.append(&entries).is_err()) {
-            return Err(failed());
-        }
+        append_frames(alloc, &mut store, piece)?;
     }
     Ok(store.into_device())
 }
@@ -294,9 +326,7 @@ fn resume_of(
     cartridge: &Cartridge,
     frames: u32,
 ) -> io::Result<()> {
-    let Ok(session) = resume(alloc, device, cartridge) else {
-        return Err(failed());
-    };
+    let session = resumed(alloc, device, cartridge)?;
     if session.counts().all != u64::from(frames) {
         return Err(failed());
     }

@@ -61,17 +61,25 @@ fn make<D: SectorDevice>(
     }
 }
 
-/// What opening, beginning and then this call ask, if all was done.
-fn cost(alloc: Global, call: Call) -> Result<Option<Calls>, AllocError> {
+/// The log that opening and beginning leave on a new device, if both were done.
+fn begun(
+    alloc: Global,
+    checkpoint: &[u8],
+) -> Result<Option<Store<Counting<MemoryDevice>>>, AllocError> {
     let device = Counting::new(MemoryDevice::new(alloc, SECTORS, 1000)?);
-    let checkpoint = Vec::from_elem(alloc, 0, CHECKPOINT)?;
     let Ok(opened) = open_log(alloc, device, 0) else {
         return Ok(None);
     };
     if checkpoint.len() > 1_000_000 {
         return Ok(None);
     }
-    let Ok(mut store) = opened.begin([0; 32], 0, &checkpoint) else {
+    Ok(opened.begin([0; 32], 0, checkpoint).ok())
+}
+
+/// What opening, beginning and then this call ask, if all was done.
+fn cost(alloc: Global, call: Call) -> Result<Option<Calls>, AllocError> {
+    let checkpoint = Vec::from_elem(alloc, 0, CHECKPOINT)?;
+    let Some(mut store) = begun(alloc, &checkpoint)? else {
         return Ok(None);
     };
     if !make(alloc, &mut store, call, &checkpoint)? {
