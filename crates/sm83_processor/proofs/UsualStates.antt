@@ -1,8 +1,7 @@
 -- Which instructions leave a processor in its usual state.
-use Rattle.std.proofs.Common.{◌≡◌, ◌∙◌, ℕ, ◌<◌, ◌≤◌, Bool, true, false, refl, sym, ap, arith, eqb-true}
-use Rattle.std.specs.Prelude.{◌==◌, ◌||◌, not, if◌then◌else◌}
+use Rattle.std.proofs.Common.{◌≡◌, ◌∙◌, ℕ, ◌<◌, Bool, true, false, refl, sym, ap, eqb-true}
+use Rattle.std.specs.Prelude.{◌==◌, ◌||◌, if◌then◌else◌}
 use Rattle.std.proofs.lemmas.Bool.{agree_below, agree_below_at}
-use Rattle.std.proofs.lemmas.Bool.Decides.{nat_tests}
 use Rattle.opcode_table.specs.Table.{loads_and_steps, jumps_and_stack, bit_instruction, instruction_of}
 use Rattle.opcode_table.specs.declared.instruction.Operand8.{Operand8}
 use Rattle.opcode_table.specs.declared.instruction.Operand8.TheVariants as operand
@@ -27,10 +26,13 @@ changes_state EnableInterrupts = true
 changes_state (Undefined o) = true
 changes_state _ = false
 
-abbrev waits_then : Instr → Bool
-waits_then Stop = true
-waits_then Halt = true
-waits_then _ = false
+-- whether it ends the usual state
+abbrev leaves : Instr → Bool
+leaves Stop = true
+leaves Halt = true
+leaves EnableInterrupts = true
+leaves (Undefined o) = true
+leaves _ = false
 
 absurd_state : {A : Type 0} → true ≡ false → A
 absurd_state e = cc
@@ -97,89 +99,59 @@ state_kept r (ResetBit n p) s kept = operand_state r p _ s
 state_kept r (SetBit n p) s kept = operand_state r p _ s
 state_kept r (Undefined o) s kept = absurd_state kept
 
-record GoesOn (new old : ProcessorState) : Type 0 where
-  stopped : new.stopped ≡ old.stopped
-  halted : new.halted ≡ old.halted
-  repeat : new.repeat ≡ old.repeat
-
-same_goes_on : (new old : ProcessorState) → new ≡ old → GoesOn new old
-same_goes_on new old e = record {
-  stopped = ap (λ (s : ProcessorState). s.stopped) e;
-  halted = ap (λ (s : ProcessorState). s.halted) e;
-  repeat = ap (λ (s : ProcessorState). s.repeat) e;
+same_usual : (new old : ProcessorState) → new ≡ old → IsUsual old → IsUsual new
+same_usual new old e usual = record {
+  locked = ap (λ (s : ProcessorState). s.locked) e ∙ usual.locked;
+  stopped = ap (λ (s : ProcessorState). s.stopped) e ∙ usual.stopped;
+  halted = ap (λ (s : ProcessorState). s.halted) e ∙ usual.halted;
+  enable = ap (λ (s : ProcessorState). s.enable) e ∙ usual.enable;
+  repeat = ap (λ (s : ProcessorState). s.repeat) e ∙ usual.repeat;
 }
 
-goes_on_in : {M : Type 0} (r : Rules M) (i : Instr) (s : Processor M) → waits_then i ≡ false → (b : Bool) → b ≡ changes_state i → GoesOn (executed r i s).state s.state
-goes_on_in r i s goes false e = same_goes_on _ _ (state_kept r i s (sym e))
-goes_on_in r Stop s goes true e = absurd_state goes
-goes_on_in r Halt s goes true e = absurd_state goes
-goes_on_in r ReturnFromInterrupt s goes true e = record { stopped = refl; halted = refl; repeat = refl }
-goes_on_in r DisableInterrupts s goes true e = record { stopped = refl; halted = refl; repeat = refl }
-goes_on_in r EnableInterrupts s goes true e = record { stopped = refl; halted = refl; repeat = refl }
-goes_on_in r (Undefined o) s goes true e = record { stopped = refl; halted = refl; repeat = refl }
-goes_on_in r _ s goes true e = absurd_state e
+usual_in : {M : Type 0} (r : Rules M) (i : Instr) (s : Processor M) → leaves i ≡ false → IsUsual s.state → (b : Bool) → b ≡ changes_state i
+    → IsUsual (executed r i s).state
+usual_in r i s stays usual false e = same_usual _ _ (state_kept r i s (sym e)) usual
+usual_in r Stop s stays usual true e = absurd_state stays
+usual_in r Halt s stays usual true e = absurd_state stays
+usual_in r ReturnFromInterrupt s stays usual true e = record { locked = usual.locked; stopped = usual.stopped; halted = usual.halted; enable = usual.enable; repeat = usual.repeat }
+usual_in r DisableInterrupts s stays usual true e = record { locked = usual.locked; stopped = usual.stopped; halted = usual.halted; enable = refl; repeat = usual.repeat }
+usual_in r EnableInterrupts s stays usual true e = absurd_state stays
+usual_in r (Undefined o) s stays usual true e = absurd_state stays
+usual_in r _ s stays usual true e = absurd_state e
 
 -- ---- by opcode
 
-pub not_true : (b : Bool) → not b ≡ true → b ≡ false
-not_true true e = sym e
-not_true false e = refl
+abbrev pub leaving : ℕ → Bool
+leaving o = o == 0x10 || o == 0x76 || o == 0xD3 || o == 0xDB || o == 0xDD || o == 0xE3 || o == 0xE4 || o == 0xEB || o == 0xEC || o == 0xED || o == 0xF4 || o == 0xFB || o == 0xFC || o == 0xFD
 
-low_opcodes : (b c : ℕ) → agree_below (λ o. changes_state (instruction_of o b c)) (λ o. o == 0x10 || o == 0x76) 192 ≡ true
-unfolding instruction_of loads_and_steps jumps_and_stack
-low_opcodes b c = refl
+choice_stays : (t : Bool) (i j : Instr) → leaves i ≡ false → leaves j ≡ false → leaves (if t then i else j) ≡ false
+choice_stays true i j p q = p
+choice_stays false i j p q = q
 
-pub usual_behind : {M : Type 0} (r : Rules M) (o : ℕ) (p q : Processor M) → o < 192 → (o == 0x10) ≡ false → (o == 0x76) ≡ false
-    → q ≡ executed_behind r (instruction_at r o p) p → IsUsual p.state → IsUsual q.state
-usual_behind {M} r o p q below no_stop no_halt e usual =
-    let i = instruction_at r o p in
-    let table = agree_below_at (λ k. changes_state (instruction_of k (low_at r p) (high_at r p))) (λ k. k == 0x10 || k == 0x76) 192 o (low_opcodes (low_at r p) (high_at r p)) below in
-    let kept : changes_state i ≡ false = table ∙ ap (λ (t : Bool). t || o == 0x76) no_stop ∙ no_halt in
-    let same : q.state ≡ p.state = ap (λ (s : Processor M). s.state) e ∙ state_kept r i _ kept in
-    record {
-      locked = ap (λ (s : ProcessorState). s.locked) same ∙ usual.locked;
-      stopped = ap (λ (s : ProcessorState). s.stopped) same ∙ usual.stopped;
-      halted = ap (λ (s : ProcessorState). s.halted) same ∙ usual.halted;
-      enable = ap (λ (s : ProcessorState). s.enable) same ∙ usual.enable;
-      repeat = ap (λ (s : ProcessorState). s.repeat) same ∙ usual.repeat;
-    }
-
-choice_goes : (t : Bool) (i j : Instr) → waits_then i ≡ false → waits_then j ≡ false → waits_then (if t then i else j) ≡ false
-choice_goes true i j p q = p
-choice_goes false i j p q = q
-
-bit_instruction_goes : (x z y : ℕ) → waits_then (bit_instruction x z y) ≡ false
+bit_instruction_stays : (x z y : ℕ) → leaves (bit_instruction x z y) ≡ false
 unfolding bit_instruction
-bit_instruction_goes x z y = choice_goes (x == 0) _ _ refl (choice_goes (x == 1) _ _ refl (choice_goes (x == 2) _ _ refl refl))
+bit_instruction_stays x z y = choice_stays (x == 0) _ _ refl (choice_stays (x == 1) _ _ refl (choice_stays (x == 2) _ _ refl refl))
 
-all_opcodes : (b c : ℕ) → agree_below (λ o. if o == 0xCB then false else waits_then (instruction_of o b c)) (λ o. o == 0x10 || o == 0x76) 256 ≡ true
+all_opcodes : (b c : ℕ) → agree_below (λ o. if o == 0xCB then false else leaves (instruction_of o b c)) leaving 256 ≡ true
 unfolding instruction_of loads_and_steps jumps_and_stack
 all_opcodes b c = refl
 
-prefixed : (b c : ℕ) → waits_then (instruction_of 0xCB b c) ≡ false
+prefixed : (b c : ℕ) → leaves (instruction_of 0xCB b c) ≡ false
 unfolding instruction_of
-prefixed b c = bit_instruction_goes _ _ _
+prefixed b c = bit_instruction_stays _ _ _
 
-high_goes : (o b c : ℕ) → 192 ≤ o → o < 256 → waits_then (instruction_of o b c) ≡ false
-high_goes o b c from below =
-    let table = agree_below_at (λ k. if k == 0xCB then false else waits_then (instruction_of k b c)) (λ k. k == 0x10 || k == 0x76) 256 o (all_opcodes b c) below in
-    let none : (o == 0x10 || o == 0x76) ≡ false = grind (arith, nat_tests) in
-    let cases : (t : Bool) → t ≡ (o == 0xCB) → (if t then false else waits_then (instruction_of o b c)) ≡ false → waits_then (instruction_of o b c) ≡ false =
-    λ t. elim t as (λ v. v ≡ (o == 0xCB) → (if v then false else waits_then (instruction_of o b c)) ≡ false → waits_then (instruction_of o b c) ≡ false) [
-      | true ↦ λ is same. (let prefix : o ≡ 0xCB = eqb-true o 0xCB (sym is) in ap (λ k. waits_then (instruction_of k b c)) prefix ∙ prefixed b c)
+stays : (o b c : ℕ) → o < 256 → leaving o ≡ false → leaves (instruction_of o b c) ≡ false
+stays o b c below none =
+    let table = agree_below_at (λ k. if k == 0xCB then false else leaves (instruction_of k b c)) leaving 256 o (all_opcodes b c) below in
+    let cases : (t : Bool) → t ≡ (o == 0xCB) → (if t then false else leaves (instruction_of o b c)) ≡ false → leaves (instruction_of o b c) ≡ false =
+    λ t. elim t as (λ v. v ≡ (o == 0xCB) → (if v then false else leaves (instruction_of o b c)) ≡ false → leaves (instruction_of o b c) ≡ false) [
+      | true ↦ λ is same. (let prefix : o ≡ 0xCB = eqb-true o 0xCB (sym is) in ap (λ k. leaves (instruction_of k b c)) prefix ∙ prefixed b c)
       | false ↦ λ is same. same
     ] in
     cases (o == 0xCB) refl (table ∙ none)
 
-pub usual_behind_jump : {M : Type 0} (r : Rules M) (o : ℕ) (p q : Processor M) → 192 ≤ o → o < 256 → q.state.locked ≡ false → q.state.enable ≡ false
+pub usual_behind : {M : Type 0} (r : Rules M) (o : ℕ) (p q : Processor M) → o < 256 → leaving o ≡ false
     → q ≡ executed_behind r (instruction_at r o p) p → IsUsual p.state → IsUsual q.state
-usual_behind_jump {M} r o p q from below unlocked none e usual =
+usual_behind {M} r o p q below none e usual =
     let i = instruction_at r o p in
-    let on = goes_on_in r i _ (high_goes o (low_at r p) (high_at r p) from below) (changes_state i) refl in
-    record {
-      locked = unlocked;
-      stopped = ap (λ (s : Processor M). s.state.stopped) e ∙ on.stopped ∙ usual.stopped;
-      halted = ap (λ (s : Processor M). s.state.halted) e ∙ on.halted ∙ usual.halted;
-      enable = none;
-      repeat = ap (λ (s : Processor M). s.state.repeat) e ∙ on.repeat ∙ usual.repeat;
-    }
+    same_usual _ _ (ap (λ (s : Processor M). s.state) e) (usual_in r i _ (stays o (low_at r p) (high_at r p) below none) usual (changes_state i) refl)

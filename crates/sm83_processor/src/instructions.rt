@@ -1,4 +1,6 @@
-//! What each instruction does once its opcode has been fetched, and its M-cycles.
+//! What each instruction does once its opcode has been fetched, and its M-cycles. Inlining is only
+//! hinted at for these functions: a match on all opcodes that always had them inlined would be too
+//! large to be inlined into its callers' loops.
 
 ghost use Rattle.std.specs.Prelude.{◌≡◌, ◌<◌, ◌+◌, ◌*◌, if◌then◌else◌};
 ghost use Rattle.sm83_processor.specs.Steps.{second_address};
@@ -80,7 +82,7 @@ impl<M: Memory> Processor<M> {
     }
 
     /// NOP
-    #[inline(always)]
+    #[inline]
     pub(crate) fn run_nop(&mut self) -> u8
         ensures after { self.new ≡ executed_behind M.rules Instr.Nop self.old }
         ensures cycles { result ≡ cycles_with Instr.Nop self.old.registers.flags }
@@ -90,7 +92,7 @@ impl<M: Memory> Processor<M> {
     }
 
     /// LD (n16),SP
-    #[inline(always)]
+    #[inline]
     pub(crate) fn run_store_sp(&mut self, address: u16) -> u8
         ensures after { self.new ≡ executed_behind M.rules (Instr.StoreSp address) self.old }
         ensures cycles { result ≡ cycles_with (Instr.StoreSp address) self.old.registers.flags }
@@ -101,7 +103,7 @@ impl<M: Memory> Processor<M> {
     }
 
     /// STOP
-    #[inline(always)]
+    #[inline]
     pub(crate) fn run_stop(&mut self) -> u8
         ensures after { self.new ≡ executed_behind M.rules Instr.Stop self.old }
         ensures cycles { result ≡ cycles_with Instr.Stop self.old.registers.flags }
@@ -113,7 +115,7 @@ impl<M: Memory> Processor<M> {
     }
 
     /// JR e
-    #[inline(always)]
+    #[inline]
     pub(crate) fn run_jump_relative(&mut self, offset: u8) -> u8
         ensures after { self.new ≡ executed_behind M.rules (Instr.JumpRelative offset) self.old }
         ensures cycles { result ≡ cycles_with (Instr.JumpRelative offset) self.old.registers.flags }
@@ -124,7 +126,7 @@ impl<M: Memory> Processor<M> {
     }
 
     /// JR cc,e
-    #[inline(always)]
+    #[inline]
     pub(crate) fn run_jump_relative_if(&mut self, condition: Condition, offset: u8) -> u8
         ensures after { self.new ≡ executed_behind M.rules (Instr.JumpRelativeIf condition offset) self.old }
         ensures cycles { result ≡ cycles_with (Instr.JumpRelativeIf condition offset) self.old.registers.flags }
@@ -139,7 +141,7 @@ impl<M: Memory> Processor<M> {
     }
 
     /// LD rp,n16
-    #[inline(always)]
+    #[inline]
     pub(crate) fn run_load_register16(&mut self, register: Register16, word: u16) -> u8
         ensures after { self.new ≡ executed_behind M.rules (Instr.LoadRegister16 register word) self.old }
         ensures cycles { result ≡ cycles_with (Instr.LoadRegister16 register word) self.old.registers.flags }
@@ -150,7 +152,7 @@ impl<M: Memory> Processor<M> {
     }
 
     /// ADD HL,rp
-    #[inline(always)]
+    #[inline]
     pub(crate) fn run_add_hl(&mut self, register: Register16) -> u8
         ensures after { self.new ≡ executed_behind M.rules (Instr.AddHl register) self.old }
         ensures cycles { result ≡ cycles_with (Instr.AddHl register) self.old.registers.flags }
@@ -161,7 +163,7 @@ impl<M: Memory> Processor<M> {
     }
 
     /// LD (BC),A and the like
-    #[inline(always)]
+    #[inline]
     pub(crate) fn run_store_accumulator(&mut self, operand: Indirect) -> u8
         ensures after { self.new ≡ executed_behind M.rules (Instr.StoreAccumulator operand) self.old }
         ensures cycles { result ≡ cycles_with (Instr.StoreAccumulator operand) self.old.registers.flags }
@@ -174,7 +176,7 @@ impl<M: Memory> Processor<M> {
     }
 
     /// LD A,(BC) and the like
-    #[inline(always)]
+    #[inline]
     pub(crate) fn run_load_accumulator(&mut self, operand: Indirect) -> u8
         ensures after { self.new ≡ executed_behind M.rules (Instr.LoadAccumulator operand) self.old }
         ensures cycles { result ≡ cycles_with (Instr.LoadAccumulator operand) self.old.registers.flags }
@@ -187,7 +189,7 @@ impl<M: Memory> Processor<M> {
     }
 
     /// INC rp
-    #[inline(always)]
+    #[inline]
     pub(crate) fn run_increment_register16(&mut self, register: Register16) -> u8
         ensures after { self.new ≡ executed_behind M.rules (Instr.IncrementRegister16 register) self.old }
         ensures cycles { result ≡ cycles_with (Instr.IncrementRegister16 register) self.old.registers.flags }
@@ -198,7 +200,7 @@ impl<M: Memory> Processor<M> {
     }
 
     /// DEC rp
-    #[inline(always)]
+    #[inline]
     pub(crate) fn run_decrement_register16(&mut self, register: Register16) -> u8
         ensures after { self.new ≡ executed_behind M.rules (Instr.DecrementRegister16 register) self.old }
         ensures cycles { result ≡ cycles_with (Instr.DecrementRegister16 register) self.old.registers.flags }
@@ -209,7 +211,7 @@ impl<M: Memory> Processor<M> {
     }
 
     /// INC r
-    #[inline(always)]
+    #[inline]
     pub(crate) fn run_increment(&mut self, operand: Operand8) -> u8
         ensures after { self.new ≡ executed_behind M.rules (Instr.Increment operand) self.old }
         ensures cycles { result ≡ cycles_with (Instr.Increment operand) self.old.registers.flags }
@@ -221,7 +223,7 @@ impl<M: Memory> Processor<M> {
     }
 
     /// DEC r
-    #[inline(always)]
+    #[inline]
     pub(crate) fn run_decrement(&mut self, operand: Operand8) -> u8
         ensures after { self.new ≡ executed_behind M.rules (Instr.Decrement operand) self.old }
         ensures cycles { result ≡ cycles_with (Instr.Decrement operand) self.old.registers.flags }
@@ -233,7 +235,7 @@ impl<M: Memory> Processor<M> {
     }
 
     /// LD r,n8
-    #[inline(always)]
+    #[inline]
     pub(crate) fn run_load_byte(&mut self, operand: Operand8, byte: u8) -> u8
         ensures after { self.new ≡ executed_behind M.rules (Instr.LoadByte operand byte) self.old }
         ensures cycles { result ≡ cycles_with (Instr.LoadByte operand byte) self.old.registers.flags }
@@ -244,7 +246,7 @@ impl<M: Memory> Processor<M> {
     }
 
     /// RLCA and the like
-    #[inline(always)]
+    #[inline]
     pub(crate) fn run_accumulator(&mut self, operation: AccumulatorOperation) -> u8
         ensures after { self.new ≡ executed_behind M.rules (Instr.Accumulator operation) self.old }
         ensures cycles { result ≡ cycles_with (Instr.Accumulator operation) self.old.registers.flags }
@@ -255,7 +257,7 @@ impl<M: Memory> Processor<M> {
     }
 
     /// LD r,r
-    #[inline(always)]
+    #[inline]
     pub(crate) fn run_load(&mut self, to: Operand8, from: Operand8) -> u8
         ensures after { self.new ≡ executed_behind M.rules (Instr.Load to from) self.old }
         ensures cycles { result ≡ cycles_with (Instr.Load to from) self.old.registers.flags }
@@ -267,7 +269,7 @@ impl<M: Memory> Processor<M> {
     }
 
     /// HALT
-    #[inline(always)]
+    #[inline]
     pub(crate) fn run_halt(&mut self) -> u8
         ensures after { self.new ≡ executed_behind M.rules Instr.Halt self.old }
         ensures cycles { result ≡ cycles_with Instr.Halt self.old.registers.flags }
@@ -278,7 +280,7 @@ impl<M: Memory> Processor<M> {
     }
 
     /// ADD A,r and the like
-    #[inline(always)]
+    #[inline]
     pub(crate) fn run_operate(&mut self, operation: Operation, operand: Operand8) -> u8
         ensures after { self.new ≡ executed_behind M.rules (Instr.Operate operation operand) self.old }
         ensures cycles { result ≡ cycles_with (Instr.Operate operation operand) self.old.registers.flags }
@@ -290,7 +292,7 @@ impl<M: Memory> Processor<M> {
     }
 
     /// ADD A,n8 and the like
-    #[inline(always)]
+    #[inline]
     pub(crate) fn run_operate_byte(&mut self, operation: Operation, byte: u8) -> u8
         ensures after { self.new ≡ executed_behind M.rules (Instr.OperateByte operation byte) self.old }
         ensures cycles { result ≡ cycles_with (Instr.OperateByte operation byte) self.old.registers.flags }
@@ -301,7 +303,7 @@ impl<M: Memory> Processor<M> {
     }
 
     /// RET cc
-    #[inline(always)]
+    #[inline]
     pub(crate) fn run_return_if(&mut self, condition: Condition) -> u8
         ensures after { self.new ≡ executed_behind M.rules (Instr.ReturnIf condition) self.old }
         ensures cycles { result ≡ cycles_with (Instr.ReturnIf condition) self.old.registers.flags }
@@ -316,7 +318,7 @@ impl<M: Memory> Processor<M> {
     }
 
     /// LDH (n8),A
-    #[inline(always)]
+    #[inline]
     pub(crate) fn run_store_high(&mut self, low: u8) -> u8
         ensures after { self.new ≡ executed_behind M.rules (Instr.StoreHigh low) self.old }
         ensures cycles { result ≡ cycles_with (Instr.StoreHigh low) self.old.registers.flags }
@@ -328,7 +330,7 @@ impl<M: Memory> Processor<M> {
     }
 
     /// ADD SP,e
-    #[inline(always)]
+    #[inline]
     pub(crate) fn run_add_sp(&mut self, offset: u8) -> u8
         ensures after { self.new ≡ executed_behind M.rules (Instr.AddSp offset) self.old }
         ensures cycles { result ≡ cycles_with (Instr.AddSp offset) self.old.registers.flags }
@@ -341,7 +343,7 @@ impl<M: Memory> Processor<M> {
     }
 
     /// LDH A,(n8)
-    #[inline(always)]
+    #[inline]
     pub(crate) fn run_load_high(&mut self, low: u8) -> u8
         ensures after { self.new ≡ executed_behind M.rules (Instr.LoadHigh low) self.old }
         ensures cycles { result ≡ cycles_with (Instr.LoadHigh low) self.old.registers.flags }
@@ -352,7 +354,7 @@ impl<M: Memory> Processor<M> {
     }
 
     /// LD HL,SP+e
-    #[inline(always)]
+    #[inline]
     pub(crate) fn run_load_hl_sp(&mut self, offset: u8) -> u8
         ensures after { self.new ≡ executed_behind M.rules (Instr.LoadHlSp offset) self.old }
         ensures cycles { result ≡ cycles_with (Instr.LoadHlSp offset) self.old.registers.flags }
@@ -365,7 +367,7 @@ impl<M: Memory> Processor<M> {
     }
 
     /// POP rp
-    #[inline(always)]
+    #[inline]
     pub(crate) fn run_pop(&mut self, register: StackRegister16) -> u8
         ensures after { self.new ≡ executed_behind M.rules (Instr.Pop register) self.old }
         ensures cycles { result ≡ cycles_with (Instr.Pop register) self.old.registers.flags }
@@ -377,7 +379,7 @@ impl<M: Memory> Processor<M> {
     }
 
     /// RET
-    #[inline(always)]
+    #[inline]
     pub(crate) fn run_return(&mut self) -> u8
         ensures after { self.new ≡ executed_behind M.rules Instr.Return self.old }
         ensures cycles { result ≡ cycles_with Instr.Return self.old.registers.flags }
@@ -388,7 +390,7 @@ impl<M: Memory> Processor<M> {
     }
 
     /// RETI
-    #[inline(always)]
+    #[inline]
     pub(crate) fn run_return_from_interrupt(&mut self) -> u8
         ensures after { self.new ≡ executed_behind M.rules Instr.ReturnFromInterrupt self.old }
         ensures cycles { result ≡ cycles_with Instr.ReturnFromInterrupt self.old.registers.flags }
@@ -400,7 +402,7 @@ impl<M: Memory> Processor<M> {
     }
 
     /// JP HL
-    #[inline(always)]
+    #[inline]
     pub(crate) fn run_jump_hl(&mut self) -> u8
         ensures after { self.new ≡ executed_behind M.rules Instr.JumpHl self.old }
         ensures cycles { result ≡ cycles_with Instr.JumpHl self.old.registers.flags }
@@ -411,7 +413,7 @@ impl<M: Memory> Processor<M> {
     }
 
     /// LD SP,HL
-    #[inline(always)]
+    #[inline]
     pub(crate) fn run_load_sp_hl(&mut self) -> u8
         ensures after { self.new ≡ executed_behind M.rules Instr.LoadSpHl self.old }
         ensures cycles { result ≡ cycles_with Instr.LoadSpHl self.old.registers.flags }
@@ -422,7 +424,7 @@ impl<M: Memory> Processor<M> {
     }
 
     /// JP cc,n16
-    #[inline(always)]
+    #[inline]
     pub(crate) fn run_jump_if(&mut self, condition: Condition, address: u16) -> u8
         ensures after { self.new ≡ executed_behind M.rules (Instr.JumpIf condition address) self.old }
         ensures cycles { result ≡ cycles_with (Instr.JumpIf condition address) self.old.registers.flags }
@@ -437,7 +439,7 @@ impl<M: Memory> Processor<M> {
     }
 
     /// LD (C),A
-    #[inline(always)]
+    #[inline]
     pub(crate) fn run_store_high_c(&mut self) -> u8
         ensures after { self.new ≡ executed_behind M.rules Instr.StoreHighC self.old }
         ensures cycles { result ≡ cycles_with Instr.StoreHighC self.old.registers.flags }
@@ -449,7 +451,7 @@ impl<M: Memory> Processor<M> {
     }
 
     /// LD (n16),A
-    #[inline(always)]
+    #[inline]
     pub(crate) fn run_store_at(&mut self, address: u16) -> u8
         ensures after { self.new ≡ executed_behind M.rules (Instr.StoreAt address) self.old }
         ensures cycles { result ≡ cycles_with (Instr.StoreAt address) self.old.registers.flags }
@@ -460,7 +462,7 @@ impl<M: Memory> Processor<M> {
     }
 
     /// LD A,(C)
-    #[inline(always)]
+    #[inline]
     pub(crate) fn run_load_high_c(&mut self) -> u8
         ensures after { self.new ≡ executed_behind M.rules Instr.LoadHighC self.old }
         ensures cycles { result ≡ cycles_with Instr.LoadHighC self.old.registers.flags }
@@ -472,7 +474,7 @@ impl<M: Memory> Processor<M> {
     }
 
     /// LD A,(n16)
-    #[inline(always)]
+    #[inline]
     pub(crate) fn run_load_at(&mut self, address: u16) -> u8
         ensures after { self.new ≡ executed_behind M.rules (Instr.LoadAt address) self.old }
         ensures cycles { result ≡ cycles_with (Instr.LoadAt address) self.old.registers.flags }
@@ -483,7 +485,7 @@ impl<M: Memory> Processor<M> {
     }
 
     /// JP n16
-    #[inline(always)]
+    #[inline]
     pub(crate) fn run_jump(&mut self, address: u16) -> u8
         ensures after { self.new ≡ executed_behind M.rules (Instr.Jump address) self.old }
         ensures cycles { result ≡ cycles_with (Instr.Jump address) self.old.registers.flags }
@@ -494,7 +496,7 @@ impl<M: Memory> Processor<M> {
     }
 
     /// DI
-    #[inline(always)]
+    #[inline]
     pub(crate) fn run_disable_interrupts(&mut self) -> u8
         ensures after { self.new ≡ executed_behind M.rules Instr.DisableInterrupts self.old }
         ensures cycles { result ≡ cycles_with Instr.DisableInterrupts self.old.registers.flags }
@@ -506,7 +508,7 @@ impl<M: Memory> Processor<M> {
     }
 
     /// EI
-    #[inline(always)]
+    #[inline]
     pub(crate) fn run_enable_interrupts(&mut self) -> u8
         ensures after { self.new ≡ executed_behind M.rules Instr.EnableInterrupts self.old }
         ensures cycles { result ≡ cycles_with Instr.EnableInterrupts self.old.registers.flags }
@@ -517,7 +519,7 @@ impl<M: Memory> Processor<M> {
     }
 
     /// CALL cc,n16
-    #[inline(always)]
+    #[inline]
     pub(crate) fn run_call_if(&mut self, condition: Condition, address: u16) -> u8
         ensures after { self.new ≡ executed_behind M.rules (Instr.CallIf condition address) self.old }
         ensures cycles { result ≡ cycles_with (Instr.CallIf condition address) self.old.registers.flags }
@@ -532,7 +534,7 @@ impl<M: Memory> Processor<M> {
     }
 
     /// PUSH rp
-    #[inline(always)]
+    #[inline]
     pub(crate) fn run_push(&mut self, register: StackRegister16) -> u8
         ensures after { self.new ≡ executed_behind M.rules (Instr.Push register) self.old }
         ensures cycles { result ≡ cycles_with (Instr.Push register) self.old.registers.flags }
@@ -544,7 +546,7 @@ impl<M: Memory> Processor<M> {
     }
 
     /// CALL n16
-    #[inline(always)]
+    #[inline]
     pub(crate) fn run_call(&mut self, address: u16) -> u8
         ensures after { self.new ≡ executed_behind M.rules (Instr.Call address) self.old }
         ensures cycles { result ≡ cycles_with (Instr.Call address) self.old.registers.flags }
@@ -555,7 +557,7 @@ impl<M: Memory> Processor<M> {
     }
 
     /// RST n8
-    #[inline(always)]
+    #[inline]
     pub(crate) fn run_restart(&mut self, address: u8) -> u8
         ensures after { self.new ≡ executed_behind M.rules (Instr.Restart address) self.old }
         ensures cycles { result ≡ cycles_with (Instr.Restart address) self.old.registers.flags }
@@ -566,7 +568,7 @@ impl<M: Memory> Processor<M> {
     }
 
     /// RLC r and the like
-    #[inline(always)]
+    #[inline]
     pub(crate) fn run_shift(&mut self, shift_by: Shift, operand: Operand8) -> u8
         ensures after { self.new ≡ executed_behind M.rules (Instr.Shift shift_by operand) self.old }
         ensures cycles { result ≡ cycles_with (Instr.Shift shift_by operand) self.old.registers.flags }
@@ -578,7 +580,7 @@ impl<M: Memory> Processor<M> {
     }
 
     /// BIT n,r
-    #[inline(always)]
+    #[inline]
     pub(crate) fn run_test_bit(&mut self, bit: u8, operand: Operand8) -> u8
         ensures after { self.new ≡ executed_behind M.rules (Instr.TestBit bit operand) self.old }
         ensures cycles { result ≡ cycles_with (Instr.TestBit bit operand) self.old.registers.flags }
@@ -590,7 +592,7 @@ impl<M: Memory> Processor<M> {
     }
 
     /// RES n,r
-    #[inline(always)]
+    #[inline]
     pub(crate) fn run_reset_bit(&mut self, bit: u8, operand: Operand8) -> u8
         ensures after { self.new ≡ executed_behind M.rules (Instr.ResetBit bit operand) self.old }
         ensures cycles { result ≡ cycles_with (Instr.ResetBit bit operand) self.old.registers.flags }
@@ -602,7 +604,7 @@ impl<M: Memory> Processor<M> {
     }
 
     /// SET n,r
-    #[inline(always)]
+    #[inline]
     pub(crate) fn run_set_bit(&mut self, bit: u8, operand: Operand8) -> u8
         ensures after { self.new ≡ executed_behind M.rules (Instr.SetBit bit operand) self.old }
         ensures cycles { result ≡ cycles_with (Instr.SetBit bit operand) self.old.registers.flags }
@@ -614,7 +616,7 @@ impl<M: Memory> Processor<M> {
     }
 
     /// an undefined opcode
-    #[inline(always)]
+    #[inline]
     pub(crate) fn run_undefined(&mut self, opcode: u8) -> u8
         ensures after { self.new ≡ executed_behind M.rules (Instr.Undefined opcode) self.old }
         ensures cycles { result ≡ cycles_with (Instr.Undefined opcode) self.old.registers.flags }

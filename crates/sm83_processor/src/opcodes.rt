@@ -21,6 +21,9 @@ const STOP: u8 = 0x10;
 /// The opcode of HALT.
 const HALT: u8 = 0x76;
 
+/// The opcode of EI.
+const ENABLE_INTERRUPTS: u8 = 0xfb;
+
 /// As the parameter `WAY` of a call: a step of any kind.
 pub(crate) const APART: u8 = 0;
 
@@ -44,14 +47,13 @@ impl<M: Memory> Processor<M> {
         ensures cycles { result.0 ≡ cycles_with (instruction_at M.rules opcode self.old) self.old.registers.flags }
         ensures usual { result.1 ≡ true → IsUsual self.old.state → IsUsual self.new.state }
     {
+        let cycles = self.run_instruction::<WAY>(opcode);
         match opcode {
-            0x00..=0x3f => (self.run_load_or_step::<WAY>(opcode), opcode != STOP),
-            0x40..=0x7f => (self.run_load_of_opcode::<WAY>(opcode), opcode != HALT),
-            0x80..=0xbf => (self.run_operation_of_opcode::<WAY>(opcode), true),
-            _ => {
-                let cycles = self.run_jump_or_stack::<WAY>(opcode);
-                (cycles, !self.state.locked && !self.state.enable)
+            STOP | HALT | ENABLE_INTERRUPTS => (cycles, false),
+            0xd3 | 0xdb | 0xdd | 0xe3 | 0xe4 | 0xeb | 0xec | 0xed | 0xf4 | 0xfc | 0xfd => {
+                (cycles, false)
             }
+            _ => (cycles, true),
         }
     }
 
@@ -66,10 +68,11 @@ impl<M: Memory> Processor<M> {
         self.run_opcode::<APART>(opcode).0
     }
 
-    /// Opcodes 00 to 3F.
-    #[tactic(auto, unfolding(opcode_table::specs::Table::instruction_of, opcode_table::specs::Table::loads_and_steps))]
-    fn run_load_or_step<const WAY: u8>(&mut self, opcode: u8) -> u8
-        requires { opcode < 64 }
+    /// Executes the instruction of this opcode, with PC just after the opcode, and answers its
+    /// M-cycles. One match on all opcodes makes one jump.
+    #[inline(always)]
+    #[tactic(auto, unfolding(opcode_table::specs::Table::instruction_of, opcode_table::specs::Table::loads_and_steps, opcode_table::specs::Table::jumps_and_stack))]
+    fn run_instruction<const WAY: u8>(&mut self, opcode: u8) -> u8
         ensures after { self.new ≡ executed_behind M.rules (instruction_at M.rules opcode self.old) self.old }
         ensures cycles { result ≡ cycles_with (instruction_at M.rules opcode self.old) self.old.registers.flags }
     {
@@ -137,19 +140,7 @@ impl<M: Memory> Processor<M> {
             0x3c => self.run_increment(Operand8::A),
             0x3d => self.run_decrement(Operand8::A),
             0x3e => self.run_load_byte(Operand8::A, self.low()),
-            _ => self.run_accumulator(AccumulatorOperation::FlipCarry),
-        }
-    }
-
-    /// Opcodes 40 to 7F.
-    #[tactic(auto, unfolding(opcode_table::specs::Table::instruction_of))]
-    fn run_load_of_opcode<const WAY: u8>(&mut self, opcode: u8) -> u8
-        requires from { 64 ≤ opcode }
-        requires below { opcode < 128 }
-        ensures after { self.new ≡ executed_behind M.rules (instruction_at M.rules opcode self.old) self.old }
-        ensures cycles { result ≡ cycles_with (instruction_at M.rules opcode self.old) self.old.registers.flags }
-    {
-        match opcode {
+            0x3f => self.run_accumulator(AccumulatorOperation::FlipCarry),
             0x40 => self.run_load(Operand8::B, Operand8::B),
             0x41 => self.run_load(Operand8::B, Operand8::C),
             0x42 => self.run_load(Operand8::B, Operand8::D),
@@ -213,19 +204,7 @@ impl<M: Memory> Processor<M> {
             0x7c => self.run_load(Operand8::A, Operand8::H),
             0x7d => self.run_load(Operand8::A, Operand8::L),
             0x7e => self.run_load(Operand8::A, Operand8::AtHl),
-            _ => self.run_load(Operand8::A, Operand8::A),
-        }
-    }
-
-    /// Opcodes 80 to BF.
-    #[tactic(auto, unfolding(opcode_table::specs::Table::instruction_of))]
-    fn run_operation_of_opcode<const WAY: u8>(&mut self, opcode: u8) -> u8
-        requires from { 128 ≤ opcode }
-        requires below { opcode < 192 }
-        ensures after { self.new ≡ executed_behind M.rules (instruction_at M.rules opcode self.old) self.old }
-        ensures cycles { result ≡ cycles_with (instruction_at M.rules opcode self.old) self.old.registers.flags }
-    {
-        match opcode {
+            0x7f => self.run_load(Operand8::A, Operand8::A),
             0x80 => self.run_operate(Operation::Add, Operand8::B),
             0x81 => self.run_operate(Operation::Add, Operand8::C),
             0x82 => self.run_operate(Operation::Add, Operand8::D),
@@ -289,18 +268,7 @@ impl<M: Memory> Processor<M> {
             0xbc => self.run_operate(Operation::Compare, Operand8::H),
             0xbd => self.run_operate(Operation::Compare, Operand8::L),
             0xbe => self.run_operate(Operation::Compare, Operand8::AtHl),
-            _ => self.run_operate(Operation::Compare, Operand8::A),
-        }
-    }
-
-    /// Opcodes C0 to FF.
-    #[tactic(auto, unfolding(opcode_table::specs::Table::instruction_of, opcode_table::specs::Table::jumps_and_stack))]
-    fn run_jump_or_stack<const WAY: u8>(&mut self, opcode: u8) -> u8
-        requires { 192 ≤ opcode }
-        ensures after { self.new ≡ executed_behind M.rules (instruction_at M.rules opcode self.old) self.old }
-        ensures cycles { result ≡ cycles_with (instruction_at M.rules opcode self.old) self.old.registers.flags }
-    {
-        match opcode {
+            0xbf => self.run_operate(Operation::Compare, Operand8::A),
             0xc0 => self.run_return_if(Condition::NotZero),
             0xc1 => self.run_pop(StackRegister16::Bc),
             0xc2 => self.run_jump_if(Condition::NotZero, self.word()),
