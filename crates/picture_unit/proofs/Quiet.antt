@@ -1,35 +1,40 @@
--- M-cycles in which no line begins and the mode stays.
-use Rattle.std.proofs.Common.{◌≡◌, ℕ, zero, suc, ◌+◌, ◌-◌, ◌<◌, ◌≤◌, Bool, true, false, cond, min, refl, sym, ap, subst, ◌∙◌, arith}
+-- M-cycles before the next change: no line begins, and the mode stays or makes no STAT signal.
+use Rattle.std.proofs.Common.{◌≡◌, ℕ, zero, suc, ◌+◌, ◌-◌, ◌<◌, ◌≤◌, Bool, true, false, cond, min, refl, sym, ap, subst, ◌∙◌, arith, inl, inr}
 use Rattle.std.specs.Prelude.{not, ◌&&◌, ◌||◌, ◌==◌, Some, None}
 use Rattle.std.specs.Fn.{iterate}
 use Rattle.std.proofs.lemmas.Bool.Decides.{nat_tests}
+use Rattle.picture_lines.specs.Bits.{has_bit}
 use Rattle.picture_unit.specs.declared.state.PictureState.{PictureState}
 use Rattle.picture_unit.specs.Picture.{Screen, PictureAndRequests, unrequested, ticks, is_on, mode, stat_signal, is_source, advanced, entered, draws, drawn, begins_vblank, line_drawn, moved, taken, tick, is_entry}
-use Rattle.picture_unit.specs.PictureJump.{next_entry, later, skipped, IsSettled, AreQuiet}
-use Rattle.picture_unit.proofs.Settled.{ticks_settle}
+use Rattle.picture_unit.specs.PictureJump.{next_entry, next_change, later, skipped, IsSettled, AreQuiet}
+use Rattle.picture_unit.proofs.Settled.{ticks_settle, bool_cases}
 use Rattle.repeated_steps.specs.NextEvent.{IsNextEvent}
 use Rattle.repeated_steps.proofs.Iterates.{iterate-add}
 
-quiet_advance : (p : PictureState) → 1 < next_entry p → entered (advanced p) ≡ record p { m_cycle = p.m_cycle + 1 }
-unfolding advanced entered next_entry
+quiet_advance : (p : PictureState) → 1 < next_change p → entered (advanced p) ≡ record p { m_cycle = p.m_cycle + 1 }
+unfolding advanced entered next_entry next_change
 quiet_advance p h =
     let a : (p.m_cycle == 113) ≡ false = grind (arith, nat_tests) in
     let b : (p.m_cycle + 1 == 0) ≡ false = grind (arith, nat_tests) in
     rw (a, b) refl
 
-quiet_draws : (p : PictureState) → 1 < next_entry p → draws (record p { m_cycle = p.m_cycle + 1 }) ≡ false
-unfolding draws next_entry
+quiet_draws : (p : PictureState) → 1 < next_change p → draws (record p { m_cycle = p.m_cycle + 1 }) ≡ false
+unfolding draws next_entry next_change
 quiet_draws p h = grind (arith, nat_tests)
 
 quiet_vblank : (p : PictureState) → begins_vblank (record p { m_cycle = p.m_cycle + 1 }) ≡ false
 unfolding begins_vblank
 quiet_vblank p = grind (arith, nat_tests)
 
+and_false : (b : Bool) → (b && false) ≡ false
+and_false true = refl
+and_false false = refl
+
 or_false : (b : Bool) → (b || false) ≡ b
 or_false true = refl
 or_false false = refl
 
-quiet_tick : (d : PictureAndRequests) → is_on d.screen.state ≡ true → 1 < next_entry d.screen.state → tick d ≡ taken (later 1 d)
+quiet_tick : (d : PictureAndRequests) → is_on d.screen.state ≡ true → 1 < next_change d.screen.state → tick d ≡ taken (later 1 d)
 unfolding tick moved later drawn taken
 quiet_tick d on h =
     let p = d.screen.state in
@@ -37,14 +42,33 @@ quiet_tick d on h =
     let same : moved d ≡ later 1 d = rw (quiet_advance p h, quiet_draws p h, quiet_vblank p, or_false d.vblank) refl in
     run ∙ ap taken same
 
--- the mode stays, and so does the STAT signal
-same_mode : (p : PictureState) (n : ℕ) → 0 < n → n < next_entry p → mode (record p { m_cycle = p.m_cycle + 1 }) ≡ mode (record p { m_cycle = p.m_cycle + n })
-unfolding mode next_entry is_on
-same_mode p n pos h = grind (arith, nat_tests)
+-- the STAT signal stays
 
-same_signal : (p : PictureState) (n : ℕ) → 0 < n → n < next_entry p → stat_signal (record p { m_cycle = p.m_cycle + 1 }) ≡ stat_signal (record p { m_cycle = p.m_cycle + n })
+-- without a source there is none
+no_signal : (p : PictureState) → p.stat ≡ 0 → stat_signal p ≡ false
+unfolding stat_signal is_source has_bit is_on
+no_signal p e = rw e (and_false (is_on p))
+
+before_entry : (p : PictureState) (n : ℕ) → (p.stat == 0) ≡ false → n < next_change p → n < next_entry p
+unfolding next_change
+before_entry p n e h = grind (arith, nat_tests, e)
+
+stays_in_mode : (p : PictureState) (n : ℕ) → n < next_entry p → mode (record p { m_cycle = p.m_cycle + n }) ≡ mode p
+unfolding mode next_entry is_on
+stays_in_mode p n h = grind (arith, nat_tests)
+
+keeps_signal : (p : PictureState) (n : ℕ) → n < next_change p → stat_signal (record p { m_cycle = p.m_cycle + n }) ≡ stat_signal p
 unfolding stat_signal is_on
-same_signal p n pos h = ap (λ (m : ℕ). is_on p && is_source p.stat m (p.ly == p.lyc)) (same_mode p n pos h)
+keeps_signal p n h =
+    elim (bool_cases (p.stat == 0)) [
+      | inl none ↦
+          let e : p.stat ≡ 0 = grind (arith, nat_tests, none) in
+          no_signal (record p { m_cycle = p.m_cycle + n }) e ∙ sym (no_signal p e)
+      | inr some ↦ ap (λ (m : ℕ). is_on p && is_source p.stat m (p.ly == p.lyc)) (stays_in_mode p n (before_entry p n some h))
+    ]
+
+same_signal : (p : PictureState) (n : ℕ) → 0 < n → n < next_change p → stat_signal (record p { m_cycle = p.m_cycle + 1 }) ≡ stat_signal (record p { m_cycle = p.m_cycle + n })
+same_signal p n pos h = keeps_signal p 1 (omega arith) ∙ sym (keeps_signal p n h)
 
 settled : (r l s : Bool) → ((r || (l && not s)) || (l && not l)) ≡ (r || (l && not s))
 settled true l s = refl
@@ -52,7 +76,7 @@ settled false true true = refl
 settled false true false = refl
 settled false false s = refl
 
-skip_more : (n : ℕ) (d : PictureAndRequests) → suc n < next_entry d.screen.state → skipped n (taken (later 1 d)) ≡ taken (later (suc n) d)
+skip_more : (n : ℕ) (d : PictureAndRequests) → suc n < next_change d.screen.state → skipped n (taken (later 1 d)) ≡ taken (later (suc n) d)
 unfolding skipped later taken is_on stat_signal is_source mode
 skip_more zero d h = refl
 skip_more (suc n) d h =
@@ -61,13 +85,13 @@ skip_more (suc n) d h =
     let stays : stat_signal (record p { m_cycle = p.m_cycle + 1 }) ≡ stat_signal (record p { m_cycle = p.m_cycle + suc (suc n) }) = same_signal p (suc (suc n)) (omega arith) h in
     rw (further, stays, settled d.stat (stat_signal (record p { m_cycle = p.m_cycle + suc (suc n) })) p.signal) refl
 
--- one M-cycle on, the entry is one M-cycle nearer
-nearer : (p : PictureState) (n : ℕ) → suc n < next_entry p → n < next_entry (record p { m_cycle = p.m_cycle + 1 })
-unfolding next_entry
+-- one M-cycle on, the change is one M-cycle nearer
+nearer : (p : PictureState) (n : ℕ) → suc n < next_change p → n < next_change (record p { m_cycle = p.m_cycle + 1 })
+unfolding next_entry next_change
 nearer p n h = grind (arith, nat_tests)
 
-pub skips : (n : ℕ) (d : PictureAndRequests) → is_on d.screen.state ≡ true → n < next_entry d.screen.state → iterate tick n d ≡ skipped n d
-unfolding skipped later taken is_on stat_signal next_entry
+pub skips : (n : ℕ) (d : PictureAndRequests) → is_on d.screen.state ≡ true → n < next_change d.screen.state → iterate tick n d ≡ skipped n d
+unfolding skipped later taken is_on stat_signal next_entry next_change
 skips zero d on h = refl
 skips (suc n) d on h =
     ap (iterate tick n) (quiet_tick d on (omega arith))
@@ -106,11 +130,17 @@ pub never_due : (d : PictureAndRequests) → is_on d.screen.state ≡ false → 
 unfolding is_entry
 never_due d off k = ap is_entry (stands_still k d off) ∙ grind arith
 
+-- no change comes behind the next entry
+entry_first : (p : PictureState) → next_entry p ≤ next_change p
+unfolding next_entry next_change
+entry_first p = grind (arith, nat_tests)
+
 pub is_due : (d : PictureAndRequests) → is_on d.screen.state ≡ true → d.screen.state.m_cycle < 114 → IsNextEvent tick is_entry d (Some (next_entry d.screen.state))
 unfolding next_entry
 is_due d on legal =
     let p = d.screen.state in
-    let pos : 0 < next_entry p = grind (arith, nat_tests) in (
+    let pos : 0 < next_entry p = grind (arith, nat_tests) in
+    let first : next_entry p ≤ next_change p = entry_first p in (
       pos,
       ap is_entry (skips (next_entry p - 1) d on (omega arith)) ∙ entry_later (next_entry p - 1) d ∙ an_entry (next_entry p - 1) d on legal (omega arith),
       λ k lt. ap is_entry (skips k d on (omega arith)) ∙ entry_later k d ∙ no_entry k d lt,
@@ -144,7 +174,7 @@ pub stays_on_skipped : (n : ℕ) (d e : PictureAndRequests) → is_on d.screen.s
 stays_on_skipped n d e on h = ap (λ (e : PictureAndRequests). is_on e.screen.state) h ∙ on_skipped n d ∙ on
 
 -- quiet M-cycles, and then the others
-pub after_quiet : (n q : ℕ) (d e : PictureAndRequests) → q ≤ n → is_on d.screen.state ≡ true → q < next_entry d.screen.state → e ≡ skipped q d → iterate tick (n - q) e ≡ iterate tick n d
+pub after_quiet : (n q : ℕ) (d e : PictureAndRequests) → q ≤ n → is_on d.screen.state ≡ true → q < next_change d.screen.state → e ≡ skipped q d → iterate tick (n - q) e ≡ iterate tick n d
 after_quiet n q d e le on lt h =
     let whole : q + (n - q) ≡ n = omega arith in
     ap (iterate tick (n - q)) (h ∙ sym (skips q d on lt)) ∙ sym (iterate-add tick q (n - q) d) ∙ ap (λ (k : ℕ). iterate tick k d) whole
@@ -161,8 +191,8 @@ is_due_at p n d same on legal e =
     let legal' : d.screen.state.m_cycle < 114 = subst (λ (p : PictureState). p.m_cycle < 114) same legal in
     subst (λ (n : ℕ). IsNextEvent tick is_entry d (Some n)) (sym (e ∙ ap next_entry same)) (is_due d on' legal')
 
-pub quiet_part : (p : PictureState) (s : Screen) (q n t : ℕ) → p ≡ s.state → t ≡ next_entry p → 0 < t → q ≡ min n (t - 1) → (q ≤ n) × (q < next_entry s.state)
-quiet_part p s q n t same e pos m = let e' : t ≡ next_entry s.state = e ∙ ap next_entry same in (omega arith, omega (arith, e'))
+pub quiet_part : (p : PictureState) (s : Screen) (q n t : ℕ) → p ≡ s.state → t ≡ next_change p → 0 < t → q ≡ min n (t - 1) → (q ≤ n) × (q < next_change s.state)
+quiet_part p s q n t same e pos m = let e' : t ≡ next_change s.state = e ∙ ap next_change same in (omega arith, omega (arith, e'))
 
 -- what is known of `pass`, of the state by another name
 pub ticks_when_off : (n : ℕ) (p : PictureState) (s : Screen) → p ≡ s.state → is_on p ≡ false → ticks n s ≡ unrequested s
@@ -171,20 +201,12 @@ ticks_when_off n p s same off = stands_still n (unrequested s) (ap is_on (sym sa
 
 -- M-cycles that are known to be quiet: only the M-cycle grows
 
-stays_in_mode : (p : PictureState) (n : ℕ) → n < next_entry p → mode (record p { m_cycle = p.m_cycle + n }) ≡ mode p
-unfolding mode next_entry is_on
-stays_in_mode p n h = grind (arith, nat_tests)
+nearer_change : (p : PictureState) (n left : ℕ) → left + n < next_change p → left < next_change (record p { m_cycle = p.m_cycle + n })
+unfolding next_entry next_change
+nearer_change p n left h = grind (arith, nat_tests)
 
-keeps_signal : (p : PictureState) (n : ℕ) → n < next_entry p → stat_signal (record p { m_cycle = p.m_cycle + n }) ≡ stat_signal p
-unfolding stat_signal is_on
-keeps_signal p n h = ap (λ (m : ℕ). is_on p && is_source p.stat m (p.ly == p.lyc)) (stays_in_mode p n h)
-
-nearer_entry : (p : PictureState) (n left : ℕ) → left + n < next_entry p → left < next_entry (record p { m_cycle = p.m_cycle + n })
-unfolding next_entry
-nearer_entry p n left h = grind (arith, nat_tests)
-
-before_line_end : (p : PictureState) (n : ℕ) → p.m_cycle < 114 → n < next_entry p → p.m_cycle + n < 114
-unfolding next_entry
+before_line_end : (p : PictureState) (n : ℕ) → p.m_cycle < 114 → n < next_change p → p.m_cycle + n < 114
+unfolding next_entry next_change
 before_line_end p n legal h = grind (arith, nat_tests)
 
 no_rise : (b : Bool) → (b && not b) ≡ false
@@ -200,14 +222,14 @@ unfolding is_on
 fewer_quiet q n left p enough quiet =
     record {
       on = λ pos. quiet.on (omega arith);
-      entry = λ pos. let lt : q < next_entry p = quiet.entry (omega arith) in nearer_entry p n left (omega arith);
-      settled = λ pos. let lt : q < next_entry p = quiet.entry (omega arith) in keeps_signal p n (omega arith) ∙ quiet.settled (omega arith);
+      entry = λ pos. let lt : q < next_change p = quiet.entry (omega arith) in nearer_change p n left (omega arith);
+      settled = λ pos. let lt : q < next_change p = quiet.entry (omega arith) in keeps_signal p n (omega arith) ∙ quiet.settled (omega arith);
     }
 
 pub quiet_in_line : (q n : ℕ) (p : PictureState) → n ≤ q → AreQuiet q p → p.m_cycle < 114 → p.m_cycle + n < 114
 quiet_in_line q zero p le quiet legal = omega arith
 quiet_in_line q (suc n) p le quiet legal =
-    let lt : q < next_entry p = quiet.entry (omega arith) in
+    let lt : q < next_change p = quiet.entry (omega arith) in
     before_line_end p (suc n) legal (omega arith)
 
 pub quiet_ticks : (q n : ℕ) (s : Screen) → n ≤ q → AreQuiet q s.state →
@@ -215,14 +237,14 @@ pub quiet_ticks : (q n : ℕ) (s : Screen) → n ≤ q → AreQuiet q s.state �
 unfolding unrequested skipped later taken
 quiet_ticks q zero s le quiet = let e : s.state.m_cycle + 0 ≡ s.state.m_cycle = omega arith in rw e refl
 quiet_ticks q (suc n) s le quiet =
-    let lt : q < next_entry s.state = quiet.entry (omega arith) in
-    let lt' : suc n < next_entry s.state = omega arith in
+    let lt : q < next_change s.state = quiet.entry (omega arith) in
+    let lt' : suc n < next_change s.state = omega arith in
     let same : stat_signal (record s.state { m_cycle = s.state.m_cycle + suc n }) ≡ s.state.signal = keeps_signal s.state (suc n) lt' ∙ quiet.settled (omega arith) in
     sym (skips (suc n) (unrequested s) (quiet.on (omega arith)) lt' ∙ rw (same, no_rise s.state.signal) refl)
 
--- after some M-cycles those before the next entry are quiet
-pub quiet_before_entry : (p : PictureState) (n t : ℕ) (d e : PictureAndRequests) → p ≡ e.screen.state → is_on e.screen.state ≡ true → 0 < n → e ≡ iterate tick n d → t ≡ next_entry p → 0 < t → AreQuiet (t - 1) p
-quiet_before_entry p n t d e same on some ran entry ahead =
+-- after some M-cycles those before the next change are quiet
+pub quiet_before_change : (p : PictureState) (n t : ℕ) (d e : PictureAndRequests) → p ≡ e.screen.state → is_on e.screen.state ≡ true → 0 < n → e ≡ iterate tick n d → t ≡ next_change p → 0 < t → AreQuiet (t - 1) p
+quiet_before_change p n t d e same on some ran entry ahead =
     let settled : IsSettled e = subst IsSettled (sym ran) (ticks_settle n d some) in
     record {
       on = λ pos. ap is_on same ∙ on;

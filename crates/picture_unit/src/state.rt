@@ -52,7 +52,7 @@ pub struct PictureRequests {
 
 impl PictureState {
     ghost use Rattle.picture_unit.specs.Picture.{IsLegalPicture, is_on, mode, stat_signal, advanced, entered, begins_vblank, draws, line_registers, state_at_power_on};
-    ghost use Rattle.picture_unit.specs.PictureJump.{next_entry};
+    ghost use Rattle.picture_unit.specs.PictureJump.{next_entry, next_change};
     ghost use Rattle.picture_unit.specs.Registers.{stat_value, register_value, register_stored};
 
     #[tactic(auto, unfolding(crate::specs::Picture::state_at_power_on))]
@@ -175,6 +175,24 @@ impl PictureState {
             20 - self.m_cycle
         } else {
             63 - self.m_cycle
+        }
+    }
+
+    /// How many M-cycles away the next one is that may change more than the M-cycle: the next entry, but that from mode 3
+    /// on it is the next line's while STAT enables no source.
+    #[inline]
+    #[tactic(auto, unfolding(crate::specs::PictureJump::next_change, crate::specs::PictureJump::next_entry))]
+    pub(crate) fn next_change(&self) -> u8
+        requires { self.now.m_cycle < 114 }
+        ensures change { result ≡ next_change self.now }
+        ensures ahead { 0 < result }
+    {
+        if self.m_cycle < 20 && self.ly < 144 {
+            20 - self.m_cycle
+        } else if self.m_cycle < 63 && self.ly < 144 && self.stat != 0 {
+            63 - self.m_cycle
+        } else {
+            114 - self.m_cycle
         }
     }
 

@@ -3,7 +3,7 @@ ghost use Rattle.std.specs.Fn.{iterate};
 ghost use Rattle.repeated_steps.specs.NextEvent.{IsNextEvent};
 ghost use Rattle.picture_unit.specs.Picture.{unrequested, is_on, tick, ticks, is_entry, line_drawn, drawn};
 ghost use Rattle.picture_lines.specs.Pixel.{drawn_row};
-ghost use Rattle.picture_unit.specs.PictureJump.{next_entry, skipped, with_requests, AreQuiet};
+ghost use Rattle.picture_unit.specs.PictureJump.{next_change, skipped, with_requests, AreQuiet};
 
 use super::Picture;
 use crate::state::PictureRequests;
@@ -41,8 +41,8 @@ impl Picture {
         self.state.m_cycle += cycles;
     }
 
-    /// A number of M-cycles in which no line, mode 3 or mode 0 is entered and the STAT signal does
-    /// not rise.
+    /// A number of M-cycles in which no line or mode 3 is entered, nor mode 0 while a STAT source is
+    /// enabled, and the STAT signal does not rise.
     #[inline]
     pub fn quiet(&self) -> u8
         ensures quiet { AreQuiet result self.now.state }
@@ -80,7 +80,7 @@ impl Picture {
         }
     }
 
-    // The same, where an entry may come or the STAT signal rise.
+    // The same, where more than the M-cycle may change.
     #[inline(never)]
     #[tactic(auto, unfolding(crate::specs::Picture::unrequested))]
     fn pass_by_entries(&mut self, cycles: u32) -> PictureRequests
@@ -95,12 +95,12 @@ impl Picture {
             return none;
         }
         let requests = self.advance(cycles, none);
-        let entry = self.state.next_entry();
-        self.quiet = entry - 1;
+        let change = self.state.next_change();
+        self.quiet = change - 1;
         requests
     }
 
-    // M-cycles of a picture unit that is on, from entry to entry.
+    // M-cycles of a picture unit that is on, from change to change.
     fn advance(&mut self, cycles: u32, requests: PictureRequests) -> PictureRequests
         requires { is_on self.old.state ≡ true }
         ensures on { is_on self.new.state ≡ true }
@@ -110,15 +110,15 @@ impl Picture {
         let mut left = cycles;
         let mut requests = requests;
         while left > 0 {
-            let (so_far, rest) = self.to_next_entry(left, requests);
+            let (so_far, rest) = self.to_next_change(left, requests);
             requests = so_far;
             left = rest;
         }
         requests
     }
 
-    // M-cycles up to and with the next entry, of at most that many. Answers how many are left.
-    fn to_next_entry(&mut self, cycles: u32, requests: PictureRequests) -> (PictureRequests, u32)
+    // M-cycles up to and with the next change, of at most that many. Answers how many are left.
+    fn to_next_change(&mut self, cycles: u32, requests: PictureRequests) -> (PictureRequests, u32)
         requires on { is_on self.old.state ≡ true }
         requires some { 0 < cycles }
         ensures on { is_on self.new.state ≡ true }
@@ -126,7 +126,7 @@ impl Picture {
         ensures ticks { iterate tick result.1 (with_requests result.0 self.new)
             ≡ iterate tick cycles (with_requests requests self.old) }
     {
-        let quiet = cycles.min(u32::from(self.state.next_entry()) - 1);
+        let quiet = cycles.min(u32::from(self.state.next_change()) - 1);
         let requests = self.skip(quiet, requests);
         let left = cycles - quiet;
         if left == 0 {
@@ -135,12 +135,12 @@ impl Picture {
         (self.tick(requests), left - 1)
     }
 
-    // M-cycles without an entry.
+    // M-cycles before the next change.
     #[inline]
-    #[tactic(auto, unfolding(crate::specs::PictureJump::skipped, crate::specs::PictureJump::later, crate::specs::Picture::taken, crate::specs::PictureJump::next_entry))]
+    #[tactic(auto, unfolding(crate::specs::PictureJump::skipped, crate::specs::PictureJump::later, crate::specs::Picture::taken, crate::specs::PictureJump::next_entry, crate::specs::PictureJump::next_change))]
     fn skip(&mut self, cycles: u32, requests: PictureRequests) -> PictureRequests
         requires on { is_on self.old.state ≡ true }
-        requires quiet { cycles < next_entry self.old.state }
+        requires quiet { cycles < next_change self.old.state }
         ensures { with_requests result self.new ≡ skipped cycles (with_requests requests self.old) }
     {
         if cycles == 0 {
@@ -183,8 +183,9 @@ impl Picture {
         }
     }
 
-    // Draws the current line.
-    #[tactic(auto, unfolding(crate::specs::Picture::line_drawn, crate::specs::Picture::line_registers, crate::specs::Picture::window_line_after, crate::specs::Picture::is_on, crate::specs::Picture::mode, crate::specs::Picture::stat_signal, crate::specs::PictureJump::next_entry))]
+    // Draws the current line. Apart, so that an entry without a line saves no registers for it.
+    #[inline(never)]
+    #[tactic(auto, unfolding(crate::specs::Picture::line_drawn, crate::specs::Picture::line_registers, crate::specs::Picture::window_line_after, crate::specs::Picture::is_on, crate::specs::Picture::mode, crate::specs::Picture::stat_signal, crate::specs::PictureJump::next_entry, crate::specs::PictureJump::next_change))]
     fn draw_line(&mut self)
         requires { self.old.state.ly < 144 }
         ensures { self.new ≡ line_drawn self.old }

@@ -1,4 +1,4 @@
-use Rattle.std.proofs.Common.{rules, arith, ◌≡◌, ◌<◌, List, true, false, set, length, sym, ap, subst, ◌∙◌}
+use Rattle.std.proofs.Common.{rules, arith, ◌≡◌, List, false, set, sym, ap, subst, ◌∙◌}
 use Rattle.picture_lines.specs.Pixel.{drawn_row}
 use Rattle.picture_lines.specs.Choice.{IsChoice}
 use Rattle.picture_unit.specs.Picture.{Screen}

@@ -1,6 +1,6 @@
 use Rattle.std.proofs.Common.{◌≡◌, false, ap, sym}
 use Rattle.picture_unit.specs.Picture.{Screen, is_on, unrequested}
-use Rattle.picture_unit.proofs.Quiet.{ticks_when_off, quiet_before_entry}
+use Rattle.picture_unit.proofs.Quiet.{ticks_when_off, quiet_before_change}
 use Rattle.picture_unit.proofs.picture.Picture.pass_by_entries.Goals as goal
 
 pub returns-then-not-is_on : goal.returns-then-not-is_on
@@ -12,7 +12,7 @@ returns-then-not-is_on c =
 pub invariant_of-self : goal.invariant_of-self
 invariant_of-self c = record {
   whole = c.self-2.invariant.whole;
-  quiet = quiet_before_entry c.self-2.inside.state c.args.cycles c.next_entry-entry.result _ _ (ap (λ (s : Screen). s.state) c.self-2.view_is) c.advance-requests.ensures.on c.requires c.advance-requests.ensures.ticks c.next_entry-entry.ensures.entry c.next_entry-entry.ensures.ahead;
+  quiet = quiet_before_change c.self-2.inside.state c.args.cycles c.next_change-change.result _ _ (ap (λ (s : Screen). s.state) c.self-2.view_is) c.advance-requests.ensures.on c.requires c.advance-requests.ensures.ticks c.next_change-change.ensures.change c.next_change-change.ensures.ahead;
   kept = c.self-2.invariant.kept;
   objects = c.self-2.invariant.objects;
 }
