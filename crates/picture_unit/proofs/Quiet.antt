@@ -1,5 +1,5 @@
 -- M-cycles before the next change: no line begins, and the mode stays or makes no STAT signal.
-use Rattle.std.proofs.Common.{◌≡◌, ℕ, zero, suc, ◌+◌, ◌-◌, ◌<◌, ◌≤◌, Bool, true, false, cond, min, refl, sym, ap, subst, ◌∙◌, arith, inl, inr}
+use Rattle.std.proofs.Common.{◌≡◌, ℕ, zero, suc, ◌+◌, ◌-◌, ◌<◌, ◌≤◌, Bool, true, false, cond, refl, sym, ap, subst, ◌∙◌, arith, inl, inr}
 use Rattle.std.specs.Prelude.{not, ◌&&◌, ◌||◌, ◌==◌, Some, None}
 use Rattle.std.specs.Fn.{iterate}
 use Rattle.std.proofs.lemmas.Bool.Decides.{nat_tests}
@@ -174,15 +174,19 @@ pub stays_on_skipped : (n : ℕ) (d e : PictureAndRequests) → is_on d.screen.s
 stays_on_skipped n d e on h = ap (λ (e : PictureAndRequests). is_on e.screen.state) h ∙ on_skipped n d ∙ on
 
 -- quiet M-cycles, and then the others
-pub after_quiet : (n q : ℕ) (d e : PictureAndRequests) → q ≤ n → is_on d.screen.state ≡ true → q < next_change d.screen.state → e ≡ skipped q d → iterate tick (n - q) e ≡ iterate tick n d
+after_quiet : (n q : ℕ) (d e : PictureAndRequests) → q ≤ n → is_on d.screen.state ≡ true → q < next_change d.screen.state → e ≡ skipped q d → iterate tick (n - q) e ≡ iterate tick n d
 after_quiet n q d e le on lt h =
     let whole : q + (n - q) ≡ n = omega arith in
     ap (iterate tick (n - q)) (h ∙ sym (skips q d on lt)) ∙ sym (iterate-add tick q (n - q) d) ∙ ap (λ (k : ℕ). iterate tick k d) whole
 
-pub after_tick : (n : ℕ) (d e : PictureAndRequests) → 0 < n → e ≡ tick d → iterate tick (n - 1) e ≡ iterate tick n d
-after_tick n d e pos h =
-    let whole : n ≡ suc (n - 1) = omega arith in
-    ap (iterate tick (n - 1)) h ∙ sym (ap (λ (k : ℕ). iterate tick k d) whole)
+-- the M-cycles up to and with the next change, and then the others
+pub after_change : (n q : ℕ) (d e f : PictureAndRequests) → q < n → is_on d.screen.state ≡ true → q < next_change d.screen.state → e ≡ skipped q d → f ≡ tick e → iterate tick (n - (q + 1)) f ≡ iterate tick n d
+after_change n q d e f lt on before skip ran =
+    let whole : n - q ≡ suc (n - (q + 1)) = omega arith in
+    ap (iterate tick (n - (q + 1))) ran ∙ sym (ap (λ (k : ℕ). iterate tick k e) whole) ∙ after_quiet n q d e (omega arith) on before skip
+
+pub all_quiet : (n : ℕ) (d e : PictureAndRequests) → is_on d.screen.state ≡ true → n < next_change d.screen.state → e ≡ skipped n d → iterate tick 0 e ≡ iterate tick n d
+all_quiet n d e on before skip = skip ∙ sym (skips n d on before)
 
 -- the same, where the state is known by another name and the number by an equation
 pub is_due_at : (p : PictureState) (n : ℕ) (d : PictureAndRequests) → p ≡ d.screen.state → is_on p ≡ true → p.m_cycle < 114 → n ≡ next_entry p → IsNextEvent tick is_entry d (Some n)
@@ -190,9 +194,6 @@ is_due_at p n d same on legal e =
     let on' : is_on d.screen.state ≡ true = ap is_on (sym same) ∙ on in
     let legal' : d.screen.state.m_cycle < 114 = subst (λ (p : PictureState). p.m_cycle < 114) same legal in
     subst (λ (n : ℕ). IsNextEvent tick is_entry d (Some n)) (sym (e ∙ ap next_entry same)) (is_due d on' legal')
-
-pub quiet_part : (p : PictureState) (s : Screen) (q n t : ℕ) → p ≡ s.state → t ≡ next_change p → 0 < t → q ≡ min n (t - 1) → (q ≤ n) × (q < next_change s.state)
-quiet_part p s q n t same e pos m = let e' : t ≡ next_change s.state = e ∙ ap next_change same in (omega arith, omega (arith, e'))
 
 -- what is known of `pass`, of the state by another name
 pub ticks_when_off : (n : ℕ) (p : PictureState) (s : Screen) → p ≡ s.state → is_on p ≡ false → ticks n s ≡ unrequested s
@@ -243,11 +244,24 @@ quiet_ticks q (suc n) s le quiet =
     sym (skips (suc n) (unrequested s) (quiet.on (omega arith)) lt' ∙ rw (same, no_rise s.state.signal) refl)
 
 -- after some M-cycles those before the next change are quiet
-pub quiet_before_change : (p : PictureState) (n t : ℕ) (d e : PictureAndRequests) → p ≡ e.screen.state → is_on e.screen.state ≡ true → 0 < n → e ≡ iterate tick n d → t ≡ next_change p → 0 < t → AreQuiet (t - 1) p
-quiet_before_change p n t d e same on some ran entry ahead =
+pub quiet_before_change : (p : PictureState) (n q : ℕ) (d e : PictureAndRequests) → p ≡ e.screen.state → is_on e.screen.state ≡ true → 0 < n → e ≡ iterate tick n d → q < next_change p → AreQuiet q p
+quiet_before_change p n q d e same on some ran before =
     let settled : IsSettled e = subst IsSettled (sym ran) (ticks_settle n d some) in
     record {
       on = λ pos. ap is_on same ∙ on;
-      entry = λ pos. omega (arith, entry);
+      entry = λ pos. before;
       settled = λ pos. ap stat_signal same ∙ settled on ∙ ap (λ (p : PictureState). p.signal) (sym same);
     }
+
+-- n M-cycles on, the change is n M-cycles nearer
+nearer_skipped : (n q : ℕ) (d : PictureAndRequests) → q + n < next_change d.screen.state → q < next_change (skipped n d).screen.state
+unfolding skipped later taken next_entry next_change
+nearer_skipped zero q d h = omega arith
+nearer_skipped (suc n) q d h = nearer_change d.screen.state (suc n) q h
+
+pub quiet_when_skipped : (p : PictureState) (n q : ℕ) (d e : PictureAndRequests) → p ≡ e.screen.state → is_on d.screen.state ≡ true → 0 < n → e ≡ skipped n d → q + n < next_change d.screen.state → AreQuiet q p
+quiet_when_skipped p n q d e same on some skip before =
+    let on' : is_on e.screen.state ≡ true = stays_on_skipped n d e on skip in
+    let ran : e ≡ iterate tick n d = skip ∙ sym (skips n d on (omega arith)) in
+    let state : p ≡ (skipped n d).screen.state = same ∙ ap (λ (x : PictureAndRequests). x.screen.state) skip in
+    quiet_before_change p n q d e same on' some ran (subst (λ (p : PictureState). q < next_change p) (sym state) (nearer_skipped n q d before))

@@ -1,4 +1,4 @@
-ghost use Rattle.std.specs.Prelude.{◌≡◌, ◌<◌, ◌≤◌};
+ghost use Rattle.std.specs.Prelude.{◌≡◌, ◌+◌, ◌<◌, ◌≤◌};
 
 use picture_lines::LineRegisters;
 
@@ -119,6 +119,7 @@ impl PictureState {
     }
 
     /// Moves on to the next M-cycle of the line, and of the frame.
+    #[inline(always)]
     #[tactic(auto, unfolding(crate::specs::Picture::advanced, crate::specs::Picture::entered))]
     pub(crate) fn advance(&mut self)
         requires { IsLegalPicture self.old }
@@ -178,21 +179,21 @@ impl PictureState {
         }
     }
 
-    /// How many M-cycles away the next one is that may change more than the M-cycle: the next entry, but that from mode 3
-    /// on it is the next line's while STAT enables no source.
-    #[inline]
+    /// The M-cycle of the line that may next change more than the M-cycle, 114 for the next line's first: the next entry,
+    /// but that mode 0 is passed over while STAT enables no source.
+    #[inline(always)]
     #[tactic(auto, unfolding(crate::specs::PictureJump::next_change, crate::specs::PictureJump::next_entry))]
-    pub(crate) fn next_change(&self) -> u8
+    pub(crate) fn change_at(&self) -> u8
         requires { self.now.m_cycle < 114 }
-        ensures change { result ≡ next_change self.now }
-        ensures ahead { 0 < result }
+        ensures change { result ≡ self.now.m_cycle + next_change self.now }
+        ensures ahead { 0 < next_change self.now }
     {
         if self.m_cycle < 20 && self.ly < 144 {
-            20 - self.m_cycle
+            20
         } else if self.m_cycle < 63 && self.ly < 144 && self.stat != 0 {
-            63 - self.m_cycle
+            63
         } else {
-            114 - self.m_cycle
+            114
         }
     }
 

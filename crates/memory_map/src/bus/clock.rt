@@ -69,14 +69,24 @@ impl Bus {
         ensures { self.new ≡ self.old }
     {
         let quiet = self.quiet_cycles();
-        let shared = self.control.ie & self.interrupt_flag();
-        if shared == 0 {
+        if self.shared_by_flags() == 0 {
             self.calm = quiet + 1;
             self.quiet = 0;
         } else {
             self.calm = 0;
             self.quiet = quiet;
         }
+    }
+
+    /// The bits that IE and IF share. The bits of IF are not gathered where IE is 0.
+    #[inline]
+    fn shared_by_flags(&self) -> u8
+        ensures { result ≡ shared self.now }
+    {
+        if self.control.ie == 0 {
+            return 0;
+        }
+        self.control.ie & self.interrupt_flag()
     }
 
     fn quiet_cycles(&self) -> u8

@@ -1,13 +1,14 @@
-ghost use Rattle.std.specs.Prelude.{◌≡◌, ◌<◌, ◌+◌, true, false, slice_set, slice_index_or, replicate, if◌then◌else◌};
+ghost use Rattle.std.specs.Prelude.{◌≡◌, ◌<◌, ◌+◌, true, false, All, length, slice_set, slice_index_or, replicate, if◌then◌else◌};
 ghost use Rattle.std.specs.Fn.{iterate};
 ghost use Rattle.repeated_steps.specs.NextEvent.{IsNextEvent};
 ghost use Rattle.picture_unit.specs.Picture.{unrequested, is_on, tick, ticks, is_entry, line_drawn, drawn};
+ghost use Rattle.picture_lines.specs.Choice.{IsChoice};
 ghost use Rattle.picture_lines.specs.Pixel.{drawn_row};
 ghost use Rattle.picture_unit.specs.PictureJump.{next_change, skipped, with_requests, AreQuiet};
 
 use super::Picture;
 use crate::state::PictureRequests;
-use picture_lines::LineRegisters;
+use picture_lines::{ChosenObjects, LineRegisters, TileMemory};
 
 impl Picture {
     /// Lets this many M-cycles pass: lines are entered and drawn, and interrupts are requested.
@@ -94,10 +95,7 @@ impl Picture {
         if !self.state.is_on() {
             return none;
         }
-        let requests = self.advance(cycles, none);
-        let change = self.state.next_change();
-        self.quiet = change - 1;
-        requests
+        self.advance(cycles, none)
     }
 
     // M-cycles of a picture unit that is on, from change to change.
@@ -117,7 +115,9 @@ impl Picture {
         requests
     }
 
-    // M-cycles up to and with the next change, of at most that many. Answers how many are left.
+    // M-cycles up to and with the next change, of at most that many. Answers how many are left. A case for each change, so
+    // that what is done there is known when it is compiled.
+    #[inline(always)]
     fn to_next_change(&mut self, cycles: u32, requests: PictureRequests) -> (PictureRequests, u32)
         requires on { is_on self.old.state ≡ true }
         requires some { 0 < cycles }
@@ -126,17 +126,46 @@ impl Picture {
         ensures ticks { iterate tick result.1 (with_requests result.0 self.new)
             ≡ iterate tick cycles (with_requests requests self.old) }
     {
-        let quiet = cycles.min(u32::from(self.state.next_change()) - 1);
-        let requests = self.skip(quiet, requests);
-        let left = cycles - quiet;
-        if left == 0 {
+        let now = self.state.m_cycle;
+        match self.state.change_at() {
+            20 => self.to_change_in(20 - now, cycles, requests),
+            63 => self.to_change_in(63 - now, cycles, requests),
+            at => self.to_change_in(at - now, cycles, requests),
+        }
+    }
+
+    // The same, where it is known how many M-cycles the next change is away.
+    #[inline(always)]
+    fn to_change_in(
+        &mut self,
+        change: u8,
+        cycles: u32,
+        requests: PictureRequests,
+    ) -> (PictureRequests, u32)
+        requires on { is_on self.old.state ≡ true }
+        requires some { 0 < cycles }
+        requires change { change ≡ next_change self.old.state }
+        requires ahead { 0 < change }
+        ensures on { is_on self.new.state ≡ true }
+        ensures fewer { result.1 < cycles }
+        ensures ticks { iterate tick result.1 (with_requests result.0 self.new)
+            ≡ iterate tick cycles (with_requests requests self.old) }
+    {
+        if cycles < u32::from(change) {
+            let quiet = change - 1 - cycles as u8;
+            let requests = self.skip(cycles, requests);
+            self.quiet = quiet;
             return (requests, 0);
         }
-        (self.tick(requests), left - 1)
+        let requests = self.skip(u32::from(change) - 1, requests);
+        let requests = self.run_cycle(requests);
+        let next = self.state.change_at();
+        self.quiet = next - 1 - self.state.m_cycle;
+        (requests, cycles - u32::from(change))
     }
 
     // M-cycles before the next change.
-    #[inline]
+    #[inline(always)]
     #[tactic(auto, unfolding(crate::specs::PictureJump::skipped, crate::specs::PictureJump::later, crate::specs::Picture::taken, crate::specs::PictureJump::next_entry, crate::specs::PictureJump::next_change))]
     fn skip(&mut self, cycles: u32, requests: PictureRequests) -> PictureRequests
         requires on { is_on self.old.state ≡ true }
@@ -156,13 +185,23 @@ impl Picture {
     }
 
     // One M-cycle. Answers the requests so far and those of this M-cycle.
-    #[tactic(auto, unfolding(crate::specs::Picture::tick, crate::specs::Picture::taken, crate::specs::Picture::moved))]
+    #[tactic(auto, unfolding(crate::specs::Picture::tick))]
     fn tick(&mut self, requests: PictureRequests) -> PictureRequests
         ensures { with_requests result self.new ≡ tick (with_requests requests self.old) }
     {
         if !self.state.is_on() {
             return requests;
         }
+        self.run_cycle(requests)
+    }
+
+    // The same while LCDC bit 7 is set.
+    #[inline(always)]
+    #[tactic(auto, unfolding(crate::specs::Picture::tick, crate::specs::Picture::taken, crate::specs::Picture::moved))]
+    fn run_cycle(&mut self, requests: PictureRequests) -> PictureRequests
+        requires { is_on self.old.state ≡ true }
+        ensures { with_requests result self.new ≡ tick (with_requests requests self.old) }
+    {
         self.quiet = 0;
         self.state.advance();
         let vblank = self.state.begins_vblank();
@@ -174,6 +213,7 @@ impl Picture {
         }
     }
 
+    #[inline(always)]
     #[tactic(auto, unfolding(crate::specs::Picture::drawn, crate::specs::Picture::draws))]
     fn draw_when_due(&mut self)
         ensures { self.new ≡ drawn self.old }
@@ -210,7 +250,8 @@ impl Picture {
             return;
         }
         let y = registers.ly as usize;
-        registers.draw_with(
+        draw_anew(
+            registers,
             &mut self.tiles,
             &self.oam,
             &mut self.objects,
@@ -219,6 +260,26 @@ impl Picture {
         self.is_kept[y] = true;
         self.drawn_by[y] = *registers;
     }
+}
+
+// Draws a row. Apart, so that a row that is kept costs no more than the comparison.
+#[inline(never)]
+fn draw_anew(
+    registers: &LineRegisters,
+    tiles: &mut TileMemory,
+    oam: &[u8],
+    objects: &mut ChosenObjects,
+    row: &mut [u8; 160],
+)
+    requires line_in { registers.now.ly < 144 }
+    requires oam { length oam.now ≡ 160 }
+    requires objects { IsChoice objects.old oam.now }
+    ensures objects { IsChoice objects.new oam.now }
+    ensures tiles { tiles.new ≡ tiles.old }
+    ensures row { row.new ≡ drawn_row registers.now tiles.old oam.now }
+    ensures shades { All (λ shade. shade < 4) row.new }
+{
+    registers.draw_with(tiles, oam, objects, row);
 }
 
 // Keeps no row where something has changed.

@@ -22,8 +22,8 @@ invariant_of-self c = record {
   objects = c.self.invariant.objects;
 }
 
-pub draw_with-requires-clause-chosen : goal.draw_with-requires-clause-chosen
-draw_with-requires-clause-chosen c = subst (λ oam. IsChoice c.self.inside.objects oam) (sym c.deref.ensures.value) c.self.invariant.objects
+pub draw_anew-requires-clause-objects : goal.draw_anew-requires-clause-objects
+draw_anew-requires-clause-objects c = subst (λ oam. IsChoice c.self.inside.objects oam) (sym c.deref.ensures.value) c.self.invariant.objects
 
 pub returns-then-is_drawn_by : goal.returns-then-is_drawn_by
 returns-then-is_drawn_by c =
@@ -42,9 +42,9 @@ invariant_of-self-2 c =
     let registers = c.args.registers.now in
     let kept = kept_now ((goal.at.invariant_of-self-2 c).After-forget_when) in
     record {
-      whole = search (rules, c.draw_with.ensures.shades);
+      whole = search (rules, c.draw_anew.ensures.shades);
       quiet = c.self.invariant.quiet;
-      kept = rw c.draw_with.ensures.tiles (kept_with p.tiles p.oam.items p.rows.items p.drawn_by c.forget_when.new.is_kept registers.ly registers c.draw_with.new.row kept
-          (omega (arith, c.self.invariant.whole.row_count)) (omega arith) (c.draw_with.ensures.row ∙ ap (λ oam. drawn_row registers p.tiles oam) c.deref.ensures.value));
-      objects = subst (λ oam. IsChoice c.draw_with.new.chosen oam) c.deref.ensures.value c.draw_with.ensures.chosen;
+      kept = rw c.draw_anew.ensures.tiles (kept_with p.tiles p.oam.items p.rows.items p.drawn_by c.forget_when.new.is_kept registers.ly registers c.draw_anew.new.row kept
+          (omega (arith, c.self.invariant.whole.row_count)) (omega arith) (c.draw_anew.ensures.row ∙ ap (λ oam. drawn_row registers p.tiles oam) c.deref.ensures.value));
+      objects = subst (λ oam. IsChoice c.draw_anew.new.objects oam) c.deref.ensures.value c.draw_anew.ensures.objects;
     }
