@@ -8,7 +8,8 @@ use Rattle.memory_map.specs.State.{BusState, IsLegalControl}
 use Rattle.memory_map.specs.Bus.{shared}
 
 -- In the next n M-cycles, if any, no byte is copied, the timer's signal does not fall, no transfer runs, no line or mode 3 is entered, nor
--- mode 0 while a STAT source is enabled, and the STAT signal does not rise. `copied` bytes of a copy are made, and `left` M-cycles of a transfer are left.
+-- mode 0 while a STAT source is enabled, and the STAT signal does not rise. `copied` bytes of a copy are made, and `left` M-cycles of a
+-- transfer are left.
 pub record AreQuiet (n copied : ℕ) (t : TimerState) (left : ℕ) (p : PictureState) : Type 0 where
   pub copy : 0 < n → 160 ≤ copied
   pub timer : 0 < n → falls_in t.tac t.counter n ≡ 0

@@ -11,8 +11,8 @@ next_entry p =
     else if nat_lt p.m_cycle 20 then 20 - p.m_cycle
     else 63 - p.m_cycle
 
--- How many M-cycles the next one is away that may change more than the M-cycle of the line. From mode 3 on that is
--- the next line's first while no STAT source is enabled, since the line is drawn and the signal stays 0.
+-- How many M-cycles the next one is away that may change more than the M-cycle of the line. From mode 3 on that
+-- is the next line's first while no STAT source is enabled: the line is drawn, and there is no signal.
 unfoldable pub next_change : PictureState → ℕ
 next_change p = if p.stat == 0 && nat_le 20 p.m_cycle then 114 - p.m_cycle else next_entry p
 

@@ -179,8 +179,8 @@ impl PictureState {
         }
     }
 
-    /// The M-cycle of the line that may next change more than the M-cycle, 114 for the next line's first: the next entry,
-    /// but that mode 0 is passed over while STAT enables no source.
+    /// The M-cycle of the line that may next change more than the M-cycle, 114 for the next line's
+    /// first: that of the next entry, but mode 0 is passed over while STAT enables no source.
     #[inline(always)]
     #[tactic(auto, unfolding(crate::specs::PictureJump::next_change, crate::specs::PictureJump::next_entry))]
     pub(crate) fn change_at(&self) -> u8

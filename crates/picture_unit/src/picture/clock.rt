@@ -115,8 +115,8 @@ impl Picture {
         requests
     }
 
-    // M-cycles up to and with the next change, of at most that many. Answers how many are left. A case for each change, so
-    // that what is done there is known when it is compiled.
+    // M-cycles up to and with the next change, of at most that many. Answers how many are left. Each
+    // M-cycle that may be a change has its own call, which is compiled for it alone.
     #[inline(always)]
     fn to_next_change(&mut self, cycles: u32, requests: PictureRequests) -> (PictureRequests, u32)
         requires on { is_on self.old.state ≡ true }
