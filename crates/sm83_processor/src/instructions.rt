@@ -1,6 +1,6 @@
 //! What each instruction does once its opcode has been fetched, and its M-cycles. Inlining is only
-//! hinted at for these functions: a match on all opcodes that always had them inlined would be too
-//! large to be inlined into its callers' loops.
+//! hinted at for most of these functions: a match on all opcodes that always had them inlined would
+//! be too large to be inlined into its callers' loops.
 
 ghost use Rattle.std.specs.Prelude.{◌≡◌, ◌<◌, ◌+◌, ◌*◌, if◌then◌else◌};
 ghost use Rattle.sm83_processor.specs.Steps.{second_address};
@@ -568,7 +568,7 @@ impl<M: Memory> Processor<M> {
     }
 
     /// RLC r and the like
-    #[inline]
+    #[inline(always)]
     pub(crate) fn run_shift(&mut self, shift_by: Shift, operand: Operand8) -> u8
         ensures after { self.new ≡ executed_behind M.rules (Instr.Shift shift_by operand) self.old }
         ensures cycles { result ≡ cycles_with (Instr.Shift shift_by operand) self.old.registers.flags }
@@ -580,7 +580,7 @@ impl<M: Memory> Processor<M> {
     }
 
     /// BIT n,r
-    #[inline]
+    #[inline(always)]
     pub(crate) fn run_test_bit(&mut self, bit: u8, operand: Operand8) -> u8
         ensures after { self.new ≡ executed_behind M.rules (Instr.TestBit bit operand) self.old }
         ensures cycles { result ≡ cycles_with (Instr.TestBit bit operand) self.old.registers.flags }
@@ -592,7 +592,7 @@ impl<M: Memory> Processor<M> {
     }
 
     /// RES n,r
-    #[inline]
+    #[inline(always)]
     pub(crate) fn run_reset_bit(&mut self, bit: u8, operand: Operand8) -> u8
         ensures after { self.new ≡ executed_behind M.rules (Instr.ResetBit bit operand) self.old }
         ensures cycles { result ≡ cycles_with (Instr.ResetBit bit operand) self.old.registers.flags }
@@ -604,7 +604,7 @@ impl<M: Memory> Processor<M> {
     }
 
     /// SET n,r
-    #[inline]
+    #[inline(always)]
     pub(crate) fn run_set_bit(&mut self, bit: u8, operand: Operand8) -> u8
         ensures after { self.new ≡ executed_behind M.rules (Instr.SetBit bit operand) self.old }
         ensures cycles { result ≡ cycles_with (Instr.SetBit bit operand) self.old.registers.flags }
