@@ -20,7 +20,7 @@ use Rattle.bank_controllers.specs.Clock.{IsLegalClock, clock_at_power_on, clock_
 use Rattle.bank_controllers.specs.State.{IsLegalBanks, IsClockOf, first_rom_bank, last_rom_bank, last_ram_bank, has_ram_enable, has_mode, has_clock, rom_bank_at_power_on, state_at_power_on}
 use Rattle.bank_controllers.specs.Writes.{is_enabling, from_one, mbc1_written, mbc2_written, mbc3_banks_written, latch_written, mbc5_written, register_written_by, register_written}
 use Rattle.bank_controllers.specs.CartridgeState.{CartridgeState, IsLegalRam, IsLegalCartridge, clock_written, second}
-use Rattle.bank_controllers.specs.Sound.{IsSound}
+use Rattle.bank_controllers.specs.Invariant.{IsConsistent}
 use Rattle.bank_controllers.specs.Places.{low_bank_of, high_bank_of, rom_bank_start, low_start, high_start}
 use Rattle.bank_controllers.specs.Window.{window_of}
 use Rattle.bank_controllers.specs.declared.window.Window.{Window}
@@ -291,7 +291,7 @@ pub sound-with_state : (b : CartridgeState) (s : BanksState) (low high n m bank 
     → n ≡ length b.rom → bank ≡ low_bank_of s.kind s → low ≡ rom_bank_start n bank
     → m ≡ length b.rom → bank' ≡ high_bank_of s.kind s → high ≡ rom_bank_start m bank'
     → ram ≡ length b.ram → w ≡ window_of ram s
-    → IsSound (record b { state = s }) low high w
+    → IsConsistent (record b { state = s }) low high w
 unfolding low_start high_start
 sound-with_state b s low high n m bank bank' ram w legal new rom is_low at_low rom' is_high at_high is_ram at_window = record {
   legal = record {
@@ -306,7 +306,7 @@ sound-with_state b s low high n m bank bank' ram w legal new rom is_low at_low r
 }
 
 -- they stay where the RAM keeps its length
-pub sound-with_ram : (b : CartridgeState) (ram : List ℕ) (low high : ℕ) (w : Window) → IsSound b low high w → length ram ≡ length b.ram → IsLegalRam b.state.kind ram → IsSound (record b { ram = ram }) low high w
+pub sound-with_ram : (b : CartridgeState) (ram : List ℕ) (low high : ℕ) (w : Window) → IsConsistent b low high w → length ram ≡ length b.ram → IsLegalRam b.state.kind ram → IsConsistent (record b { ram = ram }) low high w
 sound-with_ram b ram low high w sound same legal = record {
   legal = record { rom = sound.legal.rom; least = sound.legal.least; ram = legal; state = sound.legal.state };
   at_low = sound.at_low;
@@ -352,7 +352,7 @@ pub sound_at_power_on : (rom ram : List ℕ) (rumble : Bool) (k : Controller) (s
     → n ≡ length rom → bank ≡ low_bank_of s.kind s → low ≡ rom_bank_start n bank
     → m ≡ length rom → bank' ≡ high_bank_of s.kind s → high ≡ rom_bank_start m bank'
     → r ≡ length ram → w ≡ window_of r s
-    → IsSound (record { rom = rom; ram = ram; rumble = rumble; state = s }) low high w
+    → IsConsistent (record { rom = rom; ram = ram; rumble = rumble; state = s }) low high w
 sound_at_power_on rom ram rumble k s low high n m bank bank' r w whole least legal first is_n is_low at_low is_m is_high at_high is_r at_window =
     let begins : CartridgeState = record { rom = rom; ram = ram; rumble = rumble; state = state_at_power_on k } in
     let value : IsLegalCartridge begins = record { rom = whole; least = least; ram = legal; state = power_on-legal k rumble } in

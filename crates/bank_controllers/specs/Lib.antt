@@ -7,4 +7,4 @@ pub mod Laws
 -- what only the code needs
 pub mod ClockJump
 pub mod Window
-pub mod Sound
+pub mod Invariant

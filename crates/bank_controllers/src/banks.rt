@@ -25,7 +25,7 @@ pub struct Banks {
 
 impl Model for Banks {
     ghost use Rattle.bank_controllers.specs.CartridgeState.{CartridgeState};
-    ghost use Rattle.bank_controllers.specs.Sound.{IsSound};
+    ghost use Rattle.bank_controllers.specs.Invariant.{IsConsistent};
 
     ghost Value = { CartridgeState };
 
@@ -33,7 +33,7 @@ impl Model for Banks {
         record { rom = b.rom.items; ram = b.ram.items; rumble = b.rumble; state = b.state } };
 
     ghost invariant = { λ b.
-        IsSound
+        IsConsistent
         (record { rom = b.rom.items; ram = b.ram.items; rumble = b.rumble; state = b.state })
         b.low b.high b.window };
 }
@@ -211,7 +211,7 @@ impl Banks {
     }
 
     /// The bytes of cartridge RAM; of MBC2 each is below 16.
-    pub fn store(&self) -> &[u8]
+    pub fn ram(&self) -> &[u8]
         ensures bytes { result.now ≡ self.now.ram }
         ensures legal { IsLegalRam self.now.state.kind result.now }
     {

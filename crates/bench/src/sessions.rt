@@ -275,7 +275,7 @@ fn time_play(rt: &HostRuntime) -> io::Result<()> {
 /// The snapshot of the machine at power-on.
 fn first_snapshot(alloc: Global, cartridge: &Cartridge) -> io::Result<Vec<u8>> {
     let machine = Machine::power_on(alloc, cartridge)?;
-    let ram = machine.store(Region::CartRam).len();
+    let ram = machine.region(Region::CartRam).len();
     if ram > 131_072 {
         return Err(failed());
     }

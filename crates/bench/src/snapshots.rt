@@ -31,7 +31,7 @@ fn run(machine: &mut Machine) {
 
 /// Writes the text again and again. Answers whether there was room for it.
 fn encode_often(machine: &Machine, text: &mut [u8]) -> bool {
-    let ram = machine.store(Region::CartRam).len();
+    let ram = machine.region(Region::CartRam).len();
     if ram > 131_072 || text.len() != length(ram) {
         return false;
     }

@@ -248,7 +248,7 @@ asked words (Stream cart save) command =
 
 -- ---- what `clap` answers
 
--- an error where a request is asked for is want of memory
+-- an error where a request is asked for is out of memory
 refused : (app : App) (words : List Word) (error : Error) → app ≡ gbkeep → (is_simple_and_free app ≡ true → HasKind (fault_of app words) error)
     → AskForSome words → kind_of error ≡ OutOfMemory
 refused app words error is kinds request =

@@ -68,7 +68,7 @@ pub enum Request<'a> {
 /// The request that the words make, of which the first is the program's own name.
 ///
 /// `clap`'s error has the text of what is not understood, or of the help or version that was asked for. It comes only
-/// where the words ask for no request, or for want of memory, and its kind is the one that `clap`'s definitions give.
+/// where the words ask for no request, or out of memory, and its kind is the one that `clap`'s definitions give.
 /// The answer is never `None`: the type has it because the values of `clap`'s matches are options.
 pub fn request_of<'a, S: AsStr>(alloc: Global, words: &'a [S]) -> Result<Option<Request<'a>>, Error>
     ensures asked { IsAnswer (map S.text words.entry.now) result }

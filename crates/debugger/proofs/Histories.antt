@@ -10,7 +10,7 @@ use Rattle.machine.specs.Machine.{MachineState}
 use Rattle.sm83_processor.specs.Rules.{Rules}
 use Rattle.sm83_processor.specs.Steps.{step_of, after_steps}
 use Rattle.sm83_processor.specs.declared.processor.Processor.{Processor}
-use Rattle.sm83_processor.specs.declared.step.Seen.{Seen}
+use Rattle.sm83_processor.specs.declared.step.Executed.{Executed}
 use Rattle.sm83_processor.specs.declared.step.What.{What}
 use Rattle.sm83_processor.specs.declared.step.What.TheVariants.{Dispatch, Wait, Ran}
 use Rattle.memory_map.specs.State.{BusState}
@@ -43,7 +43,7 @@ instructions_more : {M : Type 0} (rules : Rules M) (n : ℕ) (p : Processor M) �
 unfolding instructions_in after_steps
 instructions_more rules zero p = append-nil _
 instructions_more rules (suc n) p =
-    ap (λ (xs : List Seen). instruction_in (step_of rules p).stepped.what ++ xs) (instructions_more rules n (step_of rules p).after)
+    ap (λ (xs : List Executed). instruction_in (step_of rules p).stepped.what ++ xs) (instructions_more rules n (step_of rules p).after)
     ∙ sym (append_assoc (instruction_in (step_of rules p).stepped.what) _ _)
 
 pub one_instruction : {M : Type 0} (rules : Rules M) (p : Processor M) → instructions_in rules 1 p ≡ instruction_in (step_of rules p).stepped.what
@@ -59,25 +59,25 @@ unfolding after_steps
 one_step rules p = refl
 
 -- what a debugger with this machine and this buffer is seen as
-abbrev pub seen_as : MachineState → Buffer Seen → DebuggerState
-seen_as m b = record { machine = m; size = b.capacity; history = b.items }
+abbrev pub history_as : MachineState → Buffer Executed → DebuggerState
+history_as m b = record { machine = m; size = b.capacity; history = b.items }
 
 -- a step whose instruction, if it had one, was put into the buffer
-pub step_kept : (m n : MachineState) (b k : Buffer Seen) (seen : List Seen) →
+pub step_kept : (m n : MachineState) (b k : Buffer Executed) (seen : List Executed) →
     instruction_in (step_of bus_rules m.processor).stepped.what ≡ seen →
     n ≡ record m { processor = (step_of bus_rules m.processor).after } →
     k ≡ buffer (keep_last b.capacity (b.items ++ seen)) b.capacity →
-    seen_as n k ≡ after_run 1 (seen_as m b)
+    history_as n k ≡ after_run 1 (history_as m b)
 step_kept m n b k seen is ran kept =
-    rw (one_instruction bus_rules m.processor, is, ← one_step bus_rules m.processor) (ap (λ (x : MachineState). seen_as x k) ran ∙ ap (seen_as _) kept)
+    rw (one_instruction bus_rules m.processor, is, ← one_step bus_rules m.processor) (ap (λ (x : MachineState). history_as x k) ran ∙ ap (history_as _) kept)
 
-pub other_steps : (what : What) → ((seen : Seen) → what ≡ Ran seen → ⊥) → instruction_in what ≡ []
+pub other_steps : (what : What) → ((seen : Executed) → what ≡ Ran seen → ⊥) → instruction_in what ≡ []
 other_steps (Dispatch vector) h = refl
 other_steps Wait h = refl
 other_steps (Ran seen) h = absurd (h seen refl)
 
-pub nothing_kept : (b : Buffer Seen) → HoldsAtMost b.capacity b.items → b ≡ buffer (keep_last b.capacity (b.items ++ [])) b.capacity
-nothing_kept b most = ap (λ (xs : List Seen). buffer xs b.capacity) (sym (ap (keep_last b.capacity) (append-nil b.items) ∙ keep_last-all b.capacity b.items most))
+pub nothing_kept : (b : Buffer Executed) → HoldsAtMost b.capacity b.items → b ≡ buffer (keep_last b.capacity (b.items ++ [])) b.capacity
+nothing_kept b most = ap (λ (xs : List Executed). buffer xs b.capacity) (sym (ap (keep_last b.capacity) (append-nil b.items) ∙ keep_last-all b.capacity b.items most))
 
 pub not_begun : (d : DebuggerState) → HoldsAtMost d.size d.history → d ≡ after_run 0 d
 not_begun d most = rw (no_instruction bus_rules d.machine.processor, append-nil d.history, keep_last-all d.size d.history most, ← after_steps-zero bus_rules d.machine.processor) refl
@@ -89,15 +89,15 @@ two_runs n d =
     let there : after_steps bus_rules 1 q ≡ after_steps bus_rules (n + 1) p =
     sym (one_step bus_rules q) ∙ after_steps-add_one bus_rules n p q refl in
     let more : instructions_in bus_rules n p ++ instructions_in bus_rules 1 q ≡ instructions_in bus_rules (n + 1) p =
-    ap (λ (xs : List Seen). instructions_in bus_rules n p ++ xs) (one_instruction bus_rules q) ∙ sym (instructions_more bus_rules n p)
+    ap (λ (xs : List Executed). instructions_in bus_rules n p ++ xs) (one_instruction bus_rules q) ∙ sym (instructions_more bus_rules n p)
     ∙ ap (λ (k : ℕ). instructions_in bus_rules k p) (sym (add-one n)) in
     let kept : keep_last d.size (keep_last d.size (d.history ++ instructions_in bus_rules n p) ++ instructions_in bus_rules 1 q)
     ≡ keep_last d.size (d.history ++ instructions_in bus_rules (n + 1) p) =
     keep_last-again d.size (d.history ++ instructions_in bus_rules n p) (instructions_in bus_rules 1 q)
     ∙ ap (keep_last d.size) (append_assoc d.history (instructions_in bus_rules n p) (instructions_in bus_rules 1 q)
-    ∙ ap (λ (xs : List Seen). d.history ++ xs) more) in
-    ap (λ (r : Processor BusState). seen_as (record d.machine { processor = r }) (buffer (keep_last d.size (keep_last d.size (d.history ++ instructions_in bus_rules n p) ++ instructions_in bus_rules 1 q)) d.size)) there
-    ∙ ap (λ (xs : List Seen). seen_as (record d.machine { processor = after_steps bus_rules (n + 1) p }) (buffer xs d.size)) kept
+    ∙ ap (λ (xs : List Executed). d.history ++ xs) more) in
+    ap (λ (r : Processor BusState). history_as (record d.machine { processor = r }) (buffer (keep_last d.size (keep_last d.size (d.history ++ instructions_in bus_rules n p) ++ instructions_in bus_rules 1 q)) d.size)) there
+    ∙ ap (λ (xs : List Executed). history_as (record d.machine { processor = after_steps bus_rules (n + 1) p }) (buffer xs d.size)) kept
 
 pub one_more : (n : ℕ) (d e f : DebuggerState) → e ≡ after_run n d → f ≡ after_run 1 e → f ≡ after_run (n + 1) d
 one_more n d e f so_far step = step ∙ ap (after_run 1) so_far ∙ two_runs n d
@@ -106,19 +106,19 @@ pub past_more : (P : ℕ → Type 0) (n : ℕ) → ((k : ℕ) → 0 < k → k < 
 past_more P n before here k some below = below_more (λ j. 0 < j → P j) n (λ j less some. before j some less) here k below some
 
 -- the instructions of n steps and of one more
-pub instructions_and : (n : ℕ) (p : Processor BusState) (kept : List Seen) (seen : Seen) → kept ≡ instructions_in bus_rules n p →
+pub instructions_and : (n : ℕ) (p : Processor BusState) (kept : List Executed) (seen : Executed) → kept ≡ instructions_in bus_rules n p →
     (step_of bus_rules (after_steps bus_rules n p)).stepped.what ≡ Ran seen → kept ++ seen ∷ [] ≡ instructions_in bus_rules (n + 1) p
 instructions_and n p kept seen so_far ran =
-    ap (λ (xs : List Seen). xs ++ seen ∷ []) so_far
+    ap (λ (xs : List Executed). xs ++ seen ∷ []) so_far
     ∙ ap (λ (what : What). instructions_in bus_rules n p ++ instruction_in what) (sym ran)
     ∙ sym (instructions_more bus_rules n p)
     ∙ ap (λ (k : ℕ). instructions_in bus_rules k p) (sym (add-one n))
 
 -- a machine that made n steps, and a buffer into which their instructions were put together
-pub steps_kept : (n : ℕ) (m : MachineState) (b k : Buffer Seen) (seen : List Seen) → seen ≡ instructions_in bus_rules n m.processor →
+pub steps_kept : (n : ℕ) (m : MachineState) (b k : Buffer Executed) (seen : List Executed) → seen ≡ instructions_in bus_rules n m.processor →
     k ≡ buffer (keep_last b.capacity (b.items ++ seen)) b.capacity →
-    seen_as (record m { processor = after_steps bus_rules n m.processor }) k ≡ after_run n (seen_as m b)
-steps_kept n m b k seen is kept = rw (← is) (ap (seen_as _) kept)
+    history_as (record m { processor = after_steps bus_rules n m.processor }) k ≡ after_run n (history_as m b)
+steps_kept n m b k seen is kept = rw (← is) (ap (history_as _) kept)
 
 -- n steps, and then k more
 pub runs : (k n : ℕ) (d : DebuggerState) → after_run k (after_run n d) ≡ after_run (n + k) d

@@ -6,7 +6,7 @@ use Rattle.machine.specs.Machine.{MachineState}
 use Rattle.sm83_processor.specs.Rules.{Rules}
 use Rattle.sm83_processor.specs.Steps.{step_of, after_steps}
 use Rattle.sm83_processor.specs.declared.processor.Processor.{Processor}
-use Rattle.sm83_processor.specs.declared.step.Seen.{Seen}
+use Rattle.sm83_processor.specs.declared.step.Executed.{Executed}
 use Rattle.sm83_processor.specs.declared.step.What.{What}
 use Rattle.sm83_processor.specs.declared.step.What.TheVariants.{Dispatch, Wait, Ran}
 
@@ -14,20 +14,20 @@ pub record DebuggerState : Type 0 where
   pub machine : MachineState
   -- the most instructions that are kept
   pub size : ℕ
-  pub history : List Seen
+  pub history : List Executed
 
 -- no more are held than are kept
-abbrev pub HoldsAtMost : ℕ → List Seen → Type 0
+abbrev pub HoldsAtMost : ℕ → List Executed → Type 0
 HoldsAtMost size history = length history ≤ size
 
 -- the instruction of a step; a dispatch and a wait are none
-abbrev pub instruction_in : What → List Seen
+abbrev pub instruction_in : What → List Executed
 instruction_in (Dispatch vector) = []
 instruction_in Wait = []
 instruction_in (Ran seen) = seen ∷ []
 
 -- the instructions of the next n steps, the first of them first
-unfoldable pub instructions_in : {M : Type 0} → Rules M → ℕ → Processor M → List Seen
+unfoldable pub instructions_in : {M : Type 0} → Rules M → ℕ → Processor M → List Executed
 instructions_in rules zero p = []
 instructions_in rules (suc n) p = instruction_in (step_of rules p).stepped.what ++ instructions_in rules n (step_of rules p).after
 

@@ -2,12 +2,12 @@
 use Rattle.std.specs.Prelude.{ℕ, List, ◌++◌, ◌%◌, codes, slice_index}
 use Rattle.exact_text.specs.Hex.{byte_text}
 use Rattle.opcode_table.specs.Listing.{list_line}
-use Rattle.sm83_processor.specs.declared.step.Seen.{Seen}
+use Rattle.sm83_processor.specs.declared.step.Executed.{Executed}
 use Rattle.sm83_processor.specs.declared.step.What.{What}
 use Rattle.sm83_processor.specs.declared.step.What.TheVariants.{Dispatch, Wait, Ran}
 
 -- an instruction as it was fetched
-abbrev pub line_seen : Seen → List ℕ
+abbrev pub line_seen : Executed → List ℕ
 line_seen seen = list_line seen.pc (slice_index seen.bytes 0) (slice_index seen.bytes 1) (slice_index seen.bytes 2)
 
 -- of a vector its low byte: all five are below 100

@@ -10,7 +10,7 @@ use crate::listing::write_lines;
 use crate::stop::Stop;
 use circular_buffer::HeapCircularBuffer;
 use exact_text::OutputFailed;
-use machine::{Machine, Seen, Stepped, What};
+use machine::{Executed, Machine, Stepped, What};
 use std::alloc::Global;
 use std::io::Write;
 use std::marker::Model;
@@ -19,7 +19,7 @@ use std::marker::Model;
 const KEPT: usize = 256;
 
 /// What stands where no instruction was put yet.
-const NOTHING: Seen = Seen {
+const NOTHING: Executed = Executed {
     pc: 0,
     bytes: [0; 3],
     length: 0,
@@ -31,7 +31,7 @@ const NOTHING: Seen = Seen {
 #[derive(Drop)]
 pub struct Debugger {
     machine: Machine,
-    history: HeapCircularBuffer<Seen>,
+    history: HeapCircularBuffer<Executed>,
 }
 
 impl Model for Debugger {
@@ -119,7 +119,7 @@ impl Debugger {
         marks: &[bool; 256],
         breaks: &[u16],
         limit: u32,
-        kept: &mut [Seen; KEPT],
+        kept: &mut [Executed; KEPT],
     ) -> (u32, bool)
         requires marks { AreMarked marks.now breaks.now }
         requires some { 0 < limit }
@@ -152,7 +152,7 @@ impl Debugger {
     }
 
     /// The instruction at an index of the history, the oldest first; `None` from `history_len` up.
-    pub fn history(&self, index: usize) -> Option<Seen>
+    pub fn history(&self, index: usize) -> Option<Executed>
         ensures { result ≡ slice_get self.now.history index }
     {
         self.history.get(index).copied()

@@ -4,7 +4,7 @@ use Rattle.cartridge.specs.Header.{title_of, kind_of, rom_code_of, ram_code_of, 
 use Rattle.cartridge.specs.declared.controller.Controller.{Controller}
 use Rattle.cartridge.specs.declared.controller.Controller.TheVariants.{Plain, Mbc1, Mbc2, Mbc3, Mbc3Clock, Mbc5}
 use Rattle.exact_text.specs.Hex.{byte_text}
-use Rattle.snapshot.specs.Text.{text_length}
+use Rattle.snapshot.specs.Encoding.{snapshot_length}
 use Rattle.sector_log.specs.Content.{need}
 
 -- a byte of a title; one that ASCII does not print as a full stop
@@ -41,7 +41,7 @@ checksum_line rom = codes "checksum stored " ++ (byte_text (stored_checksum_of r
 
 -- how many sectors a save file of this game needs
 abbrev pub sectors_line : List ℕ → List ℕ
-sectors_line rom = codes "sectors " ++ (decimal (need (text_length (ram_length_of rom))) ++ codes "\n")
+sectors_line rom = codes "sectors " ++ (decimal (need (snapshot_length (ram_length_of rom))) ++ codes "\n")
 
 unfoldable pub info_of : List ℕ → List ℕ
 info_of rom = title_line rom ++ (type_line rom ++ (rom_line rom ++ (ram_line rom ++ (checksum_line rom ++ sectors_line rom))))

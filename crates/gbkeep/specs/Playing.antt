@@ -56,7 +56,7 @@ pub record IsLastMachine (rom script : List ℕ) (old : DiskState) (machine : Ma
 pub record HasDrawn (rom script : List ℕ) (old : DiskState) (before since : Option (List ℕ)) : Type 0 where
   pub machine : MachineState
   pub is_last : IsLastMachine rom script old machine
-  pub drawn : Appends before since (picture_text machine.processor.memory.picture.screen.rows)
+  pub drawn : Appends before since (picture_text machine.processor.memory.picture.picture.rows)
 
 -- what of the picture went out at a refusal: a proper prefix where that failed, else nothing
 abbrev pub HasDrawnPart : (rom script : List ℕ) → DiskState → (before since : Option (List ℕ)) → PlayError → Type 0
@@ -64,7 +64,7 @@ HasDrawnPart rom script old before since (Cart fault) = Keeps before since
 HasDrawnPart rom script old before since (Script fault) = Keeps before since
 HasDrawnPart rom script old before since (Session fault) = Keeps before since
 HasDrawnPart rom script old before since Picture =
-    (machine : MachineState) × IsLastMachine rom script old machine × AppendsProperPrefix before since (picture_text machine.processor.memory.picture.screen.rows)
+    (machine : MachineState) × IsLastMachine rom script old machine × AppendsProperPrefix before since (picture_text machine.processor.memory.picture.picture.rows)
 
 -- it was not taken up, with nothing written; or it stopped on the way, with its report cut short
 abbrev pub IsPlayEnd : (rom script : List ℕ) → (old now : DiskState) → SessionError → (before since : Option (List ℕ)) → Type 0

@@ -9,7 +9,7 @@ use Rattle.command_line.specs.declared.Request.{Request}
 use Rattle.command_line.specs.declared.Request.TheVariants.{Info, List as Listing, Step, New, Play, Frame, Trace, Stream}
 use Rattle.machine.specs.Machine.{start}
 use Rattle.snapshot.specs.Legal.{IsMachineOf}
-use Rattle.snapshot.specs.Text.{text_length}
+use Rattle.snapshot.specs.Encoding.{snapshot_length}
 use Rattle.sector_log.specs.Content.{need}
 use Rattle.script.specs.Script.{moves_of}
 use Rattle.script.specs.declared.moves.Move.{Move}
@@ -77,7 +77,7 @@ IsDoneOn rom (Frame cart save out) old new = IsAccepted rom × IsReported [] old
 IsDoneOn rom (Trace cart save count) old new = IsAccepted rom × OfATrace rom count (Appends old new)
 IsDoneOn rom (Stream cart save) old new = ⊥
 IsDoneOn rom (New cart save sectors) old new =
-    IsAccepted rom × (need (text_length (ram_length_of rom)) ≤ sectors) × Appends old new (printed (New cart save sectors) rom)
+    IsAccepted rom × (need (snapshot_length (ram_length_of rom)) ≤ sectors) × Appends old new (printed (New cart save sectors) rom)
 IsDoneOn rom request old new = IsAccepted rom × HasAddress request × Appends old new (printed request rom)
 
 -- it was done, on what its file gave
@@ -104,7 +104,7 @@ HasScript request = ⊥
 -- why no game is begun or taken up to be traced, and then nothing went out; or why a play ended, and then its report was cut short
 abbrev pub IsGameRefused : Request → SessionError → Option (List ℕ) → Option (List ℕ) → Type 0
 IsGameRefused (New cart save sectors) why old new =
-    Keeps old new × ((rom : List ℕ) × IsAccepted rom × IsNewGameCause (text_length (ram_length_of rom)) sectors why)
+    Keeps old new × ((rom : List ℕ) × IsAccepted rom × IsNewGameCause (snapshot_length (ram_length_of rom)) sectors why)
 IsGameRefused (Play cart save script) why old new = (rom : List ℕ) × IsAccepted rom × OfAScript (λ moves. IsCutShort moves why old new)
 IsGameRefused (Frame cart save out) why old new = (rom : List ℕ) × IsAccepted rom × IsCutShort [] why old new
 IsGameRefused (Trace cart save count) why old new = Keeps old new × ((rom : List ℕ) × IsAccepted rom)
@@ -117,7 +117,7 @@ IsOutputRefused (Info cart) old new = (rom : List ℕ) × IsAccepted rom × Appe
 IsOutputRefused (Listing cart address count) old new =
     (rom : List ℕ) × IsAccepted rom × AppendsProperPrefix old new (printed (Listing cart address count) rom)
 IsOutputRefused (Step cart count) old new = (rom : List ℕ) × IsAccepted rom × AppendsProperPrefix old new (printed (Step cart count) rom)
-IsOutputRefused (New cart save sectors) old new = (rom : List ℕ) × IsAccepted rom × (need (text_length (ram_length_of rom)) ≤ sectors)
+IsOutputRefused (New cart save sectors) old new = (rom : List ℕ) × IsAccepted rom × (need (snapshot_length (ram_length_of rom)) ≤ sectors)
     × AppendsProperPrefix old new (printed (New cart save sectors) rom)
 IsOutputRefused (Play cart save script) old new = ⊥
 IsOutputRefused (Frame cart save out) old new = (rom : List ℕ) × IsAccepted rom × IsReported [] old new

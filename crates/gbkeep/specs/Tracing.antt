@@ -56,7 +56,7 @@ left_by (Err refused) = refused.device
 
 -- Why nothing, or not all, is traced, with the device and its images at the call's start and at its return, and what went out before
 -- and since: the first rule of a cartridge that the image breaks, and then the device was not touched; why the game is not taken up;
--- want of memory; the text could not be written. Only at the last was any of it.
+-- out of memory; the text could not be written. Only at the last was any of it.
 abbrev pub IsTraceCause : {D : Type 0} → (rom : List ℕ) → (steps : ℕ) → (device : D) → TraceRefused D → (old now : DiskState) → (before since : Option (List ℕ)) → TraceError → Type 0
 IsTraceCause rom steps device refused old now before since (Cart fault) =
     (refusal_of rom ≡ Some fault) × (refused.device ≡ device) × Keeps before since

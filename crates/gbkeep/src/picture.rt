@@ -128,10 +128,10 @@ fn picture_of<D: SectorDevice, P: Write>(
 ) -> Result<D, PlayRefused<D>>
     ensures device { left_by result ≡ device_of session }
     ensures picture { OnOk result (Appends (P.contents out.old) (P.contents out.new)
-        (picture_text (machine_of session).processor.memory.picture.screen.rows)) }
+        (picture_text (machine_of session).processor.memory.picture.picture.rows)) }
     ensures why { IfErr result (λ refused. refused.why ≡ PlayError.Picture) }
     ensures part { OnErr result (AppendsProperPrefix (P.contents out.old) (P.contents out.new)
-        (picture_text (machine_of session).processor.memory.picture.screen.rows)) }
+        (picture_text (machine_of session).processor.memory.picture.picture.rows)) }
 {
     let written = session.machine().picture().write_pgm(out);
     let device = session.into_device();

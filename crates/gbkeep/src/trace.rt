@@ -103,9 +103,9 @@ fn debugger_of(alloc: Global, machine: &Machine, cartridge: &Cartridge) -> Optio
     requires own { IsOfItsRom machine.now }
     ensures { IfSome result (λ d. (d.machine ≡ machine.now) × IsMachineOf cartridge.now machine.now) }
 {
-    let mut text = vec![in alloc; 0u8; length(cartridge.ram_length())].ok()?;
-    encode(machine, &mut text);
-    let copy = decode(alloc, &text, cartridge).ok()?;
+    let mut encoded = vec![in alloc; 0u8; length(cartridge.ram_length())].ok()?;
+    encode(machine, &mut encoded);
+    let copy = decode(alloc, &encoded, cartridge).ok()?;
     Debugger::new(alloc, copy, 1).ok()
 }
 

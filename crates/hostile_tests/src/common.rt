@@ -35,7 +35,7 @@ pub(crate) fn seconds(i: u32) -> Input {
 
 /// The snapshot of a machine.
 pub(crate) fn text_of(alloc: Global, machine: &Machine) -> Result<Vec<u8>, Fail> {
-    let ram = machine.store(Region::CartRam).len();
+    let ram = machine.region(Region::CartRam).len();
     if ram > 131_072 {
         return Err(Fail::from("too much RAM"));
     }

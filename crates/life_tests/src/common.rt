@@ -83,7 +83,7 @@ fn put(rt: &impl Abort, device: &mut MemoryDevice, at: u64, from: usize, bytes: 
 
 /// The snapshot of a machine.
 pub(crate) fn text_of(alloc: Global, machine: &Machine) -> Result<Vec<u8>, Fail> {
-    let ram = machine.store(Region::CartRam).len();
+    let ram = machine.region(Region::CartRam).len();
     if ram > 131_072 {
         return Err(Fail::from("too much RAM"));
     }

@@ -8,9 +8,9 @@ use Rattle.repeated_steps.proofs.Iterates.{iterate-suc}
 use Rattle.picture_unit.specs.PictureJump.{IsSettled}
 use Rattle.memory_map.specs.State.{BusState}
 use Rattle.memory_map.specs.Joypad.{p1_value}
-use Rattle.memory_map.specs.Bus.{shared, acknowledged, read_at, register_value}
+use Rattle.memory_map.specs.Bus.{pending_interrupts, acknowledged, read_at, register_value}
 use Rattle.memory_map.specs.Ticks.{tick, happens}
-use Rattle.memory_map.proofs.QuietTicks.{ComesAfter, bus_settles, shared_before, ticks_keep_p1}
+use Rattle.memory_map.proofs.QuietTicks.{ComesAfter, bus_settles, pending_before, ticks_keep_p1}
 use Rattle.sm83_processor.specs.Rules.{Rules}
 use Rattle.memory_map.specs.BusRules.{bus_rules}
 use Rattle.sm83_processor.specs.Execution.{at_pc, pushed, executed}
@@ -76,13 +76,13 @@ passing_settles n p pos = ticks_settle n p.memory pos
 ran_settles : (p : Processor BusState) → Settles (ran bus_rules p)
 ran_settles p =
     let d = decoded_at bus_rules p in
-    let done = settled p.state.enable d.instr (executed bus_rules d.instr (begun d.length p)) in
+    let done = settled p.state.ime_pending d.instr (executed bus_rules d.instr (begun d.length p)) in
     passing_settles (ran bus_rules p).stepped.cycles done (ran-bounds bus_rules p).some
 
 dispatched_settles : (p : Processor BusState) → Settles (dispatched bus_rules p)
 dispatched_settles p =
-    let bit = lowest_interrupt (shared p.memory) in
-    let quiet : Processor BusState = record p { state = record p.state { ime = false; enable = false }; memory = acknowledged bit p.memory } in
+    let bit = lowest_interrupt (pending_interrupts p.memory) in
+    let quiet : Processor BusState = record p { state = record p.state { ime = false; ime_pending = false }; memory = acknowledged bit p.memory } in
     passing_settles 5 (at_pc (vector_of bit) (pushed bus_rules p.registers.pc quiet)) (omega arith)
 
 dispatched_or_ran_settles : (p : Processor BusState) → Settles (dispatched_or_ran bus_rules p)
@@ -126,12 +126,12 @@ stopped_step p stopped low =
     ap (λ b. cond (b && read_at p.memory 0xFF00 % 16 == 15) (waited bus_rules p) (step_unstopped bus_rules (on_of p))) stopped
     ∙ ap (λ (n : ℕ). cond (n == 15) (waited bus_rules p) (step_unstopped bus_rules (on_of p))) low
 
-halted_step : (p : Processor BusState) → p.state.stopped ≡ false → p.state.halted ≡ true → shared p.memory ≡ 0 → stop_test p ≡ waited bus_rules p
+halted_step : (p : Processor BusState) → p.state.stopped ≡ false → p.state.halted ≡ true → pending_interrupts p.memory ≡ 0 → stop_test p ≡ waited bus_rules p
 halted_step p stopped halted none =
     let same : on_of p ≡ p = ap (λ (b : Bool). record p { state = record p.state { stopped = b } }) (sym stopped) in
     ap (λ b. cond (b && read_at p.memory 0xFF00 % 16 == 15) (waited bus_rules p) (step_unstopped bus_rules (on_of p))) stopped
     ∙ ap (λ (q : Processor BusState). step_unstopped bus_rules q) same
-    ∙ ap (λ b. cond (b && shared p.memory == 0) (waited bus_rules p) (dispatched_or_ran bus_rules (going_of p))) halted
+    ∙ ap (λ b. cond (b && pending_interrupts p.memory == 0) (waited bus_rules p) (dispatched_or_ran bus_rules (going_of p))) halted
     ∙ ap (λ (n : ℕ). cond (n == 0) (waited bus_rules p) (dispatched_or_ran bus_rules (going_of p))) none
 
 pub locked_waits : (n : ℕ) (p : Processor BusState) → p.state.locked ≡ true → Waits n p
@@ -151,14 +151,14 @@ later_than None left k lt = tt
 later_than (Some d) left k lt = omega (arith, lt)
 
 pub halted_waits : (due : Option ℕ) (left : ℕ) (p : Processor BusState) → p.state.locked ≡ false → p.state.stopped ≡ false → p.state.halted ≡ true
-    → shared p.memory ≡ 0 → IsNextEvent tick happens p.memory due → IsSettled p.memory.picture → Waits (within due left) p
+    → pending_interrupts p.memory ≡ 0 → IsNextEvent tick happens p.memory due → IsSettled p.memory.picture → Waits (within due left) p
 halted_waits due left p locked stopped halted none next settled k lt =
-    let still : shared (iterate tick k p.memory) ≡ 0 = shared_before p.memory due k settled next (later_than due left k lt) ∙ none in
+    let still : pending_interrupts (iterate tick k p.memory) ≡ 0 = pending_before p.memory due k settled next (later_than due left k lt) ∙ none in
     unlocked_step (passing bus_rules k p) locked ∙ halted_step (passing bus_rules k p) stopped halted still
 
 -- a halted processor waits while IE and IF share no bit
 pub unshared_waits : (n many : ℕ) (p : Processor BusState) → p.state.locked ≡ false → p.state.stopped ≡ false → p.state.halted ≡ true
-    → ((k : ℕ) → k < many → shared (iterate tick k p.memory) ≡ 0) → n ≤ many → Waits n p
+    → ((k : ℕ) → k < many → pending_interrupts (iterate tick k p.memory) ≡ 0) → n ≤ many → Waits n p
 unshared_waits n many p locked stopped halted none le k lt =
     unlocked_step (passing bus_rules k p) locked ∙ halted_step (passing bus_rules k p) stopped halted (none k (omega (arith, le, lt)))
 

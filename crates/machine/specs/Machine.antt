@@ -37,7 +37,7 @@ registers_at_power_on checksum = let some = not (checksum == 0) in record {
 }
 
 abbrev pub state_at_power_on : ProcessorState
-state_at_power_on = record { ime = false; enable = false; halted = false; stopped = false; locked = false; repeat = false }
+state_at_power_on = record { ime = false; ime_pending = false; halted = false; stopped = false; locked = false; halt_bug = false }
 
 -- of an accepted image
 abbrev pub start : List ℕ → MachineState

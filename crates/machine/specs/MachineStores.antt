@@ -3,7 +3,7 @@ use Rattle.std.specs.Prelude.{ℕ, ◌<◌, List, slice_set}
 use Rattle.bank_controllers.specs.CartridgeState.{CartridgeState}
 use Rattle.memory_map.specs.Stores as bus
 use Rattle.memory_map.specs.State.{BusState}
-use Rattle.picture_unit.specs.Picture.{Screen}
+use Rattle.picture_unit.specs.Picture.{PictureUnit}
 use Rattle.machine.specs.declared.machine_without_memory.MachineWithoutMemory.{MachineWithoutMemory}
 use Rattle.machine.specs.Machine.{MachineState}
 
@@ -30,9 +30,9 @@ pub record AreLegalFor (cartridge : CartridgeState) (r : MachineWithoutMemory) :
 abbrev pub row_set : (y : ℕ) → List ℕ → MachineState → MachineState
 row_set y row m =
     let memory : BusState = m.processor.memory in
-    let screen : Screen = memory.picture.screen in
+    let picture : PictureUnit = memory.picture.picture in
     record m {
       processor = record m.processor {
-        memory = record memory { picture = record memory.picture { screen = record screen { rows = slice_set screen.rows y row } } };
+        memory = record memory { picture = record memory.picture { picture = record picture { rows = slice_set picture.rows y row } } };
       };
     }

@@ -137,7 +137,7 @@ fn sure_waits(processor: &Processor<Bus>, left: u32) -> u32
     if processor.state.locked || processor.state.stopped || !processor.state.halted {
         return 0;
     }
-    u32::from(processor.memory.unshared_for()).min(left)
+    u32::from(processor.memory.none_pending_for()).min(left)
 }
 
 /// For how many of the M-cycles that are left the processor is sure to wait, if the STAT signal
@@ -158,7 +158,7 @@ fn waits(processor: &Processor<Bus>, left: u32) -> u32
     if !processor.state.halted {
         return 0;
     }
-    if Bus::shared(&processor.memory) != 0 {
+    if Bus::pending_interrupts(&processor.memory) != 0 {
         return 0;
     }
     soonest(processor.memory.due(), left)

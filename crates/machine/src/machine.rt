@@ -13,7 +13,7 @@ use cartridge::Cartridge;
 use memory_map::{Bus, Region};
 use picture_unit::Picture;
 use sm83_alu::{Flags, Registers};
-use sm83_processor::{Processor, ProcessorState, REPORTED, Seen, Stepped, length_of_opcode};
+use sm83_processor::{Executed, Processor, ProcessorState, REPORTED, Stepped, length_of_opcode};
 use std::alloc::{AllocError, Global};
 use std::marker::Model;
 
@@ -66,11 +66,11 @@ fn state_at_power_on() -> ProcessorState
 {
     ProcessorState {
         ime: false,
-        enable: false,
+        ime_pending: false,
         halted: false,
         stopped: false,
         locked: false,
-        repeat: false,
+        halt_bug: false,
     }
 }
 
@@ -79,7 +79,7 @@ ghost use Rattle.machine.specs.Machine.{registers_at_power_on, state_at_power_on
 /// A step that is plain: puts the instruction that ran into `ran`, before it runs, and says whether
 /// the next step is plain.
 #[inline(always)]
-fn run_and_report(processor: &mut Processor<Bus>, ran: &mut Seen) -> bool
+fn run_and_report(processor: &mut Processor<Bus>, ran: &mut Executed) -> bool
     requires { IsPlain bus_rules processor.old }
     ensures after { processor.new ≡ (step_of bus_rules processor.old).after }
     ensures what { (step_of bus_rules processor.old).stepped.what ≡ What.Ran ran.new }
@@ -122,7 +122,7 @@ impl Machine {
         self.processor.step()
     }
 
-    /// Whether the next step is an instruction that begins with neither `enable` nor `repeat`: a
+    /// Whether the next step is an instruction that begins with neither `ime_pending` nor `halt_bug`: a
     /// plain one.
     #[inline(always)]
     pub fn is_plain(&self) -> bool
@@ -135,7 +135,7 @@ impl Machine {
     /// A plain step, faster than `step`: puts the instruction that ran into `ran`, and says whether the
     /// next step is surely plain too. Condition: the step is plain, as `is_plain` tells.
     #[inline(always)]
-    pub fn step_plainly(&mut self, ran: &mut Seen) -> bool
+    pub fn step_plainly(&mut self, ran: &mut Executed) -> bool
         requires { IsPlain bus_rules self.old.processor }
         ensures machine { self.new ≡ record self.old { processor = (step_of bus_rules self.old.processor).after } }
         ensures what { (step_of bus_rules self.old.processor).stepped.what ≡ What.Ran ran.new }
@@ -186,7 +186,7 @@ impl Machine {
 
     /// A read-only view of the picture unit.
     pub fn picture(&self) -> &Picture
-        ensures { result.now ≡ self.now.processor.memory.picture.screen }
+        ensures { result.now ≡ self.now.processor.memory.picture.picture }
     {
         self.processor.memory.picture()
     }
@@ -211,7 +211,7 @@ impl Machine {
     pub fn state(&self) -> MachineWithoutMemory
         ensures state { result ≡ without_memory self.now }
         ensures legal { AreLegalFor self.now.processor.memory.banks result }
-        ensures rows { length self.now.processor.memory.picture.screen.rows ≡ 144 }
+        ensures rows { length self.now.processor.memory.picture.picture.rows ≡ 144 }
     {
         MachineWithoutMemory {
             registers: self.processor.registers,
@@ -233,11 +233,11 @@ impl Machine {
     }
 
     /// The bytes of a region.
-    pub fn store(&self, region: Region) -> &[u8]
+    pub fn region(&self, region: Region) -> &[u8]
         ensures bytes { result.now ≡ region_of self.now.processor.memory region }
         ensures fit { FitsRegion self.now.processor.memory region result.now }
     {
-        self.processor.memory.store(region)
+        self.processor.memory.region(region)
     }
 
     /// Sets all bytes of a region. Condition: there are as many as the region has, and for the RAM

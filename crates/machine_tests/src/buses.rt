@@ -125,9 +125,9 @@ fn joypad_lines_and_interrupt(rt: HostRuntime) -> Result<(), Fail> {
     put(&mut bus, 0xff00, 0x10);
     has(&rt, &bus, &[(0xff00, 0xde), (0xff0f, 0xf0)]);
     put(&mut bus, 0xffff, 0x18);
-    assert_eq!(rt; bus.shared(), 0x10);
+    assert_eq!(rt; bus.pending_interrupts(), 0x10);
     bus.acknowledge(5);
-    assert_eq!(rt; bus.shared(), 0x10);
+    assert_eq!(rt; bus.pending_interrupts(), 0x10);
     Ok(())
 }
 
@@ -268,7 +268,7 @@ fn is_same(rt: &impl Abort, left: &Bus, right: &Bus) {
         Region::Sound,
         Region::CartRam,
     ] {
-        assert!(rt; left.store(region) == right.store(region));
+        assert!(rt; left.region(region) == right.region(region));
     }
     for y in 0..144 {
         assert!(rt; left.picture().row(y) == right.picture().row(y));

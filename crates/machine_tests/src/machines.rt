@@ -77,7 +77,7 @@ fn press(machine: &mut Machine, buttons: u8) {
 fn set_enabling(machine: &mut Machine, ime: bool, enable: bool) {
     let mut state = machine.state();
     state.state.ime = ime;
-    state.state.enable = enable;
+    state.state.ime_pending = enable;
     machine.restore(&state);
 }
 
@@ -134,7 +134,7 @@ fn interrupts_are_dispatched(rt: HostRuntime) -> Result<(), Fail> {
         (0xc1, 0x23)
     );
     let state = machine.state();
-    assert!(rt; !state.state.ime && !state.state.enable);
+    assert!(rt; !state.state.ime && !state.state.ime_pending);
     assert_eq!(rt; byte_at(&machine, 0xff0f), 0xe0);
     Ok(())
 }

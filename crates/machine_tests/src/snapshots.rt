@@ -37,7 +37,7 @@ fn at(bytes: &[u8], at: usize) -> u8 {
 }
 
 fn text_of(alloc: Global, machine: &Machine) -> Result<Vec<u8>, Fail> {
-    let ram = machine.store(Region::CartRam).len();
+    let ram = machine.region(Region::CartRam).len();
     if ram > 131_072 {
         return Err(Fail::from("too much RAM"));
     }
@@ -65,7 +65,7 @@ fn byte_at(machine: &Machine, address: u16) -> u8 {
 }
 
 fn last_of_ram(machine: &Machine) -> Option<u8> {
-    machine.store(Region::CartRam).last().copied()
+    machine.region(Region::CartRam).last().copied()
 }
 
 fn steps(machine: &mut Machine, count: u32) {
@@ -86,7 +86,7 @@ fn are_same(a: &Machine, b: &Machine) -> bool {
         return false;
     }
     for region in REGIONS {
-        if a.store(region) != b.store(region) {
+        if a.region(region) != b.region(region) {
             return false;
         }
     }
@@ -221,7 +221,7 @@ fn a_copy_goes_on(rt: HostRuntime) -> Result<(), Fail> {
 
 fn set_enable(machine: &mut Machine) {
     let mut state = machine.state();
-    state.state.enable = true;
+    state.state.ime_pending = true;
     state.bus.ie = 0xff;
     machine.restore(&state);
 }
@@ -242,7 +242,7 @@ fn set_window(machine: &mut Machine) {
     state.bus.picture.seen = true;
     state.bus.picture.ly = 71;
     state.bus.picture.m_cycle = 17;
-    state.bus.picture.window_line = 44;
+    state.bus.picture.window_counter = 44;
     state.bus.picture.stat = 0x48;
     state.bus.picture.lyc = 0x50;
     state.bus.picture.signal = true;
@@ -271,7 +271,7 @@ fn set_waiting(machine: &mut Machine, locked: bool, stopped: bool, halted: bool)
 fn set_repeat(machine: &mut Machine) {
     let mut state = machine.state();
     state.state.ime = true;
-    state.state.repeat = true;
+    state.state.halt_bug = true;
     state.registers.h = 0xfd;
     state.bus.buttons = 0x81;
     state.bus.p1_select = 0x10;

@@ -17,23 +17,23 @@ use Rattle.memory_map.proofs.Together.{low_place, dma_source_low}
 
 -- an M-cycle of the picture unit changes neither store
 
-vram-drawn : (s : picture.Screen) → (picture.drawn s).vram ≡ s.vram
+vram-drawn : (s : picture.PictureUnit) → (picture.drawn s).vram ≡ s.vram
 unfolding picture.drawn picture.line_drawn
 vram-drawn s = elim (picture.draws s.state) as (λ t. (cond t (picture.line_drawn s) s).vram ≡ s.vram) [ true ↦ refl | false ↦ refl ]
 
-oam-drawn : (s : picture.Screen) → (picture.drawn s).oam ≡ s.oam
+oam-drawn : (s : picture.PictureUnit) → (picture.drawn s).oam ≡ s.oam
 unfolding picture.drawn picture.line_drawn
 oam-drawn s = elim (picture.draws s.state) as (λ t. (cond t (picture.line_drawn s) s).oam ≡ s.oam) [ true ↦ refl | false ↦ refl ]
 
-vram-tick : (d : picture.PictureAndRequests) → (picture.tick d).screen.vram ≡ d.screen.vram
+vram-tick : (d : picture.PictureAndRequests) → (picture.tick d).picture.vram ≡ d.picture.vram
 unfolding picture.tick picture.taken picture.moved
 vram-tick d =
-    elim (picture.is_on d.screen.state) as (λ t. (cond t (picture.taken (picture.moved d)) d).screen.vram ≡ d.screen.vram) [ true ↦ vram-drawn _ | false ↦ refl ]
+    elim (picture.is_on d.picture.state) as (λ t. (cond t (picture.taken (picture.moved d)) d).picture.vram ≡ d.picture.vram) [ true ↦ vram-drawn _ | false ↦ refl ]
 
-oam-tick : (d : picture.PictureAndRequests) → (picture.tick d).screen.oam ≡ d.screen.oam
+oam-tick : (d : picture.PictureAndRequests) → (picture.tick d).picture.oam ≡ d.picture.oam
 unfolding picture.tick picture.taken picture.moved
 oam-tick d =
-    elim (picture.is_on d.screen.state) as (λ t. (cond t (picture.taken (picture.moved d)) d).screen.oam ≡ d.screen.oam) [ true ↦ oam-drawn _ | false ↦ refl ]
+    elim (picture.is_on d.picture.state) as (λ t. (cond t (picture.taken (picture.moved d)) d).picture.oam ≡ d.picture.oam) [ true ↦ oam-drawn _ | false ↦ refl ]
 
 -- n bytes are copied since the bus was b
 record HasCopied (n xx : ℕ) (b c : BusState) : Type 0 where
@@ -41,10 +41,10 @@ record HasCopied (n xx : ℕ) (b c : BusState) : Type 0 where
   count : c.control.dma_copied ≡ n
   banks : c.banks ≡ b.banks
   wram : c.wram ≡ b.wram
-  vram : c.picture.screen.vram ≡ b.picture.screen.vram
-  size : length c.picture.screen.oam ≡ 160
-  bytes : (i : ℕ) → i < n → slice_index c.picture.screen.oam i ≡ peeked b (source_page xx + i)
-  rest : (i : ℕ) → n ≤ i → slice_index c.picture.screen.oam i ≡ slice_index b.picture.screen.oam i
+  vram : c.picture.picture.vram ≡ b.picture.picture.vram
+  size : length c.picture.picture.oam ≡ 160
+  bytes : (i : ℕ) → i < n → slice_index c.picture.picture.oam i ≡ peeked b (source_page xx + i)
+  rest : (i : ℕ) → n ≤ i → slice_index c.picture.picture.oam i ≡ slice_index b.picture.picture.oam i
 
 -- a source page is in the cartridge, VRAM or WRAM, which no M-cycle changes
 source_stays : (n xx : ℕ) (b c : BusState) (a : ℕ) → HasCopied n xx b c → a < 0xE000 → peeked (tick_serial (tick_timer c)) a ≡ peeked b a
@@ -68,11 +68,11 @@ one_more : (n xx : ℕ) (b c : BusState) → xx < 256 → n < 160 → HasCopied 
 one_more n xx b c small lt h =
     let e = tick_serial (tick_timer c) in
     let runs : tick c ≡ tick_picture (copied_byte e) = ap (λ t. tick_picture (cond t (copied_byte e) e)) (lt-ltb c.control.dma_copied 160 (omega (arith, h.count))) in
-    let old = c.picture.screen.oam in
+    let old = c.picture.picture.oam in
     let at = c.control.dma_copied in
     let value = peeked e (dma_source c.control) in
     let within : at < length old = omega (arith, h.count, h.size) in
-    let oam : (tick_picture (copied_byte e)).picture.screen.oam ≡ set old at value = oam-tick (copied_byte e).picture in
+    let oam : (tick_picture (copied_byte e)).picture.picture.oam ≡ set old at value = oam-tick (copied_byte e).picture in
     subst (HasCopied (suc n) xx b) (sym runs) (record {
       dma = h.dma;
       count = omega (arith, h.count);
@@ -90,7 +90,7 @@ one_more n xx b c small lt h =
       rest = λ i above. ap (λ l. slice_index l i) oam ∙ get_or-set_other old at i value 0 (λ same. omega (arith, same, above, h.count)) ∙ h.rest i (omega arith);
     })
 
-begins : (xx : ℕ) (b : BusState) → length b.picture.screen.oam ≡ 160 → HasCopied 0 xx b (written 0xFF46 xx b)
+begins : (xx : ℕ) (b : BusState) → length b.picture.picture.oam ≡ 160 → HasCopied 0 xx b (written 0xFF46 xx b)
 unfolding written register_written
 begins xx b size = record {
   dma = refl;
@@ -103,7 +103,7 @@ begins xx b size = record {
   rest = λ i above. refl;
 }
 
-copied_so_far : (n xx : ℕ) (b : BusState) → xx < 256 → length b.picture.screen.oam ≡ 160 → n ≤ 160 → HasCopied n xx b (copying_for n xx b)
+copied_so_far : (n xx : ℕ) (b : BusState) → xx < 256 → length b.picture.picture.oam ≡ 160 → n ≤ 160 → HasCopied n xx b (copying_for n xx b)
 unfolding copying_for
 copied_so_far zero xx b small size le = begins xx b size
 copied_so_far (suc n) xx b small size le =
@@ -124,7 +124,7 @@ unfolding read_at
 closed_oam a c copying low high =
     let runs : ltb c.control.dma_copied 160 ≡ true = lt-ltb c.control.dma_copied 160 copying in
     ap (λ p. if is_closed c p then 0xFF else value_at c p) (at_oam a low high)
-    ∙ ap (λ t. if t || is_oam_closed c.picture.screen.state then 0xFF else value_at c (Oam (a - 0xFE00))) runs
+    ∙ ap (λ t. if t || is_oam_closed c.picture.picture.state then 0xFF else value_at c (Oam (a - 0xFE00))) runs
 
 over_at : (n : ℕ) (c : BusState) → n ≡ 160 → c.control.dma_copied ≡ n → copies c ≡ false
 over_at n c last count = le-ltb c.control.dma_copied 160 (omega (arith, last, count))

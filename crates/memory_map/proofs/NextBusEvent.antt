@@ -35,7 +35,7 @@ falls_same r n t = ap timer.signal_falls (timer_request_added r n t)
 ends_same : (r : Bool) (n : ℕ) (t : SerialState) → serial.transfer_ends (iterate serial.tick n (record { serial = t; requested = r })) ≡ serial.transfer_ends (serial.ticks n t)
 ends_same r n t = ap serial.transfer_ends (serial_request_added r n t)
 
-entries_same : (v l : Bool) (n : ℕ) (s : picture.Screen) → picture.is_entry (iterate picture.tick n (record { screen = s; vblank = v; stat = l })) ≡ picture.is_entry (picture.ticks n s)
+entries_same : (v l : Bool) (n : ℕ) (s : picture.PictureUnit) → picture.is_entry (iterate picture.tick n (record { picture = s; vblank = v; stat = l })) ≡ picture.is_entry (picture.ticks n s)
 unfolding picture.is_entry
 entries_same v l n s = ap picture.is_entry (picture_ticks v l n s)
 
@@ -53,12 +53,12 @@ picture_enters b = picture.is_entry b.picture
 
 pub next_event : (b : BusState) (t s p : Option ℕ) → 160 ≤ b.control.dma_copied
     → IsNextEvent timer.tick timer.signal_falls (timer.unrequested b.timer.timer) t → IsNextEvent serial.tick serial.transfer_ends (serial.unrequested b.serial.serial) s
-    → IsNextEvent picture.tick picture.is_entry (picture.unrequested b.picture.screen) p → IsNextEvent tick happens b (earlier t (earlier s p))
+    → IsNextEvent picture.tick picture.is_entry (picture.unrequested b.picture.picture) p → IsNextEvent tick happens b (earlier t (earlier s p))
 next_event b t s p h x y z =
     let d = b.picture in
     let first : IsNextEvent tick timer_falls b t = next-along tick timer_falls b timer.tick timer.signal_falls (timer.unrequested b.timer.timer) t (λ n. ap timer_falls (ticks_apart n b h) ∙ falls_same b.timer.requested n b.timer.timer) x in
     let second : IsNextEvent tick serial_ends b s = next-along tick serial_ends b serial.tick serial.transfer_ends (serial.unrequested b.serial.serial) s (λ n. ap serial_ends (ticks_apart n b h) ∙ ends_same b.serial.requested n b.serial.serial) y in
-    let third : IsNextEvent tick picture_enters b p = next-along tick picture_enters b picture.tick picture.is_entry (picture.unrequested d.screen) p (λ n. ap picture_enters (ticks_apart n b h) ∙ entries_same d.vblank d.stat n d.screen) z in
+    let third : IsNextEvent tick picture_enters b p = next-along tick picture_enters b picture.tick picture.is_entry (picture.unrequested d.picture) p (λ n. ap picture_enters (ticks_apart n b h) ∙ entries_same d.vblank d.stat n d.picture) z in
     next-either tick copies (λ b. timer_falls b || (serial_ends b || picture_enters b)) b None (earlier t (earlier s p)) (copies_never b h)
     (next-either tick timer_falls (λ b. serial_ends b || picture_enters b) b t (earlier s p) first
     (next-either tick serial_ends picture_enters b s p second third))

@@ -2,7 +2,7 @@
 use Rattle.std.proofs.Common.{◌≡◌, ℕ, Bool, true, false, refl, sym, ap, ◌∙◌}
 use Rattle.std.specs.Prelude.{◌||◌, ◌&&◌, not, ◌==◌, if◌then◌else◌}
 use Rattle.std.proofs.Math.Bool.{or-false, or_assoc}
-use Rattle.picture_unit.specs.Picture.{Screen, PictureAndRequests, unrequested, taken, stat_signal}
+use Rattle.picture_unit.specs.Picture.{PictureUnit, PictureAndRequests, unrequested, taken, stat_signal}
 use Rattle.picture_unit.specs.Registers.{register_written, lcdc_written, stat_written, lyc_written, register_stored}
 
 -- requests that were pending before
@@ -15,20 +15,20 @@ with_stat q d = record d { stat = q }
 taken-pending : (v l : Bool) (d : PictureAndRequests) → taken (pending v l d) ≡ pending v l (taken d)
 unfolding taken
 taken-pending v l d =
-    let rises = stat_signal d.screen.state && not d.screen.state.signal in
+    let rises = stat_signal d.picture.state && not d.picture.state.signal in
     ap (λ (q : Bool). with_stat q (taken (pending v l d))) (or_assoc l d.stat rises)
 
 abbrev choice : (a n : ℕ) → Bool → Bool → Bool → PictureAndRequests → PictureAndRequests
 choice a n is_lcdc is_stat is_lyc d =
-    if is_lcdc then taken (record d { screen = lcdc_written n d.screen })
-    else if is_stat then taken (record d { screen = stat_written n d.screen })
-    else if is_lyc then taken (record d { screen = lyc_written n d.screen })
-    else record d { screen = record d.screen { state = register_stored a n d.screen.state } }
+    if is_lcdc then taken (record d { picture = lcdc_written n d.picture })
+    else if is_stat then taken (record d { picture = stat_written n d.picture })
+    else if is_lyc then taken (record d { picture = lyc_written n d.picture })
+    else record d { picture = record d.picture { state = register_stored a n d.picture.state } }
 
 choice-pending : (a n : ℕ) (v l p q r : Bool) (d : PictureAndRequests) → choice a n p q r (pending v l d) ≡ pending v l (choice a n p q r d)
-choice-pending a n v l true q r d = taken-pending v l (record d { screen = lcdc_written n d.screen })
-choice-pending a n v l false true r d = taken-pending v l (record d { screen = stat_written n d.screen })
-choice-pending a n v l false false true d = taken-pending v l (record d { screen = lyc_written n d.screen })
+choice-pending a n v l true q r d = taken-pending v l (record d { picture = lcdc_written n d.picture })
+choice-pending a n v l false true r d = taken-pending v l (record d { picture = stat_written n d.picture })
+choice-pending a n v l false false true d = taken-pending v l (record d { picture = lyc_written n d.picture })
 choice-pending a n v l false false false d = refl
 
 choice-vblank : (a n : ℕ) (p q r : Bool) (d : PictureAndRequests) → (choice a n p q r d).vblank ≡ d.vblank
@@ -38,19 +38,19 @@ choice-vblank a n false true r d = refl
 choice-vblank a n false false true d = refl
 choice-vblank a n false false false d = refl
 
-abbrev with_parts : Screen → Bool → Bool → PictureAndRequests
-with_parts s v l = record { screen = s; vblank = v; stat = l }
+abbrev with_parts : PictureUnit → Bool → Bool → PictureAndRequests
+with_parts s v l = record { picture = s; vblank = v; stat = l }
 
-pub register_written-pending : (a n : ℕ) (d : PictureAndRequests) (s : Screen) (q : Bool)
-    → s ≡ (register_written a n (unrequested d.screen)).screen → q ≡ (register_written a n (unrequested d.screen)).stat
-    → record { screen = s; vblank = d.vblank; stat = d.stat || q } ≡ register_written a n d
+pub register_written-pending : (a n : ℕ) (d : PictureAndRequests) (s : PictureUnit) (q : Bool)
+    → s ≡ (register_written a n (unrequested d.picture)).picture → q ≡ (register_written a n (unrequested d.picture)).stat
+    → record { picture = s; vblank = d.vblank; stat = d.stat || q } ≡ register_written a n d
 unfolding register_written unrequested
 register_written-pending a n d s q e f =
-    let run = register_written a n (unrequested d.screen) in
-    let none : run.vblank ≡ false = choice-vblank a n (a == 0xFF40) (a == 0xFF41) (a == 0xFF45) (unrequested d.screen) in
-    let before : with_parts d.screen (d.vblank || false) (d.stat || false) ≡ d =
-    ap (λ (v : Bool). with_parts d.screen v (d.stat || false)) (or-false d.vblank) ∙ ap (λ (l : Bool). with_parts d.screen d.vblank l) (or-false d.stat) in
-    ap (λ (u : Screen). with_parts u d.vblank (d.stat || q)) e ∙ ap (λ (l : Bool). with_parts run.screen d.vblank (d.stat || l)) f
-    ∙ ap (λ (v : Bool). with_parts run.screen v (d.stat || run.stat)) (sym (or-false d.vblank) ∙ ap (λ (v : Bool). d.vblank || v) (sym none))
-    ∙ sym (choice-pending a n d.vblank d.stat (a == 0xFF40) (a == 0xFF41) (a == 0xFF45) (unrequested d.screen))
+    let run = register_written a n (unrequested d.picture) in
+    let none : run.vblank ≡ false = choice-vblank a n (a == 0xFF40) (a == 0xFF41) (a == 0xFF45) (unrequested d.picture) in
+    let before : with_parts d.picture (d.vblank || false) (d.stat || false) ≡ d =
+    ap (λ (v : Bool). with_parts d.picture v (d.stat || false)) (or-false d.vblank) ∙ ap (λ (l : Bool). with_parts d.picture d.vblank l) (or-false d.stat) in
+    ap (λ (u : PictureUnit). with_parts u d.vblank (d.stat || q)) e ∙ ap (λ (l : Bool). with_parts run.picture d.vblank (d.stat || l)) f
+    ∙ ap (λ (v : Bool). with_parts run.picture v (d.stat || run.stat)) (sym (or-false d.vblank) ∙ ap (λ (v : Bool). d.vblank || v) (sym none))
+    ∙ sym (choice-pending a n d.vblank d.stat (a == 0xFF40) (a == 0xFF41) (a == 0xFF45) (unrequested d.picture))
     ∙ ap (register_written a n) before

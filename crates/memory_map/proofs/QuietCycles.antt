@@ -16,7 +16,7 @@ use Rattle.picture_unit.specs.declared.state.PictureState.{PictureState}
 use Rattle.picture_unit.proofs.Quiet.{none_quiet, fewer_quiet, quiet_ticks}
 use Rattle.picture_unit.proofs.PictureLaws.{picture_ticks, pending}
 use Rattle.memory_map.specs.State.{BusState}
-use Rattle.memory_map.specs.Bus.{shared}
+use Rattle.memory_map.specs.Bus.{pending_interrupts}
 use Rattle.memory_map.specs.Ticks.{tick}
 use Rattle.memory_map.specs.Quiet.{AreQuiet}
 use Rattle.memory_map.proofs.NextBusEvent.{ticks_apart}
@@ -74,19 +74,19 @@ timer_grows n t h none =
 serial_stays : (n : ℕ) (s : serial.SerialAndRequest) → s.serial.cycles_left ≡ 0 → iterate serial.tick n s ≡ s
 serial_stays n s none = serial_jump.ticks_by_jump n s ∙ grind (arith, nat_tests)
 
-abbrev further : ℕ → picture.Screen → picture.Screen
+abbrev further : ℕ → picture.PictureUnit → picture.PictureUnit
 further n s = record s { state = record s.state { m_cycle = s.state.m_cycle + n } }
 
-abbrev with_screen : picture.Screen → Bool → Bool → picture.PictureAndRequests
-with_screen s v l = record { screen = s; vblank = v; stat = l }
+abbrev with_picture : picture.PictureUnit → Bool → Bool → picture.PictureAndRequests
+with_picture s v l = record { picture = s; vblank = v; stat = l }
 
-picture_goes_on : (q n : ℕ) (d : picture.PictureAndRequests) → n ≤ q → picture_jump.AreQuiet q d.screen.state → iterate picture.tick n d ≡ record d { screen = further n d.screen }
+picture_goes_on : (q n : ℕ) (d : picture.PictureAndRequests) → n ≤ q → picture_jump.AreQuiet q d.picture.state → iterate picture.tick n d ≡ record d { picture = further n d.picture }
 unfolding picture.unrequested
 picture_goes_on q n d le quiet =
-    picture_ticks d.vblank d.stat n d.screen
-    ∙ ap (pending d.vblank d.stat) (sym (quiet_ticks q n d.screen le quiet))
-    ∙ ap (λ (v : Bool). with_screen (further n d.screen) v (d.stat || false)) (or-false d.vblank)
-    ∙ ap (λ (l : Bool). with_screen (further n d.screen) d.vblank l) (or-false d.stat)
+    picture_ticks d.vblank d.stat n d.picture
+    ∙ ap (pending d.vblank d.stat) (sym (quiet_ticks q n d.picture le quiet))
+    ∙ ap (λ (v : Bool). with_picture (further n d.picture) v (d.stat || false)) (or-false d.vblank)
+    ∙ ap (λ (l : Bool). with_picture (further n d.picture) d.vblank l) (or-false d.stat)
 
 -- ---- the bus
 
@@ -94,17 +94,17 @@ picture_goes_on q n d le quiet =
 abbrev pub gone_on : ℕ → BusState → BusState
 gone_on n b = record b {
   timer = record b.timer { timer = record b.timer.timer { counter = (b.timer.timer.counter + 4 * n) % 65536 } };
-  picture = record b.picture { screen = further n b.picture.screen };
+  picture = record b.picture { picture = further n b.picture.picture };
 }
 
 abbrev with_units : timer.TimerAndRequest → serial.SerialAndRequest → picture.PictureAndRequests → BusState → BusState
 with_units t s p b = record b { timer = t; serial = s; picture = p }
 
 pub quiet_pass : (q n : ℕ) (b : BusState) → n ≤ q → timer.IsLegalTimer b.timer.timer
-    → AreQuiet q b.control.dma_copied b.timer.timer b.serial.serial.cycles_left b.picture.screen.state → gone_on n b ≡ iterate tick n b
+    → AreQuiet q b.control.dma_copied b.timer.timer b.serial.serial.cycles_left b.picture.picture.state → gone_on n b ≡ iterate tick n b
 quiet_pass q zero b le legal quiet =
     let c : (b.timer.timer.counter + 4 * 0) % 65536 ≡ b.timer.timer.counter = omega (arith, legal.counter) in
-    let m : b.picture.screen.state.m_cycle + 0 ≡ b.picture.screen.state.m_cycle = omega arith in
+    let m : b.picture.picture.state.m_cycle + 0 ≡ b.picture.picture.state.m_cycle = omega arith in
     rw (c, m) refl
 quiet_pass q (suc n) b le legal quiet =
     let t = timer_grows (suc n) b.timer legal ((no_falls b.timer.timer.tac b.timer.timer.counter (suc n) q legal.counter le (quiet.timer (omega arith))).0) in
@@ -145,6 +145,6 @@ both_quiet n m q copied t left p e copy none h still line quiet = record {
 }
 
 -- before each of n M-cycles, of which all but the last are quiet, IE and IF share what they share now
-pub shared_while_quiet : (n k : ℕ) (b : BusState) → k < n → timer.IsLegalTimer b.timer.timer
-    → AreQuiet (n - 1) b.control.dma_copied b.timer.timer b.serial.serial.cycles_left b.picture.screen.state → shared (iterate tick k b) ≡ shared b
-shared_while_quiet n k b below legal quiet = ap shared (sym (quiet_pass (n - 1) k b (omega arith) legal quiet))
+pub pending_while_quiet : (n k : ℕ) (b : BusState) → k < n → timer.IsLegalTimer b.timer.timer
+    → AreQuiet (n - 1) b.control.dma_copied b.timer.timer b.serial.serial.cycles_left b.picture.picture.state → pending_interrupts (iterate tick k b) ≡ pending_interrupts b
+pending_while_quiet n k b below legal quiet = ap pending_interrupts (sym (quiet_pass (n - 1) k b (omega arith) legal quiet))

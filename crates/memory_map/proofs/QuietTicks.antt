@@ -11,7 +11,7 @@ use Rattle.picture_unit.specs.PictureJump.{IsSettled}
 use Rattle.picture_unit.proofs.Settled.{quiet_requests, tick_settles}
 use Rattle.memory_map.specs.Joypad.{p1_value}
 use Rattle.memory_map.specs.State.{BusState}
-use Rattle.memory_map.specs.Bus.{digit, shared}
+use Rattle.memory_map.specs.Bus.{digit, pending_interrupts}
 use Rattle.memory_map.specs.Ticks.{tick_timer, tick_serial, tick_picture, tick_dma, tick, copied_byte, copies, happens}
 
 left_none : (p q : Bool) → (p || q) ≡ false → p ≡ false
@@ -47,8 +47,8 @@ quiet_tick b e = ap (λ t. tick_picture (cond t (copied_byte (tick_serial (tick_
 pub bus_settles : (b : BusState) → IsSettled (tick b).picture
 bus_settles b = tick_settles (tick_dma (tick_serial (tick_timer b))).picture
 
-quiet_shared : (b : BusState) → happens b ≡ false → IsSettled b.picture → shared (tick b) ≡ shared b
-quiet_shared b e settled =
+quiet_pending : (b : BusState) → happens b ≡ false → IsSettled b.picture → pending_interrupts (tick b) ≡ pending_interrupts b
+quiet_pending b e settled =
     let copy = left_none (copies b) (timer.signal_falls b.timer || (serial.transfer_ends b.serial || picture.is_entry b.picture)) e in
     let units = right_none (copies b) (timer.signal_falls b.timer || (serial.transfer_ends b.serial || picture.is_entry b.picture)) e in
     let t = timer_quiet b.timer (left_none (timer.signal_falls b.timer) (serial.transfer_ends b.serial || picture.is_entry b.picture) units) in
@@ -59,25 +59,25 @@ quiet_shared b e settled =
     let v' = (picture.tick b.picture).vblank in
     let l' = (picture.tick b.picture).stat in
     let t' = (timer.tick b.timer).requested in
-    ap shared (quiet_tick b copy)
+    ap pending_interrupts (quiet_tick b copy)
     ∙ ap (λ (r : Bool). bits_of c.ie v' l' t' r c.joypad) s
     ∙ ap (λ (r : Bool). bits_of c.ie v' l' r b.serial.requested c.joypad) t
     ∙ ap (λ (r : Bool). bits_of c.ie v' r b.timer.requested b.serial.requested c.joypad) p.1
     ∙ ap (λ (r : Bool). bits_of c.ie r b.picture.stat b.timer.requested b.serial.requested c.joypad) p.0
 
-quiet_run : (n : ℕ) (b : BusState) → IsSettled b.picture → ((k : ℕ) → k < n → happens (iterate tick k b) ≡ false) → shared (iterate tick n b) ≡ shared b
+quiet_run : (n : ℕ) (b : BusState) → IsSettled b.picture → ((k : ℕ) → k < n → happens (iterate tick k b) ≡ false) → pending_interrupts (iterate tick n b) ≡ pending_interrupts b
 quiet_run zero b settled quiet = refl
 quiet_run (suc n) b settled quiet =
-    quiet_run n (tick b) (bus_settles b) (λ k lt. quiet (suc k) (omega arith)) ∙ quiet_shared b (quiet zero (omega arith)) settled
+    quiet_run n (tick b) (bus_settles b) (λ k lt. quiet (suc k) (omega arith)) ∙ quiet_pending b (quiet zero (omega arith)) settled
 
 abbrev pub ComesAfter : Option ℕ → ℕ → Type 0
 ComesAfter None n = Unit {0}
 ComesAfter (Some d) n = n < d
 
 -- The requests stay as they are before the next event.
-pub shared_before : (b : BusState) (due : Option ℕ) (n : ℕ) → IsSettled b.picture → IsNextEvent tick happens b due → ComesAfter due n → shared (iterate tick n b) ≡ shared b
-shared_before b None n settled next later = quiet_run n b settled (λ k lt. next k)
-shared_before b (Some d) n settled next later = quiet_run n b settled (λ k less. next.2 k (omega (arith, later)))
+pub pending_before : (b : BusState) (due : Option ℕ) (n : ℕ) → IsSettled b.picture → IsNextEvent tick happens b due → ComesAfter due n → pending_interrupts (iterate tick n b) ≡ pending_interrupts b
+pending_before b None n settled next later = quiet_run n b settled (λ k lt. next k)
+pending_before b (Some d) n settled next later = quiet_run n b settled (λ k less. next.2 k (omega (arith, later)))
 
 tick_keeps_p1 : (b : BusState) → p1_value (tick b).control ≡ p1_value b.control
 tick_keeps_p1 b = elim (copies b) as (λ t. p1_value (tick_picture (cond t (copied_byte (tick_serial (tick_timer b))) (tick_serial (tick_timer b)))).control ≡ p1_value b.control) [ true ↦ refl | false ↦ refl ]

@@ -64,7 +64,7 @@ IsPaged b = b.control.dma < 256
 
 abbrev copying : BusState → ℕ → BusState
 copying b v =
-    let c = with_oam (slice_set b.picture.screen.oam b.control.dma_copied v) b in
+    let c = with_oam (slice_set b.picture.picture.oam b.control.dma_copied v) b in
     record c { control = record b.control { dma_copied = b.control.dma_copied + 1 } }
 
 copy_past_timer : (b : BusState) → IsPaged b → tick_timer (tick_dma_and_picture b) ≡ tick_dma_and_picture (tick_timer b)

@@ -28,8 +28,8 @@ timer_with t r = record { timer = t; requested = r }
 abbrev serial_with : SerialState → Bool → serial.SerialAndRequest
 serial_with t r = record { serial = t; requested = r }
 
-abbrev picture_with : picture.Screen → Bool → Bool → picture.PictureAndRequests
-picture_with s v l = record { screen = s; vblank = v; stat = l }
+abbrev picture_with : picture.PictureUnit → Bool → Bool → picture.PictureAndRequests
+picture_with s v l = record { picture = s; vblank = v; stat = l }
 
 -- whether any bit of a unit's requests is set
 pub timer_requested : (r : Bool) → not (nat_eq (timer.timer_request r) 0) ≡ r
@@ -60,12 +60,12 @@ serial_passed n b t bits e f =
     ∙ sym (serial_request_added b.serial.requested n b.serial.serial) in
     ap (λ (u : serial.SerialAndRequest). record b { serial = u }) whole ∙ serials_tick n b
 
-pub picture_passed : (n : ℕ) (b : BusState) (s : picture.Screen) (v l : Bool) → s ≡ (picture.ticks n b.picture.screen).screen → v ≡ (picture.ticks n b.picture.screen).vblank → l ≡ (picture.ticks n b.picture.screen).stat
-    → record b { picture = record { screen = s; vblank = b.picture.vblank || v; stat = b.picture.stat || l } } ≡ iterate tick_picture n b
+pub picture_passed : (n : ℕ) (b : BusState) (s : picture.PictureUnit) (v l : Bool) → s ≡ (picture.ticks n b.picture.picture).picture → v ≡ (picture.ticks n b.picture.picture).vblank → l ≡ (picture.ticks n b.picture.picture).stat
+    → record b { picture = record { picture = s; vblank = b.picture.vblank || v; stat = b.picture.stat || l } } ≡ iterate tick_picture n b
 picture_passed n b s v l e f g =
-    let run = picture.ticks n b.picture.screen in
+    let run = picture.ticks n b.picture.picture in
     let d = b.picture in
     let whole : picture_with s (d.vblank || v) (d.stat || l) ≡ iterate picture.tick n d =
-    ap (λ (u : picture.Screen). picture_with u (d.vblank || v) (d.stat || l)) e ∙ ap (λ (q : Bool). picture_with run.screen (d.vblank || q) (d.stat || l)) f
-    ∙ ap (λ (q : Bool). picture_with run.screen (d.vblank || run.vblank) (d.stat || q)) g ∙ sym (picture_ticks d.vblank d.stat n d.screen) in
+    ap (λ (u : picture.PictureUnit). picture_with u (d.vblank || v) (d.stat || l)) e ∙ ap (λ (q : Bool). picture_with run.picture (d.vblank || q) (d.stat || l)) f
+    ∙ ap (λ (q : Bool). picture_with run.picture (d.vblank || run.vblank) (d.stat || q)) g ∙ sym (picture_ticks d.vblank d.stat n d.picture) in
     ap (λ (u : picture.PictureAndRequests). record b { picture = u }) whole ∙ pictures_tick n b

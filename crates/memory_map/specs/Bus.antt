@@ -38,8 +38,8 @@ abbrev pub with_interrupt_flag : ℕ → BusState → BusState
 with_interrupt_flag n = with_requests (is_set n 1) (is_set n 2) (is_set n 4) (is_set n 8) (is_set n 16)
 
 -- the bits that IE and IF share, of the low five
-abbrev pub shared : BusState → ℕ
-shared b = bit_and b.control.ie (interrupt_flag b)
+abbrev pub pending_interrupts : BusState → ℕ
+pending_interrupts b = bit_and b.control.ie (interrupt_flag b)
 
 -- one of the five requests is withdrawn; a bit above 4 changes nothing
 abbrev pub acknowledged : ℕ → BusState → BusState
@@ -66,7 +66,7 @@ register_value b a =
     else if a == 0xFF07 then 0xF8 + b.timer.timer.tac
     else if a == 0xFF0F then 0xE0 + interrupt_flag b
     else if a == 0xFF46 then b.control.dma
-    else registers.register_value b.picture.screen.state a
+    else registers.register_value b.picture.picture.state a
 
 -- A register is written. The picture unit takes its own, and every other address ignores the write.
 unfoldable pub register_written : (address value : ℕ) → BusState → BusState
@@ -87,9 +87,9 @@ register_written a v b =
 -- what is at a place, whatever mode or copy closes it
 abbrev pub value_at : BusState → Place → ℕ
 value_at b (Cartridge a) = banks.read_at b.banks a
-value_at b (Vram i) = slice_index b.picture.screen.vram i
+value_at b (Vram i) = slice_index b.picture.picture.vram i
 value_at b (Wram i) = slice_index b.wram i
-value_at b (Oam i) = slice_index b.picture.screen.oam i
+value_at b (Oam i) = slice_index b.picture.picture.oam i
 value_at b Unused = 0
 value_at b (Sound i) = slice_index b.sound i
 value_at b (Register a) = register_value b a
@@ -99,9 +99,9 @@ value_at b InterruptEnable = b.control.ie
 -- mode 3 closes VRAM; modes 2 and 3, and a running copy, close OAM
 abbrev pub is_closed : BusState → Place → Bool
 is_closed b (Cartridge a) = false
-is_closed b (Vram i) = is_vram_closed b.picture.screen.state
+is_closed b (Vram i) = is_vram_closed b.picture.picture.state
 is_closed b (Wram i) = false
-is_closed b (Oam i) = nat_lt b.control.dma_copied 160 || is_oam_closed b.picture.screen.state
+is_closed b (Oam i) = nat_lt b.control.dma_copied 160 || is_oam_closed b.picture.picture.state
 is_closed b Unused = false
 is_closed b (Sound i) = false
 is_closed b (Register a) = false
@@ -109,17 +109,17 @@ is_closed b (Hram i) = false
 is_closed b InterruptEnable = false
 
 abbrev pub with_vram : List ℕ → BusState → BusState
-with_vram vram b = record b { picture = record b.picture { screen = record b.picture.screen { vram = vram } } }
+with_vram vram b = record b { picture = record b.picture { picture = record b.picture.picture { vram = vram } } }
 
 abbrev pub with_oam : List ℕ → BusState → BusState
-with_oam oam b = record b { picture = record b.picture { screen = record b.picture.screen { oam = oam } } }
+with_oam oam b = record b { picture = record b.picture { picture = record b.picture.picture { oam = oam } } }
 
 -- a place that is not closed is written
 abbrev pub stored_at : Place → ℕ → BusState → BusState
 stored_at (Cartridge a) v b = record b { banks = banks.written a v b.banks }
-stored_at (Vram i) v b = with_vram (slice_set b.picture.screen.vram i v) b
+stored_at (Vram i) v b = with_vram (slice_set b.picture.picture.vram i v) b
 stored_at (Wram i) v b = record b { wram = slice_set b.wram i v }
-stored_at (Oam i) v b = with_oam (slice_set b.picture.screen.oam i v) b
+stored_at (Oam i) v b = with_oam (slice_set b.picture.picture.oam i v) b
 stored_at Unused v b = b
 stored_at (Sound i) v b = record b { sound = slice_set b.sound i v }
 stored_at (Register a) v b = register_written a v b

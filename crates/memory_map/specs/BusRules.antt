@@ -9,7 +9,7 @@ abbrev pub bus_rules : Rules BusState
 bus_rules = record {
   value_at = bus.read_at;
   written = λ b address value. bus.written address value b;
-  shared = bus.shared;
+  pending_interrupts = bus.pending_interrupts;
   acknowledged = λ b bit. bus.acknowledged bit b;
   passed = λ b cycles. iterate tick cycles b;
 }

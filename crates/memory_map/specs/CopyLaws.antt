@@ -15,10 +15,10 @@ copying_for n xx b = iterate tick n (written 0xFF46 xx b)
 
 -- Each of 160 M-cycles copies one byte of the source page, as it is when the copy begins. Until the last of them OAM reads FF.
 pub record CopiesThePage (xx : ℕ) (b : BusState) : Type 0 where
-  pub copied : (n i : ℕ) → n ≤ 160 → i < n → slice_index (copying_for n xx b).picture.screen.oam i ≡ peeked b (source_page xx + i)
-  pub not_yet : (n i : ℕ) → n ≤ 160 → n ≤ i → slice_index (copying_for n xx b).picture.screen.oam i ≡ slice_index b.picture.screen.oam i
+  pub copied : (n i : ℕ) → n ≤ 160 → i < n → slice_index (copying_for n xx b).picture.picture.oam i ≡ peeked b (source_page xx + i)
+  pub not_yet : (n i : ℕ) → n ≤ 160 → n ≤ i → slice_index (copying_for n xx b).picture.picture.oam i ≡ slice_index b.picture.picture.oam i
   pub closed : (n a : ℕ) → n < 160 → 0xFE00 ≤ a → a < 0xFEA0 → read_at (copying_for n xx b) a ≡ 0xFF
   pub over : copies (copying_for 160 xx b) ≡ false
 
 abbrev pub OamHoldsTheSourcePage : Type 0
-OamHoldsTheSourcePage = (xx : ℕ) (b : BusState) → xx < 256 → length b.picture.screen.oam ≡ 160 → CopiesThePage xx b
+OamHoldsTheSourcePage = (xx : ℕ) (b : BusState) → xx < 256 → length b.picture.picture.oam ≡ 160 → CopiesThePage xx b

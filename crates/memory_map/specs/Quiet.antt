@@ -5,7 +5,7 @@ use Rattle.timer_unit.specs.TimerJump.{falls_in}
 use Rattle.picture_unit.specs.declared.state.PictureState.{PictureState}
 use Rattle.picture_unit.specs.PictureJump as picture
 use Rattle.memory_map.specs.State.{BusState, IsLegalControl}
-use Rattle.memory_map.specs.Bus.{shared}
+use Rattle.memory_map.specs.Bus.{pending_interrupts}
 
 -- In the next n M-cycles, if any, no byte is copied, the timer's signal does not fall, no transfer runs, no line or mode 3 is entered, nor
 -- mode 0 while a STAT source is enabled, and the STAT signal does not rise. `copied` bytes of a copy are made, and `left` M-cycles of a
@@ -19,10 +19,10 @@ pub record AreQuiet (n copied : ℕ) (t : TimerState) (left : ℕ) (p : PictureS
 
 -- What is known of a bus beside its value. Where `calm` is not 0, one M-cycle fewer is quiet, and IE and IF share no bit; else `quiet`
 -- M-cycles are quiet.
-pub record IsSound (calm quiet : ℕ) (b : BusState) : Type 0 where
+pub record IsConsistent (calm quiet : ℕ) (b : BusState) : Type 0 where
   pub wram : length b.wram ≡ 8192
   pub control : IsLegalControl b.control
-  pub waiting : AreQuiet (calm - 1) b.control.dma_copied b.timer.timer b.serial.serial.cycles_left b.picture.screen.state
-  pub asked : AreQuiet quiet b.control.dma_copied b.timer.timer b.serial.serial.cycles_left b.picture.screen.state
+  pub waiting : AreQuiet (calm - 1) b.control.dma_copied b.timer.timer b.serial.serial.cycles_left b.picture.picture.state
+  pub asked : AreQuiet quiet b.control.dma_copied b.timer.timer b.serial.serial.cycles_left b.picture.picture.state
   pub either : 0 < calm → quiet ≡ 0
-  pub unshared : 0 < calm → shared b ≡ 0
+  pub none_pending : 0 < calm → pending_interrupts b ≡ 0

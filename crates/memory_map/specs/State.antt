@@ -39,7 +39,7 @@ abbrev pub bus_at_power_on : List ℕ → BusState
 bus_at_power_on image = record {
   timer = timer.unrequested timer.timer_at_power_on;
   serial = serial.unrequested serial.serial_at_power_on;
-  picture = record { screen = picture.screen_at_power_on; vblank = true; stat = false };
+  picture = record { picture = picture.picture_at_power_on; vblank = true; stat = false };
   banks = cartridge_at_power_on image;
   wram = zeros 8192;
   hram = zeros 127;

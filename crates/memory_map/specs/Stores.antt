@@ -22,7 +22,7 @@ without_memory b = record {
   serial = b.serial.serial;
   dma = b.control.dma;
   dma_copied = b.control.dma_copied;
-  picture = b.picture.screen.state;
+  picture = b.picture.picture.state;
   banks = b.banks.state;
 }
 
@@ -30,7 +30,7 @@ abbrev pub restored : BusWithoutMemory → BusState → BusState
 restored r b = with_interrupt_flag r.interrupt_flag (record b {
   timer = record b.timer { timer = r.timer };
   serial = record b.serial { serial = r.serial };
-  picture = record b.picture { screen = record b.picture.screen { state = r.picture } };
+  picture = record b.picture { picture = record b.picture.picture { state = r.picture } };
   banks = record b.banks { state = r.banks };
   control = record b.control { ie = r.ie; buttons = r.buttons; p1_select = r.p1_select; dma = r.dma; dma_copied = r.dma_copied };
 })
@@ -50,9 +50,9 @@ pub record AreLegalFor (cartridge : CartridgeState) (r : BusWithoutMemory) : Typ
 
 -- the bytes of a region
 abbrev pub region_of : BusState → Region → List ℕ
-region_of b Vram = b.picture.screen.vram
+region_of b Vram = b.picture.picture.vram
 region_of b Wram = b.wram
-region_of b Oam = b.picture.screen.oam
+region_of b Oam = b.picture.picture.oam
 region_of b Hram = b.hram
 region_of b Sound = b.sound
 region_of b CartRam = b.banks.ram

@@ -21,7 +21,7 @@ dma_source c = 256 * (if nat_lt c.dma 0xE0 then c.dma else c.dma - 0x20) + c.dma
 -- one byte of a copy. It reads what no mode closes, and writes OAM in every mode.
 abbrev pub copied_byte : BusState → BusState
 copied_byte b =
-    let c = with_oam (slice_set b.picture.screen.oam b.control.dma_copied (peeked b (dma_source b.control))) b in
+    let c = with_oam (slice_set b.picture.picture.oam b.control.dma_copied (peeked b (dma_source b.control))) b in
     record c { control = record b.control { dma_copied = b.control.dma_copied + 1 } }
 
 -- a copy runs while fewer than 160 bytes are copied

@@ -41,14 +41,14 @@ pub struct Bus {
 
 impl Model for Bus {
     ghost use Rattle.memory_map.specs.State.{BusState};
-    ghost use Rattle.memory_map.specs.Quiet.{IsSound};
+    ghost use Rattle.memory_map.specs.Quiet.{IsConsistent};
 
     ghost Value = { BusState };
 
     ghost view = { λ b. record {
       timer = record { timer = b.timer; requested = b.timer_requested };
       serial = record { serial = b.serial; requested = b.serial_requested };
-      picture = record { screen = b.picture; vblank = b.vblank_requested; stat = b.stat_requested };
+      picture = record { picture = b.picture; vblank = b.vblank_requested; stat = b.stat_requested };
       banks = b.banks;
       wram = b.wram.items;
       hram = b.hram;
@@ -56,10 +56,10 @@ impl Model for Bus {
       control = b.control;
     } };
 
-    ghost invariant = { λ b. IsSound b.calm b.quiet (record {
+    ghost invariant = { λ b. IsConsistent b.calm b.quiet (record {
       timer = record { timer = b.timer; requested = b.timer_requested };
       serial = record { serial = b.serial; requested = b.serial_requested };
-      picture = record { screen = b.picture; vblank = b.vblank_requested; stat = b.stat_requested };
+      picture = record { picture = b.picture; vblank = b.vblank_requested; stat = b.stat_requested };
       banks = b.banks;
       wram = b.wram.items;
       hram = b.hram;

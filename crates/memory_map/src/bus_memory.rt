@@ -18,8 +18,8 @@ impl Memory for Bus {
     }
 
     #[inline]
-    fn shared(&self) -> u8 {
-        Bus::shared(self)
+    fn pending_interrupts(&self) -> u8 {
+        Bus::pending_interrupts(self)
     }
 
     fn acknowledge(&mut self, bit: u8) {

@@ -168,11 +168,11 @@ cycles_taken_of (ResetBit n r) = cycles_of (ResetBit n r)
 cycles_taken_of (SetBit n r) = cycles_of (SetBit n r)
 cycles_taken_of (Undefined o) = cycles_of (Undefined o)
 
--- what is to know of an instruction
+-- everything known about an instruction
 abbrev pub row_of : Instr → Decoded
 row_of i = record { instr = i; length = length_of i; cycles = cycles_of i; cycles_taken = cycles_taken_of i }
 
--- what is to know of the instruction that begins with three bytes
+-- everything known about the instruction that begins with three bytes
 abbrev pub decoded_of : ℕ → ℕ → ℕ → Decoded
 decoded_of o b c = let i = instruction_of o b c in
     record { instr = i; length = length_of i; cycles = cycles_of i; cycles_taken = cycles_taken_of i }

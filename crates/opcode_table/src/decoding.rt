@@ -247,7 +247,7 @@ ghost use Rattle.opcode_table.specs.Timing.{row_of, decoded_of};
 ghost use Rattle.opcode_table.specs.Undefined.{undefined_opcodes, is_undefined};
 
 impl Decoded {
-    /// What is to know of an instruction.
+    /// Everything known about an instruction.
     #[inline(always)]
     pub fn of(instr: Instr) -> Decoded
         ensures { result ≡ row_of instr }
@@ -262,7 +262,7 @@ impl Decoded {
     }
 }
 
-/// The instruction that begins with these bytes, of which it may have fewer than three.
+/// The instruction that begins with these bytes; it may use only some of them.
 ///
 /// Every list of three bytes has an answer; the eleven opcodes that no instruction has give
 /// `Instr::Undefined`.

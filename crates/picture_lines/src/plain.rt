@@ -74,7 +74,7 @@ pub(crate) fn shade_over(object: &Object, shade: u8, under: u8, under_shade: u8)
 }
 
 impl LineRegisters {
-    /// Whether the window is drawn on the line, at whatever columns.
+    /// Whether the window is drawn on the line, at any column.
     #[tactic(auto, unfolding(crate::specs::Pixel::is_window_drawn))]
     pub fn is_window_drawn(&self) -> bool
         ensures { result ≡ is_drawn self.now }

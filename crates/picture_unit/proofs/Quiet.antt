@@ -5,7 +5,7 @@ use Rattle.std.specs.Fn.{iterate}
 use Rattle.std.proofs.lemmas.Bool.Decides.{nat_tests}
 use Rattle.picture_lines.specs.Bits.{has_bit}
 use Rattle.picture_unit.specs.declared.state.PictureState.{PictureState}
-use Rattle.picture_unit.specs.Picture.{Screen, PictureAndRequests, unrequested, ticks, is_on, mode, stat_signal, is_source, advanced, entered, draws, drawn, begins_vblank, line_drawn, moved, taken, tick, is_entry}
+use Rattle.picture_unit.specs.Picture.{PictureUnit, PictureAndRequests, unrequested, ticks, is_on, mode, stat_signal, is_source, advanced, entered, draws, drawn, begins_vblank, line_drawn, moved, taken, tick, is_entry}
 use Rattle.picture_unit.specs.PictureJump.{next_entry, next_change, later, skipped, IsSettled, AreQuiet}
 use Rattle.picture_unit.proofs.Settled.{ticks_settle, bool_cases}
 use Rattle.repeated_steps.specs.NextEvent.{IsNextEvent}
@@ -34,10 +34,10 @@ or_false : (b : Bool) → (b || false) ≡ b
 or_false true = refl
 or_false false = refl
 
-quiet_tick : (d : PictureAndRequests) → is_on d.screen.state ≡ true → 1 < next_change d.screen.state → tick d ≡ taken (later 1 d)
+quiet_tick : (d : PictureAndRequests) → is_on d.picture.state ≡ true → 1 < next_change d.picture.state → tick d ≡ taken (later 1 d)
 unfolding tick moved later drawn taken
 quiet_tick d on h =
-    let p = d.screen.state in
+    let p = d.picture.state in
     let run : tick d ≡ taken (moved d) = ap (λ b. cond b (taken (moved d)) d) on in
     let same : moved d ≡ later 1 d = rw (quiet_advance p h, quiet_draws p h, quiet_vblank p, or_false d.vblank) refl in
     run ∙ ap taken same
@@ -76,11 +76,11 @@ settled false true true = refl
 settled false true false = refl
 settled false false s = refl
 
-skip_more : (n : ℕ) (d : PictureAndRequests) → suc n < next_change d.screen.state → skipped n (taken (later 1 d)) ≡ taken (later (suc n) d)
+skip_more : (n : ℕ) (d : PictureAndRequests) → suc n < next_change d.picture.state → skipped n (taken (later 1 d)) ≡ taken (later (suc n) d)
 unfolding skipped later taken is_on stat_signal is_source mode
 skip_more zero d h = refl
 skip_more (suc n) d h =
-    let p = d.screen.state in
+    let p = d.picture.state in
     let further : p.m_cycle + 1 + suc n ≡ p.m_cycle + suc (suc n) = omega arith in
     let stays : stat_signal (record p { m_cycle = p.m_cycle + 1 }) ≡ stat_signal (record p { m_cycle = p.m_cycle + suc (suc n) }) = same_signal p (suc (suc n)) (omega arith) h in
     rw (further, stays, settled d.stat (stat_signal (record p { m_cycle = p.m_cycle + suc (suc n) })) p.signal) refl
@@ -90,29 +90,29 @@ nearer : (p : PictureState) (n : ℕ) → suc n < next_change p → n < next_cha
 unfolding next_entry next_change
 nearer p n h = grind (arith, nat_tests)
 
-pub skips : (n : ℕ) (d : PictureAndRequests) → is_on d.screen.state ≡ true → n < next_change d.screen.state → iterate tick n d ≡ skipped n d
+pub skips : (n : ℕ) (d : PictureAndRequests) → is_on d.picture.state ≡ true → n < next_change d.picture.state → iterate tick n d ≡ skipped n d
 unfolding skipped later taken is_on stat_signal next_entry next_change
 skips zero d on h = refl
 skips (suc n) d on h =
     ap (iterate tick n) (quiet_tick d on (omega arith))
-    ∙ skips n (taken (later 1 d)) on (nearer d.screen.state n h)
+    ∙ skips n (taken (later 1 d)) on (nearer d.picture.state n h)
     ∙ skip_more n d h
 
-off_tick : (d : PictureAndRequests) → is_on d.screen.state ≡ false → tick d ≡ d
+off_tick : (d : PictureAndRequests) → is_on d.picture.state ≡ false → tick d ≡ d
 unfolding tick
 off_tick d off = ap (λ b. cond b (taken (moved d)) d) off
 
-pub stands_still : (n : ℕ) (d : PictureAndRequests) → is_on d.screen.state ≡ false → iterate tick n d ≡ d
+pub stands_still : (n : ℕ) (d : PictureAndRequests) → is_on d.picture.state ≡ false → iterate tick n d ≡ d
 stands_still zero d off = refl
 stands_still (suc n) d off = ap (iterate tick n) (off_tick d off) ∙ stands_still n d off
 
 -- the next entry
 
-no_entry : (n : ℕ) (d : PictureAndRequests) → n + 1 < next_entry d.screen.state → is_entry (later n d) ≡ false
+no_entry : (n : ℕ) (d : PictureAndRequests) → n + 1 < next_entry d.picture.state → is_entry (later n d) ≡ false
 unfolding next_entry is_entry advanced later
 no_entry n d h = grind (arith, nat_tests)
 
-an_entry : (n : ℕ) (d : PictureAndRequests) → is_on d.screen.state ≡ true → d.screen.state.m_cycle < 114 → n + 1 ≡ next_entry d.screen.state → is_entry (later n d) ≡ true
+an_entry : (n : ℕ) (d : PictureAndRequests) → is_on d.picture.state ≡ true → d.picture.state.m_cycle < 114 → n + 1 ≡ next_entry d.picture.state → is_entry (later n d) ≡ true
 unfolding next_entry is_entry advanced later is_on
 an_entry n d on legal h = grind (arith, nat_tests)
 
@@ -123,10 +123,10 @@ entry_taken d = grind (arith, nat_tests)
 
 entry_later : (n : ℕ) (d : PictureAndRequests) → is_entry (skipped n d) ≡ is_entry (later n d)
 unfolding skipped later
-entry_later zero d = let e : d.screen.state.m_cycle ≡ d.screen.state.m_cycle + 0 = omega arith in ap (λ (k : ℕ). is_entry (record d { screen = record d.screen { state = record d.screen.state { m_cycle = k } } })) e
+entry_later zero d = let e : d.picture.state.m_cycle ≡ d.picture.state.m_cycle + 0 = omega arith in ap (λ (k : ℕ). is_entry (record d { picture = record d.picture { state = record d.picture.state { m_cycle = k } } })) e
 entry_later (suc n) d = entry_taken (later (suc n) d)
 
-pub never_due : (d : PictureAndRequests) → is_on d.screen.state ≡ false → IsNextEvent tick is_entry d None
+pub never_due : (d : PictureAndRequests) → is_on d.picture.state ≡ false → IsNextEvent tick is_entry d None
 unfolding is_entry
 never_due d off k = ap is_entry (stands_still k d off) ∙ grind arith
 
@@ -135,10 +135,10 @@ entry_first : (p : PictureState) → next_entry p ≤ next_change p
 unfolding next_entry next_change
 entry_first p = grind (arith, nat_tests)
 
-pub is_due : (d : PictureAndRequests) → is_on d.screen.state ≡ true → d.screen.state.m_cycle < 114 → IsNextEvent tick is_entry d (Some (next_entry d.screen.state))
+pub is_due : (d : PictureAndRequests) → is_on d.picture.state ≡ true → d.picture.state.m_cycle < 114 → IsNextEvent tick is_entry d (Some (next_entry d.picture.state))
 unfolding next_entry
 is_due d on legal =
-    let p = d.screen.state in
+    let p = d.picture.state in
     let pos : 0 < next_entry p = grind (arith, nat_tests) in
     let first : next_entry p ≤ next_change p = entry_first p in (
       pos,
@@ -152,51 +152,51 @@ on_entered : (p : PictureState) → is_on (entered (advanced p)) ≡ is_on p
 unfolding is_on advanced entered
 on_entered p = grind (arith, nat_tests)
 
-on_drawn : (s : Screen) → is_on (drawn s).state ≡ is_on s.state
+on_drawn : (s : PictureUnit) → is_on (drawn s).state ≡ is_on s.state
 unfolding is_on drawn line_drawn
 on_drawn s = grind (arith, nat_tests)
 
-on_tick : (d : PictureAndRequests) → is_on d.screen.state ≡ true → is_on (tick d).screen.state ≡ true
+on_tick : (d : PictureAndRequests) → is_on d.picture.state ≡ true → is_on (tick d).picture.state ≡ true
 unfolding tick taken moved is_on
 on_tick d on =
     let run : tick d ≡ taken (moved d) = ap (λ b. cond b (taken (moved d)) d) on in
-    ap (λ (e : PictureAndRequests). is_on e.screen.state) run ∙ on_drawn (record d.screen { state = entered (advanced d.screen.state) }) ∙ on_entered d.screen.state ∙ on
+    ap (λ (e : PictureAndRequests). is_on e.picture.state) run ∙ on_drawn (record d.picture { state = entered (advanced d.picture.state) }) ∙ on_entered d.picture.state ∙ on
 
-on_skipped : (n : ℕ) (d : PictureAndRequests) → is_on (skipped n d).screen.state ≡ is_on d.screen.state
+on_skipped : (n : ℕ) (d : PictureAndRequests) → is_on (skipped n d).picture.state ≡ is_on d.picture.state
 unfolding skipped taken later is_on
 on_skipped zero d = refl
 on_skipped (suc n) d = refl
 
-pub stays_on : (d e : PictureAndRequests) → is_on d.screen.state ≡ true → e ≡ tick d → is_on e.screen.state ≡ true
-stays_on d e on h = ap (λ (e : PictureAndRequests). is_on e.screen.state) h ∙ on_tick d on
+pub stays_on : (d e : PictureAndRequests) → is_on d.picture.state ≡ true → e ≡ tick d → is_on e.picture.state ≡ true
+stays_on d e on h = ap (λ (e : PictureAndRequests). is_on e.picture.state) h ∙ on_tick d on
 
-pub stays_on_skipped : (n : ℕ) (d e : PictureAndRequests) → is_on d.screen.state ≡ true → e ≡ skipped n d → is_on e.screen.state ≡ true
-stays_on_skipped n d e on h = ap (λ (e : PictureAndRequests). is_on e.screen.state) h ∙ on_skipped n d ∙ on
+pub stays_on_skipped : (n : ℕ) (d e : PictureAndRequests) → is_on d.picture.state ≡ true → e ≡ skipped n d → is_on e.picture.state ≡ true
+stays_on_skipped n d e on h = ap (λ (e : PictureAndRequests). is_on e.picture.state) h ∙ on_skipped n d ∙ on
 
 -- quiet M-cycles, and then the others
-after_quiet : (n q : ℕ) (d e : PictureAndRequests) → q ≤ n → is_on d.screen.state ≡ true → q < next_change d.screen.state → e ≡ skipped q d → iterate tick (n - q) e ≡ iterate tick n d
+after_quiet : (n q : ℕ) (d e : PictureAndRequests) → q ≤ n → is_on d.picture.state ≡ true → q < next_change d.picture.state → e ≡ skipped q d → iterate tick (n - q) e ≡ iterate tick n d
 after_quiet n q d e le on lt h =
     let whole : q + (n - q) ≡ n = omega arith in
     ap (iterate tick (n - q)) (h ∙ sym (skips q d on lt)) ∙ sym (iterate-add tick q (n - q) d) ∙ ap (λ (k : ℕ). iterate tick k d) whole
 
 -- the M-cycles up to and with the next change, and then the others
-pub after_change : (n q : ℕ) (d e f : PictureAndRequests) → q < n → is_on d.screen.state ≡ true → q < next_change d.screen.state → e ≡ skipped q d → f ≡ tick e → iterate tick (n - (q + 1)) f ≡ iterate tick n d
+pub after_change : (n q : ℕ) (d e f : PictureAndRequests) → q < n → is_on d.picture.state ≡ true → q < next_change d.picture.state → e ≡ skipped q d → f ≡ tick e → iterate tick (n - (q + 1)) f ≡ iterate tick n d
 after_change n q d e f lt on before skip ran =
     let whole : n - q ≡ suc (n - (q + 1)) = omega arith in
     ap (iterate tick (n - (q + 1))) ran ∙ sym (ap (λ (k : ℕ). iterate tick k e) whole) ∙ after_quiet n q d e (omega arith) on before skip
 
-pub all_quiet : (n : ℕ) (d e : PictureAndRequests) → is_on d.screen.state ≡ true → n < next_change d.screen.state → e ≡ skipped n d → iterate tick 0 e ≡ iterate tick n d
+pub all_quiet : (n : ℕ) (d e : PictureAndRequests) → is_on d.picture.state ≡ true → n < next_change d.picture.state → e ≡ skipped n d → iterate tick 0 e ≡ iterate tick n d
 all_quiet n d e on before skip = skip ∙ sym (skips n d on before)
 
 -- the same, where the state is known by another name and the number by an equation
-pub is_due_at : (p : PictureState) (n : ℕ) (d : PictureAndRequests) → p ≡ d.screen.state → is_on p ≡ true → p.m_cycle < 114 → n ≡ next_entry p → IsNextEvent tick is_entry d (Some n)
+pub is_due_at : (p : PictureState) (n : ℕ) (d : PictureAndRequests) → p ≡ d.picture.state → is_on p ≡ true → p.m_cycle < 114 → n ≡ next_entry p → IsNextEvent tick is_entry d (Some n)
 is_due_at p n d same on legal e =
-    let on' : is_on d.screen.state ≡ true = ap is_on (sym same) ∙ on in
-    let legal' : d.screen.state.m_cycle < 114 = subst (λ (p : PictureState). p.m_cycle < 114) same legal in
+    let on' : is_on d.picture.state ≡ true = ap is_on (sym same) ∙ on in
+    let legal' : d.picture.state.m_cycle < 114 = subst (λ (p : PictureState). p.m_cycle < 114) same legal in
     subst (λ (n : ℕ). IsNextEvent tick is_entry d (Some n)) (sym (e ∙ ap next_entry same)) (is_due d on' legal')
 
 -- what is known of `pass`, of the state by another name
-pub ticks_when_off : (n : ℕ) (p : PictureState) (s : Screen) → p ≡ s.state → is_on p ≡ false → ticks n s ≡ unrequested s
+pub ticks_when_off : (n : ℕ) (p : PictureState) (s : PictureUnit) → p ≡ s.state → is_on p ≡ false → ticks n s ≡ unrequested s
 unfolding unrequested
 ticks_when_off n p s same off = stands_still n (unrequested s) (ap is_on (sym same) ∙ off)
 
@@ -233,7 +233,7 @@ quiet_in_line q (suc n) p le quiet legal =
     let lt : q < next_change p = quiet.entry (omega arith) in
     before_line_end p (suc n) legal (omega arith)
 
-pub quiet_ticks : (q n : ℕ) (s : Screen) → n ≤ q → AreQuiet q s.state →
+pub quiet_ticks : (q n : ℕ) (s : PictureUnit) → n ≤ q → AreQuiet q s.state →
     unrequested (record s { state = record s.state { m_cycle = s.state.m_cycle + n } }) ≡ ticks n s
 unfolding unrequested skipped later taken
 quiet_ticks q zero s le quiet = let e : s.state.m_cycle + 0 ≡ s.state.m_cycle = omega arith in rw e refl
@@ -244,7 +244,7 @@ quiet_ticks q (suc n) s le quiet =
     sym (skips (suc n) (unrequested s) (quiet.on (omega arith)) lt' ∙ rw (same, no_rise s.state.signal) refl)
 
 -- after some M-cycles those before the next change are quiet
-pub quiet_before_change : (p : PictureState) (n q : ℕ) (d e : PictureAndRequests) → p ≡ e.screen.state → is_on e.screen.state ≡ true → 0 < n → e ≡ iterate tick n d → q < next_change p → AreQuiet q p
+pub quiet_before_change : (p : PictureState) (n q : ℕ) (d e : PictureAndRequests) → p ≡ e.picture.state → is_on e.picture.state ≡ true → 0 < n → e ≡ iterate tick n d → q < next_change p → AreQuiet q p
 quiet_before_change p n q d e same on some ran before =
     let settled : IsSettled e = subst IsSettled (sym ran) (ticks_settle n d some) in
     record {
@@ -254,14 +254,14 @@ quiet_before_change p n q d e same on some ran before =
     }
 
 -- n M-cycles on, the change is n M-cycles nearer
-nearer_skipped : (n q : ℕ) (d : PictureAndRequests) → q + n < next_change d.screen.state → q < next_change (skipped n d).screen.state
+nearer_skipped : (n q : ℕ) (d : PictureAndRequests) → q + n < next_change d.picture.state → q < next_change (skipped n d).picture.state
 unfolding skipped later taken next_entry next_change
 nearer_skipped zero q d h = omega arith
-nearer_skipped (suc n) q d h = nearer_change d.screen.state (suc n) q h
+nearer_skipped (suc n) q d h = nearer_change d.picture.state (suc n) q h
 
-pub quiet_when_skipped : (p : PictureState) (n q : ℕ) (d e : PictureAndRequests) → p ≡ e.screen.state → is_on d.screen.state ≡ true → 0 < n → e ≡ skipped n d → q + n < next_change d.screen.state → AreQuiet q p
+pub quiet_when_skipped : (p : PictureState) (n q : ℕ) (d e : PictureAndRequests) → p ≡ e.picture.state → is_on d.picture.state ≡ true → 0 < n → e ≡ skipped n d → q + n < next_change d.picture.state → AreQuiet q p
 quiet_when_skipped p n q d e same on some skip before =
-    let on' : is_on e.screen.state ≡ true = stays_on_skipped n d e on skip in
+    let on' : is_on e.picture.state ≡ true = stays_on_skipped n d e on skip in
     let ran : e ≡ iterate tick n d = skip ∙ sym (skips n d on (omega arith)) in
-    let state : p ≡ (skipped n d).screen.state = same ∙ ap (λ (x : PictureAndRequests). x.screen.state) skip in
+    let state : p ≡ (skipped n d).picture.state = same ∙ ap (λ (x : PictureAndRequests). x.picture.state) skip in
     quiet_before_change p n q d e same on' some ran (subst (λ (p : PictureState). q < next_change p) (sym state) (nearer_skipped n q d before))

@@ -17,40 +17,40 @@ both_ways b t f =
     let e : true ≡ false = sym t ∙ f in
     cc
 
-runs : (d : PictureAndRequests) → is_on d.screen.state ≡ true → tick d ≡ taken (moved d)
+runs : (d : PictureAndRequests) → is_on d.picture.state ≡ true → tick d ≡ taken (moved d)
 unfolding tick
 runs d on = ap (λ b. cond b (taken (moved d)) d) on
 
-stands : (d : PictureAndRequests) → is_on d.screen.state ≡ false → tick d ≡ d
+stands : (d : PictureAndRequests) → is_on d.picture.state ≡ false → tick d ≡ d
 unfolding tick
 stands d off = ap (λ b. cond b (taken (moved d)) d) off
 
-taken_settles : (d : PictureAndRequests) → stat_signal (taken d).screen.state ≡ (taken d).screen.state.signal
+taken_settles : (d : PictureAndRequests) → stat_signal (taken d).picture.state ≡ (taken d).picture.state.signal
 unfolding taken stat_signal is_on is_source mode
 taken_settles d = refl
 
 pub tick_settles : (d : PictureAndRequests) → IsSettled (tick d)
 tick_settles d =
-    elim (bool_cases (is_on d.screen.state)) [
+    elim (bool_cases (is_on d.picture.state)) [
       | inl on ↦ subst IsSettled (sym (runs d on)) (λ _. taken_settles (moved d))
-      | inr off ↦ subst IsSettled (sym (stands d off)) (λ on. both_ways (is_on d.screen.state) on off)
+      | inr off ↦ subst IsSettled (sym (stands d off)) (λ on. both_ways (is_on d.picture.state) on off)
     ]
 
 pub ticks_settle : (n : ℕ) (d : PictureAndRequests) → 0 < n → IsSettled (iterate tick n d)
 ticks_settle zero d pos = absurd (omega arith)
 ticks_settle (suc n) d pos = subst IsSettled (sym (iterate-suc tick n d)) (tick_settles (iterate tick n d))
 
-quiet_advance : (d : PictureAndRequests) → is_on d.screen.state ≡ true → is_entry d ≡ false →
-    entered (advanced d.screen.state) ≡ record d.screen.state { m_cycle = d.screen.state.m_cycle + 1 }
+quiet_advance : (d : PictureAndRequests) → is_on d.picture.state ≡ true → is_entry d ≡ false →
+    entered (advanced d.picture.state) ≡ record d.picture.state { m_cycle = d.picture.state.m_cycle + 1 }
 unfolding is_entry advanced entered
 quiet_advance d on quiet =
-    let p = d.screen.state in
+    let p = d.picture.state in
     let a : (p.m_cycle == 113) ≡ false = grind (arith, nat_tests, on, quiet) in
     let b : (p.m_cycle + 1 == 0) ≡ false = grind (arith, nat_tests) in
     rw (a, b) refl
 
-quiet_draws : (d : PictureAndRequests) → is_on d.screen.state ≡ true → is_entry d ≡ false →
-    draws (record d.screen.state { m_cycle = d.screen.state.m_cycle + 1 }) ≡ false
+quiet_draws : (d : PictureAndRequests) → is_on d.picture.state ≡ true → is_entry d ≡ false →
+    draws (record d.picture.state { m_cycle = d.picture.state.m_cycle + 1 }) ≡ false
 unfolding is_entry advanced draws
 quiet_draws d on quiet = grind (arith, nat_tests, on, quiet)
 
@@ -58,15 +58,15 @@ quiet_vblank : (p : PictureState) → begins_vblank (record p { m_cycle = p.m_cy
 unfolding begins_vblank
 quiet_vblank p = grind (arith, nat_tests)
 
-same_mode : (d : PictureAndRequests) → is_on d.screen.state ≡ true → is_entry d ≡ false →
-    mode (record d.screen.state { m_cycle = d.screen.state.m_cycle + 1 }) ≡ mode d.screen.state
+same_mode : (d : PictureAndRequests) → is_on d.picture.state ≡ true → is_entry d ≡ false →
+    mode (record d.picture.state { m_cycle = d.picture.state.m_cycle + 1 }) ≡ mode d.picture.state
 unfolding is_entry advanced mode is_on
 same_mode d on quiet = grind (arith, nat_tests, on, quiet)
 
-same_signal : (d : PictureAndRequests) → is_on d.screen.state ≡ true → is_entry d ≡ false →
-    stat_signal (record d.screen.state { m_cycle = d.screen.state.m_cycle + 1 }) ≡ stat_signal d.screen.state
+same_signal : (d : PictureAndRequests) → is_on d.picture.state ≡ true → is_entry d ≡ false →
+    stat_signal (record d.picture.state { m_cycle = d.picture.state.m_cycle + 1 }) ≡ stat_signal d.picture.state
 unfolding stat_signal is_on
-same_signal d on quiet = let p = d.screen.state in ap (λ (m : ℕ). is_on p && is_source p.stat m (p.ly == p.lyc)) (same_mode d on quiet)
+same_signal d on quiet = let p = d.picture.state in ap (λ (m : ℕ). is_on p && is_source p.stat m (p.ly == p.lyc)) (same_mode d on quiet)
 
 or_false : (b : Bool) → (b || false) ≡ b
 or_false true = refl
@@ -77,19 +77,19 @@ no_rise true s = refl
 no_rise false true = refl
 no_rise false false = refl
 
-quiet_moved : (d : PictureAndRequests) → is_on d.screen.state ≡ true → is_entry d ≡ false → moved d ≡ later 1 d
+quiet_moved : (d : PictureAndRequests) → is_on d.picture.state ≡ true → is_entry d ≡ false → moved d ≡ later 1 d
 unfolding moved later drawn
-quiet_moved d on quiet = rw (quiet_advance d on quiet, quiet_draws d on quiet, quiet_vblank d.screen.state, or_false d.vblank) refl
+quiet_moved d on quiet = rw (quiet_advance d on quiet, quiet_draws d on quiet, quiet_vblank d.picture.state, or_false d.vblank) refl
 
-later_requests : (d : PictureAndRequests) → is_on d.screen.state ≡ true → is_entry d ≡ false → IsSettled d →
+later_requests : (d : PictureAndRequests) → is_on d.picture.state ≡ true → is_entry d ≡ false → IsSettled d →
     ((taken (later 1 d)).vblank ≡ d.vblank) × ((taken (later 1 d)).stat ≡ d.stat)
 unfolding taken later
 later_requests d on quiet settled =
-    (refl, ap (λ s. d.stat || (s && not d.screen.state.signal)) (same_signal d on quiet ∙ settled on) ∙ no_rise d.stat d.screen.state.signal)
+    (refl, ap (λ s. d.stat || (s && not d.picture.state.signal)) (same_signal d on quiet ∙ settled on) ∙ no_rise d.stat d.picture.state.signal)
 
 pub quiet_requests : (d : PictureAndRequests) → is_entry d ≡ false → IsSettled d → ((tick d).vblank ≡ d.vblank) × ((tick d).stat ≡ d.stat)
 quiet_requests d quiet settled =
-    elim (bool_cases (is_on d.screen.state)) [
+    elim (bool_cases (is_on d.picture.state)) [
       | inl on ↦
           let e : tick d ≡ taken (later 1 d) = runs d on ∙ ap taken (quiet_moved d on quiet) in
           let l = later_requests d on quiet settled in

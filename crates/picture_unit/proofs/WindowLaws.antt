@@ -3,14 +3,14 @@ use Rattle.std.proofs.Common.{◌≡◌, ℕ, ◌+◌, ◌%◌, ◌<◌, Bool, t
 use Rattle.std.specs.Prelude.{◌==◌, if◌then◌else◌}
 use Rattle.std.proofs.lemmas.Bool.Decides.{nat_tests}
 use Rattle.picture_unit.specs.declared.state.PictureState.{PictureState}
-use Rattle.picture_unit.specs.Picture.{Screen, PictureAndRequests, is_on, advanced, entered, draws, drawn, line_drawn, window_line_after, moved, taken, tick}
+use Rattle.picture_unit.specs.Picture.{PictureUnit, PictureAndRequests, is_on, advanced, entered, draws, drawn, line_drawn, window_counter_after, moved, taken, tick}
 use Rattle.picture_unit.specs.Registers.{register_stored, switched_off, switched_on, lcdc_written, stat_written, lyc_written, register_written}
 use Rattle.picture_unit.specs.WindowLaws.{Event, Cycle, Write, after, draws_window, window_lines, EndsFrame, StayInFrame, WindowCounterCountsLines}
 use Rattle.picture_unit.proofs.Quiet.{stays_on}
 use Rattle.picture_unit.proofs.Settled.{bool_cases}
 
 abbrev counter : PictureAndRequests → ℕ
-counter d = d.screen.state.window_line
+counter d = d.picture.state.window_counter
 
 -- ---- an M-cycle
 
@@ -19,16 +19,16 @@ unfolding taken
 counter-taken d = refl
 
 counter-moved : (d : PictureAndRequests) →
-    counter (moved d) ≡ (if draws_window d.screen.state then ((entered (advanced d.screen.state)).window_line + 1) % 256 else (entered (advanced d.screen.state)).window_line)
-unfolding moved drawn line_drawn window_line_after
+    counter (moved d) ≡ (if draws_window d.picture.state then ((entered (advanced d.picture.state)).window_counter + 1) % 256 else (entered (advanced d.picture.state)).window_counter)
+unfolding moved drawn line_drawn window_counter_after
 counter-moved d = grind (arith, nat_tests)
 
-counter-tick : (d : PictureAndRequests) → is_on d.screen.state ≡ true →
-    counter (tick d) ≡ (if draws_window d.screen.state then ((entered (advanced d.screen.state)).window_line + 1) % 256 else (entered (advanced d.screen.state)).window_line)
+counter-tick : (d : PictureAndRequests) → is_on d.picture.state ≡ true →
+    counter (tick d) ≡ (if draws_window d.picture.state then ((entered (advanced d.picture.state)).window_counter + 1) % 256 else (entered (advanced d.picture.state)).window_counter)
 unfolding tick
 counter-tick d on = rw on (counter-taken (moved d) ∙ counter-moved d)
 
-counter-within : (p : PictureState) → (EndsFrame p → ⊥) → (entered (advanced p)).window_line ≡ p.window_line
+counter-within : (p : PictureState) → (EndsFrame p → ⊥) → (entered (advanced p)).window_counter ≡ p.window_counter
 unfolding entered advanced
 counter-within p within =
     elim (bool_cases (p.m_cycle == 113)) [
@@ -45,7 +45,7 @@ counter-within p within =
           rw (more, next) refl
     ]
 
-counter-begins : (p : PictureState) → EndsFrame p → (entered (advanced p)).window_line ≡ 0
+counter-begins : (p : PictureState) → EndsFrame p → (entered (advanced p)).window_counter ≡ 0
 unfolding entered advanced
 counter-begins p ends = grind (arith, nat_tests, ends.line, ends.m_cycle)
 
@@ -53,15 +53,15 @@ draws_none : (p : PictureState) → EndsFrame p → draws_window p ≡ false
 unfolding draws entered advanced
 draws_none p ends = grind (arith, nat_tests, ends.line, ends.m_cycle)
 
-begins_at_zero : (d : PictureAndRequests) → is_on d.screen.state ≡ true → EndsFrame d.screen.state → counter (tick d) ≡ 0
-begins_at_zero d on ends = counter-tick d on ∙ rw (draws_none d.screen.state ends) (counter-begins d.screen.state ends)
+begins_at_zero : (d : PictureAndRequests) → is_on d.picture.state ≡ true → EndsFrame d.picture.state → counter (tick d) ≡ 0
+begins_at_zero d on ends = counter-tick d on ∙ rw (draws_none d.picture.state ends) (counter-begins d.picture.state ends)
 
 -- ---- a write
 
-abbrev with_screen : Screen → PictureAndRequests → PictureAndRequests
-with_screen s d = record d { screen = s }
+abbrev with_picture : PictureUnit → PictureAndRequests → PictureAndRequests
+with_picture s d = record d { picture = s }
 
-counter-lcdc : (lcdc : ℕ) (s : Screen) → is_on s.state ≡ true → is_on (lcdc_written lcdc s).state ≡ true → (lcdc_written lcdc s).state.window_line ≡ s.state.window_line
+counter-lcdc : (lcdc : ℕ) (s : PictureUnit) → is_on s.state ≡ true → is_on (lcdc_written lcdc s).state ≡ true → (lcdc_written lcdc s).state.window_counter ≡ s.state.window_counter
 unfolding lcdc_written switched_off switched_on is_on
 counter-lcdc lcdc s on stays = grind (arith, nat_tests, on, stays)
 
@@ -69,25 +69,25 @@ counter_if : (b : Bool) (n : ℕ) (d e : PictureAndRequests) → counter d ≡ n
 counter_if true n d e first second = first
 counter_if false n d e first second = second
 
-stored_if : (b : Bool) (n : ℕ) (p q : PictureState) → p.window_line ≡ n → q.window_line ≡ n → (if b then p else q).window_line ≡ n
+stored_if : (b : Bool) (n : ℕ) (p q : PictureState) → p.window_counter ≡ n → q.window_counter ≡ n → (if b then p else q).window_counter ≡ n
 stored_if true n p q first second = first
 stored_if false n p q first second = second
 
-counter-stored : (address value : ℕ) (p : PictureState) → (register_stored address value p).window_line ≡ p.window_line
+counter-stored : (address value : ℕ) (p : PictureState) → (register_stored address value p).window_counter ≡ p.window_counter
 unfolding register_stored
 counter-stored address value p =
-    stored_if (address == 0xFF42) p.window_line _ _ refl (stored_if (address == 0xFF43) p.window_line _ _ refl
-    (stored_if (address == 0xFF47) p.window_line _ _ refl (stored_if (address == 0xFF48) p.window_line _ _ refl
-    (stored_if (address == 0xFF49) p.window_line _ _ refl (stored_if (address == 0xFF4A) p.window_line _ _ refl
-    (stored_if (address == 0xFF4B) p.window_line _ _ refl refl))))))
+    stored_if (address == 0xFF42) p.window_counter _ _ refl (stored_if (address == 0xFF43) p.window_counter _ _ refl
+    (stored_if (address == 0xFF47) p.window_counter _ _ refl (stored_if (address == 0xFF48) p.window_counter _ _ refl
+    (stored_if (address == 0xFF49) p.window_counter _ _ refl (stored_if (address == 0xFF4A) p.window_counter _ _ refl
+    (stored_if (address == 0xFF4B) p.window_counter _ _ refl refl))))))
 
-counter-write : (address value : ℕ) (d : PictureAndRequests) → is_on d.screen.state ≡ true → is_on (register_written address value d).screen.state ≡ true →
+counter-write : (address value : ℕ) (d : PictureAndRequests) → is_on d.picture.state ≡ true → is_on (register_written address value d).picture.state ≡ true →
     counter (register_written address value d) ≡ counter d
 unfolding register_written stat_written lyc_written taken is_on
 counter-write address value d on stays =
     elim (bool_cases (address == 0xFF40)) [
-      | inl lcdc ↦ let stays' = rw lcdc at stays in rw lcdc (counter-lcdc value d.screen on stays')
-      | inr other ↦ rw other (counter_if (address == 0xFF41) (counter d) _ _ refl (counter_if (address == 0xFF45) (counter d) _ _ refl (counter-stored address value d.screen.state)))
+      | inl lcdc ↦ let stays' = rw lcdc at stays in rw lcdc (counter-lcdc value d.picture on stays')
+      | inr other ↦ rw other (counter_if (address == 0xFF41) (counter d) _ _ refl (counter_if (address == 0xFF45) (counter d) _ _ refl (counter-stored address value d.picture.state)))
     ]
 
 -- ---- any number of both
@@ -100,14 +100,14 @@ below : (b : Bool) (w m : ℕ) → m < 256 → w ≡ (if b then (m + 1) % 256 el
 below true w m small e = omega (arith, e)
 below false w m small e = omega (arith, e)
 
-counts_on : (events : List Event) (d : PictureAndRequests) → is_on d.screen.state ≡ true → counter d < 256 → StayInFrame events d →
+counts_on : (events : List Event) (d : PictureAndRequests) → is_on d.picture.state ≡ true → counter d < 256 → StayInFrame events d →
     counter (after events d) ≡ (counter d + window_lines events d) % 256
 counts_on [] d on small stay = omega arith
 counts_on (Cycle ∷ events) d on small stay =
-    let next : counter (tick d) ≡ (if draws_window d.screen.state then (counter d + 1) % 256 else counter d) =
-    counter-tick d on ∙ ap (λ (w : ℕ). if draws_window d.screen.state then (w + 1) % 256 else w) (counter-within d.screen.state stay.0) in
-    counts_on events (tick d) (stays_on d (tick d) on refl) (below (draws_window d.screen.state) (counter (tick d)) (counter d) small next) stay.1
-    ∙ one_more (draws_window d.screen.state) (counter (tick d)) (counter d) (window_lines events (tick d)) next
+    let next : counter (tick d) ≡ (if draws_window d.picture.state then (counter d + 1) % 256 else counter d) =
+    counter-tick d on ∙ ap (λ (w : ℕ). if draws_window d.picture.state then (w + 1) % 256 else w) (counter-within d.picture.state stay.0) in
+    counts_on events (tick d) (stays_on d (tick d) on refl) (below (draws_window d.picture.state) (counter (tick d)) (counter d) small next) stay.1
+    ∙ one_more (draws_window d.picture.state) (counter (tick d)) (counter d) (window_lines events (tick d)) next
 counts_on (Write address value ∷ events) d on small stay =
     let same = counter-write address value d on stay.0 in
     counts_on events (register_written address value d) stay.0 (subst (λ (w : ℕ). w < 256) (sym same) small) stay.1

@@ -9,7 +9,7 @@ use Rattle.picture_lines.specs.declared.registers.LineRegisters.{LineRegisters}
 use Rattle.picture_unit.specs.declared.state.PictureState.{PictureState}
 
 -- registers and counters, the 8,192 bytes of VRAM, the 160 bytes of OAM, and 144 rows of 160 shades
-pub record Screen : Type 0 where
+pub record PictureUnit : Type 0 where
   pub state : PictureState
   pub vram : List ℕ
   pub oam : List ℕ
@@ -29,17 +29,17 @@ pub record IsLegalPicture (p : PictureState) : Type 0 where
   pub wx : p.wx < 256
   pub ly : p.ly < 154
   pub m_cycle : p.m_cycle < 114
-  pub window_line : p.window_line < 256
+  pub window_counter : p.window_counter < 256
 
 -- a picture unit, and whether it has requested the VBlank interrupt (bit 0 of IF) and the STAT
 -- interrupt (bit 1)
 pub record PictureAndRequests : Type 0 where
-  pub screen : Screen
+  pub picture : PictureUnit
   pub vblank : Bool
   pub stat : Bool
 
-unfoldable pub unrequested : Screen → PictureAndRequests
-unrequested s = record { screen = s; vblank = false; stat = false }
+unfoldable pub unrequested : PictureUnit → PictureAndRequests
+unrequested s = record { picture = s; vblank = false; stat = false }
 
 -- bit 7 of LCDC
 unfoldable pub is_on : PictureState → Bool
@@ -68,8 +68,8 @@ stat_signal p = is_on p && is_source p.stat (mode p) (p.ly == p.lyc)
 -- The STAT signal is taken: its rise requests the STAT interrupt.
 unfoldable pub taken : PictureAndRequests → PictureAndRequests
 taken d = record d {
-  screen = record d.screen { state = record d.screen.state { signal = stat_signal d.screen.state } };
-  stat = d.stat || (stat_signal d.screen.state && not d.screen.state.signal);
+  picture = record d.picture { state = record d.picture.state { signal = stat_signal d.picture.state } };
+  stat = d.stat || (stat_signal d.picture.state && not d.picture.state.signal);
 }
 
 -- the next M-cycle of the line, or the first one of the next line
@@ -85,7 +85,7 @@ unfoldable pub entered : PictureState → PictureState
 entered p =
     if p.m_cycle == 0
     then record p {
-      window_line = if p.ly == 0 then 0 else p.window_line;
+      window_counter = if p.ly == 0 then 0 else p.window_counter;
       seen = (nat_lt 0 p.ly && p.seen) || (nat_lt p.ly 144 && p.wy == p.ly);
     }
     else p
@@ -105,51 +105,51 @@ line_registers p = record {
   obp1 = p.obp1;
   wx = p.wx;
   ly = p.ly;
-  window_counter = p.window_line;
+  window_counter = p.window_counter;
   seen = p.seen;
 }
 
 -- the window counter after the line was drawn: it grows on the lines on which the window is drawn
-unfoldable pub window_line_after : PictureState → ℕ
-window_line_after p =
-    if is_window_drawn (line_registers p) then (p.window_line + 1) % 256 else p.window_line
+unfoldable pub window_counter_after : PictureState → ℕ
+window_counter_after p =
+    if is_window_drawn (line_registers p) then (p.window_counter + 1) % 256 else p.window_counter
 
 -- the line is drawn
-unfoldable pub line_drawn : Screen → Screen
+unfoldable pub line_drawn : PictureUnit → PictureUnit
 line_drawn s = record s {
-  state = record s.state { window_line = window_line_after s.state };
+  state = record s.state { window_counter = window_counter_after s.state };
   rows = slice_set s.rows s.state.ly (drawn_row (line_registers s.state) s.vram s.oam);
 }
 
 unfoldable pub draws : PictureState → Bool
 draws p = p.m_cycle == 20 && nat_lt p.ly 144
 
-unfoldable pub drawn : Screen → Screen
+unfoldable pub drawn : PictureUnit → PictureUnit
 drawn s = if draws s.state then line_drawn s else s
 
 -- one M-cycle up to the STAT signal
 unfoldable pub moved : PictureAndRequests → PictureAndRequests
 moved d =
-    let next : PictureState = entered (advanced d.screen.state) in
+    let next : PictureState = entered (advanced d.picture.state) in
     record {
-      screen = drawn (record d.screen { state = next });
+      picture = drawn (record d.picture { state = next });
       vblank = d.vblank || begins_vblank next;
       stat = d.stat;
     }
 
 -- one M-cycle; with LCDC bit 7 clear the picture unit stands still
 unfoldable pub tick : PictureAndRequests → PictureAndRequests
-tick d = if is_on d.screen.state then taken (moved d) else d
+tick d = if is_on d.picture.state then taken (moved d) else d
 
 -- n M-cycles of a picture unit that has requested nothing
-abbrev pub ticks : ℕ → Screen → PictureAndRequests
+abbrev pub ticks : ℕ → PictureUnit → PictureAndRequests
 ticks n s = iterate tick n (unrequested s)
 
 -- The next M-cycle is the first of a line, or on a line below 144 the first of mode 3 or of mode 0.
 unfoldable pub is_entry : PictureAndRequests → Bool
 is_entry d =
-    let next : PictureState = advanced d.screen.state in
-    is_on d.screen.state
+    let next : PictureState = advanced d.picture.state in
+    is_on d.picture.state
     && (next.m_cycle == 0 || nat_lt next.ly 144 && (next.m_cycle == 20 || next.m_cycle == 63))
 
 -- 144 rows of 160 shades 0
@@ -171,13 +171,13 @@ state_at_power_on = record {
   wx = 0;
   ly = 0;
   m_cycle = 0;
-  window_line = 0;
+  window_counter = 0;
   seen = true;
   signal = false;
 }
 
-unfoldable pub screen_at_power_on : Screen
-screen_at_power_on = record {
+unfoldable pub picture_at_power_on : PictureUnit
+picture_at_power_on = record {
   state = state_at_power_on;
   vram = replicate 8192 0;
   oam = replicate 160 0;

@@ -2,7 +2,7 @@
 use Rattle.std.specs.Prelude.{◌≡◌, ℕ, zero, suc, ◌+◌, ◌-◌, ◌<◌, true, ◌&&◌, ◌||◌, ◌==◌, nat_le, nat_lt, if◌then◌else◌}
 use Rattle.picture_unit.specs.declared.state.PictureState.{PictureState}
 use Rattle.picture_unit.specs.declared.state.PictureRequests.{PictureRequests}
-use Rattle.picture_unit.specs.Picture.{Screen, PictureAndRequests, is_on, stat_signal, taken}
+use Rattle.picture_unit.specs.Picture.{PictureUnit, PictureAndRequests, is_on, stat_signal, taken}
 
 -- how many M-cycles the next entry is away
 unfoldable pub next_entry : PictureState → ℕ
@@ -18,7 +18,7 @@ next_change p = if p.stat == 0 && nat_le 20 p.m_cycle then 114 - p.m_cycle else 
 
 unfoldable pub later : ℕ → PictureAndRequests → PictureAndRequests
 later n d = record d {
-  screen = record d.screen { state = record d.screen.state { m_cycle = d.screen.state.m_cycle + n } };
+  picture = record d.picture { state = record d.picture.state { m_cycle = d.picture.state.m_cycle + n } };
 }
 
 -- n M-cycles of which each changes at most the M-cycle and the STAT signal
@@ -27,12 +27,12 @@ skipped zero d = d
 skipped (suc n) d = taken (later (suc n) d)
 
 -- a picture unit that has requested these interrupts
-abbrev pub with_requests : PictureRequests → Screen → PictureAndRequests
-with_requests requests s = record { screen = s; vblank = requests.vblank; stat = requests.stat }
+abbrev pub with_requests : PictureRequests → PictureUnit → PictureAndRequests
+with_requests requests s = record { picture = s; vblank = requests.vblank; stat = requests.stat }
 
 -- The STAT signal was taken as it is now, so that it does not rise before the next change.
 abbrev pub IsSettled : PictureAndRequests → Type 0
-IsSettled d = is_on d.screen.state ≡ true → stat_signal d.screen.state ≡ d.screen.state.signal
+IsSettled d = is_on d.picture.state ≡ true → stat_signal d.picture.state ≡ d.picture.state.signal
 
 -- In the next n M-cycles, if any, no line or mode 3 is entered, nor mode 0 while a STAT source is enabled, and the
 -- STAT signal does not rise.

@@ -2,7 +2,7 @@
 -- "Palettes".
 use Rattle.std.specs.Prelude.{ℕ, ◌+◌, ◌*◌, ◌/◌, ◌%◌, false, ◌&&◌, not, ◌==◌, nat_le, nat_lt, if◌then◌else◌}
 use Rattle.picture_unit.specs.declared.state.PictureState.{PictureState}
-use Rattle.picture_unit.specs.Picture.{Screen, PictureAndRequests, is_on, mode, taken, blank_rows}
+use Rattle.picture_unit.specs.Picture.{PictureUnit, PictureAndRequests, is_on, mode, taken, blank_rows}
 
 -- STAT: bit 7 is 1, bits 6 to 3 were written, bit 2 is LY = LYC, bits 1 and 0 are the mode
 unfoldable pub stat_value : PictureState → ℕ
@@ -38,13 +38,13 @@ register_stored address value p =
     else p
 
 -- LCDC bit 7 goes from 1 to 0: line 0, M-cycle 0, no STAT signal, and a blank picture
-unfoldable pub switched_off : (lcdc : ℕ) → Screen → Screen
+unfoldable pub switched_off : (lcdc : ℕ) → PictureUnit → PictureUnit
 switched_off lcdc s = record s {
   state = record s.state {
     lcdc = lcdc;
     ly = 0;
     m_cycle = 0;
-    window_line = 0;
+    window_counter = 0;
     seen = false;
     signal = false;
   };
@@ -52,37 +52,37 @@ switched_off lcdc s = record s {
 }
 
 -- LCDC bit 7 goes from 0 to 1: line 0 begins, in mode 2 (fixed profile)
-unfoldable pub switched_on : (lcdc : ℕ) → Screen → Screen
+unfoldable pub switched_on : (lcdc : ℕ) → PictureUnit → PictureUnit
 switched_on lcdc s = record s {
   state = record s.state {
     lcdc = lcdc;
     ly = 0;
     m_cycle = 0;
-    window_line = 0;
+    window_counter = 0;
     seen = s.state.wy == 0;
   };
 }
 
 -- LCDC is written: only a change of bit 7 does more than to store it
-unfoldable pub lcdc_written : (lcdc : ℕ) → Screen → Screen
+unfoldable pub lcdc_written : (lcdc : ℕ) → PictureUnit → PictureUnit
 lcdc_written lcdc s =
     if is_on s.state && nat_lt lcdc 128 then switched_off lcdc s
     else if not (is_on s.state) && nat_le 128 lcdc then switched_on lcdc s
     else record s { state = record s.state { lcdc = lcdc } }
 
 -- STAT is written: bits 6 to 3 are kept
-unfoldable pub stat_written : (value : ℕ) → Screen → Screen
+unfoldable pub stat_written : (value : ℕ) → PictureUnit → PictureUnit
 stat_written value s = record s { state = record s.state { stat = 8 * (value / 8 % 16) } }
 
-unfoldable pub lyc_written : (value : ℕ) → Screen → Screen
+unfoldable pub lyc_written : (value : ℕ) → PictureUnit → PictureUnit
 lyc_written value s = record s { state = record s.state { lyc = value } }
 
 -- A register is written. After LCDC, STAT and LYC the STAT signal is taken.
 unfoldable pub register_written : (address value : ℕ) → PictureAndRequests → PictureAndRequests
 register_written address value d =
-    if address == 0xFF40 then taken (record d { screen = lcdc_written value d.screen })
-    else if address == 0xFF41 then taken (record d { screen = stat_written value d.screen })
-    else if address == 0xFF45 then taken (record d { screen = lyc_written value d.screen })
+    if address == 0xFF40 then taken (record d { picture = lcdc_written value d.picture })
+    else if address == 0xFF41 then taken (record d { picture = stat_written value d.picture })
+    else if address == 0xFF45 then taken (record d { picture = lyc_written value d.picture })
     else record d {
-      screen = record d.screen { state = register_stored address value d.screen.state };
+      picture = record d.picture { state = register_stored address value d.picture.state };
     }

@@ -1,23 +1,23 @@
 -- When the STAT interrupt is requested, which a public function states: Pan Docs, "Interrupt Sources", "INT $48 - STAT interrupt".
 use Rattle.std.specs.Prelude.{◌≡◌, ℕ, Bool, ◌&&◌, ◌||◌, not}
-use Rattle.picture_unit.specs.Picture.{Screen, PictureAndRequests, stat_signal, tick, screen_at_power_on}
+use Rattle.picture_unit.specs.Picture.{PictureUnit, PictureAndRequests, stat_signal, tick, picture_at_power_on}
 use Rattle.picture_unit.specs.Registers.{register_written}
 
 -- the STAT signal was taken as it is
-abbrev pub IsTaken : Screen → Type 0
+abbrev pub IsTaken : PictureUnit → Type 0
 IsTaken s = s.state.signal ≡ stat_signal s.state
 
 -- the STAT signal goes from 0 to 1
-abbrev pub rises : (old new : Screen) → Bool
+abbrev pub rises : (old new : PictureUnit) → Bool
 rises old new = not (stat_signal old.state) && stat_signal new.state
 
 -- The STAT interrupt is requested exactly if the signal rises; a request from before stays.
 pub record RequestsItsRise (old new : PictureAndRequests) : Type 0 where
-  pub requested : new.stat ≡ (old.stat || rises old.screen new.screen)
-  pub taken : IsTaken new.screen
+  pub requested : new.stat ≡ (old.stat || rises old.picture new.picture)
+  pub taken : IsTaken new.picture
 
 -- It is so in each M-cycle and at each write of a register, from power-on on.
 pub record StatIsRequestedAtRises : Type 0 where
-  pub power_on : IsTaken screen_at_power_on
-  pub m_cycle : (d : PictureAndRequests) → IsTaken d.screen → RequestsItsRise d (tick d)
-  pub write : (address value : ℕ) (d : PictureAndRequests) → IsTaken d.screen → RequestsItsRise d (register_written address value d)
+  pub power_on : IsTaken picture_at_power_on
+  pub m_cycle : (d : PictureAndRequests) → IsTaken d.picture → RequestsItsRise d (tick d)
+  pub write : (address value : ℕ) (d : PictureAndRequests) → IsTaken d.picture → RequestsItsRise d (register_written address value d)

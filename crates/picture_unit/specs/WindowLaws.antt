@@ -22,7 +22,7 @@ draws_window p = let next = entered (advanced p) in draws next && is_window_draw
 -- on how many lines the window is drawn
 abbrev pub window_lines : List Event → PictureAndRequests → ℕ
 window_lines [] d = 0
-window_lines (Cycle ∷ events) d = (if draws_window d.screen.state then 1 else 0) + window_lines events (tick d)
+window_lines (Cycle ∷ events) d = (if draws_window d.picture.state then 1 else 0) + window_lines events (tick d)
 window_lines (Write address value ∷ events) d = window_lines events (register_written address value d)
 
 -- the next M-cycle is the first of a frame
@@ -33,14 +33,14 @@ pub record EndsFrame (p : PictureState) : Type 0 where
 -- a picture unit that is on stays on, and no M-cycle begins another frame
 abbrev pub StayInFrame : List Event → PictureAndRequests → Type 0
 StayInFrame [] d = Unit {0}
-StayInFrame (Cycle ∷ events) d = (EndsFrame d.screen.state → ⊥) × StayInFrame events (tick d)
+StayInFrame (Cycle ∷ events) d = (EndsFrame d.picture.state → ⊥) × StayInFrame events (tick d)
 StayInFrame (Write address value ∷ events) d =
-    let next = register_written address value d in (is_on next.screen.state ≡ true) × StayInFrame events next
+    let next = register_written address value d in (is_on next.picture.state ≡ true) × StayInFrame events next
 
 -- The window counter is 0 when a frame begins, and within a frame it is the number of the lines on which the window was drawn, modulo
 -- 256.
 pub record WindowCounterCountsLines : Type 0 where
-  pub begins : (d : PictureAndRequests) → is_on d.screen.state ≡ true → EndsFrame d.screen.state → (tick d).screen.state.window_line ≡ 0
+  pub begins : (d : PictureAndRequests) → is_on d.picture.state ≡ true → EndsFrame d.picture.state → (tick d).picture.state.window_counter ≡ 0
   pub counts : (events : List Event) (d : PictureAndRequests) →
-      is_on d.screen.state ≡ true → d.screen.state.window_line ≡ 0 → StayInFrame events d →
-      (after events d).screen.state.window_line ≡ window_lines events d % 256
+      is_on d.picture.state ≡ true → d.picture.state.window_counter ≡ 0 → StayInFrame events d →
+      (after events d).picture.state.window_counter ≡ window_lines events d % 256

@@ -14,7 +14,7 @@ use std::marker::Model;
 /// The picture unit: registers and counters, VRAM, OAM and the rows of shades (Pan Docs,
 /// "Rendering").
 ///
-/// Contracts see it as a `Screen`: the state that a snapshot holds, the bytes of VRAM and OAM, and
+/// Contracts see it as a `PictureUnit`: the state that a snapshot holds, the bytes of VRAM and OAM, and
 /// 144 rows of 160 shades from 0 to 3. Time is counted in M-cycles, with 114 per line and 154 lines
 /// per frame. `new` allocates all the memory that it needs, and no other call takes memory.
 #[derive(Drop)]
@@ -36,12 +36,12 @@ pub struct Picture {
 }
 
 impl Model for Picture {
-    ghost use Rattle.picture_unit.specs.Picture.{Screen, IsWhole};
+    ghost use Rattle.picture_unit.specs.Picture.{PictureUnit, IsWhole};
     ghost use Rattle.picture_unit.specs.PictureJump.{AreQuiet};
     ghost use Rattle.picture_unit.specs.Keeping.{AreKept};
     ghost use Rattle.picture_lines.specs.Choice.{IsChoice};
 
-    ghost Value = { Screen };
+    ghost Value = { PictureUnit };
 
     ghost view = { λ p. record {
       state = p.state;
@@ -61,7 +61,7 @@ impl Model for Picture {
 impl Picture {
     ghost use Rattle.std.specs.Io.KnownBytes.{Appends};
     ghost use Rattle.exact_text.specs.Written.{AppendsProperPrefix};
-    ghost use Rattle.picture_unit.specs.Picture.{unrequested, stat_signal, taken, screen_at_power_on};
+    ghost use Rattle.picture_unit.specs.Picture.{unrequested, stat_signal, taken, picture_at_power_on};
     ghost use Rattle.picture_unit.specs.Registers.{register_value, register_written, lcdc_written, stat_written, lyc_written, switched_off, switched_on};
     ghost use Rattle.picture_unit.specs.Stores.{is_vram_closed, is_oam_closed, byte_read, vram_written, oam_written, oam_copied};
     ghost use Rattle.picture_unit.specs.Pgm.{picture_text};
@@ -70,7 +70,7 @@ impl Picture {
     /// other registers, VRAM, OAM and all shades 0, at the beginning of line 0. Refused if there is
     /// no memory.
     pub fn new(alloc: Global) -> Result<Picture, AllocError>
-        ensures { IfOk result (λ p. p ≡ screen_at_power_on) }
+        ensures { IfOk result (λ p. p ≡ picture_at_power_on) }
     {
         let tiles = TileMemory::new(alloc)?;
         let oam = Vec::from_elem(alloc, 0u8, 160)?;
@@ -197,7 +197,7 @@ impl Picture {
     #[tactic(auto, unfolding(crate::specs::Registers::register_written, crate::specs::Picture::unrequested))]
     pub fn write_register(&mut self, address: u16, value: u8) -> bool
         ensures picture { self.new
-            ≡ (register_written address value (unrequested self.old)).screen }
+            ≡ (register_written address value (unrequested self.old)).picture }
         ensures stat { result ≡ (register_written address value (unrequested self.old)).stat }
     {
         match address {
@@ -241,7 +241,7 @@ impl Picture {
 
     #[tactic(auto, unfolding(crate::specs::Picture::unrequested, crate::specs::Picture::taken))]
     fn write_lcdc(&mut self, value: u8) -> bool
-        ensures picture { self.new ≡ (taken (unrequested (lcdc_written value self.old))).screen }
+        ensures picture { self.new ≡ (taken (unrequested (lcdc_written value self.old))).picture }
         ensures stat { result ≡ (taken (unrequested (lcdc_written value self.old))).stat }
     {
         self.store_lcdc(value);
@@ -271,7 +271,7 @@ impl Picture {
         self.state.lcdc = lcdc;
         self.state.ly = 0;
         self.state.m_cycle = 0;
-        self.state.window_line = 0;
+        self.state.window_counter = 0;
         self.state.seen = false;
         self.state.signal = false;
         self.is_changed = true;
@@ -286,13 +286,13 @@ impl Picture {
         self.state.lcdc = lcdc;
         self.state.ly = 0;
         self.state.m_cycle = 0;
-        self.state.window_line = 0;
+        self.state.window_counter = 0;
         self.state.seen = self.state.wy == 0;
     }
 
     #[tactic(auto, unfolding(crate::specs::Picture::unrequested, crate::specs::Picture::taken, crate::specs::Registers::stat_written))]
     fn write_stat(&mut self, value: u8) -> bool
-        ensures picture { self.new ≡ (taken (unrequested (stat_written value self.old))).screen }
+        ensures picture { self.new ≡ (taken (unrequested (stat_written value self.old))).picture }
         ensures stat { result ≡ (taken (unrequested (stat_written value self.old))).stat }
     {
         self.quiet = 0;
@@ -302,7 +302,7 @@ impl Picture {
 
     #[tactic(auto, unfolding(crate::specs::Picture::unrequested, crate::specs::Picture::taken, crate::specs::Registers::lyc_written))]
     fn write_lyc(&mut self, value: u8) -> bool
-        ensures picture { self.new ≡ (taken (unrequested (lyc_written value self.old))).screen }
+        ensures picture { self.new ≡ (taken (unrequested (lyc_written value self.old))).picture }
         ensures stat { result ≡ (taken (unrequested (lyc_written value self.old))).stat }
     {
         self.quiet = 0;

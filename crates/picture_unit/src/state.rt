@@ -34,7 +34,7 @@ pub struct PictureState {
     /// The M-cycle of the line, 0 to 113.
     pub m_cycle: u8,
     /// The window counter: the row of the window that is drawn next.
-    pub window_line: u8,
+    pub window_counter: u8,
     /// Whether LY has equalled WY on entry to a line of this frame.
     pub seen: bool,
     /// The STAT signal as last evaluated.
@@ -72,7 +72,7 @@ impl PictureState {
             wx: 0,
             ly: 0,
             m_cycle: 0,
-            window_line: 0,
+            window_counter: 0,
             seen: true,
             signal: false,
         }
@@ -141,7 +141,7 @@ impl PictureState {
         ensures { self.new ≡ entered self.old }
     {
         if self.ly == 0 {
-            self.window_line = 0;
+            self.window_counter = 0;
             self.seen = false;
         }
         if self.ly < 144 && self.wy == self.ly {
@@ -210,7 +210,7 @@ impl PictureState {
             obp1: self.obp1,
             wx: self.wx,
             ly: self.ly,
-            window_counter: self.window_line,
+            window_counter: self.window_counter,
             seen: self.seen,
         }
     }

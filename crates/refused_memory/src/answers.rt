@@ -11,7 +11,7 @@ pub(crate) enum Answer {
     Wrong,
 }
 
-/// A refusal for want of memory that left all as it was, or else something wrong.
+/// A refusal out of memory that left all as it was, or else something wrong.
 pub(crate) fn refused(as_it_was: bool) -> Answer {
     if as_it_was {
         Answer::Refused

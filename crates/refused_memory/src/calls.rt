@@ -49,7 +49,7 @@ fn machine(alloc: Global, cartridge: &Cartridge) -> Option<Machine> {
 }
 
 fn text_of(alloc: Global, machine: &Machine) -> Option<Vec<u8>> {
-    let ram = machine.store(Region::CartRam).len();
+    let ram = machine.region(Region::CartRam).len();
     if ram > 131_072 {
         return None;
     }

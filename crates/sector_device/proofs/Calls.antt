@@ -5,7 +5,7 @@ use Rattle.std.specs.Prelude.{◌&&◌, IsTrue, replicate, is_ok, if◌then◌el
 use Rattle.sector_device.specs.DiskState.{HasRead, HasWritten, HasSynced, sector_at}
 use Rattle.sector_device.specs.Records.{replayed, is_sector, are_sectors, is_recordable, are_recordable}
 use Rattle.sector_device.specs.RecordLaws.{sound}
-use Rattle.sector_device.specs.Memory.{MemoryState, memory_disk, fuse_fails, passes, has_room, counted, failed, with_record, done_or_failed, read_called, write_called, sync_called}
+use Rattle.sector_device.specs.Memory.{MemoryState, memory_disk, fuse_fails, passes, has_room, call_counted, failed, with_record, done_or_failed, read_called, write_called, sync_called}
 use Rattle.sector_device.specs.declared.recorded.Recorded.{Recorded}
 use Rattle.sector_device.specs.declared.recorded.Recorded.TheVariants.{Write, Sync}
 use Rattle.sector_device.proofs.Record.{wrote, lost_write, synced, lost_sync, read, no_write, no_sync}
@@ -23,7 +23,7 @@ module _ {E : Type 0} (m : MemoryState) where
       → HasRead at bytes (memory_disk m) (memory_disk (read_called m)) r
   read_meets at bytes r e is = go (passes m)
     where
-      go : (p : Bool) → HasRead at bytes (memory_disk m) (memory_disk (if p then counted m else failed (counted m))) r
+      go : (p : Bool) → HasRead at bytes (memory_disk m) (memory_disk (if p then call_counted m else failed (call_counted m))) r
       go true = read (Unit {0}) tt m.at_start m.recorded m.faults m.faults at bytes r is
       go false = read (Unit {0}) tt m.at_start m.recorded m.faults (failed m).faults at bytes r is
 
@@ -35,8 +35,8 @@ module _ {E : Type 0} (m : MemoryState) where
       go : (fused fails keeps room : Bool) (r : Result Unit E) → is_ok r ≡ ((not fused && not fails) && room)
           → HasWritten at bytes (memory_disk m) (memory_disk (
           if room
-          then (if not fused && not fails then with_record (Write at bytes (not fused && (not fails || keeps))) (counted m) else failed (with_record (Write at bytes (not fused && (not fails || keeps))) (counted m)))
-          else failed (counted m))) r
+          then (if not fused && not fails then with_record (Write at bytes (not fused && (not fails || keeps))) (call_counted m) else failed (with_record (Write at bytes (not fused && (not fails || keeps))) (call_counted m)))
+          else failed (call_counted m))) r
       go fused fails keeps false (Ok u) e = absurd (no_room (not fused && not fails) e)
       go fused fails keeps false (Err x) e = no_write (Unit {0}) tt m.at_start m.recorded m.faults (failed m).faults at bytes x
       go true fails keeps true (Ok u) e = absurd (true_is_false e)
@@ -52,7 +52,7 @@ module _ {E : Type 0} (m : MemoryState) where
     where
       go : (p room : Bool) (r : Result Unit E) → is_ok r ≡ (p && room)
           → HasSynced (memory_disk m) (memory_disk (
-          if room then (if p then with_record (Sync p) (counted m) else failed (with_record (Sync p) (counted m))) else failed (counted m))) r
+          if room then (if p then with_record (Sync p) (call_counted m) else failed (with_record (Sync p) (call_counted m))) else failed (call_counted m))) r
       go p false (Ok u) e = absurd (no_room p e)
       go p false (Err x) e = no_sync (Unit {0}) tt m.at_start m.recorded m.faults (failed m).faults x
       go true true (Ok u) e = synced (Unit {0}) tt m.at_start m.recorded m.faults m.faults (Ok u) tt

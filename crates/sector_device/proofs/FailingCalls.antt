@@ -4,7 +4,7 @@ use Rattle.std.specs.Prelude.{◌&&◌, ◌++◌, ◌==◌, not, nat_lt, Some, N
 use Rattle.std.proofs.lemmas.Bool.{lt-ltb}
 use Rattle.std.proofs.lemmas.Bool.Decides.{nat_tests}
 use Rattle.std.proofs.Common.{length-append}
-use Rattle.sector_device.specs.Memory.{MemoryState, passes, has_room, counted, fuse_after, called}
+use Rattle.sector_device.specs.Memory.{MemoryState, passes, has_room, call_counted, fuse_after, called}
 use Rattle.sector_device.specs.declared.recorded.Recorded.{Recorded}
 use Rattle.sector_device.specs.FailingCalls.{Call, ReadCall, WriteCall, SyncCall, is_passed, left_by, answers, HasRoomFor, fused, failing_at, FuseLetsSoManyPass, OnlyThatCallFails}
 
@@ -25,7 +25,7 @@ recorded_once m call = omega (arith, length-append m.recorded (call ∷ []))
 
 of_called : (m : MemoryState) (call : Recorded) → IsCountedFrom m (called call m)
 of_called m call =
-    of_if (has_room (counted m)) m _ _
+    of_if (has_room (call_counted m)) m _ _
     (of_if (passes m) m _ _
     (record { fuse = refl; fails_in = refl; room = refl; grown = recorded_once m call })
     (record { fuse = refl; fails_in = refl; room = refl; grown = recorded_once m call }))

@@ -48,8 +48,8 @@ abbrev pub has_room : MemoryState → Bool
 has_room m = nat_lt (length m.recorded) m.room
 
 -- one call more, of whatever kind and outcome
-abbrev pub counted : MemoryState → MemoryState
-counted m = record m { fuse = fuse_after m.fuse; blown = m.blown || fuse_fails m.fuse; fails_in = m.fails_in - 1 }
+abbrev pub call_counted : MemoryState → MemoryState
+call_counted m = record m { fuse = fuse_after m.fuse; blown = m.blown || fuse_fails m.fuse; fails_in = m.fails_in - 1 }
 
 abbrev pub failed : MemoryState → MemoryState
 failed m = record m { faults = next_count m.faults }
@@ -58,7 +58,7 @@ abbrev pub with_record : Recorded → MemoryState → MemoryState
 with_record call m = record m { recorded = m.recorded ++ call ∷ [] }
 
 abbrev pub read_called : MemoryState → MemoryState
-read_called m = if passes m then counted m else failed (counted m)
+read_called m = if passes m then call_counted m else failed (call_counted m)
 
 -- a write or a sync that passes or not: where the record has no room it fails and changes nothing else
 abbrev pub done_or_failed : Bool → Recorded → MemoryState → MemoryState
@@ -66,7 +66,7 @@ done_or_failed passes call m =
     if has_room m then (if passes then with_record call m else failed (with_record call m)) else failed m
 
 abbrev pub called : Recorded → MemoryState → MemoryState
-called call m = done_or_failed (passes m) call (counted m)
+called call m = done_or_failed (passes m) call (call_counted m)
 
 abbrev pub write_called : ℕ → List ℕ → MemoryState → MemoryState
 write_called at bytes m = called (Write at bytes (keeps_write m)) m

@@ -15,7 +15,7 @@ use std::path::{AsPath, Path};
 use std::rt::Files;
 
 /// Sectors in a file. It keeps a copy of them in memory, with which each read is compared, so that a file that lost or
-/// changed what was written gives a fault and no wrong answer. It takes every fault of the file, and want of memory, as
+/// changed what was written gives a fault and no wrong answer. It takes every fault of the file, and running out of memory, as
 /// `Device`.
 ///
 /// It holds an exclusive lock on the file for its life, so that a second one on the same file, of this process or another, is refused

@@ -2,7 +2,7 @@
 ghost use Rattle.std.specs.Prelude.{◌≡◌, ◌≤◌, ◌<◌, ◌+◌, ◌^◌, ◌++◌, ◌∷◌, ◌&&◌, [], IsTrue, false, List, ℕ, length, IfOk, IfErr, Some, None, is_ok, is_some, replicate, vec_len, vec_capacity};
 ghost use Rattle.sector_device.specs.DiskState.{HasCalled, HasRead, HasWritten, HasSynced, sector_at};
 ghost use Rattle.sector_device.specs.Records.{replayed, cut, are_sectors, are_recordable, is_recordable};
-ghost use Rattle.sector_device.specs.Memory.{memory_disk, image_of, fuse_fails, fuse_after, passes, keeps_write, has_room, counted, failed, with_record, done_or_failed, read_called, write_called, sync_called};
+ghost use Rattle.sector_device.specs.Memory.{memory_disk, image_of, fuse_fails, fuse_after, passes, keeps_write, has_room, call_counted, failed, with_record, done_or_failed, read_called, write_called, sync_called};
 ghost use Rattle.sector_device.specs.RecordLaws.{only_last, counts_last, reads_image, images_sized, reads_fit};
 
 use crate::device::{DeviceFault, SectorDevice};
@@ -46,7 +46,7 @@ pub struct MemoryDevice {
 impl MemoryDevice {
     ghost use Rattle.sector_device.specs.MemoryDevice.{memory, IsNewMemory};
 
-    /// A device of zero sectors, with room to record that many writes and syncs. `Err` only for want of memory.
+    /// A device of zero sectors, with room to record that many writes and syncs. `Err` only when out of memory.
     pub fn new(alloc: Global, sectors: usize, calls: usize) -> Result<Self, AllocError>
         ensures { IfOk result (λ d. IsNewMemory (replicate sectors (replicate 512 0)) calls 0 d) }
     {
@@ -79,7 +79,7 @@ impl MemoryDevice {
     /// A device that holds the sectors of the last successful sync with the chosen later writes applied in order: what a
     /// stop now may leave. A missing choice is false, a further one is ignored, and a failed write is one of the writes.
     /// Its record is empty and has the same room, its fault count is the same, and it has no fuse and no failing call.
-    /// `Err` only for want of memory.
+    /// `Err` only when out of memory.
     pub fn image(&self, alloc: Global, kept: &[bool]) -> Result<MemoryDevice, AllocError>
         ensures { IfOk result (λ d. IsNewMemory (image_of (memory self.now) kept.now) (memory self.now).room (memory self.now).faults d) }
     {
@@ -92,7 +92,7 @@ impl MemoryDevice {
     fn count_call(&mut self) -> Outcome
         ensures passes { result.passes ≡ passes (memory self.old) }
         ensures kept { result.kept ≡ keeps_write (memory self.old) }
-        ensures state { memory self.new ≡ counted (memory self.old) }
+        ensures state { memory self.new ≡ call_counted (memory self.old) }
         ensures sectors { self.new.sectors ≡ self.old.sectors }
     {
         let fused = self.is_fuse_out();

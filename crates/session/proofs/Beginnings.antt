@@ -8,7 +8,7 @@ use Rattle.bank_controllers.specs.CartridgeState.{cartridge_at_power_on, IsSameC
 use Rattle.machine.specs.Machine.{MachineState, start, after}
 use Rattle.machine.specs.declared.input.Input.{Input}
 use Rattle.machine.proofs.KeptByInputs.{by_inputs}
-use Rattle.snapshot.specs.Text.{text}
+use Rattle.snapshot.specs.Encoding.{encoded}
 use Rattle.snapshot.specs.Legal.{IsMachineOf, IsLegalMachine}
 use Rattle.snapshot.specs.Table.{kind_of_image}
 use Rattle.sector_device.specs.DiskState.{DiskState, Settled, Throughout}
@@ -96,12 +96,12 @@ rom_after m inputs = (by_inputs m inputs).rom
 -- ---- a generation that was begun
 
 -- the new content stands for the machine
-pub begun_stands : (rom id written : List ℕ) (m : MachineState) (base : ℕ) (image : List (List ℕ)) → IsMachineOf rom m → base < 2 ^ 64 → id ≡ sha256 rom → written ≡ text m
+pub begun_stands : (rom id written : List ℕ) (m : MachineState) (base : ℕ) (image : List (List ℕ)) → IsMachineOf rom m → base < 2 ^ 64 → id ≡ sha256 rom → written ≡ encoded m
     → content image ≡ Some (new_generation id base written) → stands rom (content image) ≡ Some (record { count = base; machine = m })
 begun_stands rom id written m base image of few id_is written_is is =
     ap (stands rom) (is ∙ (λ i. Some (new_generation (id_is i) base (written_is i)))) ∙ new_stands rom m base of few
 
-pub begun_at_rest : (rom id written : List ℕ) (m : MachineState) (base : ℕ) (old now : DiskState) → IsMachineOf rom m → base < 2 ^ 64 → id ≡ sha256 rom → written ≡ text m
+pub begun_at_rest : (rom id written : List ℕ) (m : MachineState) (base : ℕ) (old now : DiskState) → IsMachineOf rom m → base < 2 ^ 64 → id ≡ sha256 rom → written ≡ encoded m
     → HasBegun old now id base written → IsAtRest rom now base [] m
 begun_at_rest rom id written m base old now of few id_is written_is begun = record {
   settled = begun.settled;
@@ -109,7 +109,7 @@ begun_at_rest rom id written m base old now of few id_is written_is begun = reco
       ∙ (let same = after_none m in λ i. Some (record { count = base + 0; machine = same i }));
 }
 
-pub begun_rests : (id written : List ℕ) (m : MachineState) (base : ℕ) (old now : DiskState) (log : List Stored) → IsMachineOf m.processor.memory.banks.rom m → base < 2 ^ 64 → id ≡ sha256 m.processor.memory.banks.rom → written ≡ text m
+pub begun_rests : (id written : List ℕ) (m : MachineState) (base : ℕ) (old now : DiskState) (log : List Stored) → IsMachineOf m.processor.memory.banks.rom m → base < 2 ^ 64 → id ≡ sha256 m.processor.memory.banks.rom → written ≡ encoded m
     → HasBegun old now id base written → log ≡ [] → Rests now log base [] m
 begun_rests id written m base old now log of few id_is written_is begun empty = record {
   at_rest = begun_at_rest m.processor.memory.banks.rom id written m base old now of few id_is written_is begun;
@@ -127,7 +127,7 @@ images_of {old} {now} {id} {written} {id'} {written'} base id_is written_is held
 -- ---- each moment
 
 -- of a new game, whatever the device held
-pub new_game_images : (rom : List ℕ) (old mid new : DiskState) → old.image old.sectors → HasLooked old mid → HoldsSince mid new (HasOldOrNewContent mid.sectors (sha256 rom) 0 (text (start rom))) → HoldsSince old new (HasOldContentOrNewGame rom old)
+pub new_game_images : (rom : List ℕ) (old mid new : DiskState) → old.image old.sectors → HasLooked old mid → HoldsSince mid new (HasOldOrNewContent mid.sectors (sha256 rom) 0 (encoded (start rom))) → HoldsSince old new (HasOldContentOrNewGame rom old)
 new_game_images rom old mid new reads looked held =
     since_then
     (since_weaker looked.since (λ image was. inl (record { before = image; stood = was; is = refl })))
@@ -140,13 +140,13 @@ looked_new_game rom old mid looked = since_weaker looked.since (λ image was. in
 
 -- of a game that is taken up
 pub resume_images : (rom : List ℕ) (old mid new : DiskState) (count : ℕ) (m : MachineState) → old.image old.sectors → HasLooked old mid → IsMachineOf rom m → count < 2 ^ 64 → stands rom (content old.sectors) ≡ Some (record { count = count; machine = m })
-    → HoldsSince mid new (HasOldOrNewContent mid.sectors (sha256 rom) count (text m)) → HoldsSince old new (StandsAsBefore rom old)
+    → HoldsSince mid new (HasOldOrNewContent mid.sectors (sha256 rom) count (encoded m)) → HoldsSince old new (StandsAsBefore rom old)
 resume_images rom old mid new count m reads looked of few stood held =
     since_then
     (since_weaker looked.since (λ image was. record { before = image; stood = was; is = refl }))
     (since_weaker held (λ image. ⊎_elim
     (λ stays. record { before = old.sectors; stood = reads; is = ap (stands rom) (stays.content_is ∙ ap content looked.sectors) })
-    (λ new. record { before = old.sectors; stood = reads; is = begun_stands rom (sha256 rom) (text m) m count image of few refl refl new.content_is ∙ sym stood })))
+    (λ new. record { before = old.sectors; stood = reads; is = begun_stands rom (sha256 rom) (encoded m) m count image of few refl refl new.content_is ∙ sym stood })))
 
 pub looked_resume : (rom : List ℕ) (old mid : DiskState) → HasLooked old mid → HoldsSince old mid (StandsAsBefore rom old)
 looked_resume rom old mid looked = since_weaker looked.since (λ image was. record { before = image; stood = was; is = refl })

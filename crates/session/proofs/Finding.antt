@@ -6,11 +6,11 @@ use Rattle.std.proofs.lemmas.Slice.Eq.{bytes_eq-Decides}
 use Rattle.sha2.specs.Sha256.{sha256}
 use Rattle.cartridge.specs.Header.{ram_length_of}
 use Rattle.machine.specs.Machine.{MachineState, after}
-use Rattle.snapshot.specs.Text.{text, text_length}
+use Rattle.snapshot.specs.Encoding.{encoded, snapshot_length}
 use Rattle.snapshot.specs.Reading.{machine_in}
-use Rattle.snapshot.specs.Legal.{IsMachineOf, IsLegalText, IsRefusal}
+use Rattle.snapshot.specs.Legal.{IsMachineOf, IsLegalSnapshot, IsRefusal}
 use Rattle.snapshot.specs.declared.error.SnapError.TheVariants.{SnapLength, Memory as NoMemory}
-use Rattle.snapshot.proofs.Machines.{machine_back, text_legal}
+use Rattle.snapshot.proofs.Machines.{machine_back, encoded_legal}
 use Rattle.sector_device.specs.DiskState.{IsSized}
 use Rattle.sector_log.specs.Content.{ImageContent, Body, content, need}
 use Rattle.sector_log.specs.Found.{Seen, seen_in, found_in, found_by, log_of, log_in, blob_in, blob_by}
@@ -30,7 +30,7 @@ use Rattle.session.specs.Recovery.{IsHeaderCause, IsRebuildCause, IsRebuildRefus
 use Rattle.session.specs.declared.error.Damage.TheVariants.{Count, Snapshot, Entry}
 use Rattle.session.specs.declared.error.SessionError.{SessionError}
 use Rattle.session.specs.declared.error.SessionError.TheVariants.{Memory, Device, NoSession, TooSmall, OtherCartridge, Damaged, Worn, Broken, SaveFirst, CountFull, Output}
-use Rattle.session.proofs.StandsLaws.{Soundness, sound_by, stands_sound, text_is_snapshot}
+use Rattle.session.proofs.StandsLaws.{Soundness, sound_by, stands_sound, encoded_is_snapshot}
 use Rattle.session.proofs.Beginnings.{own_after, rom_after, own_of_machine}
 
 -- ---- what was found
@@ -162,16 +162,16 @@ module _ (rom : List ℕ) (generation most : ℕ) (held : Option ImageContent) (
   rebuild_cause bytes (Damaged (Snapshot e)) is cause =
       record { header = c; body = found.body; is = found.is; holds = ((own, found.counts), subst (λ (b : List ℕ). IsRefusal rom b e) (sym (bytes_are bytes is)) cause.0, cause.1) }
   rebuild_cause bytes (Damaged (Entry k)) is cause =
-      record { header = c; body = found.body; is = found.is; holds = (((own, found.counts), subst (λ (b : List ℕ). IsLegalText rom b) (sym (bytes_are bytes is)) cause.0), sym (ap first_wrong log_is) ∙ cause.1) }
+      record { header = c; body = found.body; is = found.is; holds = (((own, found.counts), subst (λ (b : List ℕ). IsLegalSnapshot rom b) (sym (bytes_are bytes is)) cause.0), sym (ap first_wrong log_is) ∙ cause.1) }
   rebuild_cause bytes Worn is cause =
-      record { header = c; body = found.body; is = found.is; holds = (((own, found.counts), subst (λ (b : List ℕ). IsLegalText rom b) (sym (bytes_are bytes is)) cause.0), sym (ap first_wrong log_is) ∙ cause.1, cause.2) }
+      record { header = c; body = found.body; is = found.is; holds = (((own, found.counts), subst (λ (b : List ℕ). IsLegalSnapshot rom b) (sym (bytes_are bytes is)) cause.0), sym (ap first_wrong log_is) ∙ cause.1, cause.2) }
   rebuild_cause bytes Broken is cause = absurd cause
   rebuild_cause bytes SaveFirst is cause = absurd cause
   rebuild_cause bytes CountFull is cause = absurd cause
   rebuild_cause bytes Output is cause = absurd cause
 
   -- a blob that is longer than a snapshot of this ROM
-  too_long : most ≡ text_length (ram_length_of rom) → length found.body.blob ≡ c.blob_length → blob_in most held ≡ None → IsResumeCause rom generation held (Damaged (Snapshot (SnapLength c.blob_length)))
+  too_long : most ≡ snapshot_length (ram_length_of rom) → length found.body.blob ≡ c.blob_length → blob_in most held ≡ None → IsResumeCause rom generation held (Damaged (Snapshot (SnapLength c.blob_length)))
   too_long most_is size none =
       let long : most < c.blob_length = longer_blob most c.blob_length found.body (sym (ap (blob_in most) found.is) ∙ none) in
       record { header = c; body = found.body; is = found.is; holds = ((own, found.counts), (sym size, λ same. omega (arith, same, size, most_is, long)), λ wrong. cc) }
@@ -179,7 +179,7 @@ module _ (rom : List ℕ) (generation most : ℕ) (held : Option ImageContent) (
 -- each refusal of recovery is for the first reason that holds of the content
 pub cause_found :
     (rom : List ℕ) (generation most : ℕ) (image : List (List ℕ)) (seen : Seen) (why : SessionError)
-    → most ≡ text_length (ram_length_of rom) → IsSized (length image) image → seen ≡ seen_in most (content image)
+    → most ≡ snapshot_length (ram_length_of rom) → IsSized (length image) image → seen ≡ seen_in most (content image)
     → IsRecoveryCause rom seen generation why → IsResumeCause rom generation (content image) why
 cause_found rom generation most image seen why most_is sized is cause =
     let held = content image in
@@ -212,15 +212,15 @@ recovered_stands rom generation most count image seen m is recovered =
     let log_are : seen.log ≡ body.log = ap (λ (s : Seen). s.log) is ∙ ap log_of found.is in
     let kept : blob_in most held ≡ Some recovered.bytes = sym (ap (λ (s : Seen). s.blob) is) ∙ recovered.blob_is in
     let blob_is : body.blob ≡ recovered.bytes = kept_blob most c.blob_length body recovered.bytes (sym (ap (blob_in most) found.is) ∙ kept) in
-    let blob_text : body.blob ≡ text rebuilt.snapshot = blob_is ∙ sym rebuilt.text_is in
+    let blob_encoded : body.blob ≡ encoded rebuilt.snapshot = blob_is ∙ sym rebuilt.encoded_is in
     let sound = sound_by rom c body (record {
       id = (bytes_eq-Decides c.id (sha256 rom)).1 recovered.id_is;
       count = found.counts;
-      snapshot = ap (is_snapshot rom) blob_text ∙ text_is_snapshot rom rebuilt.snapshot rebuilt.of;
+      snapshot = ap (is_snapshot rom) blob_encoded ∙ encoded_is_snapshot rom rebuilt.snapshot rebuilt.of;
       inputs = sym (ap first_wrong log_are) ∙ rebuilt.inputs_are;
     }) in
     let count_is : c.base + length (inputs body.log) ≡ count = sym (rebuilt.count_is ∙ ap (λ (l : List Stored). c.base + length (inputs l)) log_are) in
-    let snapshot_is : machine_in rom body.blob ≡ rebuilt.snapshot = ap (machine_in rom) blob_text ∙ machine_back rom rebuilt.snapshot rebuilt.of in
+    let snapshot_is : machine_in rom body.blob ≡ rebuilt.snapshot = ap (machine_in rom) blob_encoded ∙ machine_back rom rebuilt.snapshot rebuilt.of in
     let machine_is : after (machine_in rom body.blob) (logged body.log) ≡ m =
     ap (λ (n : MachineState). after n (logged body.log)) snapshot_is ∙ ap (λ (l : List Stored). after rebuilt.snapshot (logged l)) (sym log_are) ∙ sym rebuilt.machine_is in
     ap (stands rom) found.is ∙ stands_sound rom c body sound ∙ (λ i. Some (record { count = count_is i; machine = machine_is i }))
@@ -237,7 +237,7 @@ recovered_machine rom generation count seen m recovered =
 -- the device that it was found on can hold it again
 pub recovered_fits :
     (rom : List ℕ) (generation most count : ℕ) (image : List (List ℕ)) (seen : Seen) (m : MachineState)
-    → IsSized (length image) image → seen ≡ seen_in most (content image) → IsRecovered rom seen generation count m → need (text_length (ram_length_of rom)) ≤ length image
+    → IsSized (length image) image → seen ≡ seen_in most (content image) → IsRecovered rom seen generation count m → need (snapshot_length (ram_length_of rom)) ≤ length image
 recovered_fits rom generation most count image seen m sized is recovered =
     let held = content image in
     let c = recovered.content in
@@ -246,7 +246,7 @@ recovered_fits rom generation most count image seen m sized is recovered =
     let whole : ImageContent = record { header = c; body = Some found.body } in
     let kept : blob_in most held ≡ Some recovered.bytes = sym (ap (λ (s : Seen). s.blob) is) ∙ recovered.blob_is in
     let blob_is : found.body.blob ≡ recovered.bytes = kept_blob most c.blob_length found.body recovered.bytes (sym (ap (blob_in most) found.is) ∙ kept) in
-    let long : length found.body.blob ≡ text_length (ram_length_of rom) = ap length (blob_is ∙ sym rebuilt.text_is) ∙ (text_legal rom rebuilt.snapshot rebuilt.of).length in
+    let long : length found.body.blob ≡ snapshot_length (ram_length_of rom) = ap length (blob_is ∙ sym rebuilt.encoded_is) ∙ (encoded_legal rom rebuilt.snapshot rebuilt.of).length in
     let size : length found.body.blob ≡ c.blob_length = found_length image whole found.body sized found.is refl in
     subst (λ (n : ℕ). need n ≤ length image) (sym size ∙ long) (found_fits image whole found.body found.is refl)
 

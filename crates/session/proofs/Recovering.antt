@@ -4,10 +4,10 @@ use Rattle.std.proofs.lemmas.Bool.{cases_Bool, cases_lt, lt-ltb, ltb-true}
 use Rattle.std.proofs.lemmas.Bool.Decides.{nat_tests}
 use Rattle.sha2.specs.Sha256.{sha256}
 use Rattle.machine.specs.Machine.{MachineState, after}
-use Rattle.snapshot.specs.Text.{text}
-use Rattle.snapshot.specs.Legal.{IsMachineOf, IsLegalText, IsRefusal}
+use Rattle.snapshot.specs.Encoding.{encoded}
+use Rattle.snapshot.specs.Legal.{IsMachineOf, IsLegalSnapshot, IsRefusal}
 use Rattle.snapshot.specs.declared.error.SnapError.{SnapError}
-use Rattle.snapshot.proofs.Machines.{text_legal, machine_back}
+use Rattle.snapshot.proofs.Machines.{encoded_legal, machine_back}
 use Rattle.sector_log.specs.Inputs.{inputs, counted, first_wrong, AreInputs}
 use Rattle.sector_log.specs.declared.Stored.{Stored}
 use Rattle.sector_log.specs.declared.found.Content.{Content}
@@ -23,11 +23,11 @@ use Rattle.session.specs.declared.error.SessionError.TheVariants.{Memory, Device
 pub counted_all : (log : List Stored) → first_wrong log ≡ None → counted 0 log ≡ length (inputs log)
 counted_all log none = counts_inputs log ((none_wrong log).0 none)
 
-pub legal_of : (rom bytes : List ℕ) (m : MachineState) → IsMachineOf rom m → text m ≡ bytes → IsLegalText rom bytes
-legal_of rom bytes m of same = subst (λ (t : List ℕ). IsLegalText rom t) same (text_legal rom m of)
+pub legal_of : (rom bytes : List ℕ) (m : MachineState) → IsMachineOf rom m → encoded m ≡ bytes → IsLegalSnapshot rom bytes
+legal_of rom bytes m of same = subst (λ (t : List ℕ). IsLegalSnapshot rom t) same (encoded_legal rom m of)
 
 -- a refusal of the log behind a legal snapshot
-pub log_cause : (rom bytes : List ℕ) (log : List Stored) (generation : ℕ) (why : SessionError) → IsLegalText rom bytes → IsLogCause log generation why → IsRebuildCause rom bytes log generation why
+pub log_cause : (rom bytes : List ℕ) (log : List Stored) (generation : ℕ) (why : SessionError) → IsLegalSnapshot rom bytes → IsLogCause log generation why → IsRebuildCause rom bytes log generation why
 log_cause rom bytes log generation Memory legal cause = absurd cause
 log_cause rom bytes log generation Device legal cause = absurd cause
 log_cause rom bytes log generation NoSession legal cause = absurd cause

@@ -9,7 +9,7 @@ use Rattle.machine.specs.Machine.{MachineState, after, applied}
 use Rattle.machine.specs.declared.input.Input.{Input}
 use Rattle.machine.proofs.KeptByInputs.{by_inputs}
 use Rattle.cartridge.specs.Header.{has_rumble, ram_length_of}
-use Rattle.snapshot.specs.Text.{text}
+use Rattle.snapshot.specs.Encoding.{encoded}
 use Rattle.snapshot.specs.Legal.{IsMachineOf, IsLegalMachine}
 use Rattle.snapshot.specs.Table.{kind_of_image}
 use Rattle.sector_device.specs.DiskState.{DiskState, Settled}
@@ -121,17 +121,17 @@ module _
       }
 
   -- all further
-  whole : (id : List ℕ) (image : List (List ℕ)) → IsMachineOf rom m → id ≡ sha256 rom → content image ≡ Some (new_generation id (acknowledged + length pending) (text m)) → StandsWithin rom (stands rom (content old.sectors)) (inputs_of pending) image
+  whole : (id : List ℕ) (image : List (List ℕ)) → IsMachineOf rom m → id ≡ sha256 rom → content image ≡ Some (new_generation id (acknowledged + length pending) (encoded m)) → StandsWithin rom (stands rom (content old.sectors)) (inputs_of pending) image
   whole id image of id_is is = record {
     count = length (inputs_of pending);
     within = omega arith;
-    is = begun_stands rom id (text m) m (acknowledged + length pending) image of few id_is refl is
+    is = begun_stands rom id (encoded m) m (acknowledged + length pending) image of few id_is refl is
         ∙ sym rests.at_rest.leads
         ∙ ap (λ (l : List Input). further l (stands rom (content old.sectors))) (sym (take_all (length (inputs_of pending)) (inputs_of pending) (omega arith)));
   }
 
   pub written_within : (fits : Bool) (now : DiskState) (id : List ℕ) → (fits ≡ false → IsMachineOf rom m) → id ≡ sha256 rom
-      → HoldsSince old now (HoldsWritten fits old.sectors pending id (acknowledged + length pending) (text m)) → HoldsSince old now (StandsWithin rom (stands rom (content old.sectors)) (inputs_of pending))
+      → HoldsSince old now (HoldsWritten fits old.sectors pending id (acknowledged + length pending) (encoded m)) → HoldsSince old now (StandsWithin rom (stands rom (content old.sectors)) (inputs_of pending))
   written_within true now id of id_is held = since_weaker held front
   written_within false now id of id_is held = since_weaker held (λ image. ⊎_elim (here image) (whole id image (of refl) id_is))
 
@@ -150,15 +150,15 @@ module _
       }
 
   pub written_rests : (fits : Bool) (now : DiskState) (id : List ℕ) (then : List Stored) → (fits ≡ false → IsMachineOf rom m) → id ≡ sha256 rom
-      → IsWritten fits old now pending id (acknowledged + length pending) (text m) log then → Rests now then (acknowledged + length pending) [] m
+      → IsWritten fits old now pending id (acknowledged + length pending) (encoded m) log then → Rests now then (acknowledged + length pending) [] m
   written_rests true now id then of id_is written = appended_rests now then written.0 written.2
-  written_rests false now id then of id_is written = begun_rests id (text m) m (acknowledged + length pending) old now then (of refl) few id_is refl written.0 written.1
+  written_rests false now id then of id_is written = begun_rests id (encoded m) m (acknowledged + length pending) old now then (of refl) few id_is refl written.0 written.1
 
   pub written_saved : (fits : Bool) (now : DiskState) (id : List ℕ) (then : List Stored) → id ≡ sha256 rom
-      → IsWritten fits old now pending id (acknowledged + length pending) (text m) log then → IsSaved fits rom (acknowledged + length pending) m pending old.sectors now.sectors
+      → IsWritten fits old now pending id (acknowledged + length pending) (encoded m) log then → IsSaved fits rom (acknowledged + length pending) m pending old.sectors now.sectors
   written_saved true now id then id_is written = (written.0.adds, written.2 ∙ written.1 ∙ ap (λ (l : List Stored). grown l pending) (sym rests.log_is), written.0.generation_is)
   written_saved false now id then id_is written =
-      (written.0.holds.content_is ∙ ap (λ (i : List ℕ). Some (new_generation i (acknowledged + length pending) (text m))) id_is, written.0.holds.generation_is)
+      (written.0.holds.content_is ∙ ap (λ (i : List ℕ). Some (new_generation i (acknowledged + length pending) (encoded m))) id_is, written.0.holds.generation_is)
 
   -- a save of nothing
   pub nothing_within : ((image : List (List ℕ)) → old.since old.moment image → old.image image) → HoldsSince old old (StandsWithin rom (stands rom (content old.sectors)) (inputs_of pending))
@@ -175,31 +175,31 @@ module _
 
   -- the same where entries and count have other names
   module _ (test : List Entry → Bool) (now : DiskState) (id : List ℕ) (entries : List Entry) (all : ℕ) (entries_are : entries ≡ pending) (all_is : all ≡ acknowledged + length pending) (id_is : id ≡ sha256 rom) where
-    renamed : (then : List Stored) → IsWritten (test entries) old now entries id all (text m) log then → IsWritten (test pending) old now pending id (acknowledged + length pending) (text m) log then
+    renamed : (then : List Stored) → IsWritten (test entries) old now entries id all (encoded m) log then → IsWritten (test pending) old now pending id (acknowledged + length pending) (encoded m) log then
     renamed then written =
-        subst (λ (l : List Entry). IsWritten (test l) old now l id (acknowledged + length pending) (text m) log then) entries_are
-        (subst (λ (n : ℕ). IsWritten (test entries) old now entries id n (text m) log then) all_is written)
+        subst (λ (l : List Entry). IsWritten (test l) old now l id (acknowledged + length pending) (encoded m) log then) entries_are
+        (subst (λ (n : ℕ). IsWritten (test entries) old now entries id n (encoded m) log then) all_is written)
 
     legal_then : (test entries ≡ false → IsMachineOf rom m) → test pending ≡ false → IsMachineOf rom m
     legal_then of e = of (ap test entries_are ∙ e)
 
     pub rests_after : (then : List Stored) (cleared : List Entry) → cleared ≡ [] → (test entries ≡ false → IsMachineOf rom m)
-        → IsWritten (test entries) old now entries id all (text m) log then → Rests now then all cleared m
+        → IsWritten (test entries) old now entries id all (encoded m) log then → Rests now then all cleared m
     rests_after then cleared empty of written =
         subst (λ (n : ℕ). Rests now then n cleared m) (sym all_is)
         (subst (λ (l : List Entry). Rests now then (acknowledged + length pending) l m) (sym empty)
         (written_rests (test pending) now id then (legal_then of) id_is (renamed then written)))
 
-    pub saved_after : (then : List Stored) → IsWritten (test entries) old now entries id all (text m) log then → IsSaved (test pending) rom all m pending old.sectors now.sectors
+    pub saved_after : (then : List Stored) → IsWritten (test entries) old now entries id all (encoded m) log then → IsSaved (test pending) rom all m pending old.sectors now.sectors
     saved_after then written =
         subst (λ (n : ℕ). IsSaved (test pending) rom n m pending old.sectors now.sectors) (sym all_is) (written_saved (test pending) now id then id_is (renamed then written))
 
     pub within_after : (test entries ≡ false → IsMachineOf rom m)
-        → HoldsSince old now (HoldsWritten (test entries) old.sectors entries id all (text m)) → HoldsSince old now (StandsWithin rom (stands rom (content old.sectors)) (inputs_of pending))
+        → HoldsSince old now (HoldsWritten (test entries) old.sectors entries id all (encoded m)) → HoldsSince old now (StandsWithin rom (stands rom (content old.sectors)) (inputs_of pending))
     within_after of held =
         written_within (test pending) now id (legal_then of) id_is
-        (subst (λ (l : List Entry). HoldsSince old now (HoldsWritten (test l) old.sectors l id (acknowledged + length pending) (text m))) entries_are
-        (subst (λ (n : ℕ). HoldsSince old now (HoldsWritten (test entries) old.sectors entries id n (text m))) all_is held))
+        (subst (λ (l : List Entry). HoldsSince old now (HoldsWritten (test l) old.sectors l id (acknowledged + length pending) (encoded m))) entries_are
+        (subst (λ (n : ℕ). HoldsSince old now (HoldsWritten (test entries) old.sectors entries id n (encoded m))) all_is held))
 
 pub none_left : (entries : List Entry) → length entries ≡ 0 → entries ≡ []
 none_left [] size = refl

@@ -12,12 +12,12 @@ use Rattle.sha2.specs.Sha256.{sha256}
 use Rattle.cartridge.specs.Header.{ram_length_of}
 use Rattle.machine.specs.Machine.{MachineState, after, applied}
 use Rattle.machine.specs.declared.input.Input.{Input}
-use Rattle.snapshot.specs.Text.{text, text_length}
+use Rattle.snapshot.specs.Encoding.{encoded, snapshot_length}
 use Rattle.snapshot.specs.Table.{is_legal, table_of}
 use Rattle.snapshot.specs.Reading.{machine_in}
-use Rattle.snapshot.specs.Legal.{IsMachineOf, IsLegalText}
+use Rattle.snapshot.specs.Legal.{IsMachineOf, IsLegalSnapshot}
 use Rattle.snapshot.specs.declared.field.SnapshotField.{SnapshotField}
-use Rattle.snapshot.proofs.Machines.{machine_back, text_legal}
+use Rattle.snapshot.proofs.Machines.{machine_back, encoded_legal}
 use Rattle.sector_log.specs.Calls.{Adds}
 use Rattle.sector_log.specs.Content.{ImageContent, Body, content, new_generation}
 use Rattle.sector_log.specs.Inputs.{inputs, counted, first_wrong, AreInputs}
@@ -53,11 +53,11 @@ legal_fields : (fields : List SnapshotField) (bytes : List ℕ) → All (λ fiel
 legal_fields [] bytes all = refl
 legal_fields (f ∷ fields) bytes all = λ i. All-head (λ (field : SnapshotField). is_legal field bytes ≡ true) f fields all i && legal_fields fields bytes (All-tail (λ (field : SnapshotField). is_legal field bytes ≡ true) f fields all) i
 
-pub legal_is_snapshot : (rom bytes : List ℕ) → IsLegalText rom bytes → is_snapshot rom bytes ≡ true
-legal_is_snapshot rom bytes legal = λ i. eq-eqb (length bytes) (text_length (ram_length_of rom)) legal.length i && legal_fields (table_of rom) bytes legal.fields i
+pub legal_is_snapshot : (rom bytes : List ℕ) → IsLegalSnapshot rom bytes → is_snapshot rom bytes ≡ true
+legal_is_snapshot rom bytes legal = λ i. eq-eqb (length bytes) (snapshot_length (ram_length_of rom)) legal.length i && legal_fields (table_of rom) bytes legal.fields i
 
-pub text_is_snapshot : (rom : List ℕ) (m : MachineState) → IsMachineOf rom m → is_snapshot rom (text m) ≡ true
-text_is_snapshot rom m of = legal_is_snapshot rom (text m) (text_legal rom m of)
+pub encoded_is_snapshot : (rom : List ℕ) (m : MachineState) → IsMachineOf rom m → is_snapshot rom (encoded m) ≡ true
+encoded_is_snapshot rom m of = legal_is_snapshot rom (encoded m) (encoded_legal rom m of)
 
 -- ---- sound contents
 
@@ -134,10 +134,10 @@ more_stands rom old new more from adds is few =
 -- a snapshot of a machine
 pub new_stands : ASnapshotStandsForItsMachine
 new_stands rom m base of few =
-    let header : Content = record { id = sha256 rom; base = base; blob_length = length (text m) } in
-    let body : Body = record { blob = text m; log = [] } in
+    let header : Content = record { id = sha256 rom; base = base; blob_length = length (encoded m) } in
+    let body : Body = record { blob = encoded m; log = [] } in
     let same : bytes_eq (sha256 rom) (sha256 rom) ≡ true = (bytes_eq-Decides (sha256 rom) (sha256 rom)).1 refl in
-    let sound : is_sound rom header body ≡ true = sound_by rom header body (record { id = same; count = omega (arith, few); snapshot = text_is_snapshot rom m of; inputs = refl }) in
-    let machine_is : after (machine_in rom (text m)) [] ≡ m = after_none (machine_in rom (text m)) ∙ machine_back rom m of in
+    let sound : is_sound rom header body ≡ true = sound_by rom header body (record { id = same; count = omega (arith, few); snapshot = encoded_is_snapshot rom m of; inputs = refl }) in
+    let machine_is : after (machine_in rom (encoded m)) [] ≡ m = after_none (machine_in rom (encoded m)) ∙ machine_back rom m of in
     let count_is : base + 0 ≡ base = omega arith in
     stands_sound rom header body sound ∙ (λ i. Some (record { count = count_is i; machine = machine_is i }))

@@ -2,7 +2,7 @@
 use Rattle.std.specs.Prelude.{◌≡◌, ◌⊎◌, ◌==◌, ◌≤◌, ◌<◌, ◌+◌, ◌-◌, ◌^◌, ℕ, List, [], length, Bool, true, false, if◌then◌else◌, Option, Some, Result, Ok, Err}
 use Rattle.sha2.specs.Sha256.{sha256}
 use Rattle.machine.specs.Machine.{MachineState, start}
-use Rattle.snapshot.specs.Text.{text}
+use Rattle.snapshot.specs.Encoding.{encoded}
 use Rattle.sector_device.specs.DiskState.{DiskState, Settled, next_count}
 use Rattle.sector_log.specs.Content.{ImageContent, content, generation_in, new_generation}
 use Rattle.sector_log.specs.Calls.{Adds}
@@ -25,7 +25,7 @@ pub record IsAtRest (rom : List ℕ) (now : DiskState) (acknowledged : ℕ) (pen
 
 -- a snapshot of the machine at power-on, behind which there is no input
 abbrev pub new_game_content : (rom : List ℕ) → ImageContent
-new_game_content rom = new_generation (sha256 rom) 0 (text (start rom))
+new_game_content rom = new_generation (sha256 rom) 0 (encoded (start rom))
 
 -- the image has the content of one that stood before
 pub record HasContentOf (old : DiskState) (image : List (List ℕ)) : Type 0 where
@@ -51,7 +51,7 @@ abbrev pub IsSaved : (fits : Bool) → (rom : List ℕ) → (all : ℕ) → Mach
 IsSaved true rom all machine entries old new =
     Adds entries (content old) (content new) × (log_of (content new) ≡ grown (log_of (content old)) entries) × (generation_in new ≡ generation_in old)
 IsSaved false rom all machine entries old new =
-    (content new ≡ Some (new_generation (sha256 rom) all (text machine))) × (generation_in new ≡ generation_in old + 1)
+    (content new ≡ Some (new_generation (sha256 rom) all (encoded machine))) × (generation_in new ≡ generation_in old + 1)
 
 -- ---- answers
 

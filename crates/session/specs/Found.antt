@@ -3,7 +3,7 @@ use Rattle.std.specs.Prelude.{◌≡◌, ◌≢◌, ◌≤◌, ◌<◌, ◌+◌,
 use Rattle.sha2.specs.Sha256.{sha256}
 use Rattle.snapshot.specs.declared.error.SnapError.{SnapError}
 use Rattle.snapshot.specs.declared.error.SnapError.TheVariants.{Memory as NoMemory}
-use Rattle.snapshot.specs.Legal.{IsLegalText, IsRefusal}
+use Rattle.snapshot.specs.Legal.{IsLegalSnapshot, IsRefusal}
 use Rattle.sector_log.specs.Content.{ImageContent, Body, need}
 use Rattle.sector_log.specs.Inputs.{counted, first_wrong}
 use Rattle.sector_log.specs.declared.found.Content.{Content}
@@ -35,7 +35,7 @@ IsCounted rom header body = IsOfRom rom header × (header.base + counted 0 body.
 
 -- so it is, and the blob is a legal snapshot
 abbrev pub HasSnapshot : (rom : List ℕ) → Content → Body → Type 0
-HasSnapshot rom header body = IsCounted rom header body × IsLegalText rom body.blob
+HasSnapshot rom header body = IsCounted rom header body × IsLegalSnapshot rom body.blob
 
 -- each damage comes only where nothing before it holds
 abbrev pub IsDamaged : (rom : List ℕ) → Option ImageContent → Damage → Type 0
@@ -44,7 +44,7 @@ IsDamaged rom held (Snapshot error) = IsWhole held (λ header body. IsCounted ro
 IsDamaged rom held (Entry index) = IsWhole held (λ header body. HasSnapshot rom header body × (first_wrong body.log ≡ Some index))
 
 -- The first reason that holds: no valid root; a blob that does not fit; another ROM; the damages, in their order; the
--- generations used up. Of want of memory and of a failed call nothing is said.
+-- generations used up. Nothing is said of running out of memory, nor of a failed call.
 abbrev pub IsResumeCause : (rom : List ℕ) → (generation : ℕ) → Option ImageContent → SessionError → Type 0
 IsResumeCause rom generation held Memory = ⊤
 IsResumeCause rom generation held Device = ⊤
@@ -58,7 +58,7 @@ IsResumeCause rom generation held SaveFirst = ⊥
 IsResumeCause rom generation held CountFull = ⊥
 IsResumeCause rom generation held Output = ⊥
 
--- why no new game is begun on a device of so many sectors; of want of memory and of a failed call nothing is said
+-- why no new game is begun on a device of so many sectors; nothing is said of running out of memory, nor of a failed call
 abbrev pub IsNewGameCause : (blob_length count : ℕ) → SessionError → Type 0
 IsNewGameCause blob_length count Memory = ⊤
 IsNewGameCause blob_length count Device = ⊤

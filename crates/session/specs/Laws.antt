@@ -4,7 +4,7 @@ use Rattle.sha2.specs.Sha256.{sha256}
 use Rattle.machine.specs.Machine.{MachineState}
 use Rattle.machine.specs.declared.input.Input.{Input}
 use Rattle.machine.specs.declared.input.Input.TheVariants.{Frame, Seconds}
-use Rattle.snapshot.specs.Text.{text}
+use Rattle.snapshot.specs.Encoding.{encoded}
 use Rattle.snapshot.specs.Legal.{IsMachineOf}
 use Rattle.sector_log.specs.Calls.{Adds}
 use Rattle.sector_log.specs.Content.{ImageContent, new_generation}
@@ -22,7 +22,7 @@ MoreInputsStandFurther =
 abbrev pub ASnapshotStandsForItsMachine : Type 0
 ASnapshotStandsForItsMachine =
     (rom : List ℕ) (m : MachineState) (base : ℕ) → IsMachineOf rom m → base < 2 ^ 64
-    → stands rom (Some (new_generation (sha256 rom) base (text m))) ≡ Some (record { count = base; machine = m })
+    → stands rom (Some (new_generation (sha256 rom) base (encoded m))) ≡ Some (record { count = base; machine = m })
 
 -- the entry of a frame gives its input back, and so does that of seconds that a `u32` holds
 pub record EntriesGiveInputsBack : Type 0 where

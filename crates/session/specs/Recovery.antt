@@ -2,8 +2,8 @@
 use Rattle.std.specs.Prelude.{◌≡◌, ◌≢◌, ◌⊎◌, ◌≤◌, ◌<◌, ◌+◌, ◌-◌, ◌^◌, ℕ, List, length, Option, Some, None, ⊤}
 use Rattle.sha2.specs.Sha256.{sha256}
 use Rattle.machine.specs.Machine.{MachineState, after}
-use Rattle.snapshot.specs.Text.{text}
-use Rattle.snapshot.specs.Legal.{IsMachineOf, IsLegalText, IsRefusal}
+use Rattle.snapshot.specs.Encoding.{encoded}
+use Rattle.snapshot.specs.Legal.{IsMachineOf, IsLegalSnapshot, IsRefusal}
 use Rattle.snapshot.specs.declared.error.SnapError.{SnapError}
 use Rattle.snapshot.specs.declared.error.SnapError.TheVariants.{SnapLength, Memory as NoMemory}
 use Rattle.sector_log.specs.Inputs.{inputs, first_wrong}
@@ -40,7 +40,7 @@ IsLogCause log generation why = ⊥
 pub record IsRebuilt (rom : List ℕ) (content : Content) (bytes : List ℕ) (log : List Stored) (generation count : ℕ) (machine : MachineState) : Type 0 where
   pub snapshot : MachineState
   pub of : IsMachineOf rom snapshot
-  pub text_is : text snapshot ≡ bytes
+  pub encoded_is : encoded snapshot ≡ bytes
   pub inputs_are : first_wrong log ≡ None
   pub machine_is : machine ≡ after snapshot (logged log)
   pub count_is : count ≡ content.base + length (inputs log)
@@ -49,8 +49,8 @@ pub record IsRebuilt (rom : List ℕ) (content : Content) (bytes : List ℕ) (lo
 abbrev pub IsRebuildCause : (rom bytes : List ℕ) → List Stored → (generation : ℕ) → SessionError → Type 0
 IsRebuildCause rom bytes log generation Memory = ⊤
 IsRebuildCause rom bytes log generation (Damaged (Snapshot error)) = IsRefusal rom bytes error × (error ≢ NoMemory)
-IsRebuildCause rom bytes log generation (Damaged (Entry index)) = IsLegalText rom bytes × (first_wrong log ≡ Some index)
-IsRebuildCause rom bytes log generation Worn = IsLegalText rom bytes × (first_wrong log ≡ None) × (generation ≡ 2 ^ 64 - 1)
+IsRebuildCause rom bytes log generation (Damaged (Entry index)) = IsLegalSnapshot rom bytes × (first_wrong log ≡ Some index)
+IsRebuildCause rom bytes log generation Worn = IsLegalSnapshot rom bytes × (first_wrong log ≡ None) × (generation ≡ 2 ^ 64 - 1)
 IsRebuildCause rom bytes log generation why = ⊥
 
 -- the same of what was found of a device

@@ -6,7 +6,7 @@ use Rattle.sha2.specs.Sha256.{sha256}
 use Rattle.cartridge.specs.Header.{ram_length_of}
 use Rattle.machine.specs.declared.input.Input.{Input}
 use Rattle.machine.specs.Machine.{MachineState, after}
-use Rattle.snapshot.specs.Text.{text_length}
+use Rattle.snapshot.specs.Encoding.{snapshot_length}
 use Rattle.snapshot.specs.Table.{is_legal, table_of}
 use Rattle.snapshot.specs.Reading.{machine_in}
 use Rattle.sector_log.specs.Content.{ImageContent, Body, content}
@@ -22,7 +22,7 @@ pub record Position : Type 0 where
 
 -- the bytes are a legal snapshot for this ROM: as long as its snapshots are, and each field legal
 abbrev pub is_snapshot : (rom bytes : List ℕ) → Bool
-is_snapshot rom bytes = length bytes == text_length (ram_length_of rom) && list_all (λ field. is_legal field bytes) (table_of rom)
+is_snapshot rom bytes = length bytes == snapshot_length (ram_length_of rom) && list_all (λ field. is_legal field bytes) (table_of rom)
 
 -- the content is this ROM's, no count overflows, the blob is a legal snapshot, and each entry is an input
 abbrev pub is_sound : (rom : List ℕ) → Content → Body → Bool

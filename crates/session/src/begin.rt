@@ -3,7 +3,7 @@ ghost use Rattle.std.specs.Prelude.{◌≡◌, ◌≤◌, ◌<◌, ◌-◌, ◌^
 ghost use Rattle.sha2.specs.Sha256.{sha256};
 ghost use Rattle.cartridge.specs.Header.{ram_length_of};
 ghost use Rattle.machine.specs.Machine.{start};
-ghost use Rattle.snapshot.specs.Text.{text, text_length};
+ghost use Rattle.snapshot.specs.Encoding.{encoded, snapshot_length};
 ghost use Rattle.snapshot.specs.Legal.{IsMachineOf};
 ghost use Rattle.sector_device.specs.DiskState.{HasAnswered};
 ghost use Rattle.sector_device.specs.Runs.{HoldsSince};
@@ -29,14 +29,14 @@ use std::alloc::{AllocError, Global};
 /// The sectors that a session of this cartridge needs: two roots, and two areas with a log and a
 /// snapshot.
 pub fn sectors_needed(cartridge: &Cartridge) -> u64
-    ensures { result ≡ need (text_length (ram_length_of cartridge.now)) }
+    ensures { result ≡ need (snapshot_length (ram_length_of cartridge.now)) }
 {
-    sector_log::sectors_needed(text_length(cartridge) as u32)
+    sector_log::sectors_needed(snapshot_length(cartridge) as u32)
 }
 
 /// The length of the snapshots of a cartridge's machines.
-pub(crate) fn text_length(cartridge: &Cartridge) -> usize
-    ensures length { result ≡ text_length (ram_length_of cartridge.now) }
+pub(crate) fn snapshot_length(cartridge: &Cartridge) -> usize
+    ensures length { result ≡ snapshot_length (ram_length_of cartridge.now) }
     ensures short { result < 2 ^ 32 }
 {
     snapshot::length(cartridge.ram_length())
@@ -59,17 +59,18 @@ pub(crate) fn fault_of(why: LogFault) -> SessionError
 #[derive(Drop)]
 pub(crate) struct Room {
     pub pending: Vec<Entry>,
-    pub text: Vec<u8>,
+    pub encoded: Vec<u8>,
 }
 
 /// Allocates the room that a session of this cartridge needs.
 pub(crate) fn make_room(alloc: Global, cartridge: &Cartridge) -> Result<Room, AllocError>
     ensures pending { IfOk result (λ room. (room.pending.items ≡ []) × (most_unsaved ≤ vec_capacity room.pending)) }
-    ensures text { IfOk result (λ room. (length room.text.items ≡ text_length (ram_length_of cartridge.now)) × (length room.text.items < 2 ^ 32)) }
+    ensures encoded { IfOk result (λ room.
+        (length room.encoded.items ≡ snapshot_length (ram_length_of cartridge.now)) × (length room.encoded.items < 2 ^ 32)) }
 {
     let pending = Vec::with_capacity(alloc, MOST_UNSAVED as usize)?;
-    let text = vec![in alloc; 0u8; text_length(cartridge)]?;
-    Ok(Room { pending, text })
+    let encoded = vec![in alloc; 0u8; snapshot_length(cartridge)]?;
+    Ok(Room { pending, encoded })
 }
 
 /// Begins a game at power-on, whatever the device holds. A power cut at any moment leaves what the
@@ -94,10 +95,10 @@ pub fn new_game<D: SectorDevice>(
         ((D.disk device).honest → HoldsSince (D.disk device) (D.disk refused.device) (D.disk device).image)) }
 
     // when it is refused
-    ensures can { IfOk result (λ s. (need (text_length (ram_length_of cartridge.now)) ≤ length (D.disk device).sectors) ×
+    ensures can { IfOk result (λ s. (need (snapshot_length (ram_length_of cartridge.now)) ≤ length (D.disk device).sectors) ×
         ((D.disk device).honest → generation_in (D.disk device).sectors < 2 ^ 64 - 1)) }
     ensures cause { IfErr result (λ refused.
-        IsNewGameCause (text_length (ram_length_of cartridge.now)) (length (D.disk device).sectors) refused.why) }
+        IsNewGameCause (snapshot_length (ram_length_of cartridge.now)) (length (D.disk device).sectors) refused.why) }
     ensures worn { IfErr result (λ refused. refused.why ≡ Worn → (D.disk device).honest → generation_in (D.disk device).sectors ≡ 2 ^ 64 - 1) }
 
     ensures answered { HasAnswered (λ refused. faults_after refused.why) (D.disk device) (D.disk (left_by result)) result }
@@ -135,26 +136,29 @@ pub(crate) fn begin_with<D: SectorDevice>(
     requires rom { machine.processor.memory.banks.rom ≡ cartridge.now }
     requires own { IsOfItsRom machine }
     requires pending { (room.pending.items ≡ []) × (most_unsaved ≤ vec_capacity room.pending) }
-    requires text { (length room.text.items ≡ text_length (ram_length_of cartridge.now)) × (length room.text.items < 2 ^ 32) }
+    requires encoded { (length room.encoded.items ≡ snapshot_length (ram_length_of cartridge.now)) × (length room.encoded.items < 2 ^ 32) }
 
     ensures begun { IfOk result (λ s. (acknowledged_of s ≡ count) × (pending_of s ≡ []) × (is_broken s ≡ false) × (machine_of s ≡ machine)) }
     ensures of { IsMachineOf cartridge.now machine }
     ensures new { IfOk result (λ s. (D.disk (device_under opened)).honest →
-        HasBegun (D.disk (device_under opened)) (D.disk (device_of s)) (sha256 cartridge.now) count (text machine)) }
+        HasBegun (D.disk (device_under opened)) (D.disk (device_of s)) (sha256 cartridge.now) count (encoded machine)) }
     ensures images { (D.disk (device_under opened)).honest →
-        HoldsSince (D.disk (device_under opened)) (D.disk (left_by result)) (HasOldOrNewContent (D.disk (device_under opened)).sectors (sha256 cartridge.now) count (text machine)) }
+        HoldsSince (D.disk (device_under opened)) (D.disk (left_by result)) (HasOldOrNewContent (D.disk (device_under opened)).sectors (sha256 cartridge.now) count (encoded machine)) }
     ensures untouched { IfErr result (λ refused. (refused.why ≡ Device) ⊎ (refused.device ≡ device_under opened)) }
     ensures can { IfOk result (λ s.
-        CanBegin (text_length (ram_length_of cartridge.now)) (length (D.disk (device_under opened)).sectors) (found_generation opened)) }
+        CanBegin (snapshot_length (ram_length_of cartridge.now)) (length (D.disk (device_under opened)).sectors) (found_generation opened)) }
     ensures cause { IfErr result (λ refused.
-        IsBeginRefusal refused.why (text_length (ram_length_of cartridge.now)) (length (D.disk (device_under opened)).sectors)
+        IsBeginRefusal refused.why (snapshot_length (ram_length_of cartridge.now)) (length (D.disk (device_under opened)).sectors)
         (found_generation opened)) }
     ensures answered { HasAnswered (λ refused. faults_after refused.why) (D.disk (device_under opened)) (D.disk (left_by result)) result }
 {
-    let Room { pending, mut text } = room;
-    encode(&machine, &mut text);
-    match opened.begin(cartridge.digest(), count, &text) {
-        Ok(store) => Ok(Session::at(store, machine, pending, text, count)),
+    let Room {
+        pending,
+        mut encoded,
+    } = room;
+    encode(&machine, &mut encoded);
+    match opened.begin(cartridge.digest(), count, &encoded) {
+        Ok(store) => Ok(Session::at(store, machine, pending, encoded, count)),
         Err(refused) => Err(Refused {
             why: fault_of(refused.why),
             device: refused.device,

@@ -2,7 +2,7 @@
 ghost use Rattle.std.specs.Prelude.{◌≡◌, ◌<◌, ◌≤◌, ◌+◌, ◌-◌, ◌^◌, length, replicate, None, true, IfOk, IfErr};
 ghost use Rattle.machine.specs.Machine.{after};
 ghost use Rattle.machine.specs.declared.input.Input.TheVariants.{Frame};
-ghost use Rattle.snapshot.specs.Text.{text_length};
+ghost use Rattle.snapshot.specs.Encoding.{snapshot_length};
 ghost use Rattle.cartridge.specs.Header.{ram_length_of};
 ghost use Rattle.sector_log.specs.Inputs.{inputs, inputs_in, is_entry, first_wrong, counted};
 ghost use Rattle.sector_log.specs.Found.{IsSound};
@@ -104,18 +104,18 @@ fn log_refusal(log: &[Stored], generation: u64) -> Result<(), SessionError>
 fn rebuilt(
     alloc: Global,
     content: &Content,
-    text: &[u8],
+    encoded: &[u8],
     log: &[Stored],
     generation: u64,
     cartridge: &Cartridge,
 ) -> Result<(u64, Machine), SessionError>
     requires few { length log.now ≤ most_entries_read }
     requires counts { content.now.base + counted 0 log.now < 2 ^ 64 }
-    ensures ok { IfOk result (λ found. IsRebuilt cartridge.now content.now text.now log.now generation found.0 found.1) }
+    ensures ok { IfOk result (λ found. IsRebuilt cartridge.now content.now encoded.now log.now generation found.0 found.1) }
     ensures fits { IfOk result (λ found. found.0 < 2 ^ 64) }
-    ensures err { IfErr result (IsRebuildCause cartridge.now text.now log.now generation) }
+    ensures err { IfErr result (IsRebuildCause cartridge.now encoded.now log.now generation) }
 {
-    match decode(alloc, text, cartridge) {
+    match decode(alloc, encoded, cartridge) {
         Ok(mut machine) => {
             if let Err(why) = log_refusal(log, generation) {
                 return Err(why);
@@ -139,7 +139,7 @@ pub(crate) fn recovered<D: SectorDevice>(
     opened: &Opened<D>,
     cartridge: &Cartridge,
 ) -> Result<(u64, Machine), SessionError>
-    requires most { longest_blob opened.now ≡ text_length (ram_length_of cartridge.now) }
+    requires most { longest_blob opened.now ≡ snapshot_length (ram_length_of cartridge.now) }
     requires sound { IsSound (seen opened.now) }
     ensures ok { IfOk result (λ found. IsRecovered cartridge.now (seen opened.now) (found_generation opened.now) found.0 found.1) }
     ensures fits { IfOk result (λ found. found.0 < 2 ^ 64) }
@@ -149,14 +149,14 @@ pub(crate) fn recovered<D: SectorDevice>(
         Ok(content) => content,
         Err(why) => return Err(why),
     };
-    let Some(text) = opened.blob() else {
+    let Some(encoded) = opened.blob() else {
         let length = u64::from(content.blob_length);
         return Err(SessionError::Damaged(Damage::Snapshot(SnapError::SnapLength(length))));
     };
     rebuilt(
         alloc,
         &content,
-        text,
+        encoded,
         opened.entries(),
         opened.generation(),
         cartridge,

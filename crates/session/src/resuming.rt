@@ -9,7 +9,7 @@ ghost use Rattle.session.specs.Stands.{stands};
 ghost use Rattle.session.specs.Words.{device_of, machine_of, rom_of, pending_of, acknowledged_of, is_broken, left_by};
 ghost use Rattle.session.specs.declared.error.SessionError.TheVariants.{Device};
 
-use crate::begin::{begin_with, fault_of, make_room, text_length};
+use crate::begin::{begin_with, fault_of, make_room, snapshot_length};
 use crate::error::{Refused, SessionError};
 use crate::recovery::recovered;
 use crate::session::Session;
@@ -57,7 +57,7 @@ pub fn resume<D: SectorDevice>(
             device,
         });
     };
-    let opened = match open_log(alloc, device, text_length(cartridge)) {
+    let opened = match open_log(alloc, device, snapshot_length(cartridge)) {
         Ok(opened) => opened,
         Err(refused) => return Err(Refused {
             why: fault_of(refused.why),

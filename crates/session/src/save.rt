@@ -2,7 +2,7 @@
 ghost use Rattle.std.specs.Prelude.{◌≡◌, ◌↔◌, ◌≤◌, ◌<◌, ◌+◌, ◌-◌, ◌^◌, ◌⊎◌, ◌++◌, ◌∷◌, [], false, true, length, vec_capacity, OnOk, IfErr, IsErrOf};
 ghost use Rattle.std.specs.List.{list_all};
 ghost use Rattle.machine.specs.Machine.{start};
-ghost use Rattle.snapshot.specs.Text.{text, text_length};
+ghost use Rattle.snapshot.specs.Encoding.{encoded, snapshot_length};
 ghost use Rattle.snapshot.specs.Legal.{IsLegalMachine};
 ghost use Rattle.sector_device.specs.DiskState.{HasAnswered};
 ghost use Rattle.sector_device.specs.Runs.{HoldsSince};
@@ -39,7 +39,7 @@ pub(crate) fn write_pending<D: SectorDevice>(
 ) -> Result<(), SessionError>
     requires open { is_broken store.old ≡ false }
     requires inputs { list_all is_input pending.now ≡ true }
-    requires room { length buffer.old ≡ text_length (length machine.now.processor.memory.banks.ram) }
+    requires room { length buffer.old ≡ snapshot_length (length machine.now.processor.memory.banks.ram) }
     requires short { length buffer.old < 2 ^ 32 }
     requires large { need (length buffer.old) ≤ length (D.disk (device_of store.old)).sectors }
 
@@ -47,9 +47,9 @@ pub(crate) fn write_pending<D: SectorDevice>(
     ensures unchanged { IfErr result (λ why. (why ≡ SessionError.Device) ⊎ (store.new ≡ store.old)) }
     ensures broken { (is_broken store.new ≡ true) ↔ IsErrOf result SessionError.Device }
     ensures images { (D.disk (device_of store.old)).honest →
-        HoldsSince (D.disk (device_of store.old)) (D.disk (device_of store.new)) (HoldsWritten (fits (entries_of store.old) pending.now) (D.disk (device_of store.old)).sectors pending.now (id_of store.old) all (text machine.now)) }
+        HoldsSince (D.disk (device_of store.old)) (D.disk (device_of store.new)) (HoldsWritten (fits (entries_of store.old) pending.now) (D.disk (device_of store.old)).sectors pending.now (id_of store.old) all (encoded machine.now)) }
     ensures written { OnOk result ((D.disk (device_of store.old)).honest →
-        IsWritten (fits (entries_of store.old) pending.now) (D.disk (device_of store.old)) (D.disk (device_of store.new)) pending.now (id_of store.old) all (text machine.now) (entries_of store.old) (entries_of store.new)) }
+        IsWritten (fits (entries_of store.old) pending.now) (D.disk (device_of store.old)) (D.disk (device_of store.new)) pending.now (id_of store.old) all (encoded machine.now) (entries_of store.old) (entries_of store.new)) }
     ensures legal { fits (entries_of store.old) pending.now ≡ false → IsLegalMachine machine.now }
     ensures id { id_of store.new ≡ id_of store.old }
     ensures answered { HasAnswered faults_after (D.disk (device_of store.old)) (D.disk (device_of store.new)) result }

@@ -3,7 +3,7 @@ ghost use Rattle.std.specs.Prelude.{◌≡◌, ◌↔◌, ◌≤◌, ◌<◌, �
 ghost use Rattle.std.specs.List.{list_all};
 ghost use Rattle.sha2.specs.Sha256.{sha256};
 ghost use Rattle.machine.specs.Machine.{applied};
-ghost use Rattle.snapshot.specs.Text.{text_length};
+ghost use Rattle.snapshot.specs.Encoding.{snapshot_length};
 ghost use Rattle.snapshot.specs.Legal.{IsMachineOf};
 ghost use Rattle.sector_device.specs.DiskState.{HasAnswered};
 ghost use Rattle.sector_device.specs.Runs.{HoldsSince};
@@ -45,15 +45,15 @@ pub struct Session<D: SectorDevice> {
     /// The inputs that are not saved.
     pub(crate) pending: Vec<Entry>,
     /// Room for a snapshot.
-    pub(crate) text: Vec<u8>,
+    pub(crate) encoded: Vec<u8>,
     pub(crate) acknowledged: u64,
     ghost inputs: { list_all is_input pending.items ≡ true },
     ghost few: { length pending.items ≤ most_unsaved },
     ghost reserved: { most_unsaved ≤ vec_capacity pending },
     ghost counted: { acknowledged + length pending.items < 2 ^ 64 },
-    ghost room: { length text.items ≡ text_length (length machine.processor.memory.banks.ram) },
-    ghost short: { length text.items < 2 ^ 32 },
-    ghost large: { need (length text.items) ≤ length (D.disk (device_of_store store)).sectors },
+    ghost room: { length encoded.items ≡ snapshot_length (length machine.processor.memory.banks.ram) },
+    ghost short: { length encoded.items < 2 ^ 32 },
+    ghost large: { need (length encoded.items) ≤ length (D.disk (device_of_store store)).sectors },
     ghost id: { id_of store ≡ sha256 machine.processor.memory.banks.rom },
     ghost own: { IsOfItsRom machine } by { own_prop machine },
     ghost rests: { RestsUnlessBroken (D.disk (device_of_store store)) (entries_of store) acknowledged pending.items machine (is_broken_store store) } by { rests_prop (D.disk (device_of_store store)) (entries_of store) acknowledged pending.items machine (is_broken_store store) },
@@ -67,15 +67,15 @@ impl<D: SectorDevice> Session<D> {
         store: Store<D>,
         machine: Machine,
         pending: Vec<Entry>,
-        text: Vec<u8>,
+        encoded: Vec<u8>,
         acknowledged: u64,
     ) -> Self
         requires whole { is_broken_store store ≡ false }
         requires empty { pending.items ≡ [] }
         requires reserved { most_unsaved ≤ vec_capacity pending }
-        requires room { length text.items ≡ text_length (length machine.processor.memory.banks.ram) }
-        requires short { length text.items < 2 ^ 32 }
-        requires large { need (length text.items) ≤ length (D.disk (device_of_store store)).sectors }
+        requires room { length encoded.items ≡ snapshot_length (length machine.processor.memory.banks.ram) }
+        requires short { length encoded.items < 2 ^ 32 }
+        requires large { need (length encoded.items) ≤ length (D.disk (device_of_store store)).sectors }
         requires id { id_of store ≡ sha256 machine.processor.memory.banks.rom }
         requires own { IsOfItsRom machine }
         requires rests { RestsUnlessBroken (D.disk (device_of_store store)) (entries_of store) acknowledged [] machine false }
@@ -88,7 +88,7 @@ impl<D: SectorDevice> Session<D> {
             store,
             machine,
             pending,
-            text,
+            encoded,
             acknowledged,
         }
     }
@@ -201,7 +201,7 @@ impl<D: SectorDevice> Session<D> {
             &mut self.store,
             &self.machine,
             &self.pending,
-            &mut self.text,
+            &mut self.encoded,
             all,
         ) {
             Ok(()) => {

@@ -14,7 +14,7 @@ abbrev function_rules : Rules (ℕ → ℕ)
 function_rules = record {
   value_at = λ m a. m a;
   written = λ m a n k. if k == a then n else m k;
-  shared = λ m. bit_and (bit_and (m 0xFF0F) (m 0xFFFF)) 31;
+  pending_interrupts = λ m. bit_and (bit_and (m 0xFF0F) (m 0xFFFF)) 31;
   acknowledged = λ m bit k. if k == 0xFF0F then without_bit bit (m 0xFF0F) else m k;
   passed = λ m n. m;
 }
@@ -27,7 +27,7 @@ memory_of program requests enabled k =
 abbrev processor_at : ℕ → ℕ → ℕ → Bool → (ℕ → ℕ) → Processor (ℕ → ℕ)
 processor_at a f sp ime memory = record {
   registers = record { a = a; flags = flags_of f; b = 0; c = 0; d = 0; e = 0; h = 0; l = 0; sp = sp; pc = 0xC000 };
-  state = record { ime = ime; enable = false; halted = false; stopped = false; locked = false; repeat = false };
+  state = record { ime = ime; ime_pending = false; halted = false; stopped = false; locked = false; halt_bug = false };
   memory = memory;
 }
 

@@ -54,7 +54,7 @@ module _ {M : Type 0} (r : Rules M) (R : M → M → Type 0) (k : IsKept r R) wh
   by_instruction (instr.LoadByte p b) s = by_operand p b s
   by_instruction (instr.Accumulator o) s = k.itself s.memory
   by_instruction (instr.Load to from) s = by_operand to _ s
-  by_instruction instr.Halt s = either s.memory (s.state.ime || s.state.enable || r.shared s.memory == 0) _ _ (k.itself s.memory) (k.itself s.memory)
+  by_instruction instr.Halt s = either s.memory (s.state.ime || s.state.ime_pending || r.pending_interrupts s.memory == 0) _ _ (k.itself s.memory) (k.itself s.memory)
   by_instruction (instr.Operate o p) s = k.itself s.memory
   by_instruction (instr.OperateByte o b) s = k.itself s.memory
   by_instruction (instr.ReturnIf c) s = either s.memory (condition_holds c s.registers.flags) _ _ (k.itself s.memory) (k.itself s.memory)
@@ -85,8 +85,8 @@ module _ {M : Type 0} (r : Rules M) (R : M → M → Type 0) (k : IsKept r R) wh
   by_instruction (instr.SetBit n p) s = by_operand p _ s
   by_instruction (instr.Undefined o) s = k.itself s.memory
 
-  by_settling : (m : M) (enable : Bool) (i : Instr) (s : Processor M) → R m s.memory → R m (settled enable i s).memory
-  by_settling m enable i s before = either m (enable && not (is_disabling i)) _ _ before before
+  by_settling : (m : M) (ime_pending : Bool) (i : Instr) (s : Processor M) → R m s.memory → R m (settled ime_pending i s).memory
+  by_settling m ime_pending i s before = either m (ime_pending && not (is_disabling i)) _ _ before before
 
   by_passing : (m : M) (n : ℕ) (s : Processor M) → R m s.memory → R m (passing r n s).memory
   by_passing m n s before = k.follows _ _ _ before (k.passed s.memory n)
@@ -99,18 +99,18 @@ module _ {M : Type 0} (r : Rules M) (R : M → M → Type 0) (k : IsKept r R) wh
   by_running s =
       let d = decoded_at r s in
       let done : Processor M = executed r d.instr (begun d.length s) in
-      by_passing s.memory (ran r s).stepped.cycles (settled s.state.enable d.instr done)
-      (by_settling s.memory s.state.enable d.instr done (by_instruction d.instr (begun d.length s)))
+      by_passing s.memory (ran r s).stepped.cycles (settled s.state.ime_pending d.instr done)
+      (by_settling s.memory s.state.ime_pending d.instr done (by_instruction d.instr (begun d.length s)))
 
   by_dispatch : (s : Processor M) → R s.memory (dispatched r s).after.memory
   by_dispatch s =
-      let bit = lowest_interrupt (r.shared s.memory) in
-      let quiet : Processor M = record s { state = record s.state { ime = false; enable = false }; memory = r.acknowledged s.memory bit } in
+      let bit = lowest_interrupt (r.pending_interrupts s.memory) in
+      let quiet : Processor M = record s { state = record s.state { ime = false; ime_pending = false }; memory = r.acknowledged s.memory bit } in
       by_passing s.memory 5 (at_pc (vector_of bit) (pushed r s.registers.pc quiet))
       (k.follows _ _ _ (k.acknowledged s.memory bit) (by_push s.registers.pc quiet))
 
   by_resuming : (s : Processor M) → R s.memory (dispatched_or_ran r s).after.memory
-  by_resuming s = either_step s.memory (s.state.ime && not (r.shared s.memory == 0)) (dispatched r s) (ran r s) (by_dispatch s) (by_running s)
+  by_resuming s = either_step s.memory (s.state.ime && not (r.pending_interrupts s.memory == 0)) (dispatched r s) (ran r s) (by_dispatch s) (by_running s)
 
   by_wait : (s : Processor M) → R s.memory (waited r s).after.memory
   by_wait s = k.passed s.memory 1
@@ -118,7 +118,7 @@ module _ {M : Type 0} (r : Rules M) (R : M → M → Type 0) (k : IsKept r R) wh
   by_going_on : (s : Processor M) → R s.memory (step_unstopped r s).after.memory
   by_going_on s =
       let going : Processor M = record s { state = record s.state { halted = false } } in
-      either_step s.memory (s.state.halted && r.shared s.memory == 0) (waited r s) (dispatched_or_ran r going) (by_wait s) (by_resuming going)
+      either_step s.memory (s.state.halted && r.pending_interrupts s.memory == 0) (waited r s) (dispatched_or_ran r going) (by_wait s) (by_resuming going)
 
   pub by_step : (s : Processor M) → R s.memory (step_of r s).after.memory
   unfolding step_of

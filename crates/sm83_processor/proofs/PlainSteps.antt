@@ -24,7 +24,7 @@ plain_step r p plain =
     ap (λ b. cond b (waited r p) (cond (p.state.stopped && r.value_at p.memory 0xFF00 % 16 == 15) (waited r p) (step_unstopped r (on_of false p)))) plain.usual.locked
     ∙ ap (λ b. cond (b && r.value_at p.memory 0xFF00 % 16 == 15) (waited r p) (step_unstopped r (on_of false p))) plain.usual.stopped
     ∙ ap (λ b. step_unstopped r (on_of b p)) (sym plain.usual.stopped)
-    ∙ ap (λ b. cond (b && r.shared p.memory == 0) (waited r p) (dispatched_or_ran r (going_of false p))) plain.usual.halted
+    ∙ ap (λ b. cond (b && r.pending_interrupts p.memory == 0) (waited r p) (dispatched_or_ran r (going_of false p))) plain.usual.halted
     ∙ ap (λ b. dispatched_or_ran r (going_of b p)) (sym plain.usual.halted)
     ∙ ap (λ b. cond b (dispatched r p) (ran r p)) plain.uninterrupted
 
@@ -38,10 +38,10 @@ one_on p = record p { registers = record p.registers { pc = next_address p.regis
 abbrev taking : {M : Type 0} → Processor M → Bool → Bool → Processor M
 taking p before after = record p {
   registers = record p.registers { pc = if before then p.registers.pc else next_address p.registers.pc };
-  state = record p.state { repeat = after };
+  state = record p.state { halt_bug = after };
 }
 
-opens : {M : Type 0} (p : Processor M) → p.state.repeat ≡ false → one_on p ≡ opened p
+opens : {M : Type 0} (p : Processor M) → p.state.halt_bug ≡ false → one_on p ≡ opened p
 opens p e = ap (λ (b : Bool). taking p false b) e ∙ sym (ap (λ (b : Bool). taking p b false) e)
 
 -- what is known of an instruction that ran by its opcode, and of the M-cycles that passed behind it
@@ -50,20 +50,20 @@ pub plainly_after : {M : Type 0} (r : Rules M) (opcode cycles : ℕ) (p q : Proc
     → memory ≡ r.passed q.memory cycles → record q { memory = memory } ≡ (step_of r p).after
 plainly_after {M} r opcode cycles p q memory plain e f g h =
     let i = instruction_at r (opcode_at r p) (opened p) in
-    let same = opens p plain.usual.repeat in
+    let same = opens p plain.usual.halt_bug in
     ap (λ (m : M). record q { memory = m }) h
     ∙ ap (passing r cycles) f
     ∙ ap (λ (n : ℕ). passing r n (executed_behind r (instruction_at r opcode (one_on p)) (one_on p))) g
     ∙ ap (λ (o : ℕ). passing r (cycles_with (instruction_at r o (one_on p)) p.registers.flags) (executed_behind r (instruction_at r o (one_on p)) (one_on p))) e
     ∙ ap (λ (s : Processor M). passing r (cycles_with (instruction_at r (opcode_at r p) s) p.registers.flags) (executed_behind r (instruction_at r (opcode_at r p) s) s)) same
-    ∙ ap (λ (b : Bool). passing r (cycles_with i p.registers.flags) (settled b i (executed_behind r i (opened p)))) (sym plain.usual.enable)
+    ∙ ap (λ (b : Bool). passing r (cycles_with i p.registers.flags) (settled b i (executed_behind r i (opened p)))) (sym plain.usual.ime_pending)
     ∙ sym (ap (λ (s : Step M). s.after) (plain_step r p plain))
 
 pub plainly_cycles : {M : Type 0} (r : Rules M) (opcode cycles : ℕ) (p : Processor M) → IsPlain r p → opcode ≡ opcode_at r p
     → cycles ≡ cycles_with (instruction_at r opcode (one_on p)) p.registers.flags → cycles ≡ (step_of r p).stepped.cycles
 plainly_cycles {M} r opcode cycles p plain e g =
     g ∙ ap (λ (o : ℕ). cycles_with (instruction_at r o (one_on p)) p.registers.flags) e
-    ∙ ap (λ (s : Processor M). cycles_with (instruction_at r (opcode_at r p) s) p.registers.flags) (opens p plain.usual.repeat)
+    ∙ ap (λ (s : Processor M). cycles_with (instruction_at r (opcode_at r p) s) p.registers.flags) (opens p plain.usual.halt_bug)
     ∙ sym (ap (λ (s : Step M). s.stepped.cycles) (plain_step r p plain))
 
 abbrev stepped_with : ℕ → List ℕ → ℕ → ℕ → Stepped
@@ -73,15 +73,15 @@ abbrev bytes_at : {M : Type 0} → Rules M → Processor M → List ℕ
 bytes_at r p = byte_at r p.registers.pc p ∷ byte_at r (second_address p) p ∷ byte_at r (next_address (second_address p)) p ∷ []
 
 abbrev bytes_by : {M : Type 0} → Rules M → Bool → Processor M → List ℕ
-bytes_by r repeat p =
-    let second = if repeat then p.registers.pc else next_address p.registers.pc in
+bytes_by r halt_bug p =
+    let second = if halt_bug then p.registers.pc else next_address p.registers.pc in
     byte_at r p.registers.pc p ∷ byte_at r second p ∷ byte_at r (next_address second) p ∷ []
 
 -- the three bytes that a plain step fetches
 pub plainly_fetched : {M : Type 0} (r : Rules M) (p : Processor M) → IsPlain r p
     → byte_at r p.registers.pc p ∷ byte_at r (next_address p.registers.pc) p ∷ byte_at r (next_address (next_address p.registers.pc)) p ∷ []
     ≡ byte_at r p.registers.pc p ∷ byte_at r (second_address p) p ∷ byte_at r (next_address (second_address p)) p ∷ []
-plainly_fetched r p plain = ap (λ (b : Bool). bytes_by r b p) (sym plain.usual.repeat)
+plainly_fetched r p plain = ap (λ (b : Bool). bytes_by r b p) (sym plain.usual.halt_bug)
 
 -- what is known of a plain step that is reported
 pub plainly_reported : {M : Type 0} (r : Rules M) (bytes : List ℕ) (length cycles : ℕ) (p : Processor M) → IsPlain r p

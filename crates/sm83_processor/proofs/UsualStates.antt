@@ -104,8 +104,8 @@ same_usual new old e usual = record {
   locked = ap (λ (s : ProcessorState). s.locked) e ∙ usual.locked;
   stopped = ap (λ (s : ProcessorState). s.stopped) e ∙ usual.stopped;
   halted = ap (λ (s : ProcessorState). s.halted) e ∙ usual.halted;
-  enable = ap (λ (s : ProcessorState). s.enable) e ∙ usual.enable;
-  repeat = ap (λ (s : ProcessorState). s.repeat) e ∙ usual.repeat;
+  ime_pending = ap (λ (s : ProcessorState). s.ime_pending) e ∙ usual.ime_pending;
+  halt_bug = ap (λ (s : ProcessorState). s.halt_bug) e ∙ usual.halt_bug;
 }
 
 usual_in : {M : Type 0} (r : Rules M) (i : Instr) (s : Processor M) → leaves i ≡ false → IsUsual s.state → (b : Bool) → b ≡ changes_state i
@@ -113,8 +113,8 @@ usual_in : {M : Type 0} (r : Rules M) (i : Instr) (s : Processor M) → leaves i
 usual_in r i s stays usual false e = same_usual _ _ (state_kept r i s (sym e)) usual
 usual_in r Stop s stays usual true e = absurd_state stays
 usual_in r Halt s stays usual true e = absurd_state stays
-usual_in r ReturnFromInterrupt s stays usual true e = record { locked = usual.locked; stopped = usual.stopped; halted = usual.halted; enable = usual.enable; repeat = usual.repeat }
-usual_in r DisableInterrupts s stays usual true e = record { locked = usual.locked; stopped = usual.stopped; halted = usual.halted; enable = refl; repeat = usual.repeat }
+usual_in r ReturnFromInterrupt s stays usual true e = record { locked = usual.locked; stopped = usual.stopped; halted = usual.halted; ime_pending = usual.ime_pending; halt_bug = usual.halt_bug }
+usual_in r DisableInterrupts s stays usual true e = record { locked = usual.locked; stopped = usual.stopped; halted = usual.halted; ime_pending = refl; halt_bug = usual.halt_bug }
 usual_in r EnableInterrupts s stays usual true e = absurd_state stays
 usual_in r (Undefined o) s stays usual true e = absurd_state stays
 usual_in r _ s stays usual true e = absurd_state e

@@ -91,9 +91,9 @@ returned rules s = at_pc (popped_word rules s) (popped s)
 -- Directly behind EI it counts as IME set (fixed profile).
 abbrev pub halting : {M : Type 0} → Rules M → Processor M → Processor M
 halting rules s =
-    if s.state.ime || s.state.enable || rules.shared s.memory == 0
+    if s.state.ime || s.state.ime_pending || rules.pending_interrupts s.memory == 0
     then record s { state = record s.state { halted = true } }
-    else record s { state = record s.state { repeat = true } }
+    else record s { state = record s.state { halt_bug = true } }
 
 -- what an instruction leaves
 abbrev pub executed : {M : Type 0} → Rules M → Instr → Processor M → Processor M
@@ -145,8 +145,8 @@ executed rules instr.LoadHighC s =
     with_registers (record s.registers { a = rules.value_at s.memory (high_address s.registers.c) }) s
 executed rules (instr.LoadAt w) s = with_registers (record s.registers { a = rules.value_at s.memory w }) s
 executed rules (instr.Jump w) s = at_pc w s
-executed rules instr.DisableInterrupts s = record s { state = record s.state { ime = false; enable = false } }
-executed rules instr.EnableInterrupts s = record s { state = record s.state { enable = true } }
+executed rules instr.DisableInterrupts s = record s { state = record s.state { ime = false; ime_pending = false } }
+executed rules instr.EnableInterrupts s = record s { state = record s.state { ime_pending = true } }
 executed rules (instr.CallIf c w) s = if condition_holds c s.registers.flags then called rules w s else s
 executed rules (instr.Push p) s = pushed rules (stack_register16_value p s.registers) s
 executed rules (instr.Call w) s = called rules w s

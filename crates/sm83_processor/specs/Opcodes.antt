@@ -12,7 +12,7 @@ use Rattle.opcode_table.specs.Timing.{length_of, cycles_of, cycles_taken_of}
 
 -- the opcode is taken: PC is at the byte behind it
 abbrev pub opened : {M : Type 0} → Processor M → Processor M
-opened s = record s { registers = record s.registers { pc = second_address s }; state = record s.state { repeat = false } }
+opened s = record s { registers = record s.registers { pc = second_address s }; state = record s.state { halt_bug = false } }
 
 -- the bytes at PC
 abbrev pub low_at : {M : Type 0} → Rules M → Processor M → ℕ

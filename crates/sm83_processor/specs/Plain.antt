@@ -4,15 +4,15 @@ use Rattle.sm83_processor.specs.Rules.{Rules}
 use Rattle.sm83_processor.specs.declared.processor.Processor.{Processor}
 use Rattle.sm83_processor.specs.declared.processor.ProcessorState.{ProcessorState}
 
--- it does not wait, and an instruction begins with neither `enable` nor `repeat`
+-- it does not wait, and an instruction begins with neither `ime_pending` nor `halt_bug`
 pub record IsUsual (s : ProcessorState) : Type 0 where
   pub locked : s.locked ≡ false
   pub stopped : s.stopped ≡ false
   pub halted : s.halted ≡ false
-  pub enable : s.enable ≡ false
-  pub repeat : s.repeat ≡ false
+  pub ime_pending : s.ime_pending ≡ false
+  pub halt_bug : s.halt_bug ≡ false
 
 -- and takes no interrupt
 pub record IsPlain {M : Type 0} (rules : Rules M) (p : Processor M) : Type 0 where
   pub usual : IsUsual p.state
-  pub uninterrupted : (p.state.ime && not (rules.shared p.memory == 0)) ≡ false
+  pub uninterrupted : (p.state.ime && not (rules.pending_interrupts p.memory == 0)) ≡ false

@@ -7,7 +7,7 @@ pub record Rules (M : Type 0) : Type 0 where
   -- the memory after a write of a byte at an address
   pub written : M → ℕ → ℕ → M
   -- the bits that IE and IF share, of the low five
-  pub shared : M → ℕ
+  pub pending_interrupts : M → ℕ
   -- the memory with a bit of IF cleared
   pub acknowledged : M → ℕ → M
   -- the memory after M-cycles

@@ -48,9 +48,9 @@ vector_of bit = 0x40 + 8 * bit
 -- an interrupt: its bit in IF is cleared, PC is pushed and becomes its vector
 abbrev pub dispatched : {M : Type 0} → Rules M → Processor M → Step M
 dispatched rules s =
-    let bit = lowest_interrupt (rules.shared s.memory) in
+    let bit = lowest_interrupt (rules.pending_interrupts s.memory) in
     let quiet = record s {
-      state = record s.state { ime = false; enable = false };
+      state = record s.state { ime = false; ime_pending = false };
       memory = rules.acknowledged s.memory bit;
     } in
     record {
@@ -60,7 +60,7 @@ dispatched rules s =
 
 -- the address of the second byte: behind a halt that was not entered it is PC's own
 abbrev pub second_address : {M : Type 0} → Processor M → ℕ
-second_address s = if s.state.repeat then s.registers.pc else next_address s.registers.pc
+second_address s = if s.state.halt_bug then s.registers.pc else next_address s.registers.pc
 
 abbrev pub byte_at : {M : Type 0} → Rules M → ℕ → Processor M → ℕ
 byte_at rules address s = rules.value_at s.memory address
@@ -74,7 +74,7 @@ decoded_at rules s =
 abbrev pub begun : {M : Type 0} → ℕ → Processor M → Processor M
 begun n s = record s {
   registers = record s.registers { pc = (second_address s + (n - 1)) % 65536 };
-  state = record s.state { repeat = false };
+  state = record s.state { halt_bug = false };
 }
 
 abbrev pub is_disabling : Instr → Bool
@@ -125,10 +125,10 @@ is_disabling (instr.ResetBit n r) = false
 is_disabling (instr.SetBit n r) = false
 is_disabling (instr.Undefined o) = false
 
--- an instruction that began with `enable` ends with IME set and `enable` clear, but for DI
+-- an instruction that began with `ime_pending` ends with IME set and `ime_pending` clear, but for DI
 abbrev pub settled : {M : Type 0} → Bool → Instr → Processor M → Processor M
-settled enable i s =
-    if enable && not (is_disabling i) then record s { state = record s.state { ime = true; enable = false } } else s
+settled ime_pending i s =
+    if ime_pending && not (is_disabling i) then record s { state = record s.state { ime = true; ime_pending = false } } else s
 
 -- one instruction
 abbrev pub ran : {M : Type 0} → Rules M → Processor M → Step M
@@ -136,7 +136,7 @@ ran rules s =
     let d = decoded_at rules s in
     let cycles = (if is_taken d.instr s.registers.flags then d.cycles_taken else d.cycles) in
     record {
-      after = passing rules cycles (settled s.state.enable d.instr (executed rules d.instr (begun d.length s)));
+      after = passing rules cycles (settled s.state.ime_pending d.instr (executed rules d.instr (begun d.length s)));
       stepped = record {
         what = Ran (record {
           pc = s.registers.pc;
@@ -149,12 +149,12 @@ ran rules s =
 
 -- a processor that neither waits nor is stopped takes an interrupt that is let in, or runs
 abbrev pub dispatched_or_ran : {M : Type 0} → Rules M → Processor M → Step M
-dispatched_or_ran rules s = if s.state.ime && not (rules.shared s.memory == 0) then dispatched rules s else ran rules s
+dispatched_or_ran rules s = if s.state.ime && not (rules.pending_interrupts s.memory == 0) then dispatched rules s else ran rules s
 
 -- a halt ends where IE and IF share a bit
 abbrev pub step_unstopped : {M : Type 0} → Rules M → Processor M → Step M
 step_unstopped rules s =
-    if s.state.halted && rules.shared s.memory == 0 then waited rules s
+    if s.state.halted && rules.pending_interrupts s.memory == 0 then waited rules s
     else dispatched_or_ran rules (record s { state = record s.state { halted = false } })
 
 -- a locked processor waits for ever; a stop ends where a low bit of P1, at FF00, is 0

@@ -43,7 +43,7 @@ impl<M: Memory> Processor<M> {
         ensures { result ≡ second_address self.now }
     {
         let pc = self.registers.pc;
-        if self.state.repeat {
+        if self.state.halt_bug {
             pc
         } else {
             pc.wrapping_add(1)
@@ -503,7 +503,7 @@ impl<M: Memory> Processor<M> {
     {
         self.move_past(1);
         self.state.ime = false;
-        self.state.enable = false;
+        self.state.ime_pending = false;
         1
     }
 
@@ -514,7 +514,7 @@ impl<M: Memory> Processor<M> {
         ensures cycles { result ≡ cycles_with Instr.EnableInterrupts self.old.registers.flags }
     {
         self.move_past(1);
-        self.state.enable = true;
+        self.state.ime_pending = true;
         1
     }
 

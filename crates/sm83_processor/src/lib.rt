@@ -20,4 +20,4 @@ pub use lengths::length_of_opcode;
 pub use memory::Memory;
 pub use opcodes::{IN_FRAME, REPORTED};
 pub use processor::{Processor, ProcessorState};
-pub use step::{Seen, Stepped, What};
+pub use step::{Executed, Stepped, What};

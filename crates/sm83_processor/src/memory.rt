@@ -21,8 +21,8 @@ pub trait Memory {
 
     /// The bits that IE and IF share, of the low five: VBlank 0, STAT 1, timer 2, serial 3, joypad
     /// 4.
-    fn shared(&self) -> u8
-        ensures { result ≡ rules.shared self.now };
+    fn pending_interrupts(&self) -> u8
+        ensures { result ≡ rules.pending_interrupts self.now };
 
     /// Clears a bit of IF.
     fn acknowledge(&mut self, bit: u8)

@@ -64,7 +64,7 @@ impl<M: Memory> Processor<M> {
         ensures cycles { result ≡ cycles_with (instruction_at M.rules opcode (opened self.old)) self.old.registers.flags }
     {
         self.registers.pc = self.second();
-        self.state.repeat = false;
+        self.state.halt_bug = false;
         self.run_opcode::<APART>(opcode).0
     }
 

@@ -19,7 +19,7 @@ pub struct ProcessorState {
     /// IME.
     pub ime: bool,
     /// EI ran, and IME is set at the end of the next instruction.
-    pub enable: bool,
+    pub ime_pending: bool,
     /// HALT runs until IE and IF share a bit.
     pub halted: bool,
     /// STOP runs until a selected button is pressed.
@@ -27,7 +27,7 @@ pub struct ProcessorState {
     /// An undefined opcode ran: nothing but time passes from then on.
     pub locked: bool,
     /// The next opcode fetch does not advance PC, since a HALT was not entered.
-    pub repeat: bool,
+    pub halt_bug: bool,
 }
 
 /// A processor and its memory.
@@ -129,10 +129,10 @@ impl<M: Memory> Processor<M> {
     pub(crate) fn halt(&mut self)
         ensures { self.new ≡ halting M.rules self.old }
     {
-        if self.state.ime || self.state.enable || self.memory.shared() == 0 {
+        if self.state.ime || self.state.ime_pending || self.memory.pending_interrupts() == 0 {
             self.state.halted = true;
         } else {
-            self.state.repeat = true;
+            self.state.halt_bug = true;
         }
     }
 

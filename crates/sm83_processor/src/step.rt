@@ -10,7 +10,7 @@ use crate::processor::Processor;
 /// An instruction that ran: where it was, the three bytes that were fetched, and how many of them
 /// are its own.
 #[derive(Clone, Copy, Debug, PartialEq, Eq)]
-pub struct Seen {
+pub struct Executed {
     pub pc: u16,
     pub bytes: [u8; 3],
     pub length: u8,
@@ -24,7 +24,7 @@ pub enum What {
     /// One M-cycle passed while the processor was halted, stopped or locked.
     Wait,
     /// An instruction ran.
-    Ran(Seen),
+    Ran(Executed),
 }
 
 /// What a step did, and how many M-cycles passed in it: 1 to 6.
@@ -65,10 +65,10 @@ impl<M: Memory> Processor<M> {
         ensures some_cycles { 0 < result.cycles }
         ensures few_cycles { result.cycles ≤ 6 }
     {
-        let bit = lowest_of(self.memory.shared());
+        let bit = lowest_of(self.memory.pending_interrupts());
         self.memory.acknowledge(bit);
         self.state.ime = false;
-        self.state.enable = false;
+        self.state.ime_pending = false;
         let vector = 64 + 8 * u16::from(bit);
         self.call(vector);
         self.memory.pass(5);
@@ -91,20 +91,20 @@ impl<M: Memory> Processor<M> {
         ]
     }
 
-    /// Ends an instruction of this opcode that began with `enable` as given.
+    /// Ends an instruction of this opcode that began with `ime_pending` as given.
     #[inline(always)]
     #[tactic(auto, using(crate::proofs::Disabling::disabling_opcode))]
-    fn settle(&mut self, enable: bool, opcode: u8)
-        ensures { (low high : ℕ) → self.new ≡ settled enable (instruction_of opcode low high) self.old }
+    fn settle(&mut self, ime_pending: bool, opcode: u8)
+        ensures { (low high : ℕ) → self.new ≡ settled ime_pending (instruction_of opcode low high) self.old }
     {
-        if !enable {
+        if !ime_pending {
             return;
         }
         if opcode == DISABLE_INTERRUPTS {
             return;
         }
         self.state.ime = true;
-        self.state.enable = false;
+        self.state.ime_pending = false;
     }
 
     #[inline(always)]
@@ -115,13 +115,13 @@ impl<M: Memory> Processor<M> {
         ensures few_cycles { result.cycles ≤ 6 }
     {
         let pc = self.registers.pc;
-        let enable = self.state.enable;
+        let ime_pending = self.state.ime_pending;
         let bytes = self.fetch();
         let cycles = self.run_opcode_apart(bytes[0]);
-        self.settle(enable, bytes[0]);
+        self.settle(ime_pending, bytes[0]);
         self.memory.pass(cycles);
         Stepped {
-            what: What::Ran(Seen {
+            what: What::Ran(Executed {
                 pc,
                 bytes,
                 length: length_of_opcode(bytes[0]),
@@ -130,7 +130,7 @@ impl<M: Memory> Processor<M> {
         }
     }
 
-    /// Whether the next step is an instruction that begins with neither `enable` nor `repeat`: a
+    /// Whether the next step is an instruction that begins with neither `ime_pending` nor `halt_bug`: a
     /// plain one.
     #[inline(always)]
     pub fn is_plain(&self) -> bool
@@ -140,7 +140,7 @@ impl<M: Memory> Processor<M> {
         if self.state.locked || self.state.stopped || self.state.halted {
             return false;
         }
-        if self.state.enable || self.state.repeat {
+        if self.state.ime_pending || self.state.halt_bug {
             return false;
         }
         !self.is_interrupted()
@@ -149,9 +149,9 @@ impl<M: Memory> Processor<M> {
     /// Whether IME is set and IE and IF share a bit.
     #[inline(always)]
     pub fn is_interrupted(&self) -> bool
-        ensures { result ≡ (self.now.state.ime && not (M.rules.shared self.now.memory == 0)) }
+        ensures { result ≡ (self.now.state.ime && not (M.rules.pending_interrupts self.now.memory == 0)) }
     {
-        self.memory.shared() != 0 && self.state.ime
+        self.memory.pending_interrupts() != 0 && self.state.ime
     }
 
     /// Makes a plain step: says how many M-cycles passed in it, and whether the next one is plain.
@@ -194,7 +194,7 @@ impl<M: Memory> Processor<M> {
         ensures some_cycles { 0 < result.cycles }
         ensures few_cycles { result.cycles ≤ 6 }
     {
-        if self.state.ime && self.memory.shared() != 0 {
+        if self.state.ime && self.memory.pending_interrupts() != 0 {
             self.dispatch()
         } else {
             self.run()
@@ -208,7 +208,7 @@ impl<M: Memory> Processor<M> {
         ensures some_cycles { 0 < result.cycles }
         ensures few_cycles { result.cycles ≤ 6 }
     {
-        if self.state.halted && self.memory.shared() == 0 {
+        if self.state.halted && self.memory.pending_interrupts() == 0 {
             return self.wait();
         }
         self.state.halted = false;

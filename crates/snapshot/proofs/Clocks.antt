@@ -7,7 +7,7 @@ use Rattle.bank_controllers.specs.declared.clock.ClockRegisters.{ClockRegisters}
 use Rattle.bank_controllers.specs.Clock.{IsLegalClock, clock_at_power_on}
 use Rattle.snapshot.proofs.Bytes.{numbers_at, day_high_is}
 
--- the ranges of a clock's fields in a text
+-- the ranges of a clock's fields in a snapshot
 pub record IsWithin (b : Bool) (c : ClockRegisters) : Type 0 where
   pub seconds : c.seconds ≤ cond b 63 0
   pub minutes : c.minutes ≤ cond b 63 0

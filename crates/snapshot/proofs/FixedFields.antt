@@ -1,4 +1,4 @@
--- The registers of a text, and the text of registers.
+-- The registers of a snapshot, and the snapshot of registers.
 use Rattle.std.proofs.Common.{◌≡◌, ℕ, suc, ◌+◌, ◌*◌, ◌/◌, ◌%◌, ◌<◌, ◌≤◌, Bool, true, false, eqb, cond, List, [], ◌∷◌, ◌++◌, length, take, length-take, get_or, get_or-take, refl, sym, ap, subst, ◌∙◌, eq-eqb, arith}
 use Rattle.std.specs.Prelude.{bit_and, map}
 use Rattle.std.specs.List.{range_with_len}
@@ -7,18 +7,18 @@ use Rattle.sm83_alu.specs.Flags.{digit_of}
 use Rattle.cartridge.specs.declared.controller.Controller.{Controller}
 use Rattle.sm83_processor.specs.declared.processor.ProcessorState.{ProcessorState}
 use Rattle.machine.specs.declared.machine_without_memory.MachineWithoutMemory.{MachineWithoutMemory}
-use Rattle.snapshot.specs.Text.{fixed_fields, kind_byte, processor_byte, picture_byte}
+use Rattle.snapshot.specs.Encoding.{fixed_fields, kind_byte, processor_byte, picture_byte}
 use Rattle.snapshot.specs.Reading.{has, processor_of, registers_in}
 use Rattle.snapshot.proofs.Bytes.{word_back, low_back, high_back, digit_test, test_digit, six_back, six_again, two_back, two_again, flags_back, flags_again}
 
 pub state_back : (s : ProcessorState) → processor_of (processor_byte s) ≡ s
-state_back s = let six = six_back s.ime s.enable s.halted s.stopped s.locked s.repeat in rw (six.0, six.1, six.2, six.3, six.4, six.5) refl
+state_back s = let six = six_back s.ime s.ime_pending s.halted s.stopped s.locked s.halt_bug in rw (six.0, six.1, six.2, six.3, six.4, six.5) refl
 
 -- the registers of registers' bytes
 pub registers_back : (kind : Controller) (m : MachineWithoutMemory) (rest : List ℕ) → kind ≡ m.bus.banks.kind → registers_in kind (fixed_fields m ++ rest) ≡ m
 registers_back kind m rest same =
     let two = two_back m.bus.picture.seen m.bus.picture.signal in
-    let six = six_back m.state.ime m.state.enable m.state.halted m.state.stopped m.state.locked m.state.repeat in
+    let six = six_back m.state.ime m.state.ime_pending m.state.halted m.state.stopped m.state.locked m.state.halt_bug in
     rw (
       same,
       flags_back m.registers.flags,

@@ -1,4 +1,4 @@
--- A machine and its text: each gives the other.
+-- A machine and its snapshot: each gives the other.
 use Rattle.std.proofs.Common.{◌≡◌, ℕ, ◌+◌, ◌-◌, ◌*◌, ◌/◌, ◌%◌, ◌<◌, ◌≤◌, Bool, true, false, eqb, nat_lt, List, [], ◌∷◌, ◌++◌, length, take, drop, replicate, get_or, get_or-take, get_or-drop, refl, sym, ap, subst, ◌∙◌, inl, inr, lit≤, arith}
 use Rattle.std.specs.Prelude.{slice_range, slice_index, ◌==◌}
 use Rattle.std.specs.List.{All, list_all}
@@ -15,15 +15,15 @@ use Rattle.memory_map.specs.State.{BusState}
 use Rattle.machine.specs.declared.machine_without_memory.MachineWithoutMemory.{MachineWithoutMemory}
 use Rattle.machine.specs.Machine.{MachineState}
 use Rattle.machine.specs.MachineStores.{without_memory, AreLegalFor}
-use Rattle.snapshot.specs.Text.{fixed_fields, unused, picture_bytes, stores_text, text, text_length}
+use Rattle.snapshot.specs.Encoding.{fixed_fields, unused, picture_bytes, stores_bytes, encoded, snapshot_length}
 use Rattle.snapshot.specs.Table.{bytes, is_legal, ram_rule, table, kind_of_image, table_of}
 use Rattle.snapshot.specs.Reading.{registers_in, rows_in, machine_in}
-use Rattle.snapshot.specs.Legal.{IsRow, IsLegalMachine, IsMachineOf, IsLegalText}
+use Rattle.snapshot.specs.Legal.{IsRow, IsLegalMachine, IsMachineOf, IsLegalSnapshot}
 use Rattle.snapshot.proofs.Bytes.{bit_back, digit_small, numbers_at}
 use Rattle.snapshot.proofs.Parts.{AreParts, parts_of, parts_length, parts_join, part_length}
 use Rattle.snapshot.proofs.Pictures.{picture_length, picture_again, rows_back, rows_length, rows_are_rows}
 use Rattle.snapshot.proofs.FixedFields.{registers_back, registers_again}
-use Rattle.snapshot.proofs.Legality.{AreLegalFields, registers_legal, fields_are, unused_in, ram_in, text_is_legal}
+use Rattle.snapshot.proofs.Legality.{AreLegalFields, registers_legal, fields_are, unused_in, ram_in, encoded_is_legal}
 
 -- ---- a machine by its parts
 
@@ -36,7 +36,7 @@ assemble r vram wram oam hram sound rows ram rom rumble = record {
       timer = record { timer = r.bus.timer; requested = is_set r.bus.interrupt_flag 4 };
       serial = record { serial = r.bus.serial; requested = is_set r.bus.interrupt_flag 8 };
       picture = record {
-        screen = record { state = r.bus.picture; vram = vram; oam = oam; rows = rows };
+        picture = record { state = r.bus.picture; vram = vram; oam = oam; rows = rows };
         vblank = is_set r.bus.interrupt_flag 1;
         stat = is_set r.bus.interrupt_flag 2;
       };
@@ -85,7 +85,7 @@ five_again n h =
 
 assembled_again :
     (m : MachineState)
-    → assemble (without_memory m) m.processor.memory.picture.screen.vram m.processor.memory.wram m.processor.memory.picture.screen.oam m.processor.memory.hram m.processor.memory.sound m.processor.memory.picture.screen.rows m.processor.memory.banks.ram m.processor.memory.banks.rom m.processor.memory.banks.rumble
+    → assemble (without_memory m) m.processor.memory.picture.picture.vram m.processor.memory.wram m.processor.memory.picture.picture.oam m.processor.memory.hram m.processor.memory.sound m.processor.memory.picture.picture.rows m.processor.memory.banks.ram m.processor.memory.banks.rom m.processor.memory.banks.rumble
     ≡ m
 unfolding assemble
 assembled_again m =
@@ -106,43 +106,43 @@ assembled_alike :
     → assemble r vram wram oam hram sound rows ram rom rumble ≡ assemble r' vram' wram' oam' hram' sound' rows' ram' rom' rumble'
 assembled_alike r r' vram vram' wram wram' oam oam' hram hram' sound sound' rows rows' ram ram' rom rom' rumble rumble' e0 e1 e2 e3 e4 e5 e6 e7 e8 e9 = cc
 
--- ---- the text of a machine
+-- ---- the snapshot of a machine
 
 unused_length : length unused ≡ 61
 unfolding unused
 unused_length = refl
 
-text_parts :
+encoded_parts :
     (m : MachineState) → IsLegalMachine m
-    → AreParts (text m) (fixed_fields (without_memory m)) unused m.processor.memory.picture.screen.vram m.processor.memory.wram m.processor.memory.picture.screen.oam m.processor.memory.hram m.processor.memory.sound (picture_bytes m.processor.memory.picture.screen.rows) m.processor.memory.banks.ram
-unfolding text
-text_parts m legal =
-    parts_of (fixed_fields (without_memory m)) unused m.processor.memory.picture.screen.vram m.processor.memory.wram m.processor.memory.picture.screen.oam m.processor.memory.hram m.processor.memory.sound (picture_bytes m.processor.memory.picture.screen.rows) m.processor.memory.banks.ram refl unused_length legal.stores.vram legal.stores.wram legal.stores.oam legal.stores.hram legal.stores.sound (picture_length m.processor.memory.picture.screen.rows)
+    → AreParts (encoded m) (fixed_fields (without_memory m)) unused m.processor.memory.picture.picture.vram m.processor.memory.wram m.processor.memory.picture.picture.oam m.processor.memory.hram m.processor.memory.sound (picture_bytes m.processor.memory.picture.picture.rows) m.processor.memory.banks.ram
+unfolding encoded
+encoded_parts m legal =
+    parts_of (fixed_fields (without_memory m)) unused m.processor.memory.picture.picture.vram m.processor.memory.wram m.processor.memory.picture.picture.oam m.processor.memory.hram m.processor.memory.sound (picture_bytes m.processor.memory.picture.picture.rows) m.processor.memory.banks.ram refl unused_length legal.stores.vram legal.stores.wram legal.stores.oam legal.stores.hram legal.stores.sound (picture_length m.processor.memory.picture.picture.rows)
 
-pub text_long : (m : MachineState) → IsLegalMachine m → length (text m) ≡ text_length (length m.processor.memory.banks.ram)
-unfolding text
-text_long m legal =
-    parts_length (fixed_fields (without_memory m)) unused m.processor.memory.picture.screen.vram m.processor.memory.wram m.processor.memory.picture.screen.oam m.processor.memory.hram m.processor.memory.sound (picture_bytes m.processor.memory.picture.screen.rows) m.processor.memory.banks.ram refl unused_length legal.stores.vram legal.stores.wram legal.stores.oam legal.stores.hram legal.stores.sound (picture_length m.processor.memory.picture.screen.rows)
+pub encoded_long : (m : MachineState) → IsLegalMachine m → length (encoded m) ≡ snapshot_length (length m.processor.memory.banks.ram)
+unfolding encoded
+encoded_long m legal =
+    parts_length (fixed_fields (without_memory m)) unused m.processor.memory.picture.picture.vram m.processor.memory.wram m.processor.memory.picture.picture.oam m.processor.memory.hram m.processor.memory.sound (picture_bytes m.processor.memory.picture.picture.rows) m.processor.memory.banks.ram refl unused_length legal.stores.vram legal.stores.wram legal.stores.oam legal.stores.hram legal.stores.sound (picture_length m.processor.memory.picture.picture.rows)
 
-registers_of_text : (kind : Controller) (m : MachineState) → kind ≡ m.processor.memory.banks.state.kind → registers_in kind (text m) ≡ without_memory m
-unfolding text
-registers_of_text kind m same = registers_back kind (without_memory m) (stores_text m.processor.memory) same
+registers_of_bytes : (kind : Controller) (m : MachineState) → kind ≡ m.processor.memory.banks.state.kind → registers_in kind (encoded m) ≡ without_memory m
+unfolding encoded
+registers_of_bytes kind m same = registers_back kind (without_memory m) (stores_bytes m.processor.memory) same
 
--- the machine that a machine's text stands for is that machine
-pub machine_back : (image : List ℕ) (m : MachineState) → IsMachineOf image m → machine_in image (text m) ≡ m
+-- the machine that a machine's snapshot stands for is that machine
+pub machine_back : (image : List ℕ) (m : MachineState) → IsMachineOf image m → machine_in image (encoded m) ≡ m
 machine_back image m of =
     let legal = of.legal in
-    let p = text_parts m legal in
-    let long = text_long m legal in
-    let end : slice_range (text m) 22607 (length (text m)) ≡ m.processor.memory.banks.ram =
-    ap (λ (n : ℕ). take (n - 22607) (drop 22607 (text m))) long
-    ∙ (let e : 22607 + length m.processor.memory.banks.ram - 22607 ≡ length m.processor.memory.banks.ram = omega arith in ap (λ (n : ℕ). take n (drop 22607 (text m))) e)
+    let p = encoded_parts m legal in
+    let long = encoded_long m legal in
+    let end : slice_range (encoded m) 22607 (length (encoded m)) ≡ m.processor.memory.banks.ram =
+    ap (λ (n : ℕ). take (n - 22607) (drop 22607 (encoded m))) long
+    ∙ (let e : 22607 + length m.processor.memory.banks.ram - 22607 ≡ length m.processor.memory.banks.ram = omega arith in ap (λ (n : ℕ). take n (drop 22607 (encoded m))) e)
     ∙ ap (take (length m.processor.memory.banks.ram)) p.ram
     ∙ take_all (length m.processor.memory.banks.ram) m.processor.memory.banks.ram (omega arith) in
-    let rows : rows_in (slice_range (text m) 16847 22607) ≡ m.processor.memory.picture.screen.rows =
-    ap rows_in p.picture ∙ rows_back m.processor.memory.picture.screen.rows legal.stores.rows legal.stores.row in
-    machine_in_is image (text m)
-    ∙ assembled_alike _ _ _ _ _ _ _ _ _ _ _ _ _ _ _ _ _ _ _ _ (registers_of_text (kind_of_image image) m (sym of.kind)) p.vram p.wram p.oam p.hram p.sound rows end (sym of.rom) (sym of.rumble)
+    let rows : rows_in (slice_range (encoded m) 16847 22607) ≡ m.processor.memory.picture.picture.rows =
+    ap rows_in p.picture ∙ rows_back m.processor.memory.picture.picture.rows legal.stores.rows legal.stores.row in
+    machine_in_is image (encoded m)
+    ∙ assembled_alike _ _ _ _ _ _ _ _ _ _ _ _ _ _ _ _ _ _ _ _ (registers_of_bytes (kind_of_image image) m (sym of.kind)) p.vram p.wram p.oam p.hram p.sound rows end (sym of.rom) (sym of.rumble)
     ∙ assembled_again m
 
 zeros_all : list_all (λ b. b == 0) unused ≡ true
@@ -158,49 +158,49 @@ halves [] e = All-nil (λ v. v < 16)
 halves (x ∷ xs) e = let p = and_parts _ _ e in All-cons (λ v. v < 16) x xs (ltb-true x 16 p.0) (halves xs p.1)
 
 ram_fits :
-    (kind : Controller) (ram : List ℕ) (n : ℕ) (text : List ℕ)
-    → IsLegalRam kind ram → slice_range text 22607 (22607 + n) ≡ ram → is_legal (bytes 22607 n (ram_rule kind)) text ≡ true
-ram_fits Plain ram n text legal same = refl
-ram_fits Mbc1 ram n text legal same = refl
-ram_fits Mbc2 ram n text legal same = ap (list_all (λ b. nat_lt b 16)) same ∙ halves_of ram legal.1
-ram_fits Mbc3 ram n text legal same = refl
-ram_fits Mbc3Clock ram n text legal same = refl
-ram_fits Mbc5 ram n text legal same = refl
+    (kind : Controller) (ram : List ℕ) (n : ℕ) (encoded : List ℕ)
+    → IsLegalRam kind ram → slice_range encoded 22607 (22607 + n) ≡ ram → is_legal (bytes 22607 n (ram_rule kind)) encoded ≡ true
+ram_fits Plain ram n encoded legal same = refl
+ram_fits Mbc1 ram n encoded legal same = refl
+ram_fits Mbc2 ram n encoded legal same = ap (list_all (λ b. nat_lt b 16)) same ∙ halves_of ram legal.1
+ram_fits Mbc3 ram n encoded legal same = refl
+ram_fits Mbc3Clock ram n encoded legal same = refl
+ram_fits Mbc5 ram n encoded legal same = refl
 
-table_fields : (image : List ℕ) (m : MachineState) → IsMachineOf image m → All (λ field. is_legal field (text m) ≡ true) (table_of image)
-unfolding text table_of
+table_fields : (image : List ℕ) (m : MachineState) → IsMachineOf image m → All (λ field. is_legal field (encoded m) ≡ true) (table_of image)
+unfolding encoded table_of
 table_fields image m of =
     let legal = of.legal in
     let b : BusState = m.processor.memory in
-    let p = text_parts m legal in
+    let p = encoded_parts m legal in
     let n : ℕ = ram_length_of image in
     let count : 22607 + n - 22607 ≡ length b.banks.ram = omega (arith, of.ram_length) in
-    let end : slice_range (text m) 22607 (22607 + n) ≡ b.banks.ram =
-    ap (λ (k : ℕ). take k (drop 22607 (text m))) count ∙ ap (take (length b.banks.ram)) p.ram ∙ take_all (length b.banks.ram) b.banks.ram (omega arith) in
-    let zeros : list_all (λ b. b == 0) (slice_range (text m) 67 128) ≡ true = ap (list_all (λ b. b == 0)) p.unused ∙ zeros_all in
-    let own : AreLegalFields b.banks.state.kind b.banks.rumble n (text m) =
-    text_is_legal b.banks n (without_memory m) (stores_text b) legal.registers zeros (ram_fits b.banks.state.kind b.banks.ram n (text m) legal.stores.ram end) in
-    let kind : AreLegalFields (kind_of_image image) b.banks.rumble n (text m) = subst (λ (k : Controller). AreLegalFields k b.banks.rumble n (text m)) of.kind own in
-    subst (λ (r : Bool). AreLegalFields (kind_of_image image) r n (text m)) of.rumble kind
+    let end : slice_range (encoded m) 22607 (22607 + n) ≡ b.banks.ram =
+    ap (λ (k : ℕ). take k (drop 22607 (encoded m))) count ∙ ap (take (length b.banks.ram)) p.ram ∙ take_all (length b.banks.ram) b.banks.ram (omega arith) in
+    let zeros : list_all (λ b. b == 0) (slice_range (encoded m) 67 128) ≡ true = ap (list_all (λ b. b == 0)) p.unused ∙ zeros_all in
+    let own : AreLegalFields b.banks.state.kind b.banks.rumble n (encoded m) =
+    encoded_is_legal b.banks n (without_memory m) (stores_bytes b) legal.registers zeros (ram_fits b.banks.state.kind b.banks.ram n (encoded m) legal.stores.ram end) in
+    let kind : AreLegalFields (kind_of_image image) b.banks.rumble n (encoded m) = subst (λ (k : Controller). AreLegalFields k b.banks.rumble n (encoded m)) of.kind own in
+    subst (λ (r : Bool). AreLegalFields (kind_of_image image) r n (encoded m)) of.rumble kind
 
-pub text_legal : (image : List ℕ) (m : MachineState) → IsMachineOf image m → IsLegalText image (text m)
-text_legal image m of = record {
-  length = text_long m of.legal ∙ ap text_length of.ram_length;
+pub encoded_legal : (image : List ℕ) (m : MachineState) → IsMachineOf image m → IsLegalSnapshot image (encoded m)
+encoded_legal image m of = record {
+  length = encoded_long m of.legal ∙ ap snapshot_length of.ram_length;
   fields = table_fields image m of;
 }
 
--- two machines of one image with one text are equal
-pub one_machine : (image : List ℕ) (m n : MachineState) → IsMachineOf image m → IsMachineOf image n → text m ≡ text n → m ≡ n
+-- two machines of one image with one snapshot are equal
+pub one_machine : (image : List ℕ) (m n : MachineState) → IsMachineOf image m → IsMachineOf image n → encoded m ≡ encoded n → m ≡ n
 one_machine image m n first second same = sym (machine_back image m first) ∙ ap (machine_in image) same ∙ machine_back image n second
 
--- ---- the machine of a text
+-- ---- the machine of a snapshot
 
-text_of_assembled :
+encoded_of_assembled :
     (r : MachineWithoutMemory) (vram wram oam hram sound : List ℕ) (rows : List (List ℕ)) (ram rom : List ℕ) (rumble : Bool)
-    → text (assemble r vram wram oam hram sound rows ram rom rumble)
+    → encoded (assemble r vram wram oam hram sound rows ram rom rumble)
     ≡ fixed_fields (without_memory (assemble r vram wram oam hram sound rows ram rom rumble)) ++ (unused ++ (vram ++ (wram ++ (oam ++ (hram ++ (sound ++ (picture_bytes rows ++ ram)))))))
-unfolding text assemble
-text_of_assembled r vram wram oam hram sound rows ram rom rumble = refl
+unfolding encoded assemble
+encoded_of_assembled r vram wram oam hram sound rows ram rom rumble = refl
 
 zeros_are : (xs : List ℕ) → list_all (λ b. b == 0) xs ≡ true → xs ≡ replicate (length xs) 0
 zeros_are [] e = refl
@@ -214,7 +214,7 @@ unused_are : (xs : List ℕ) → length xs ≡ 61 → list_all (λ b. b == 0) xs
 unfolding unused
 unused_are xs long e = sym (zeros_are xs e ∙ ap (λ (n : ℕ). replicate n 0) long)
 
-pub fields_of : (image bytes : List ℕ) → IsLegalText image bytes → AreLegalFields (kind_of_image image) (has_rumble image) (ram_length_of image) bytes
+pub fields_of : (image bytes : List ℕ) → IsLegalSnapshot image bytes → AreLegalFields (kind_of_image image) (has_rumble image) (ram_length_of image) bytes
 unfolding table_of
 fields_of image bytes h = h.fields
 
@@ -222,11 +222,11 @@ fields_of image bytes h = h.fields
 pub cart : (image bytes : List ℕ) → CartridgeState
 cart image bytes = record { rom = image; ram = []; rumble = has_rumble image; state = (registers_in (kind_of_image image) bytes).bus.banks }
 
-pub registers_are_legal : (image bytes : List ℕ) → ((i : ℕ) → get_or bytes i 0 < 256) → IsLegalText image bytes → AreLegalFor (cart image bytes) (registers_in (kind_of_image image) bytes)
+pub registers_are_legal : (image bytes : List ℕ) → ((i : ℕ) → get_or bytes i 0 < 256) → IsLegalSnapshot image bytes → AreLegalFor (cart image bytes) (registers_in (kind_of_image image) bytes)
 unfolding cart
 registers_are_legal image bytes fit h = registers_legal (record { rom = image; ram = []; rumble = has_rumble image; state = (registers_in (kind_of_image image) bytes).bus.banks }) (ram_length_of image) bytes fit (fields_of image bytes h)
 
-flag_below : (image bytes : List ℕ) → ((i : ℕ) → get_or bytes i 0 < 256) → IsLegalText image bytes → (registers_in (kind_of_image image) bytes).bus.interrupt_flag < 32
+flag_below : (image bytes : List ℕ) → ((i : ℕ) → get_or bytes i 0 < 256) → IsLegalSnapshot image bytes → (registers_in (kind_of_image image) bytes).bus.interrupt_flag < 32
 flag_below image bytes fit h = (registers_are_legal image bytes fit h).bus.interrupt_flag
 
 fit_part : (bytes : List ℕ) (a n : ℕ) → ((i : ℕ) → get_or bytes i 0 < 256) → (i : ℕ) → get_or (take n (drop a bytes)) i 0 < 256
@@ -236,14 +236,14 @@ fit_part bytes a n fit i =
       | inr le ↦ rw (get_or_past (take n (drop a bytes)) i 0 (omega (arith, length-take n (drop a bytes)))) (omega arith)
     ]
 
-text_join :
+encoded_join :
     (f f' u u' v w o h s p p' r : List ℕ) → f ≡ f' → u ≡ u' → p ≡ p'
     → f ++ (u ++ (v ++ (w ++ (o ++ (h ++ (s ++ (p ++ r))))))) ≡ f' ++ (u' ++ (v ++ (w ++ (o ++ (h ++ (s ++ (p' ++ r)))))))
-text_join f f' u u' v w o h s p p' r e0 e1 e2 = cc
+encoded_join f f' u u' v w o h s p p' r e0 e1 e2 = cc
 
--- the text of the machine that a legal text stands for is that text
-pub text_again : (image bytes : List ℕ) → ((i : ℕ) → get_or bytes i 0 < 256) → IsLegalText image bytes → text (machine_in image bytes) ≡ bytes
-text_again image bytes fit h =
+-- the snapshot of the machine that a legal snapshot stands for is that snapshot
+pub encoded_again : (image bytes : List ℕ) → ((i : ℕ) → get_or bytes i 0 < 256) → IsLegalSnapshot image bytes → encoded (machine_in image bytes) ≡ bytes
+encoded_again image bytes fit h =
     let kind : Controller = kind_of_image image in
     let fields = fields_of image bytes h in
     let long : length bytes ≡ 22607 + ram_length_of image = h.length in
@@ -254,34 +254,34 @@ text_again image bytes fit h =
     let picture_long : length (slice_range bytes 16847 22607) ≡ 5760 = part_length bytes 16847 22607 (lit≤ tt) (omega (arith, long)) in
     let unused_same : unused ≡ slice_range bytes 67 128 = unused_are (slice_range bytes 67 128) unused_long (unused_in kind (has_rumble image) (ram_length_of image) bytes fields) in
     let picture : picture_bytes (rows_in (slice_range bytes 16847 22607)) ≡ slice_range bytes 16847 22607 = picture_again (slice_range bytes 16847 22607) picture_long (fit_part bytes 16847 5760 fit) in
-    ap text (machine_in_is image bytes)
-    ∙ text_of_assembled r (slice_range bytes 128 8320) (slice_range bytes 8320 16512) (slice_range bytes 16512 16672) (slice_range bytes 16672 16799) (slice_range bytes 16799 16847) (rows_in (slice_range bytes 16847 22607)) (slice_range bytes 22607 (length bytes)) image (has_rumble image)
-    ∙ text_join _ _ _ _ (slice_range bytes 128 8320) (slice_range bytes 8320 16512) (slice_range bytes 16512 16672) (slice_range bytes 16672 16799) (slice_range bytes 16799 16847) _ _ (slice_range bytes 22607 (length bytes)) (ap fixed_fields own ∙ front) unused_same picture
+    ap encoded (machine_in_is image bytes)
+    ∙ encoded_of_assembled r (slice_range bytes 128 8320) (slice_range bytes 8320 16512) (slice_range bytes 16512 16672) (slice_range bytes 16672 16799) (slice_range bytes 16799 16847) (rows_in (slice_range bytes 16847 22607)) (slice_range bytes 22607 (length bytes)) image (has_rumble image)
+    ∙ encoded_join _ _ _ _ (slice_range bytes 128 8320) (slice_range bytes 8320 16512) (slice_range bytes 16512 16672) (slice_range bytes 16672 16799) (slice_range bytes 16799 16847) _ _ (slice_range bytes 22607 (length bytes)) (ap fixed_fields own ∙ front) unused_same picture
     ∙ parts_join bytes
 
 -- ---- and that machine is legal
 
-pub ram_long : (zeros text : List ℕ) (n : ℕ) → length zeros ≡ n → length text ≡ 22607 + n → length (slice_range text 22607 (length text)) ≡ length zeros
-ram_long zeros text n all long = part_length text 22607 (length text) (omega arith) (omega arith) ∙ omega arith
+pub ram_long : (zeros encoded : List ℕ) (n : ℕ) → length zeros ≡ n → length encoded ≡ 22607 + n → length (slice_range encoded 22607 (length encoded)) ≡ length zeros
+ram_long zeros encoded n all long = part_length encoded 22607 (length encoded) (omega arith) (omega arith) ∙ omega arith
 
-ram_same : (text : List ℕ) (n : ℕ) → length text ≡ 22607 + n → slice_range text 22607 (length text) ≡ slice_range text 22607 (22607 + n)
-ram_same text n long = ap (λ (k : ℕ). take (k - 22607) (drop 22607 text)) long
+ram_same : (encoded : List ℕ) (n : ℕ) → length encoded ≡ 22607 + n → slice_range encoded 22607 (length encoded) ≡ slice_range encoded 22607 (22607 + n)
+ram_same encoded n long = ap (λ (k : ℕ). take (k - 22607) (drop 22607 encoded)) long
 
 pub ram_legal :
-    (kind : Controller) (zeros text : List ℕ) (n : ℕ)
-    → IsLegalRam kind zeros → length zeros ≡ n → length text ≡ 22607 + n → is_legal (bytes 22607 n (ram_rule kind)) text ≡ true
-    → IsLegalRam kind (slice_range text 22607 (length text))
-ram_legal Plain zeros text n legal all long e = rw (ram_long zeros text n all long) legal
-ram_legal Mbc1 zeros text n legal all long e = rw (ram_long zeros text n all long) legal
-ram_legal Mbc2 zeros text n legal all long e =
-    (ram_long zeros text n all long ∙ legal.0, subst (λ (xs : List ℕ). All (λ v. v < 16) xs) (sym (ram_same text n long)) (halves (slice_range text 22607 (22607 + n)) e))
-ram_legal Mbc3 zeros text n legal all long e = rw (ram_long zeros text n all long) legal
-ram_legal Mbc3Clock zeros text n legal all long e = rw (ram_long zeros text n all long) legal
-ram_legal Mbc5 zeros text n legal all long e = rw (ram_long zeros text n all long) legal
+    (kind : Controller) (zeros encoded : List ℕ) (n : ℕ)
+    → IsLegalRam kind zeros → length zeros ≡ n → length encoded ≡ 22607 + n → is_legal (bytes 22607 n (ram_rule kind)) encoded ≡ true
+    → IsLegalRam kind (slice_range encoded 22607 (length encoded))
+ram_legal Plain zeros encoded n legal all long e = rw (ram_long zeros encoded n all long) legal
+ram_legal Mbc1 zeros encoded n legal all long e = rw (ram_long zeros encoded n all long) legal
+ram_legal Mbc2 zeros encoded n legal all long e =
+    (ram_long zeros encoded n all long ∙ legal.0, subst (λ (xs : List ℕ). All (λ v. v < 16) xs) (sym (ram_same encoded n long)) (halves (slice_range encoded 22607 (22607 + n)) e))
+ram_legal Mbc3 zeros encoded n legal all long e = rw (ram_long zeros encoded n all long) legal
+ram_legal Mbc3Clock zeros encoded n legal all long e = rw (ram_long zeros encoded n all long) legal
+ram_legal Mbc5 zeros encoded n legal all long e = rw (ram_long zeros encoded n all long) legal
 
 assembled_legal :
     (image bytes : List ℕ) (zeros : List ℕ)
-    → ((i : ℕ) → get_or bytes i 0 < 256) → IsLegalText image bytes → IsLegalRam (kind_of_image image) zeros → length zeros ≡ ram_length_of image
+    → ((i : ℕ) → get_or bytes i 0 < 256) → IsLegalSnapshot image bytes → IsLegalRam (kind_of_image image) zeros → length zeros ≡ ram_length_of image
     → IsMachineOf image (assemble (registers_in (kind_of_image image) bytes) (slice_range bytes 128 8320) (slice_range bytes 8320 16512) (slice_range bytes 16512 16672) (slice_range bytes 16672 16799) (slice_range bytes 16799 16847) (rows_in (slice_range bytes 16847 22607)) (slice_range bytes 22607 (length bytes)) image (has_rumble image))
 unfolding assemble
 assembled_legal image bytes zeros fit h legal all =
@@ -315,7 +315,7 @@ assembled_legal image bytes zeros fit h legal all =
 
 pub machine_legal :
     (image bytes : List ℕ) (zeros : List ℕ)
-    → ((i : ℕ) → get_or bytes i 0 < 256) → IsLegalText image bytes → IsLegalRam (kind_of_image image) zeros → length zeros ≡ ram_length_of image
+    → ((i : ℕ) → get_or bytes i 0 < 256) → IsLegalSnapshot image bytes → IsLegalRam (kind_of_image image) zeros → length zeros ≡ ram_length_of image
     → IsMachineOf image (machine_in image bytes)
 machine_legal image bytes zeros fit h legal all =
     subst (λ (m : MachineState). IsMachineOf image m) (sym (machine_in_is image bytes)) (assembled_legal image bytes zeros fit h legal all)

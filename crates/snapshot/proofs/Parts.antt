@@ -1,4 +1,4 @@
--- A text as its nine parts, and the parts of bytes.
+-- A snapshot as its nine parts, and the parts of bytes.
 use Rattle.std.proofs.Common.{◌≡◌, ℕ, ◌+◌, ◌-◌, ◌<◌, ◌≤◌, List, ◌++◌, length, take, drop, refl, sym, ap, subst, ◌∙◌, length-append, length-take, length-drop, lit≤, arith}
 use Rattle.std.specs.Prelude.{slice_range}
 use Rattle.std.proofs.lemmas.List.{take_at, drop_at, take_all, take-append-drop}
@@ -6,24 +6,24 @@ use Rattle.std.proofs.lemmas.List.Folds.{drop_split}
 use Rattle.std.proofs.lemmas.Slice.{between_to_end}
 use Rattle.std.proofs.Math.Seq.{drop-drop}
 
--- what a text holds in each place
-pub record AreParts (text f u v w o h s p r : List ℕ) : Type 0 where
-  pub fixed : take 67 text ≡ f
-  pub unused : slice_range text 67 128 ≡ u
-  pub vram : slice_range text 128 8320 ≡ v
-  pub wram : slice_range text 8320 16512 ≡ w
-  pub oam : slice_range text 16512 16672 ≡ o
-  pub hram : slice_range text 16672 16799 ≡ h
-  pub sound : slice_range text 16799 16847 ≡ s
-  pub picture : slice_range text 16847 22607 ≡ p
-  pub ram : drop 22607 text ≡ r
+-- what a snapshot holds in each place
+pub record AreParts (encoded f u v w o h s p r : List ℕ) : Type 0 where
+  pub fixed : take 67 encoded ≡ f
+  pub unused : slice_range encoded 67 128 ≡ u
+  pub vram : slice_range encoded 128 8320 ≡ v
+  pub wram : slice_range encoded 8320 16512 ≡ w
+  pub oam : slice_range encoded 16512 16672 ≡ o
+  pub hram : slice_range encoded 16672 16799 ≡ h
+  pub sound : slice_range encoded 16799 16847 ≡ s
+  pub picture : slice_range encoded 16847 22607 ≡ p
+  pub ram : drop 22607 encoded ≡ r
 
 -- behind a part of length k comes the rest
-next : (text : List ℕ) (n k : ℕ) (part rest : List ℕ) → drop n text ≡ part ++ rest → length part ≡ k → drop (n + k) text ≡ rest
-next text n k part rest here long = sym (drop-drop k n text) ∙ ap (drop k) here ∙ drop_at part rest k long
+next : (encoded : List ℕ) (n k : ℕ) (part rest : List ℕ) → drop n encoded ≡ part ++ rest → length part ≡ k → drop (n + k) encoded ≡ rest
+next encoded n k part rest here long = sym (drop-drop k n encoded) ∙ ap (drop k) here ∙ drop_at part rest k long
 
-part_is : (text : List ℕ) (n k : ℕ) (part rest : List ℕ) → drop n text ≡ part ++ rest → length part ≡ k → take k (drop n text) ≡ part
-part_is text n k part rest here long = ap (take k) here ∙ take_at part rest k long
+part_is : (encoded : List ℕ) (n k : ℕ) (part rest : List ℕ) → drop n encoded ≡ part ++ rest → length part ≡ k → take k (drop n encoded) ≡ part
+part_is encoded n k part rest here long = ap (take k) here ∙ take_at part rest k long
 
 pub parts_of :
     (fixed unused vram wram oam hram sound picture ram : List ℕ)
@@ -45,24 +45,24 @@ parts_of fixed unused vram wram oam hram sound picture ram hf hu hv hw ho hh hs 
     let t3 : List ℕ = wram ++ t4 in
     let t2 : List ℕ = vram ++ t3 in
     let t1 : List ℕ = unused ++ t2 in
-    let text : List ℕ = fixed ++ t1 in
-    let d1 : drop 67 text ≡ t1 = drop_at fixed t1 67 hf in
-    let d2 : drop 128 text ≡ t2 = next text 67 61 unused t2 d1 hu in
-    let d3 : drop 8320 text ≡ t3 = next text 128 8192 vram t3 d2 hv in
-    let d4 : drop 16512 text ≡ t4 = next text 8320 8192 wram t4 d3 hw in
-    let d5 : drop 16672 text ≡ t5 = next text 16512 160 oam t5 d4 ho in
-    let d6 : drop 16799 text ≡ t6 = next text 16672 127 hram t6 d5 hh in
-    let d7 : drop 16847 text ≡ t7 = next text 16799 48 sound t7 d6 hs in
-    let d8 : drop 22607 text ≡ t8 = next text 16847 5760 picture t8 d7 hp in
+    let encoded : List ℕ = fixed ++ t1 in
+    let d1 : drop 67 encoded ≡ t1 = drop_at fixed t1 67 hf in
+    let d2 : drop 128 encoded ≡ t2 = next encoded 67 61 unused t2 d1 hu in
+    let d3 : drop 8320 encoded ≡ t3 = next encoded 128 8192 vram t3 d2 hv in
+    let d4 : drop 16512 encoded ≡ t4 = next encoded 8320 8192 wram t4 d3 hw in
+    let d5 : drop 16672 encoded ≡ t5 = next encoded 16512 160 oam t5 d4 ho in
+    let d6 : drop 16799 encoded ≡ t6 = next encoded 16672 127 hram t6 d5 hh in
+    let d7 : drop 16847 encoded ≡ t7 = next encoded 16799 48 sound t7 d6 hs in
+    let d8 : drop 22607 encoded ≡ t8 = next encoded 16847 5760 picture t8 d7 hp in
     record {
       fixed = take_at fixed t1 67 hf;
-      unused = part_is text 67 61 unused t2 d1 hu;
-      vram = part_is text 128 8192 vram t3 d2 hv;
-      wram = part_is text 8320 8192 wram t4 d3 hw;
-      oam = part_is text 16512 160 oam t5 d4 ho;
-      hram = part_is text 16672 127 hram t6 d5 hh;
-      sound = part_is text 16799 48 sound t7 d6 hs;
-      picture = part_is text 16847 5760 picture t8 d7 hp;
+      unused = part_is encoded 67 61 unused t2 d1 hu;
+      vram = part_is encoded 128 8192 vram t3 d2 hv;
+      wram = part_is encoded 8320 8192 wram t4 d3 hw;
+      oam = part_is encoded 16512 160 oam t5 d4 ho;
+      hram = part_is encoded 16672 127 hram t6 d5 hh;
+      sound = part_is encoded 16799 48 sound t7 d6 hs;
+      picture = part_is encoded 16847 5760 picture t8 d7 hp;
       ram = d8;
     }
 

@@ -1,4 +1,4 @@
--- Which machines and which texts are legal, and the first fault of a text that is not.
+-- Which machines and which snapshots are legal, and the first fault of a snapshot that is not.
 use Rattle.std.specs.Prelude.{◌≡◌, ℕ, ◌<◌, ◌≤◌, Bool, true, false, List, length}
 use Rattle.std.specs.List.{All, Contains}
 use Rattle.cartridge.specs.Header.{has_rumble, ram_length_of}
@@ -9,7 +9,7 @@ use Rattle.machine.specs.MachineStores.{AreLegalFor, without_memory}
 use Rattle.snapshot.specs.declared.field.SnapshotField.{SnapshotField}
 use Rattle.snapshot.specs.declared.error.SnapError.{SnapError}
 use Rattle.snapshot.specs.declared.error.SnapError.TheVariants.{SnapLength, Field, Memory}
-use Rattle.snapshot.specs.Text.{text_length}
+use Rattle.snapshot.specs.Encoding.{snapshot_length}
 use Rattle.snapshot.specs.Table.{is_legal, kind_of_image, table_of}
 
 -- ---- machines
@@ -21,13 +21,13 @@ pub record IsRow (row : List ℕ) : Type 0 where
 
 -- each store with its length, 144 rows, and half bytes for the RAM of MBC2
 pub record AreLegalStores (b : BusState) : Type 0 where
-  pub vram : length b.picture.screen.vram ≡ 8192
+  pub vram : length b.picture.picture.vram ≡ 8192
   pub wram : length b.wram ≡ 8192
-  pub oam : length b.picture.screen.oam ≡ 160
+  pub oam : length b.picture.picture.oam ≡ 160
   pub hram : length b.hram ≡ 127
   pub sound : length b.sound ≡ 48
-  pub rows : length b.picture.screen.rows ≡ 144
-  pub row : All IsRow b.picture.screen.rows
+  pub rows : length b.picture.picture.rows ≡ 144
+  pub row : All IsRow b.picture.picture.rows
   pub ram : IsLegalRam b.banks.state.kind b.banks.ram
 
 -- each field and each store in its range, for the machine's own cartridge
@@ -43,13 +43,13 @@ pub record IsMachineOf (image : List ℕ) (m : MachineState) : Type 0 where
   pub rumble : m.processor.memory.banks.rumble ≡ has_rumble image
   pub ram_length : length m.processor.memory.banks.ram ≡ ram_length_of image
 
--- ---- texts
+-- ---- snapshots
 
 abbrev pub HasLength : (image bytes : List ℕ) → Type 0
-HasLength image bytes = length bytes ≡ text_length (ram_length_of image)
+HasLength image bytes = length bytes ≡ snapshot_length (ram_length_of image)
 
--- as long as the texts of this cartridge, and each field legal
-pub record IsLegalText (image bytes : List ℕ) : Type 0 where
+-- as long as the snapshots of this cartridge, and each field legal
+pub record IsLegalSnapshot (image bytes : List ℕ) : Type 0 where
   pub length : HasLength image bytes
   pub fields : All (λ field. is_legal field bytes ≡ true) (table_of image)
 
@@ -61,9 +61,9 @@ pub record IsFirstIllegal (fields : List SnapshotField) (bytes : List ℕ) (offs
   pub illegal : is_legal field bytes ≡ false
   pub least : All (λ other. is_legal other bytes ≡ false → offset ≤ other.offset) fields
 
--- why bytes give no machine of this image: their length; else the first field that is not legal; and want of memory only
--- where the text is legal
+-- why bytes give no machine of this image: their length; else the first field that is not legal; and out of memory only
+-- where the snapshot is legal
 abbrev pub IsRefusal : (image bytes : List ℕ) → SnapError → Type 0
 IsRefusal image bytes (SnapLength n) = (n ≡ length bytes) × (¬ HasLength image bytes)
 IsRefusal image bytes (Field offset) = HasLength image bytes × IsFirstIllegal (table_of image) bytes offset
-IsRefusal image bytes Memory = IsLegalText image bytes
+IsRefusal image bytes Memory = IsLegalSnapshot image bytes

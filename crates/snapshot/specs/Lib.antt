@@ -1,4 +1,4 @@
-pub mod Text
+pub mod Encoding
 pub mod Table
 pub mod Reading
 pub mod Legal

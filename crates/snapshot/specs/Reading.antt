@@ -1,17 +1,17 @@
--- What the bytes of a text stand for, whether they are legal or not.
+-- What the bytes of a snapshot stand for, whether they are legal or not.
 use Rattle.std.specs.Prelude.{ℕ, ◌+◌, ◌*◌, ◌/◌, ◌%◌, Bool, List, length, map, slice_index, slice_range, ◌==◌, if◌then◌else◌}
 use Rattle.std.specs.List.{range_with_len}
 use Rattle.sm83_alu.specs.Flags.{flags_of}
 use Rattle.cartridge.specs.declared.controller.Controller.{Controller}
 use Rattle.bank_controllers.specs.declared.clock.ClockRegisters.{ClockRegisters}
-use Rattle.picture_unit.specs.Picture.{Screen}
+use Rattle.picture_unit.specs.Picture.{PictureUnit}
 use Rattle.memory_map.specs.State.{BusState}
 use Rattle.sm83_processor.specs.declared.processor.ProcessorState.{ProcessorState}
 use Rattle.machine.specs.declared.machine_without_memory.MachineWithoutMemory.{MachineWithoutMemory}
 use Rattle.machine.specs.Machine.{MachineState, start}
 use Rattle.machine.specs.MachineStores.{restored}
 use Rattle.snapshot.specs.Table.{kind_of_image}
-use Rattle.snapshot.specs.Text.{length_without_ram}
+use Rattle.snapshot.specs.Encoding.{length_without_ram}
 
 abbrev pub word_at : List ℕ → (offset : ℕ) → ℕ
 word_at bytes offset = slice_index bytes offset + 256 * slice_index bytes (offset + 1)
@@ -23,11 +23,11 @@ has byte weight = byte / weight % 2 == 1
 abbrev pub processor_of : ℕ → ProcessorState
 processor_of byte = record {
   ime = has byte 1;
-  enable = has byte 2;
+  ime_pending = has byte 2;
   halted = has byte 4;
   stopped = has byte 8;
   locked = has byte 16;
-  repeat = has byte 32;
+  halt_bug = has byte 32;
 }
 
 abbrev pub clock_at : List ℕ → (offset : ℕ) → ClockRegisters
@@ -87,7 +87,7 @@ registers_in kind bytes = record {
       wx = slice_index bytes 46;
       ly = slice_index bytes 47;
       m_cycle = slice_index bytes 48;
-      window_line = slice_index bytes 49;
+      window_counter = slice_index bytes 49;
       seen = has (slice_index bytes 50) 1;
       signal = has (slice_index bytes 50) 2;
     };
@@ -118,21 +118,21 @@ rows_in picture = map (row_in picture) (range_with_len 0 144)
 abbrev pub with_rows : List (List ℕ) → MachineState → MachineState
 with_rows rows m =
     let memory : BusState = m.processor.memory in
-    let screen : Screen = memory.picture.screen in
+    let picture : PictureUnit = memory.picture.picture in
     record m {
-      processor = record m.processor { memory = record memory { picture = record memory.picture { screen = record screen { rows = rows } } } };
+      processor = record m.processor { memory = record memory { picture = record memory.picture { picture = record picture { rows = rows } } } };
     }
 
--- the machine with the stores of a text
+-- the machine with the stores of a snapshot
 abbrev pub with_stores : List ℕ → MachineState → MachineState
 with_stores bytes m =
     let memory : BusState = m.processor.memory in
-    let screen : Screen = memory.picture.screen in
+    let picture : PictureUnit = memory.picture.picture in
     record m {
       processor = record m.processor {
         memory = record memory {
           picture = record memory.picture {
-            screen = record screen {
+            picture = record picture {
               vram = slice_range bytes 128 8320;
               oam = slice_range bytes 16512 16672;
               rows = rows_in (slice_range bytes 16847 length_without_ram);
@@ -146,6 +146,6 @@ with_stores bytes m =
       };
     }
 
--- the machine of this image that a text stands for
+-- the machine of this image that a snapshot stands for
 unfoldable pub machine_in : (image bytes : List ℕ) → MachineState
 machine_in image bytes = with_stores bytes (restored (registers_in (kind_of_image image) bytes) (start image))

@@ -1,4 +1,4 @@
--- Which bytes are legal: the fields of a text in order, each by its offset, its width in bytes and its rule.
+-- Which bytes are legal: the fields of a snapshot in order, each by its offset, its width in bytes and its rule.
 use Rattle.std.specs.Prelude.{ℕ, ◌+◌, ◌*◌, Bool, true, List, [], ◌∷◌, slice_index, slice_range, nat_le, nat_lt, ◌==◌, ◌&&◌, bit_and, if◌then◌else◌}
 use Rattle.std.specs.List.{list_all}
 use Rattle.std.specs.Option.{unwrap_or}
@@ -9,7 +9,7 @@ use Rattle.bank_controllers.specs.State.{first_rom_bank, last_rom_bank, last_ram
 use Rattle.snapshot.specs.declared.field.SnapshotField.{SnapshotField}
 use Rattle.snapshot.specs.declared.field.Rule.{Rule}
 use Rattle.snapshot.specs.declared.field.Rule.TheVariants.{Any, Magic, Between, Bits, Zeros, HalfBytes}
-use Rattle.snapshot.specs.Text.{kind_byte, length_without_ram}
+use Rattle.snapshot.specs.Encoding.{kind_byte, length_without_ram}
 
 -- ---- rules
 
@@ -90,7 +90,7 @@ table kind rumble ram =
     ∷ byte 15 Any
     ∷ word 16 Any
     ∷ word 18 Any
-    -- IME, enable, halted, stopped, locked and repeat as bits 0 to 5; the overrun
+    -- IME, ime_pending, halted, stopped, locked and halt_bug as bits 0 to 5; the overrun
     ∷ byte 20 (Between 0 63)
     ∷ byte 21 (Between 0 5)
     -- IE, IF, the buttons, the select bits of P1

@@ -1,4 +1,4 @@
-//! The fields of a text, and which bytes a field may have.
+//! The fields of a snapshot, and which bytes a field may have.
 
 ghost use Rattle.std.specs.Prelude.{◌≡◌, ◌+◌, ◌==◌, nat_lt, slice_index};
 ghost use Rattle.std.specs.List.{list_all};

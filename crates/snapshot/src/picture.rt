@@ -2,7 +2,7 @@
 
 ghost use Rattle.std.specs.Prelude.{◌≡◌, ℕ, ◌<◌, [], length, slice_index_or, All};
 ghost use Rattle.snapshot.specs.Legal.{IsRow};
-ghost use Rattle.snapshot.specs.Text.{byte_of_four, picture_bytes};
+ghost use Rattle.snapshot.specs.Encoding.{byte_of_four, picture_bytes};
 ghost use Rattle.snapshot.specs.Reading.{shade_in, row_in};
 
 use picture_unit::Picture;

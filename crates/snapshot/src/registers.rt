@@ -1,8 +1,8 @@
-//! The registers of a machine as the first 67 bytes of a text, and back.
+//! The registers of a machine as the first 67 bytes of a snapshot, and back.
 
 ghost use Rattle.std.specs.Prelude.{◌≡◌, ◌<◌};
 ghost use Rattle.sm83_alu.specs.Flags.{digit_of};
-ghost use Rattle.snapshot.specs.Text.{low, high, processor_byte, picture_byte, fixed_fields};
+ghost use Rattle.snapshot.specs.Encoding.{low, high, processor_byte, picture_byte, fixed_fields};
 ghost use Rattle.snapshot.specs.Reading.{has, processor_of, clock_at, registers_in};
 
 use crate::field::{byte_at, word_at};
@@ -36,11 +36,11 @@ fn processor_byte(state: ProcessorState) -> u8
     ensures { result ≡ processor_byte state }
 {
     u8::from(state.ime)
-        + 2 * u8::from(state.enable)
+        + 2 * u8::from(state.ime_pending)
         + 4 * u8::from(state.halted)
         + 8 * u8::from(state.stopped)
         + 16 * u8::from(state.locked)
-        + 32 * u8::from(state.repeat)
+        + 32 * u8::from(state.halt_bug)
 }
 
 fn picture_byte(seen: bool, signal: bool) -> u8
@@ -127,7 +127,7 @@ pub(crate) fn fixed_fields(state: MachineWithoutMemory) -> [u8; 67]
         picture.wx,
         picture.ly,
         picture.m_cycle,
-        picture.window_line,
+        picture.window_counter,
         picture_byte(picture.seen, picture.signal),
         kind_byte(banks.kind),
         digit(banks.ram_enabled),
@@ -160,11 +160,11 @@ fn processor_of(byte: u8) -> ProcessorState
 {
     ProcessorState {
         ime: has(byte, 1),
-        enable: has(byte, 2),
+        ime_pending: has(byte, 2),
         halted: has(byte, 4),
         stopped: has(byte, 8),
         locked: has(byte, 16),
-        repeat: has(byte, 32),
+        halt_bug: has(byte, 32),
     }
 }
 
@@ -201,7 +201,7 @@ fn picture_state(bytes: &[u8]) -> PictureState
         wx: byte_at(bytes, 46),
         ly: byte_at(bytes, 47),
         m_cycle: byte_at(bytes, 48),
-        window_line: byte_at(bytes, 49),
+        window_counter: byte_at(bytes, 49),
         seen: has(byte_at(bytes, 50), 1),
         signal: has(byte_at(bytes, 50), 2),
     }
@@ -234,7 +234,7 @@ fn banks_state(kind: Controller, bytes: &[u8]) -> BanksState
     }
 }
 
-/// What the first 67 bytes of a text stand for, for a cartridge with this controller.
+/// What the first 67 bytes of a snapshot stand for, for a cartridge with this controller.
 pub(crate) fn registers_in(kind: Controller, bytes: &[u8]) -> MachineWithoutMemory
     ensures { result ≡ registers_in kind bytes.now }
 {

@@ -1,15 +1,15 @@
-//! The table of fields of a cartridge's texts, and the first one that is not legal.
+//! The table of fields of a cartridge's snapshots, and the first one that is not legal.
 
 ghost use Rattle.std.specs.Prelude.{◌≡◌, ◌≤◌, ◌<◌, true, IfSome, IfNone, length, get_or, if◌then◌else◌};
 ghost use Rattle.std.specs.List.{All};
 ghost use Rattle.bank_controllers.specs.State.{first_rom_bank, last_rom_bank, last_ram_bank, has_ram_enable, has_mode, has_clock};
-ghost use Rattle.snapshot.specs.Text.{kind_byte};
+ghost use Rattle.snapshot.specs.Encoding.{kind_byte};
 ghost use Rattle.snapshot.specs.Table.{byte, word, bytes, switch, counts_to, day_high_of, ram_rule, table, is_legal};
 ghost use Rattle.snapshot.specs.Legal.{IsFirstIllegal};
 ghost use Rattle.snapshot.specs.Ascending.{IsAscending};
 
 use crate::field::{Rule, SnapshotField};
-use crate::to_text::LENGTH_WITHOUT_RAM;
+use crate::to_bytes::LENGTH_WITHOUT_RAM;
 use cartridge::Controller;
 
 fn byte(offset: u32, rule: Rule) -> SnapshotField
@@ -131,7 +131,7 @@ fn ram_rule(kind: Controller) -> Rule
     }
 }
 
-/// The fields of the texts of a cartridge with this kind, with or without a rumble motor, and with this many bytes of RAM.
+/// The fields of the snapshots of a cartridge with this kind, with or without a rumble motor, and with this many bytes of RAM.
 #[tactic(auto, unfolding(crate::specs::Table::table))]
 pub(crate) fn table(kind: Controller, rumble: bool, ram: u32) -> [SnapshotField; 63]
     ensures { result ≡ table kind rumble ram }
@@ -204,13 +204,13 @@ pub(crate) fn table(kind: Controller, rumble: bool, ram: u32) -> [SnapshotField;
 }
 
 /// The offset of the first of the fields, which come by offset, that is not legal.
-pub(crate) fn first_illegal(fields: &[SnapshotField], text: &[u8]) -> Option<u32>
+pub(crate) fn first_illegal(fields: &[SnapshotField], encoded: &[u8]) -> Option<u32>
     requires { IsAscending fields.now }
-    ensures none { IfNone result (All (λ field. is_legal field text.now ≡ true) fields.now) }
-    ensures some { IfSome result (λ offset. IsFirstIllegal fields.now text.now offset) }
+    ensures none { IfNone result (All (λ field. is_legal field encoded.now ≡ true) fields.now) }
+    ensures some { IfSome result (λ offset. IsFirstIllegal fields.now encoded.now offset) }
 {
     for field in fields {
-        if !field.is_legal(text) {
+        if !field.is_legal(encoded) {
             return Some(field.offset);
         }
     }

@@ -28,7 +28,7 @@ unsaved_behind_orders unsaved (order ∷ orders) = unsaved_behind_orders (unsave
 
 -- a picture tells of no input that it is saved
 abbrev pub picture_line : MachineState → Line
-picture_line machine = record { told = 0; text = picture_text machine.processor.memory.picture.screen.rows }
+picture_line machine = record { told = 0; text = picture_text machine.processor.memory.picture.picture.rows }
 
 -- from a machine and a count of inputs of which so many are unsaved: the picture, or the lines of the saves that are due
 abbrev pub lines_of_order : MachineState → (count unsaved : ℕ) → Order → List Line

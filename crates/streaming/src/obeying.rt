@@ -33,9 +33,9 @@ pub enum End {
 /// Writes the picture of the machine as it is.
 fn draw<D: SectorDevice, W: Write>(session: &Session<D>, out: &mut W) -> Result<(), OutputFailed>
     ensures ok { OnOk result (Appends (W.contents out.old) (W.contents out.new)
-        (picture_text (machine_of session.now).processor.memory.picture.screen.rows)) }
+        (picture_text (machine_of session.now).processor.memory.picture.picture.rows)) }
     ensures err { OnErr result (AppendsProperPrefix (W.contents out.old) (W.contents out.new)
-        (picture_text (machine_of session.now).processor.memory.picture.screen.rows)) }
+        (picture_text (machine_of session.now).processor.memory.picture.picture.rows)) }
 {
     session.machine().picture().write_pgm(out)
 }

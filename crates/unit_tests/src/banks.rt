@@ -202,7 +202,7 @@ fn ram_banks(rt: HostRuntime) -> Result<(), Fail> {
         (0x1E, 0x05, 8),
     ] {
         let mut banks = inserted(rt.alloc(), kind, 2, ram_code)?;
-        assert_eq!(rt; banks.store().len(), 0x2000 * usize::from(present));
+        assert_eq!(rt; banks.ram().len(), 0x2000 * usize::from(present));
         assert_eq!(rt; banks.read(0xA000), if kind == 0x09 { 0x00 } else { 0xFF });
         banks.write(0x1FFF, 0x1A);
         banks.write(0x6000, 0x01);
@@ -237,8 +237,8 @@ fn ram_that_is_not_shown(rt: HostRuntime) -> Result<(), Fail> {
     mbc1.write(0x0000, 0x0A);
     mbc1.write(0x4000, 0x02);
     mbc1.write(0xA123, 0x55);
-    assert!(rt; mbc1.store().len() == 0x8000);
-    assert_eq!(rt; mbc1.store()[0x0123], 0x55);
+    assert!(rt; mbc1.ram().len() == 0x8000);
+    assert_eq!(rt; mbc1.ram()[0x0123], 0x55);
     let mut mbc3 = inserted(rt.alloc(), 0x12, 2, 0x03)?;
     mbc3.write(0x0000, 0x0A);
     for select in [0x08, 0x0C, 0x0D, 0x0F] {
@@ -261,8 +261,8 @@ fn half_bytes(rt: HostRuntime) -> Result<(), Fail> {
     assert_eq!(rt; banks.read(0xA000), 0xF5);
     assert_eq!(rt; banks.read(0xA200), 0xF5);
     assert_eq!(rt; banks.read(0xBE00), 0xF5);
-    assert!(rt; banks.store().len() == 512);
-    assert_eq!(rt; banks.store()[0], 0x05);
+    assert!(rt; banks.ram().len() == 512);
+    assert_eq!(rt; banks.ram()[0], 0x05);
     banks.write(0x2100, 0x00);
     assert_eq!(rt; bank_at(&banks, 0x4000), 1);
     assert_eq!(rt; banks.read(0xA000), 0xF5);
@@ -389,7 +389,7 @@ fn begins_as_at_power_on(rt: HostRuntime) -> Result<(), Fail> {
             latched: zero,
         };
         assert_eq!(rt; banks.state(), state);
-        assert!(rt; banks.store().iter().all(|byte| *byte == 0));
+        assert!(rt; banks.ram().iter().all(|byte| *byte == 0));
         assert_eq!(rt; banks.read(0x8000), 0xFF);
         assert_eq!(rt; banks.read(0xC000), 0xFF);
         assert_eq!(rt; banks.read(0xFFFF), 0xFF);
@@ -417,7 +417,7 @@ fn restores_registers_and_ram(rt: HostRuntime) -> Result<(), Fail> {
     banks.restore(&other);
     assert_eq!(rt; banks.state(), other);
     assert_eq!(rt; bank_at(&banks, 0x4000), 0x15);
-    let bytes = repeated(rt.alloc(), 0x77, banks.store().len())?;
+    let bytes = repeated(rt.alloc(), 0x77, banks.ram().len())?;
     fill(&rt, &mut banks, &bytes);
     assert_eq!(rt; banks.read(0xB234), 0x77);
     Ok(())
@@ -430,7 +430,7 @@ fn repeated(alloc: Global, value: u8, count: usize) -> Result<Vec<u8>, Fail> {
 /// Fills the RAM of an MBC5.
 fn fill(rt: &impl Abort, banks: &mut Banks, bytes: &[u8]) {
     assert_eq!(rt; banks.state().kind, Controller::Mbc5);
-    assert_eq!(rt; banks.store().len(), bytes.len());
+    assert_eq!(rt; banks.ram().len(), bytes.len());
     assert_eq!(rt; bytes.len() % 0x2000, 0);
     banks.fill(bytes);
 }

@@ -17,7 +17,7 @@ const OFF: PictureState = PictureState {
     wx: 0,
     ly: 0,
     m_cycle: 0,
-    window_line: 0,
+    window_counter: 0,
     seen: false,
     signal: false,
 };
@@ -79,16 +79,16 @@ fn is_same(a: &Picture, b: &Picture) -> bool {
         }
     }
     a.state() == b.state()
-        && a.store(PictureRegion::Vram) == b.store(PictureRegion::Vram)
-        && a.store(PictureRegion::Oam) == b.store(PictureRegion::Oam)
+        && a.region(PictureRegion::Vram) == b.region(PictureRegion::Vram)
+        && a.region(PictureRegion::Oam) == b.region(PictureRegion::Oam)
 }
 
 fn copy(alloc: Global, picture: &Picture) -> Result<Picture, Fail> {
     let mut other = Picture::new(alloc)?;
     let _ = other.pass(FRAME);
     other.restore(&picture.state());
-    other.fill(PictureRegion::Vram, picture.store(PictureRegion::Vram));
-    other.fill(PictureRegion::Oam, picture.store(PictureRegion::Oam));
+    other.fill(PictureRegion::Vram, picture.region(PictureRegion::Vram));
+    other.fill(PictureRegion::Oam, picture.region(PictureRegion::Oam));
     for y in 0..144 {
         let mut row = [0; 160];
         row.copy_from_slice(picture.row(y));
@@ -111,13 +111,13 @@ fn ten_objects_in_oam_order(rt: HostRuntime) -> Result<(), Fail> {
 
 #[test]
 fn window_at_the_edges(rt: HostRuntime) -> Result<(), Fail> {
-    for (wx, start, window_line) in [(0x03, 0, 1), (0xa6, 159, 1), (0xa7, 160, 0)] {
+    for (wx, start, counter) in [(0x03, 0, 1), (0xa6, 159, 1), (0xa7, 160, 0)] {
         let mut picture = off(rt.alloc())?;
         picture.write_register(0xff4b, wx);
         picture.write_register(0xff40, 0xf1);
         picture.pass(114);
         assert_eq!(rt; picture.row(0), black(start, 160).as_slice(), "WX {wx}");
-        assert_eq!(rt; picture.state().window_line, window_line, "WX {wx}");
+        assert_eq!(rt; picture.state().window_counter, counter, "WX {wx}");
     }
     Ok(())
 }
@@ -293,9 +293,9 @@ fn window_lines_are_counted_where_it_is_drawn(rt: HostRuntime) -> Result<(), Fai
         picture.write_register(0xff4b, wx);
         picture.pass(114);
         assert_eq!(rt; picture.row(line)[0], shade, "line {line}");
-        assert_eq!(rt; picture.state().window_line, counter, "line {line}");
+        assert_eq!(rt; picture.state().window_counter, counter, "line {line}");
     }
     picture.pass(147 * 114);
-    assert_eq!(rt; picture.state().window_line, 0);
+    assert_eq!(rt; picture.state().window_counter, 0);
     Ok(())
 }

@@ -8,7 +8,7 @@ use Rattle.sha2.specs.Sha256.{sha256}
 use Rattle.cartridge.specs.Header.{ram_length_of}
 use Rattle.snapshot.specs.Legal.{IsRefusal}
 use Rattle.snapshot.specs.Table.{is_legal, table_of}
-use Rattle.snapshot.specs.Text.{text_length}
+use Rattle.snapshot.specs.Encoding.{snapshot_length}
 use Rattle.snapshot.specs.declared.error.SnapError.{SnapError}
 use Rattle.snapshot.specs.declared.error.SnapError.TheVariants.{SnapLength, Field, Memory as NoMemory}
 use Rattle.snapshot.specs.declared.field.SnapshotField.{SnapshotField}
@@ -24,7 +24,7 @@ use Rattle.session.proofs.StandsLaws.{Soundness, soundness, standing}
 use Rattle.whole_lives.specs.Refusals.{IsSoundStop}
 
 no_refusal : (rom bytes : List ℕ) (error : SnapError) → is_snapshot rom bytes ≡ true → IsRefusal rom bytes error → ¬ (error ≡ NoMemory) → ⊥
-no_refusal rom bytes (SnapLength n) sound refused other = refused.1 (eqb-true (length bytes) (text_length (ram_length_of rom)) (and_parts _ _ sound).0)
+no_refusal rom bytes (SnapLength n) sound refused other = refused.1 (eqb-true (length bytes) (snapshot_length (ram_length_of rom)) (and_parts _ _ sound).0)
 no_refusal rom bytes (Field offset) sound refused other =
     let legal : is_legal refused.1.field bytes ≡ true =
     All-contains (λ (x : SnapshotField). is_legal x bytes ≡ true) (table_of rom) refused.1.field (AllPass-from_list_all (λ (x : SnapshotField). is_legal x bytes) (table_of rom) (and_parts _ _ sound).1) refused.1.listed in

@@ -120,16 +120,16 @@ resume_not_full rom sectors why cause is = subst (λ (w : SessionError). IsResum
 
 -- one round
 record RoundSurvives (round : Round) (resumed : Option ℕ) (saved known : ℕ) (first last : Position) : Type 0 where
-  kept : ℕ
-  count_is : last.count ≡ first.count + length (survivors_of round resumed kept)
-  machine_is : last.machine ≡ after first.machine (survivors_of round resumed kept)
+  survived : ℕ
+  count_is : last.count ≡ first.count + length (survivors_of round resumed survived)
+  machine_is : last.machine ≡ after first.machine (survivors_of round resumed survived)
   saved_is : saved ≤ last.count
   taken_up : IsTakenUpFrom known resumed
   rises : known ≤ saved
 
 round_survives : (round : Round) (resumed : Option ℕ) (saved known : ℕ) (first last : Position) → known ≤ first.count → IsRoundBy (inputs_of_round round) resumed saved known first last → RoundSurvives round resumed saved known first last
 round_survives round None saved known first last less by = record {
-  kept = 0;
+  survived = 0;
   count_is = ap (λ (p : Position). p.count) by.0 ∙ (let e : first.count ≡ first.count + 0 = omega arith in e);
   machine_is = ap (λ (p : Position). p.machine) by.0 ∙ sym (after_none first.machine);
   saved_is = omega (arith, by.1, ap (λ (p : Position). p.count) by.0, less);
@@ -137,9 +137,9 @@ round_survives round None saved known first last less by = record {
   rises = omega (arith, by.1);
 }
 round_survives round (Some count) saved known first last less by =
-    let size : length (take by.kept (inputs_of_round round)) ≡ by.kept = length-take-le by.kept (inputs_of_round round) (omega (arith, by.were_kept, by.were_given)) in
+    let size : length (take by.survived (inputs_of_round round)) ≡ by.survived = length-take-le by.survived (inputs_of_round round) (omega (arith, by.survivors_given, by.were_given)) in
     record {
-      kept = by.kept;
+      survived = by.survived;
       count_is = omega (arith, by.count_is, size);
       machine_is = by.machine_is;
       saved_is = omega (arith, by.keeps_saved, by.count_is);
@@ -153,16 +153,16 @@ saved_first end ends n one all (suc k) d less = all k d (omega (arith, less))
 
 -- from any count that was known to be saved
 record Surviving (rounds : List Round) (ends : List RoundEnd) (known : ℕ) (first last : Position) : Type 0 where
-  kept : List ℕ
-  each : length kept ≡ length rounds
-  count_is : last.count ≡ first.count + length (survivors rounds ends kept)
-  machine_is : last.machine ≡ after first.machine (survivors rounds ends kept)
+  survived : List ℕ
+  each : length survived ≡ length rounds
+  count_is : last.count ≡ first.count + length (survivors rounds ends survived)
+  machine_is : last.machine ≡ after first.machine (survivors rounds ends survived)
   saved : All (λ end. end.saved ≤ last.count) ends
   never_falls : NeverFalls known ends
 
 survives : (rounds : List Round) (ends : List RoundEnd) (known : ℕ) (first last : Position) → known ≤ first.count → IsLife rounds ends known first last → Surviving rounds ends known first last
 survives [] [] known first last less life = record {
-  kept = [];
+  survived = [];
   each = refl;
   count_is = ap (λ (p : Position). p.count) life ∙ (let e : first.count ≡ first.count + 0 = omega arith in e);
   machine_is = ap (λ (p : Position). p.machine) life ∙ sym (after_none first.machine);
@@ -175,10 +175,10 @@ survives (r ∷ rounds) (e ∷ ends) known first last less life =
     let next = life.0 in
     let one = round_survives r e.resumed e.saved known first next less life.1 in
     let rest = survives rounds ends e.saved next last one.saved_is life.2 in
-    let these : List Input = survivors_of r e.resumed one.kept in
-    let those : List Input = survivors rounds ends rest.kept in
+    let these : List Input = survivors_of r e.resumed one.survived in
+    let those : List Input = survivors rounds ends rest.survived in
     record {
-      kept = one.kept ∷ rest.kept;
+      survived = one.survived ∷ rest.survived;
       each = ap suc rest.each;
       count_is = omega (arith, one.count_is, rest.count_is, length-append these those);
       machine_is = rest.machine_is ∙ ap (λ (m : MachineState). after m those) one.machine_is ∙ after_append first.machine these those;
@@ -189,4 +189,4 @@ survives (r ∷ rounds) (e ∷ ends) known first last less life =
 pub keeps_what_was_saved : NoLifeLosesWhatWasSaved
 keeps_what_was_saved rounds ends first last life =
     let s = survives rounds ends 0 first last (omega arith) life in
-    record { kept = s.kept; each = s.each; count_is = s.count_is; machine_is = s.machine_is; saved = s.saved; never_falls = s.never_falls }
+    record { survived = s.survived; each = s.each; count_is = s.count_is; machine_is = s.machine_is; saved = s.saved; never_falls = s.never_falls }

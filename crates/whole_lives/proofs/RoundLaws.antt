@@ -85,8 +85,8 @@ round_played rom old now from resumed acknowledged known inputs stood resumed_is
         were_given = omega arith;
         saved_at_least = omega (arith, left.acknowledged_is);
         saved_at_most = omega (arith, left.acknowledged_is, reached.at_least, reached.within);
-        kept = reached.count;
-        were_kept = reached.within;
+        survived = reached.count;
+        survivors_given = reached.within;
         keeps_saved = omega (arith, left.acknowledged_is, reached.at_least);
         count_is = ap (λ (p : Position). p.count) last_is;
         machine_is = ap (λ (p : Position). p.machine) last_is;

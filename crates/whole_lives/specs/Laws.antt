@@ -9,16 +9,16 @@ use Rattle.whole_lives.specs.declared.rounds.Round.{Round}
 use Rattle.whole_lives.specs.declared.rounds.RoundEnd.{RoundEnd}
 
 -- the first so many of a round's inputs, none where it was not taken up
-abbrev pub survivors_of : Round → (resumed : Option ℕ) → (kept : ℕ) → List Input
-survivors_of round None kept = []
-survivors_of round (Some count) kept = take kept (inputs_of_round round)
+abbrev pub survivors_of : Round → (resumed : Option ℕ) → (survived : ℕ) → List Input
+survivors_of round None survived = []
+survivors_of round (Some count) survived = take survived (inputs_of_round round)
 
 -- those of each round, one round behind the other
-abbrev pub survivors : List Round → List RoundEnd → (kept : List ℕ) → List Input
-survivors [] ends kept = []
-survivors (round ∷ rounds) [] kept = []
+abbrev pub survivors : List Round → List RoundEnd → (survived : List ℕ) → List Input
+survivors [] ends survived = []
+survivors (round ∷ rounds) [] survived = []
 survivors (round ∷ rounds) (end ∷ ends) [] = []
-survivors (round ∷ rounds) (end ∷ ends) (k ∷ kept) = survivors_of round end.resumed k ++ survivors rounds ends kept
+survivors (round ∷ rounds) (end ∷ ends) (k ∷ survived) = survivors_of round end.resumed k ++ survivors rounds ends survived
 
 -- a round was taken up at no less than this count, if it was
 abbrev pub IsTakenUpFrom : (known : ℕ) → (resumed : Option ℕ) → Type 0
@@ -33,10 +33,10 @@ NeverFalls known (end ∷ ends) = IsTakenUpFrom known end.resumed × (known ≤ 
 -- the life ends behind exactly the inputs that survived, and none that was saved is missing, at its end or on the way
 pub record KeepsWhatWasSaved (rounds : List Round) (ends : List RoundEnd) (first last : Position) : Type 0 where
   -- how many of each round's inputs survived
-  pub kept : List ℕ
-  pub each : length kept ≡ length rounds
-  pub count_is : last.count ≡ first.count + length (survivors rounds ends kept)
-  pub machine_is : last.machine ≡ after first.machine (survivors rounds ends kept)
+  pub survived : List ℕ
+  pub each : length survived ≡ length rounds
+  pub count_is : last.count ≡ first.count + length (survivors rounds ends survived)
+  pub machine_is : last.machine ≡ after first.machine (survivors rounds ends survived)
   pub saved : All (λ end. end.saved ≤ last.count) ends
   pub never_falls : NeverFalls 0 ends
 

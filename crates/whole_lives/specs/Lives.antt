@@ -14,18 +14,18 @@ abbrev pub inputs_of_round : Round → List Input
 inputs_of_round round = inputs_of_moves round.moves.items
 
 -- A round that was taken up at the first position, with this count. The first `given` of its inputs were given, and so many were known
--- to be saved. The cut kept the first `kept` of those that were given, and with them all that were saved.
+-- to be saved. The cut kept the first `survived` of those that were given, and with them all that were saved.
 pub record IsPlayedRound (inputs : List Input) (resumed saved : ℕ) (first last : Position) : Type 0 where
   pub resumed_is : resumed ≡ first.count
   pub given : ℕ
   pub were_given : given ≤ length inputs
   pub saved_at_least : first.count ≤ saved
   pub saved_at_most : saved ≤ first.count + given
-  pub kept : ℕ
-  pub were_kept : kept ≤ given
-  pub keeps_saved : saved ≤ first.count + kept
-  pub count_is : last.count ≡ first.count + kept
-  pub machine_is : last.machine ≡ after first.machine (take kept inputs)
+  pub survived : ℕ
+  pub survivors_given : survived ≤ given
+  pub keeps_saved : saved ≤ first.count + survived
+  pub count_is : last.count ≡ first.count + survived
+  pub machine_is : last.machine ≡ after first.machine (take survived inputs)
 
 -- a round that was cut before it was taken up changes nothing
 abbrev pub IsRoundBy : (inputs : List Input) → (resumed : Option ℕ) → (saved known : ℕ) → (first last : Position) → Type 0

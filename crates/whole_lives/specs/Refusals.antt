@@ -22,7 +22,7 @@ pub record IsUncountable (rom : List ℕ) (old : DiskState) (rounds : List Round
   pub past : 2 ^ 64 ≤ from.count + length (inputs_of_round round)
 
 -- Why a life ends before its rounds do, by the sectors that reads then give: what refuses the game that they hold, generations that are
--- used up, or inputs that can't be counted. Of want of memory nothing is said, and of a failed call that it is counted.
+-- used up, or inputs that can't be counted. Nothing is said of running out of memory, and of a failed call that it is counted.
 abbrev pub IsLifeStop : (rom : List ℕ) → (old : DiskState) → List Round → (left : List (List ℕ)) → SessionError → Type 0
 IsLifeStop rom old rounds left Memory = ⊤
 IsLifeStop rom old rounds left Device = ⊤

@@ -1,5 +1,5 @@
 ghost use Rattle.std.specs.Prelude.{◌≡◌, ◌<◌, true, ℕ};
-ghost use Rattle.memory_map.specs.Bus.{shared};
+ghost use Rattle.memory_map.specs.Bus.{pending_interrupts};
 ghost use Rattle.std.specs.Fn.{iterate};
 ghost use Rattle.repeated_steps.specs.NextEvent.{IsNextEvent, earlier};
 ghost use Rattle.memory_map.specs.Ticks.{tick, tick_timer, tick_serial, tick_dma_and_picture, tick_picture, copied_byte, happens};
@@ -25,7 +25,7 @@ impl Bus {
     #[inline(always)]
     pub fn pass_few(&mut self, cycles: u8) -> bool
         ensures ticks { self.new ≡ iterate tick cycles self.old }
-        ensures unshared { result ≡ true → shared self.new ≡ 0 }
+        ensures none_pending { result ≡ true → pending_interrupts self.new ≡ 0 }
     {
         // What is left is stored before it is known whether it was enough: the host does both at once.
         let calm = self.calm;
@@ -81,7 +81,7 @@ impl Bus {
     /// The bits that IE and IF share. The bits of IF are not gathered where IE is 0.
     #[inline]
     fn shared_by_flags(&self) -> u8
-        ensures { result ≡ shared self.now }
+        ensures { result ≡ pending_interrupts self.now }
     {
         if self.control.ie == 0 {
             return 0;
@@ -91,7 +91,7 @@ impl Bus {
 
     fn quiet_cycles(&self) -> u8
         ensures few { result < 255 }
-        ensures quiet { AreQuiet result self.now.control.dma_copied self.now.timer.timer self.now.serial.serial.cycles_left self.now.picture.screen.state }
+        ensures quiet { AreQuiet result self.now.control.dma_copied self.now.timer.timer self.now.serial.serial.cycles_left self.now.picture.picture.state }
     {
         if self.control.dma_copied < 160 {
             return 0;
@@ -105,13 +105,13 @@ impl Bus {
     /// For how many M-cycles IE and IF are sure to share no bit: before each of them they share
     /// none.
     #[inline]
-    pub fn unshared_for(&self) -> u8
-        ensures { (k : ℕ) → k < result → shared (iterate tick k self.now) ≡ 0 }
+    pub fn none_pending_for(&self) -> u8
+        ensures { (k : ℕ) → k < result → pending_interrupts (iterate tick k self.now) ≡ 0 }
     {
-        let unshared = self.calm;
+        let none_pending = self.calm;
         // That the timer's state is legal, on which the quiet M-cycles rest, is known from this call.
         let _ = self.timer.state();
-        unshared
+        none_pending
     }
 
     /// After how many M-cycles the next event comes: a byte of a copy, a fall of the timer's

@@ -3,7 +3,7 @@ ghost use Rattle.std.specs.Prelude.{◌%◌};
 ghost use Rattle.timer_unit.specs.Timer.{with_counter_and_tac};
 ghost use Rattle.picture_unit.specs.Registers.{register_written as picture_register_written};
 ghost use Rattle.memory_map.specs.Joypad.{joypad_set, select_bits};
-ghost use Rattle.memory_map.specs.Bus.{register_value, register_written, interrupt_flag, with_interrupt_flag, shared, acknowledged};
+ghost use Rattle.memory_map.specs.Bus.{register_value, register_written, interrupt_flag, with_interrupt_flag, pending_interrupts, acknowledged};
 
 use super::Bus;
 use crate::control::select_bits;
@@ -11,8 +11,8 @@ use crate::control::select_bits;
 impl Bus {
     /// The bits that IE and IF share, of the low five: VBlank 0, STAT 1, timer 2, serial 3, joypad
     /// 4.
-    pub fn shared(&self) -> u8
-        ensures { result ≡ shared self.now }
+    pub fn pending_interrupts(&self) -> u8
+        ensures { result ≡ pending_interrupts self.now }
     {
         if self.calm > 0 {
             return 0;

@@ -13,7 +13,7 @@ impl Bus {
     pub fn state(&self) -> BusWithoutMemory
         ensures state { result ≡ without_memory self.now }
         ensures legal { AreLegalFor self.now.banks result }
-        ensures rows { length self.now.picture.screen.rows ≡ 144 }
+        ensures rows { length self.now.picture.picture.rows ≡ 144 }
     {
         BusWithoutMemory {
             ie: self.control.ie,
@@ -50,17 +50,17 @@ impl Bus {
 
     /// The bytes of a region.
     #[tactic(auto, unfolding(picture_unit::specs::Stores::region_of, picture_unit::specs::Stores::region_length))]
-    pub fn store(&self, region: Region) -> &[u8]
+    pub fn region(&self, region: Region) -> &[u8]
         ensures bytes { result.now ≡ region_of self.now region }
         ensures fit { FitsRegion self.now region result.now }
     {
         match region {
-            Region::Vram => self.picture.store(PictureRegion::Vram),
+            Region::Vram => self.picture.region(PictureRegion::Vram),
             Region::Wram => &self.wram,
-            Region::Oam => self.picture.store(PictureRegion::Oam),
+            Region::Oam => self.picture.region(PictureRegion::Oam),
             Region::Hram => &self.hram,
             Region::Sound => &self.sound,
-            Region::CartRam => self.banks.store(),
+            Region::CartRam => self.banks.ram(),
         }
     }
 
@@ -91,7 +91,7 @@ impl Bus {
 
     /// A read-only view of the picture unit.
     pub fn picture(&self) -> &Picture
-        ensures { result.now ≡ self.now.picture.screen }
+        ensures { result.now ≡ self.now.picture.picture }
     {
         &self.picture
     }
@@ -101,7 +101,11 @@ impl Bus {
     pub fn set_row(&mut self, y: usize, row: &[u8; 160])
         requires y_in { y < 144 }
         requires shades { All (λ shade. shade < 4) row.now }
-        ensures { self.new ≡ record self.old { picture = record self.old.picture { screen = record self.old.picture.screen { rows = slice_set self.old.picture.screen.rows y row.now } } } }
+        ensures { self.new ≡ record self.old {
+          picture = record self.old.picture {
+            picture = record self.old.picture.picture { rows = slice_set self.old.picture.picture.rows y row.now };
+          };
+        } }
     {
         self.picture.set_row(y, row);
     }

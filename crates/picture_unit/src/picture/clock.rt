@@ -15,7 +15,7 @@ impl Picture {
     #[inline]
     #[tactic(auto, unfolding(crate::specs::Picture::unrequested))]
     pub fn pass(&mut self, cycles: u32) -> PictureRequests
-        ensures picture { self.new ≡ (ticks cycles self.old).screen }
+        ensures picture { self.new ≡ (ticks cycles self.old).picture }
         ensures vblank { result.vblank ≡ (ticks cycles self.old).vblank }
         ensures stat { result.stat ≡ (ticks cycles self.old).stat }
     {
@@ -55,7 +55,7 @@ impl Picture {
     /// The same as `pass`, M-cycle by M-cycle: what `pass` is compared with.
     #[tactic(auto, unfolding(crate::specs::Picture::unrequested))]
     pub fn pass_plainly(&mut self, cycles: u32) -> PictureRequests
-        ensures picture { self.new ≡ (ticks cycles self.old).screen }
+        ensures picture { self.new ≡ (ticks cycles self.old).picture }
         ensures vblank { result.vblank ≡ (ticks cycles self.old).vblank }
         ensures stat { result.stat ≡ (ticks cycles self.old).stat }
     {
@@ -225,7 +225,7 @@ impl Picture {
 
     // Draws the current line. Apart, so that an entry without a line saves no registers for it.
     #[inline(never)]
-    #[tactic(auto, unfolding(crate::specs::Picture::line_drawn, crate::specs::Picture::line_registers, crate::specs::Picture::window_line_after, crate::specs::Picture::is_on, crate::specs::Picture::mode, crate::specs::Picture::stat_signal, crate::specs::PictureJump::next_entry, crate::specs::PictureJump::next_change))]
+    #[tactic(auto, unfolding(crate::specs::Picture::line_drawn, crate::specs::Picture::line_registers, crate::specs::Picture::window_counter_after, crate::specs::Picture::is_on, crate::specs::Picture::mode, crate::specs::Picture::stat_signal, crate::specs::PictureJump::next_entry, crate::specs::PictureJump::next_change))]
     fn draw_line(&mut self)
         requires { self.old.state.ly < 144 }
         ensures { self.new ≡ line_drawn self.old }
@@ -233,7 +233,7 @@ impl Picture {
         let registers = self.state.line_registers();
         self.draw_row(&registers);
         if registers.is_window_drawn() {
-            self.state.window_line = self.state.window_line.wrapping_add(1);
+            self.state.window_counter = self.state.window_counter.wrapping_add(1);
         }
     }
 

@@ -29,7 +29,7 @@ impl Picture {
 
     /// The bytes of VRAM or OAM.
     #[tactic(auto, unfolding(crate::specs::Stores::region_of, crate::specs::Stores::region_length))]
-    pub fn store(&self, region: PictureRegion) -> &[u8]
+    pub fn region(&self, region: PictureRegion) -> &[u8]
         ensures bytes { result.now ≡ region_of self.now region }
         ensures whole { length result.now ≡ region_length region }
     {

@@ -1,7 +1,7 @@
 use Rattle.std.proofs.Common.{◌≡◌, ◌<◌, ◌^◌, ◌++◌, [], List, ℕ, length, take, drop, refl, sym, ap, ◌∙◌, subst, arith}
 use Rattle.std.proofs.lemmas.List.{take-append-le, take_all}
 use Rattle.sha2.specs.Sha256.{sha256}
-use Rattle.snapshot.specs.Text.{text}
+use Rattle.snapshot.specs.Encoding.{encoded}
 use Rattle.sector_device.specs.Runs.{HoldsSince}
 use Rattle.sector_log.specs.Calls.{HasOldOrNewContent, HasBegun}
 use Rattle.sector_log.specs.Words.{device_under, device_of as device_of_store, entries_of}
@@ -17,7 +17,7 @@ filled bytes out all rest n is size same =
 pub at-requires-clause-rests : goal.at-requires-clause-rests
 at-requires-clause-rests g c = λ whole honest_now.
     let honest = c.in-Ok.ensures.answered.honest.0 honest_now in
-    let written = filled c.deref.result.now c.encode.new.out (text c.args.machine) (drop (length c.encode.new.out) c.args.room.text.items) c.args.room.text.len c.deref.ensures.value (omega arith) c.encode.ensures.text in
+    let written = filled c.deref.result.now c.encode.new.out (encoded c.args.machine) (drop (length c.encode.new.out) c.args.room.encoded.items) c.args.room.encoded.len c.deref.ensures.value (omega arith) c.encode.ensures.encoded in
     begun_rests c.digest.result c.deref.result.now c.args.machine c.args.count
     (g.D.SectorDevice.disk (device_under c.args.opened)) (g.D.SectorDevice.disk (device_of_store c.in-Ok.store)) (entries_of c.in-Ok.store)
     (machine_of_rom c.args.machine.processor.memory.banks.rom c.args.machine refl c.requires.own c.encode.ensures.legal)
@@ -25,17 +25,17 @@ at-requires-clause-rests g c = λ whole honest_now.
 
 pub returns-in-Ok-clause-new : goal.returns-in-Ok-clause-new
 returns-in-Ok-clause-new g c = λ honest.
-    let written = filled c.deref.result.now c.encode.new.out (text c.args.machine) (drop (length c.encode.new.out) c.args.room.text.items) c.args.room.text.len c.deref.ensures.value (omega arith) c.encode.ensures.text in
-    subst (λ d. HasBegun (g.D.SectorDevice.disk (device_under c.args.opened)) (g.D.SectorDevice.disk (device_of_store d)) (sha256 c.args.cartridge.now) c.args.count (text c.args.machine)) (sym c.at.ensures.store)
+    let written = filled c.deref.result.now c.encode.new.out (encoded c.args.machine) (drop (length c.encode.new.out) c.args.room.encoded.items) c.args.room.encoded.len c.deref.ensures.value (omega arith) c.encode.ensures.encoded in
+    subst (λ d. HasBegun (g.D.SectorDevice.disk (device_under c.args.opened)) (g.D.SectorDevice.disk (device_of_store d)) (sha256 c.args.cartridge.now) c.args.count (encoded c.args.machine)) (sym c.at.ensures.store)
     (begun_of c.args.count c.digest.ensures written (c.in-Ok.ensures.begun.begun honest))
 
 pub returns-in-Ok-clause-images : goal.returns-in-Ok-clause-images
 returns-in-Ok-clause-images g c = λ honest.
-    let written = filled c.deref.result.now c.encode.new.out (text c.args.machine) (drop (length c.encode.new.out) c.args.room.text.items) c.args.room.text.len c.deref.ensures.value (omega arith) c.encode.ensures.text in
-    subst (λ d. HoldsSince (g.D.SectorDevice.disk (device_under c.args.opened)) (g.D.SectorDevice.disk (device_of_store d)) (HasOldOrNewContent (g.D.SectorDevice.disk (device_under c.args.opened)).sectors (sha256 c.args.cartridge.now) c.args.count (text c.args.machine))) (sym c.at.ensures.store)
+    let written = filled c.deref.result.now c.encode.new.out (encoded c.args.machine) (drop (length c.encode.new.out) c.args.room.encoded.items) c.args.room.encoded.len c.deref.ensures.value (omega arith) c.encode.ensures.encoded in
+    subst (λ d. HoldsSince (g.D.SectorDevice.disk (device_under c.args.opened)) (g.D.SectorDevice.disk (device_of_store d)) (HasOldOrNewContent (g.D.SectorDevice.disk (device_under c.args.opened)).sectors (sha256 c.args.cartridge.now) c.args.count (encoded c.args.machine))) (sym c.at.ensures.store)
     (images_of c.args.count c.digest.ensures written (c.in-Ok.ensures.images honest))
 
 pub returns-in-Err-clause-images : goal.returns-in-Err-clause-images
 returns-in-Err-clause-images g c = λ honest.
-    let written = filled c.deref.result.now c.encode.new.out (text c.args.machine) (drop (length c.encode.new.out) c.args.room.text.items) c.args.room.text.len c.deref.ensures.value (omega arith) c.encode.ensures.text in
+    let written = filled c.deref.result.now c.encode.new.out (encoded c.args.machine) (drop (length c.encode.new.out) c.args.room.encoded.items) c.args.room.encoded.len c.deref.ensures.value (omega arith) c.encode.ensures.encoded in
     images_of c.args.count c.digest.ensures written (c.in-Err.ensures.images honest)

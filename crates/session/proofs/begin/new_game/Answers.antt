@@ -1,7 +1,7 @@
 use Rattle.std.proofs.Common.{◌≡◌, ◌≤◌, ◌<◌, ◌⊎◌, ⊎_elim, inl, inr, [], List, ℕ, length, refl, sym, ap, ◌∙◌, subst, arith}
 use Rattle.sha2.specs.Sha256.{sha256}
 use Rattle.machine.specs.Machine.{MachineState, start}
-use Rattle.snapshot.specs.Text.{text, text_length}
+use Rattle.snapshot.specs.Encoding.{encoded, snapshot_length}
 use Rattle.cartridge.specs.Header.{ram_length_of}
 use Rattle.sector_device.specs.DiskState.{DiskState}
 use Rattle.sector_device.specs.Runs.{HoldsSince}
@@ -34,7 +34,7 @@ pub returns-clause-rests : goal.returns-clause-rests
 returns-clause-rests g c =
     if_ok c.begin_with.result c.begin_with.ensures.new
     (λ s new honest. subst (λ (m : MachineState). IsAtRest c.args.cartridge.now (g.D.SectorDevice.disk (device_of s)) 0 [] m) c.in-Ok-power_on.ensures
-    (begun_at_rest c.args.cartridge.now (sha256 c.args.cartridge.now) (text c.in-Ok-power_on.machine) c.in-Ok-power_on.machine 0
+    (begun_at_rest c.args.cartridge.now (sha256 c.args.cartridge.now) (encoded c.in-Ok-power_on.machine) c.in-Ok-power_on.machine 0
     (g.D.SectorDevice.disk (device_under c.in-Ok-open_log.opened)) (g.D.SectorDevice.disk (device_of s)) c.begin_with.ensures.of (omega arith) refl refl (new (c.in-Ok-open_log.ensures.answered.honest.1 honest))))
 
 pub returns-clause-images : goal.returns-clause-images
@@ -42,7 +42,7 @@ returns-clause-images g c = λ honest.
     new_game_images c.args.cartridge.now (g.D.SectorDevice.disk c.args.device) (g.D.SectorDevice.disk (device_under c.in-Ok-open_log.opened)) (g.D.SectorDevice.disk (left_by c.begin_with.result))
     (g.met.D.SectorDevice.reads_are_an_image c.args.device honest) (c.in-Ok-open_log.ensures.looked honest)
     (subst (λ (m : MachineState). HoldsSince (g.D.SectorDevice.disk (device_under c.in-Ok-open_log.opened)) (g.D.SectorDevice.disk (left_by c.begin_with.result))
-    (HasOldOrNewContent (g.D.SectorDevice.disk (device_under c.in-Ok-open_log.opened)).sectors (sha256 c.args.cartridge.now) 0 (text m))) c.in-Ok-power_on.ensures
+    (HasOldOrNewContent (g.D.SectorDevice.disk (device_under c.in-Ok-open_log.opened)).sectors (sha256 c.args.cartridge.now) 0 (encoded m))) c.in-Ok-power_on.ensures
     (c.begin_with.ensures.images (c.in-Ok-open_log.ensures.answered.honest.1 honest)))
 
 pub returns-clause-untouched : goal.returns-clause-untouched
@@ -55,7 +55,7 @@ returns-clause-worn g c =
     if_err c.begin_with.result c.begin_with.ensures.cause
     (λ refused cause worn honest.
     sym (c.in-Ok-open_log.ensures.opened.generation_is honest)
-    ∙ (subst (λ why. IsBeginRefusal why (text_length (ram_length_of c.args.cartridge.now)) (length (g.D.SectorDevice.disk (device_under c.in-Ok-open_log.opened)).sectors) (found_generation c.in-Ok-open_log.opened)) worn cause).1)
+    ∙ (subst (λ why. IsBeginRefusal why (snapshot_length (ram_length_of c.args.cartridge.now)) (length (g.D.SectorDevice.disk (device_under c.in-Ok-open_log.opened)).sectors) (found_generation c.in-Ok-open_log.opened)) worn cause).1)
 
 pub returns-in-Err-clause-worn : goal.returns-in-Err-clause-worn
 returns-in-Err-clause-worn g c = λ worn honest. absurd (looking_is_not_worn c.in-Err.refused.why c.in-Err.ensures.cause (sym c.fault_of.ensures ∙ worn))
@@ -64,6 +64,6 @@ pub returns-clause-can : goal.returns-clause-can
 returns-clause-can g c =
     if_ok c.begin_with.result c.begin_with.ensures.can
     (λ s can. (
-      subst (λ (n : ℕ). need (text_length (ram_length_of c.args.cartridge.now)) ≤ n) c.in-Ok-open_log.ensures.answered.count can.enough,
+      subst (λ (n : ℕ). need (snapshot_length (ram_length_of c.args.cartridge.now)) ≤ n) c.in-Ok-open_log.ensures.answered.count can.enough,
       λ honest. subst (λ (n : ℕ). n < 18446744073709551615) (c.in-Ok-open_log.ensures.opened.generation_is honest) can.unworn,
     ))

@@ -1,5 +1,5 @@
 use Rattle.std.proofs.Common.{◌≡◌, ◌<◌, ℕ, ◌/◌, ◌%◌, [], get_or}
-use Rattle.snapshot.specs.Text.{byte_of_four}
+use Rattle.snapshot.specs.Encoding.{byte_of_four}
 use Rattle.snapshot.specs.Legal.{IsRow}
 use Rattle.snapshot.proofs.picture.write_picture.Given as goal
 

@@ -4,4 +4,4 @@ use Rattle.snapshot.specs.Table.{is_legal}
 use Rattle.snapshot.proofs.table.first_illegal.Given as goal
 
 abbrev pub invariant-loop-field : goal.invariant-loop-field
-invariant-loop-field l = (k : ℕ) (d : SnapshotField) → k < l.field-index → is_legal (get_or l.fields k d) l.text ≡ true
+invariant-loop-field l = (k : ℕ) (d : SnapshotField) → k < l.field-index → is_legal (get_or l.fields k d) l.encoded ≡ true

@@ -1,7 +1,7 @@
 use Rattle.std.proofs.Common.{rules, arith, ◌≡◌, List, false, set, sym, ap, subst, ◌∙◌}
 use Rattle.picture_lines.specs.Pixel.{drawn_row}
 use Rattle.picture_lines.specs.Choice.{IsChoice}
-use Rattle.picture_unit.specs.Picture.{Screen}
+use Rattle.picture_unit.specs.Picture.{PictureUnit}
 use Rattle.picture_unit.specs.Keeping.{AreKept}
 use Rattle.picture_unit.specs.contracts.picture.Picture.{the_view}
 use Rattle.picture_unit.proofs.Kept.{kept_then, kept_row, kept_with}
@@ -34,7 +34,7 @@ returns-then-is_drawn_by c =
     kept_row p.tiles p.oam.items p.rows.items p.drawn_by c.forget_when.new.is_kept registers.ly registers kept c.requires
     (c.is_drawn_by.ensures.kept c.if-is_drawn_by.true) (c.is_drawn_by.ensures.same c.if-is_drawn_by.true) in
     ap (λ (rows : List (List _)). record (the_view p) { rows = rows }) (sym same)
-    ∙ ap (λ (s : Screen). record s { rows = set s.rows registers.ly (drawn_row registers s.vram s.oam) }) c.self.view_is
+    ∙ ap (λ (s : PictureUnit). record s { rows = set s.rows registers.ly (drawn_row registers s.vram s.oam) }) c.self.view_is
 
 pub invariant_of-self-2 : goal.invariant_of-self-2
 invariant_of-self-2 c =

@@ -4,12 +4,12 @@ use Rattle.std.proofs.lemmas.List.Elements.{All-replicate, same_from_all_zip}
 use Rattle.picture_lines.proofs.Backgrounds.{zeros-small}
 use Rattle.picture_unit.proofs.Quiet.{none_quiet}
 use Rattle.picture_unit.proofs.Kept.{none_kept}
-use Rattle.picture_unit.specs.Picture.{IsLegalPicture, screen_at_power_on, state_at_power_on, blank_rows}
+use Rattle.picture_unit.specs.Picture.{IsLegalPicture, picture_at_power_on, state_at_power_on, blank_rows}
 use Rattle.picture_unit.proofs.picture.Picture.new.Goals as goal
 
 legal_at_power_on : IsLegalPicture state_at_power_on
 unfolding state_at_power_on
-legal_at_power_on = record { lcdc = omega arith; stat = refl; scy = omega arith; scx = omega arith; lyc = omega arith; bgp = omega arith; obp0 = omega arith; obp1 = omega arith; wy = omega arith; wx = omega arith; ly = omega arith; m_cycle = omega arith; window_line = omega arith }
+legal_at_power_on = record { lcdc = omega arith; stat = refl; scy = omega arith; scx = omega arith; lyc = omega arith; bgp = omega arith; obp0 = omega arith; obp1 = omega arith; wy = omega arith; wx = omega arith; ly = omega arith; m_cycle = omega arith; window_counter = omega arith }
 
 pub invariant_of-result : goal.invariant_of-result
 invariant_of-result c =
@@ -27,7 +27,7 @@ invariant_of-result c =
     }
 
 pub returns : goal.returns
-unfolding screen_at_power_on blank_rows
+unfolding picture_at_power_on blank_rows
 returns c =
     let blank : c.in_ok-rows.rows.items ≡ replicate 144 (replicate 160 0) = c.in_ok-rows.ensures.items_if_clones_equal (λ y h. search (rules, same_from_all_zip)) in
     let zeros : c.in_ok-oam.oam.items ≡ replicate 160 0 = c.in_ok-oam.ensures.items_if_clones_equal (λ y h. h) in

@@ -27,7 +27,7 @@ returns c =
     let enough : c.args.cycles ≤ c.self.inside.quiet = omega (arith, c.from.ensures) in
     let same = quiet_ticks c.self.inside.quiet c.args.cycles (the_view c.self.inside) enough c.self.invariant.quiet ∙ ap (ticks c.args.cycles) c.self.view_is in
     record {
-      picture = ap (λ (d : PictureAndRequests). d.screen) same;
+      picture = ap (λ (d : PictureAndRequests). d.picture) same;
       vblank = ap (λ (d : PictureAndRequests). d.vblank) same;
       stat = ap (λ (d : PictureAndRequests). d.stat) same;
     }

@@ -4,5 +4,5 @@ use Rattle.picture_unit.proofs.picture.Picture.pass_plainly.Given as goal
 
 abbrev pub invariant-loop-cycle : goal.invariant-loop-cycle
 invariant-loop-cycle l =
-    let now : PictureAndRequests = record { screen = l.self; vblank = l.requests.vblank; stat = l.requests.stat } in
+    let now : PictureAndRequests = record { picture = l.self; vblank = l.requests.vblank; stat = l.requests.stat } in
     now ≡ ticks l._cycle l.fn.self

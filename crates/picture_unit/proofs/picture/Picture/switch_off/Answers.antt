@@ -33,7 +33,7 @@ invariant_of-self c =
           wx = before.legal.wx;
           ly = omega arith;
           m_cycle = omega arith;
-          window_line = omega arith;
+          window_counter = omega arith;
         };
         oam_size = before.oam_size;
         row_count = rw (whole, length-replicate) refl;

@@ -1,6 +1,6 @@
 use Rattle.std.proofs.Common.{◌≡◌, ◌+◌, ◌-◌, ◌<◌, ℕ, ap, ◌∙◌, arith}
 use Rattle.std.specs.Fn.{iterate}
-use Rattle.picture_unit.specs.Picture.{Screen, is_on, tick}
+use Rattle.picture_unit.specs.Picture.{PictureUnit, is_on, tick}
 use Rattle.picture_unit.specs.PictureJump.{with_requests, next_change}
 use Rattle.picture_unit.proofs.Quiet.{all_quiet, after_change, quiet_when_skipped, quiet_before_change, stays_on, stays_on_skipped}
 use Rattle.picture_unit.proofs.picture.Picture.to_change_in.Goals as goal
@@ -12,14 +12,14 @@ invariant_of-self c =
     let before : c.args.change - 1 - c.args.cycles + c.args.cycles < next_change c.args.self.now.state = omega (arith, c.requires.change, c.from.ensures, c.if-cycles-from.true) in
     record {
       whole = c.self.invariant.whole;
-      quiet = quiet_when_skipped c.self.inside.state c.args.cycles (c.args.change - 1 - c.args.cycles) _ _ (ap (λ (s : Screen). s.state) c.self.view_is) c.requires.on c.requires.some c.skip-requests.ensures before;
+      quiet = quiet_when_skipped c.self.inside.state c.args.cycles (c.args.change - 1 - c.args.cycles) _ _ (ap (λ (s : PictureUnit). s.state) c.self.view_is) c.requires.on c.requires.some c.skip-requests.ensures before;
       kept = c.self.invariant.kept;
       objects = c.self.invariant.objects;
     }
 
 pub returns-then-cycles-from-clause-on : goal.returns-then-cycles-from-clause-on
 returns-then-cycles-from-clause-on c =
-    ap (λ (s : Screen). is_on s.state) c.self.view_is ∙ stays_on_skipped c.args.cycles _ _ c.requires.on c.skip-requests.ensures
+    ap (λ (s : PictureUnit). is_on s.state) c.self.view_is ∙ stays_on_skipped c.args.cycles _ _ c.requires.on c.skip-requests.ensures
 
 pub returns-then-cycles-from-clause-ticks : goal.returns-then-cycles-from-clause-ticks
 returns-then-cycles-from-clause-ticks c =
@@ -38,14 +38,14 @@ invariant_of-self-2 c =
       whole = c.self-2.invariant.whole;
       quiet =
           quiet_before_change c.self-2.inside.state 1 (c.change_at-next.result - 1 - c.self-2.inside.state.m_cycle) (with_requests c.skip-requests-2.result c.skip-requests-2.new.self) _
-          (ap (λ (s : Screen). s.state) c.self-2.view_is) on (omega arith) c.run_cycle-requests.ensures (omega (arith, c.change_at-next.ensures.change, c.change_at-next.ensures.ahead));
+          (ap (λ (s : PictureUnit). s.state) c.self-2.view_is) on (omega arith) c.run_cycle-requests.ensures (omega (arith, c.change_at-next.ensures.change, c.change_at-next.ensures.ahead));
       kept = c.self-2.invariant.kept;
       objects = c.self-2.invariant.objects;
     }
 
 pub returns-clause-on : goal.returns-clause-on
 returns-clause-on c =
-    ap (λ (s : Screen). is_on s.state) c.self-2.view_is
+    ap (λ (s : PictureUnit). is_on s.state) c.self-2.view_is
     ∙ stays_on _ _ (stays_on_skipped (c.from-2.result - 1) _ _ c.requires.on c.skip-requests-2.ensures) c.run_cycle-requests.ensures
 
 pub returns-clause-ticks : goal.returns-clause-ticks
@@ -53,6 +53,6 @@ returns-clause-ticks c =
     let before : c.from-2.result - 1 < next_change c.args.self.now.state = omega (arith, c.requires.change, c.requires.ahead, c.from-2.ensures) in
     let enough : c.from-2.result - 1 < c.args.cycles = omega (arith, c.requires.ahead, c.if-cycles-from.false, c.from.ensures, c.from-2.ensures) in
     let left : c.args.cycles - c.from-3.result ≡ c.args.cycles - (c.from-2.result - 1 + 1) = omega (arith, c.requires.ahead, c.from-2.ensures, c.from-3.ensures) in
-    ap (λ (s : Screen). iterate tick (c.args.cycles - c.from-3.result) (with_requests c.run_cycle-requests.result s)) c.self-2.view_is
+    ap (λ (s : PictureUnit). iterate tick (c.args.cycles - c.from-3.result) (with_requests c.run_cycle-requests.result s)) c.self-2.view_is
     ∙ ap (λ (k : ℕ). iterate tick k (with_requests c.run_cycle-requests.result c.run_cycle-requests.new.self)) left
     ∙ after_change c.args.cycles (c.from-2.result - 1) _ _ _ enough c.requires.on before c.skip-requests-2.ensures c.run_cycle-requests.ensures

@@ -1,6 +1,6 @@
 use Rattle.std.proofs.Common.{subst, sym, ap, ◌∙◌, Ok, Err, rules}
 use Rattle.sector_device.specs.DiskState.{HasSynced}
-use Rattle.sector_device.specs.Memory.{MemoryState, memory_disk, passes, counted}
+use Rattle.sector_device.specs.Memory.{MemoryState, memory_disk, passes, call_counted}
 use Rattle.sector_device.specs.MemoryDevice.{memory}
 use Rattle.sector_device.specs.declared.recorded.Recorded.TheVariants.{Sync}
 use Rattle.sector_device.specs.declared.device.DeviceFault.{DeviceFault}
@@ -14,7 +14,7 @@ returns-then-sync_all-clause-called c =
     let new = c.sync_all.new.self in
     record {
       count = same_count old.at_start.items new.at_start.items old.recorded.items new.recorded.items old.start_sized new.start_sized old.recordable new.recordable
-          (ap (λ (m : MemoryState). m.at_start) c.sync_all.ensures.state ∙ start_of_done (passes (memory old)) (Sync (passes (memory old))) (counted (memory old)));
+          (ap (λ (m : MemoryState). m.at_start) c.sync_all.ensures.state ∙ start_of_done (passes (memory old)) (Sync (passes (memory old))) (call_counted (memory old)));
       honest = search rules;
       faults = search rules;
     }
@@ -31,7 +31,7 @@ returns-else-sync_all-clause-called c =
     let new = c.sync_all.new.self in
     record {
       count = same_count old.at_start.items new.at_start.items old.recorded.items new.recorded.items old.start_sized new.start_sized old.recordable new.recordable
-          (ap (λ (m : MemoryState). m.at_start) c.sync_all.ensures.state ∙ start_of_done (passes (memory old)) (Sync (passes (memory old))) (counted (memory old)));
+          (ap (λ (m : MemoryState). m.at_start) c.sync_all.ensures.state ∙ start_of_done (passes (memory old)) (Sync (passes (memory old))) (call_counted (memory old)));
       honest = search rules;
       faults = search rules;
     }

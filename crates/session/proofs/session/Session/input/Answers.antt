@@ -1,7 +1,7 @@
 use Rattle.std.proofs.Common.{◌≡◌, ◌++◌, ◌∷◌, [], true, refl, sym, ap, ◌∙◌, subst, arith}
 use Rattle.std.specs.List.{list_all}
 use Rattle.sha2.specs.Sha256.{sha256}
-use Rattle.snapshot.specs.Text.{text_length}
+use Rattle.snapshot.specs.Encoding.{snapshot_length}
 use Rattle.sector_log.specs.Inputs.{is_input}
 use Rattle.sector_log.specs.Words.{device_of as device_of_store, entries_of}
 use Rattle.machine.specs.declared.input.Input.{Input}
@@ -16,7 +16,7 @@ invariant_of-self-clause-inputs g c =
 
 pub invariant_of-self-clause-room : goal.invariant_of-self-clause-room
 invariant_of-self-clause-room g c =
-    c.args.self.now.room ∙ ap text_length (sym (same_after c.args.self.now.machine c.apply.new.self c.args.input c.apply.ensures).ram_length)
+    c.args.self.now.room ∙ ap snapshot_length (sym (same_after c.args.self.now.machine c.apply.new.self c.args.input c.apply.ensures).ram_length)
 
 pub invariant_of-self-clause-id : goal.invariant_of-self-clause-id
 invariant_of-self-clause-id g c =

@@ -36,25 +36,25 @@ returns-then-is_empty-clause-rests g c = λ honest.
 pub invariant_of-self-in-Ok-clause-room : goal.invariant_of-self-in-Ok-clause-room
 invariant_of-self-in-Ok-clause-room g c =
     let self = c.args.self.now in
-    let long : length c.write_pending.new.buffer ≡ self.text.len = omega arith in
-    let kept : self.text.len ≡ length self.text.items = search rules in
-    buffer_length c.write_pending.new.buffer (drop (length c.write_pending.new.buffer) self.text.items) self.text.len long ∙ kept ∙ self.room
+    let long : length c.write_pending.new.buffer ≡ self.encoded.len = omega arith in
+    let kept : self.encoded.len ≡ length self.encoded.items = search rules in
+    buffer_length c.write_pending.new.buffer (drop (length c.write_pending.new.buffer) self.encoded.items) self.encoded.len long ∙ kept ∙ self.room
 
 pub invariant_of-self-in-Ok-clause-short : goal.invariant_of-self-in-Ok-clause-short
 invariant_of-self-in-Ok-clause-short g c =
     let self = c.args.self.now in
-    let long : length c.write_pending.new.buffer ≡ self.text.len = omega arith in
-    let kept : self.text.len ≡ length self.text.items = search rules in
-    subst (λ (n : ℕ). n < 2 ^ 32) (sym (buffer_length c.write_pending.new.buffer (drop (length c.write_pending.new.buffer) self.text.items) self.text.len long ∙ kept)) self.short
+    let long : length c.write_pending.new.buffer ≡ self.encoded.len = omega arith in
+    let kept : self.encoded.len ≡ length self.encoded.items = search rules in
+    subst (λ (n : ℕ). n < 2 ^ 32) (sym (buffer_length c.write_pending.new.buffer (drop (length c.write_pending.new.buffer) self.encoded.items) self.encoded.len long ∙ kept)) self.short
 
 pub invariant_of-self-in-Ok-clause-large : goal.invariant_of-self-in-Ok-clause-large
 invariant_of-self-in-Ok-clause-large g c =
     let self = c.args.self.now in
-    let long : length c.write_pending.new.buffer ≡ self.text.len = omega arith in
-    let kept : self.text.len ≡ length self.text.items = search rules in
-    let same = buffer_length c.write_pending.new.buffer (drop (length c.write_pending.new.buffer) self.text.items) self.text.len long ∙ kept in
+    let long : length c.write_pending.new.buffer ≡ self.encoded.len = omega arith in
+    let kept : self.encoded.len ≡ length self.encoded.items = search rules in
+    let same = buffer_length c.write_pending.new.buffer (drop (length c.write_pending.new.buffer) self.encoded.items) self.encoded.len long ∙ kept in
     subst (λ (n : ℕ). need n ≤ length (g.D.SectorDevice.disk (device_of_store c.write_pending.new.store)).sectors) (sym same)
-    (subst (λ (n : ℕ). need (length self.text.items) ≤ n) (sym c.in-Ok.ensures.answered.count) self.large)
+    (subst (λ (n : ℕ). need (length self.encoded.items) ≤ n) (sym c.in-Ok.ensures.answered.count) self.large)
 
 pub invariant_of-self-in-Ok-clause-rests : goal.invariant_of-self-in-Ok-clause-rests
 invariant_of-self-in-Ok-clause-rests g c = λ whole_now honest_now.
@@ -68,9 +68,9 @@ invariant_of-self-in-Ok-clause-rests g c = λ whole_now honest_now.
 pub invariant_of-self-in-Err-1 : goal.invariant_of-self-in-Err-1
 invariant_of-self-in-Err-1 g c =
     let self = c.args.self.now in
-    let long : length c.write_pending.new.buffer ≡ self.text.len = omega arith in
-    let kept : self.text.len ≡ length self.text.items = search rules in
-    let same = buffer_length c.write_pending.new.buffer (drop (length c.write_pending.new.buffer) self.text.items) self.text.len long ∙ kept in
+    let long : length c.write_pending.new.buffer ≡ self.encoded.len = omega arith in
+    let kept : self.encoded.len ≡ length self.encoded.items = search rules in
+    let same = buffer_length c.write_pending.new.buffer (drop (length c.write_pending.new.buffer) self.encoded.items) self.encoded.len long ∙ kept in
     record {
       inputs = self.inputs;
       few = self.few;
@@ -79,7 +79,7 @@ invariant_of-self-in-Err-1 g c =
       room = same ∙ self.room;
       short = subst (λ (n : ℕ). n < 2 ^ 32) (sym same) self.short;
       large = subst (λ (n : ℕ). need n ≤ length (g.D.SectorDevice.disk (device_of_store c.write_pending.new.store)).sectors) (sym same)
-          (subst (λ (n : ℕ). need (length self.text.items) ≤ n) (sym c.write_pending.ensures.answered.count) self.large);
+          (subst (λ (n : ℕ). need (length self.encoded.items) ≤ n) (sym c.write_pending.ensures.answered.count) self.large);
       id = c.write_pending.ensures.id ∙ self.id;
       own = self.own;
       rests = λ whole_now honest_now.

@@ -1,5 +1,0 @@
-use Rattle.snapshot.proofs.Machines.{one_machine}
-use Rattle.snapshot.proofs.laws.one_text_is_one_machine.Goals as goal
-
-pub returns : goal.returns
-returns c = one_machine

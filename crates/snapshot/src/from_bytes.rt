@@ -1,0 +1,81 @@
+//! Bytes as a machine.
+
+ghost use Rattle.std.specs.Prelude.{◌≡◌, IfOk, IfErr, IfSome, IfNone, MatchResult, length, slice_range};
+ghost use Rattle.memory_map.specs.Stores.{FitsRegion};
+ghost use Rattle.machine.specs.Machine.{MachineState};
+ghost use Rattle.snapshot.specs.Encoding.{encoded, snapshot_length, length_without_ram};
+ghost use Rattle.snapshot.specs.Reading.{with_rows, with_stores, rows_in};
+ghost use Rattle.snapshot.specs.Legal.{IsMachineOf, IsLegalSnapshot, IsRefusal};
+
+use crate::error::SnapError;
+use crate::picture::row_in;
+use crate::registers::registers_in;
+use crate::table::{first_illegal, table};
+use crate::to_bytes::{LENGTH_WITHOUT_RAM, length};
+use cartridge::Cartridge;
+use machine::{Machine, Region};
+use std::alloc::Global;
+
+/// The machine of this cartridge that has this snapshot.
+///
+/// Refused with the first of these that holds: another length than the cartridge's snapshots have, `SnapLength`; a field that is
+/// not legal, `Field` with the offset of the first one; out of memory. No machine is made before all fields are found legal.
+pub fn decode(alloc: Global, bytes: &[u8], cartridge: &Cartridge) -> Result<Machine, SnapError>
+    ensures ok { IfOk result (λ m. IsMachineOf cartridge.now m × (encoded m ≡ bytes.now)) }
+    ensures all { (m : MachineState) → IsMachineOf cartridge.now m → encoded m ≡ bytes.now
+        → MatchResult result (λ found. found ≡ m) (λ error. error ≡ SnapError.Memory) }
+    ensures err { IfErr result (IsRefusal cartridge.now bytes.now) }
+{
+    if let Some(fault) = fault(bytes, cartridge) {
+        return Err(fault);
+    }
+    let Ok(mut machine) = Machine::power_on(alloc, cartridge) else {
+        return Err(SnapError::Memory);
+    };
+    machine.restore(&registers_in(cartridge.controller(), bytes));
+    fill_stores(&mut machine, bytes);
+    Ok(machine)
+}
+
+/// Sets the stores and the picture.
+fn fill_stores(machine: &mut Machine, bytes: &[u8])
+    requires length { length bytes.now ≡ snapshot_length (length machine.old.processor.memory.banks.ram) }
+    requires rows { length machine.old.processor.memory.picture.picture.rows ≡ 144 }
+    requires ram { FitsRegion machine.old.processor.memory Region.CartRam (slice_range bytes.now length_without_ram (length bytes.now)) }
+    ensures { machine.new ≡ with_stores bytes.now machine.old }
+{
+    machine.fill(Region::Vram, &bytes[128..8320]);
+    machine.fill(Region::Wram, &bytes[8320..16512]);
+    machine.fill(Region::Oam, &bytes[16512..16672]);
+    machine.fill(Region::Hram, &bytes[16672..16799]);
+    machine.fill(Region::Sound, &bytes[16799..16847]);
+    set_rows(machine, &bytes[16847..LENGTH_WITHOUT_RAM]);
+    machine.fill(Region::CartRam, &bytes[LENGTH_WITHOUT_RAM..]);
+}
+
+/// The first fault of bytes, if they are not a legal snapshot of this cartridge.
+fn fault(bytes: &[u8], cartridge: &Cartridge) -> Option<SnapError>
+    ensures none { IfNone result (IsLegalSnapshot cartridge.now bytes.now) }
+    ensures some { IfSome result (IsRefusal cartridge.now bytes.now) }
+{
+    let ram = cartridge.ram_length();
+    if bytes.len() != length(ram) {
+        return Some(SnapError::SnapLength(bytes.len() as u64));
+    }
+    let fields = table(cartridge.controller(), cartridge.has_rumble(), ram as u32);
+    match first_illegal(&fields, bytes) {
+        Some(offset) => Some(SnapError::Field(offset)),
+        None => None,
+    }
+}
+
+/// Sets all rows of the picture.
+fn set_rows(machine: &mut Machine, picture: &[u8])
+    requires length { length picture.now ≡ 5760 }
+    requires rows { length machine.old.processor.memory.picture.picture.rows ≡ 144 }
+    ensures { machine.new ≡ with_rows (rows_in picture.now) machine.old }
+{
+    for y in 0..144 {
+        machine.set_row(y, &row_in(picture, y));
+    }
+}

@@ -1,0 +1,63 @@
+//! A machine as bytes.
+
+ghost use Rattle.std.specs.Prelude.{◌≡◌, ◌^◌, ◌-◌, ◌+◌, min, length};
+ghost use Rattle.snapshot.specs.Legal.{AreLegalStores, IsLegalMachine};
+ghost use Rattle.snapshot.specs.Encoding.{encoded, snapshot_length, stores_bytes, unused};
+
+use crate::picture::write_picture;
+use crate::registers::fixed_fields;
+use machine::{Machine, Region};
+
+/// The length of a snapshot without cartridge RAM, which comes last.
+pub(crate) const LENGTH_WITHOUT_RAM: usize = 22_607;
+
+/// The length of a snapshot, by the bytes of cartridge RAM: 22,607 more. A sum that no `usize` holds is `usize::MAX`.
+pub fn length(ram: usize) -> usize
+    ensures { result ≡ min (snapshot_length ram) (2 ^ 64 - 1) }
+{
+    ram.saturating_add(LENGTH_WITHOUT_RAM)
+}
+
+/// Writes the snapshot of a machine. Condition: the slice is as long as `length` says for the machine's RAM. It takes no memory.
+/// Every machine is legal, so that its snapshot is a legal one for its cartridge.
+#[tactic(auto, unfolding(crate::specs::Encoding::encoded))]
+pub fn encode(machine: &Machine, out: &mut [u8])
+    requires { length out.old ≡ snapshot_length (length machine.now.processor.memory.banks.ram) }
+    ensures encoded { out.new ≡ encoded machine.now }
+    ensures legal { IsLegalMachine machine.now }
+{
+    let (fields, stores) = out.split_at_mut(67);
+    fields.copy_from_slice(&fixed_fields(machine.state()));
+    write_stores(machine, stores);
+}
+
+fn write_stores(machine: &Machine, out: &mut [u8])
+    requires room { length out.old ≡ 22540 + length machine.now.processor.memory.banks.ram }
+    requires rows { length machine.now.processor.memory.picture.picture.rows ≡ 144 }
+    ensures encoded { out.new ≡ stores_bytes machine.now.processor.memory }
+    ensures legal { AreLegalStores machine.now.processor.memory }
+{
+    let (unused, out) = out.split_at_mut(61);
+    clear(unused);
+    let (vram, out) = out.split_at_mut(8192);
+    vram.copy_from_slice(machine.region(Region::Vram));
+    let (wram, out) = out.split_at_mut(8192);
+    wram.copy_from_slice(machine.region(Region::Wram));
+    let (oam, out) = out.split_at_mut(160);
+    oam.copy_from_slice(machine.region(Region::Oam));
+    let (hram, out) = out.split_at_mut(127);
+    hram.copy_from_slice(machine.region(Region::Hram));
+    let (sound, out) = out.split_at_mut(48);
+    sound.copy_from_slice(machine.region(Region::Sound));
+    let (picture, ram) = out.split_at_mut(5760);
+    write_picture(machine.picture(), picture);
+    ram.copy_from_slice(machine.region(Region::CartRam));
+}
+
+#[tactic(auto, unfolding(crate::specs::Encoding::unused))]
+fn clear(out: &mut [u8])
+    requires { length out.old ≡ 61 }
+    ensures { out.new ≡ unused }
+{
+    out.copy_from_slice(&[0; 61]);
+}
