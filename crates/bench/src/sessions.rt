@@ -114,28 +114,46 @@ fn played<D: SectorDevice + Drop>(
     Ok(session)
 }
 
+/// The device calls of inputs and saves.
+fn count_saves(rt: &HostRuntime, session: &mut Session<Counting<MemoryDevice>>) -> io::Result<()> {
+    let first = calls_so_far(session);
+    give(session, 1, SECOND)?;
+    let given = calls_so_far(session);
+    line(rt, "60 inputs", first, given)?;
+    save(session)?;
+    let saved = calls_so_far(session);
+    line(rt, "save of 60 inputs, in one sector", given, saved)?;
+    save(session)?;
+    line(rt, "save of nothing", saved, calls_so_far(session))
+}
+
+fn count_game(rt: &HostRuntime, cartridge: &Cartridge) -> io::Result<Counting<MemoryDevice>> {
+    let device = Counting::new(MemoryDevice::new(rt.alloc(), 188, 1000)?);
+    let made = calls_of(&device);
+    let mut session = begun(rt.alloc(), device, cartridge)?;
+    line(rt, "new_game on 188 sectors", made, calls_so_far(&session))?;
+    count_saves(rt, &mut session)?;
+    Ok(session.into_device())
+}
+
+fn count_resume(
+    rt: &HostRuntime,
+    device: Counting<MemoryDevice>,
+    cartridge: &Cartridge,
+) -> io::Result<Counting<MemoryDevice>> {
+    let before = calls_of(&device);
+    let session = resumed(rt.alloc(), device, cartridge)?;
+    line(rt, "resume", before, calls_so_far(&session))?;
+    Ok(session.into_device())
+}
+
 /// The device calls of a new game, a save, a resume and a play of nothing, the same in each run.
 fn count(rt: &HostRuntime) -> io::Result<()> {
-    let alloc = rt.alloc();
-    let cartridge = cartridge(alloc, &CLOCK)?;
-    let device = Counting::new(MemoryDevice::new(alloc, 188, 1000)?);
-    let made = calls_of(&device);
-    let mut session = begun(alloc, device, &cartridge)?;
-    let first = calls_so_far(&session);
-    line(rt, "new_game on 188 sectors", made, first)?;
-    give(&mut session, 1, SECOND)?;
-    let given = calls_so_far(&session);
-    line(rt, "60 inputs", first, given)?;
-    save(&mut session)?;
-    let saved = calls_so_far(&session);
-    line(rt, "save of 60 inputs, in one sector", given, saved)?;
-    save(&mut session)?;
-    let again = calls_so_far(&session);
-    line(rt, "save of nothing", saved, again)?;
-    let session = resumed(alloc, session.into_device(), &cartridge)?;
-    let found = calls_so_far(&session);
-    line(rt, "resume", again, found)?;
-    let session = played(alloc, session.into_device(), &cartridge, &[])?;
+    let cartridge = cartridge(rt.alloc(), &CLOCK)?;
+    let device = count_game(rt, &cartridge)?;
+    let device = count_resume(rt, device, &cartridge)?;
+    let found = calls_of(&device);
+    let session = played(rt.alloc(), device, &cartridge, &[])?;
     line(rt, "play of an empty script", found, calls_so_far(&session))
 }
 
@@ -171,24 +189,50 @@ fn median(times: &mut Vec<u64>) -> u64 {
     times.get(times.len() / 2).copied().unwrap_or(0)
 }
 
-/// Saves of 60 inputs on a file. Behind each, and 60 frames of another machine, so that neither finds the processor's memory warmer,
-/// comes a bare write and sync of a sector of the file that no session uses.
-fn time_saves(rt: &HostRuntime) -> io::Result<()> {
+/// A save of 60 inputs on a file, and behind it, and 60 frames of another machine, so that neither finds the processor's memory warmer,
+/// a bare write and sync of a sector of the file that no session uses.
+fn timed_round(
+    rt: &HostRuntime,
+    session: &mut Session<FileDevice>,
+    machine: &mut Machine,
+    file: &File,
+    buttons: u8,
+) -> io::Result<(u64, u64)> {
+    give(session, buttons, SECOND)?;
+    let a_save = timed_save(rt, session)?;
+    play_frames(machine, u32::from(SECOND));
+    Ok((a_save, timed_write(rt, file)?))
+}
+
+/// The medians of the saves and of the bare writes.
+fn medians(
+    rt: &HostRuntime,
+    session: &mut Session<FileDevice>,
+    machine: &mut Machine,
+    file: &File,
+) -> io::Result<(u64, u64)> {
+    let mut saves = Vec::new(rt.alloc());
+    let mut writes = Vec::new(rt.alloc());
+    for i in 0..SAVES {
+        let (a_save, a_write) = timed_round(rt, session, machine, file, (i % 2) as u8)?;
+        saves.push(a_save)?;
+        writes.push(a_write)?;
+    }
+    Ok((median(&mut saves), median(&mut writes)))
+}
+
+fn medians_of_a_game(rt: &HostRuntime) -> io::Result<(u64, u64)> {
     let alloc = rt.alloc();
     let cartridge = cartridge(alloc, &CLOCK)?;
     let mut session = begun(alloc, new_file(rt, 189)?, &cartridge)?;
     let file = OpenOptions::new().write(true).open(rt, PATH)?;
     let mut machine = Machine::power_on(alloc, &cartridge)?;
-    let mut saves = Vec::new(alloc);
-    let mut writes = Vec::new(alloc);
-    for i in 0..SAVES {
-        give(&mut session, (i % 2) as u8, SECOND)?;
-        saves.push(timed_save(rt, &mut session)?)?;
-        play_frames(&mut machine, u32::from(SECOND));
-        writes.push(timed_write(rt, &file)?)?;
-    }
-    let a_save = median(&mut saves);
-    let a_write = median(&mut writes);
+    medians(rt, &mut session, &mut machine, &file)
+}
+
+/// Saves of 60 inputs on a file, beside bare writes.
+fn time_saves(rt: &HostRuntime) -> io::Result<()> {
+    let (a_save, a_write) = medians_of_a_game(rt)?;
     let percent = a_save.saturating_mul(100) / a_write.max(1);
     fs::remove_file(rt, PATH)?;
     println!(rt;

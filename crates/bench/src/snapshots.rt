@@ -52,24 +52,19 @@ fn decode_often(alloc: Global, text: &[u8], cartridge: &Cartridge) -> u32 {
     made
 }
 
-/// `encode` and `decode`, in tenths of a microsecond.
-pub(crate) fn time(rt: &HostRuntime) -> io::Result<()> {
-    let alloc = rt.alloc();
-    let cartridge = cartridge(alloc, &ROM)?;
-    let mut machine = Machine::power_on(alloc, &cartridge)?;
-    run(&mut machine);
-    let mut text = vec![in alloc; 0u8; length(8192)]?;
-    let written = best_of(rt, ROUNDS, || {
-        Ok(u32::from(encode_often(&machine, &mut text)))
-    })?;
-    let read = best_of(rt, ROUNDS, || Ok(decode_often(alloc, &text, &cartridge)))?;
+fn time_encode(rt: &HostRuntime, machine: &Machine, text: &mut [u8]) -> io::Result<()> {
+    let written = best_of(rt, ROUNDS, || Ok(u32::from(encode_often(machine, text))))?;
     let tenths = written.nanoseconds / u64::from(CALLS) / 100;
     println!(rt;
         "encode: {}.{} us (room {})",
         tenths / 10,
         tenths % 10,
         written.sum == ROUNDS
-    )?;
+    )
+}
+
+fn time_decode(rt: &HostRuntime, text: &[u8], cartridge: &Cartridge) -> io::Result<()> {
+    let read = best_of(rt, ROUNDS, || Ok(decode_often(rt.alloc(), text, cartridge)))?;
     let tenths = read.nanoseconds / u64::from(CALLS) / 100;
     println!(rt;
         "decode: {}.{} us ({} machines)",
@@ -77,4 +72,15 @@ pub(crate) fn time(rt: &HostRuntime) -> io::Result<()> {
         tenths % 10,
         read.sum
     )
+}
+
+/// `encode` and `decode`, in tenths of a microsecond.
+pub(crate) fn time(rt: &HostRuntime) -> io::Result<()> {
+    let alloc = rt.alloc();
+    let cartridge = cartridge(alloc, &ROM)?;
+    let mut machine = Machine::power_on(alloc, &cartridge)?;
+    run(&mut machine);
+    let mut text = vec![in alloc; 0u8; length(8192)]?;
+    time_encode(rt, &machine, &mut text)?;
+    time_decode(rt, &text, &cartridge)
 }

@@ -1,4 +1,5 @@
 //! Worked values on the whole bus. Most begin with the LCD and the timer off and no interrupt requested.
+use crate::asserting::{holds, same};
 use cartridge::Cartridge;
 use memory_map::{Bus, Region};
 use std::alloc::Global;
@@ -44,7 +45,7 @@ fn due(bus: &Bus) -> Option<u32> {
 
 fn has(rt: &impl Abort, bus: &Bus, expected: &[(u16, u8)]) {
     for (address, value) in expected {
-        assert_eq!(rt; get(bus, *address), *value, "at {:04X}", *address);
+        same!(rt; get(bus, *address), *value, "at {:04X}", *address);
     }
 }
 
@@ -73,7 +74,7 @@ fn power_on_values(rt: HostRuntime) -> Result<(), Fail> {
             (0xffff, 0x00),
         ],
     );
-    assert_eq!(rt; due(&bus), Some(20));
+    same!(rt; due(&bus), Some(20));
     Ok(())
 }
 
@@ -125,9 +126,9 @@ fn joypad_lines_and_interrupt(rt: HostRuntime) -> Result<(), Fail> {
     put(&mut bus, 0xff00, 0x10);
     has(&rt, &bus, &[(0xff00, 0xde), (0xff0f, 0xf0)]);
     put(&mut bus, 0xffff, 0x18);
-    assert_eq!(rt; bus.pending_interrupts(), 0x10);
+    same!(rt; bus.pending_interrupts(), 0x10);
     bus.acknowledge(5);
-    assert_eq!(rt; bus.pending_interrupts(), 0x10);
+    same!(rt; bus.pending_interrupts(), 0x10);
     Ok(())
 }
 
@@ -140,7 +141,7 @@ fn timer_counts_falls(rt: HostRuntime) -> Result<(), Fail> {
     put(&mut bus, 0xff07, 0x05);
     pass(&mut bus, 3);
     has(&rt, &bus, &[(0xff05, 0xff), (0xff0f, 0xe0)]);
-    assert_eq!(rt; due(&bus), Some(1));
+    same!(rt; due(&bus), Some(1));
     pass(&mut bus, 1);
     has(&rt, &bus, &[(0xff05, 0xfe), (0xff0f, 0xe4)]);
     put(&mut bus, 0xff04, 0x00);
@@ -225,9 +226,9 @@ fn a_tile_written_between_lines(rt: HostRuntime) -> Result<(), Fail> {
     put(&mut bus, 0x8003, 0xff);
     pass(&mut bus, 71);
     let first = bus.picture().row(0).iter().all(|shade| *shade == 0);
-    assert!(rt; first);
+    holds!(rt; first);
     let second = bus.picture().row(1).iter().all(|shade| *shade == 3);
-    assert!(rt; second);
+    holds!(rt; second);
     Ok(())
 }
 
@@ -235,7 +236,7 @@ fn a_tile_written_between_lines(rt: HostRuntime) -> Result<(), Fail> {
 fn nothing_comes_with_the_lcd_off(rt: HostRuntime) -> Result<(), Fail> {
     let mut bus = at_power_on(rt.alloc())?;
     put(&mut bus, 0xff40, 0x00);
-    assert_eq!(rt; due(&bus), None);
+    same!(rt; due(&bus), None);
     for _ in 0..1000u32 {
         pass(&mut bus, u32::MAX);
     }
@@ -259,7 +260,7 @@ fn put_objects(bus: &mut Bus) {
 }
 
 fn is_same(rt: &impl Abort, left: &Bus, right: &Bus) {
-    assert!(rt; left.state() == right.state());
+    holds!(rt; left.state() == right.state());
     for region in [
         Region::Vram,
         Region::Wram,
@@ -268,10 +269,10 @@ fn is_same(rt: &impl Abort, left: &Bus, right: &Bus) {
         Region::Sound,
         Region::CartRam,
     ] {
-        assert!(rt; left.region(region) == right.region(region));
+        holds!(rt; left.region(region) == right.region(region));
     }
     for y in 0..144 {
-        assert!(rt; left.picture().row(y) == right.picture().row(y));
+        holds!(rt; left.picture().row(y) == right.picture().row(y));
     }
 }
 

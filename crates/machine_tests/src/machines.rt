@@ -1,4 +1,5 @@
 //! Worked values on the whole machine.
+use crate::asserting::{holds, same};
 use cartridge::Cartridge;
 use machine::{Input, Machine, Region, Stepped, What};
 use std::alloc::Global;
@@ -42,8 +43,43 @@ fn byte_at(machine: &Machine, address: u16) -> u8 {
     machine.peek(address)
 }
 
+fn apply(machine: &mut Machine, input: Input) {
+    machine.apply(input);
+}
+
+fn buttons(machine: &Machine) -> u8 {
+    machine.state().bus.buttons
+}
+
 fn frame(machine: &mut Machine, buttons: u8) {
     machine.frame(buttons);
+}
+
+fn pc_of(machine: &Machine) -> u16 {
+    machine.registers().pc
+}
+
+fn sp_of(machine: &Machine) -> u16 {
+    machine.registers().sp
+}
+
+fn a_of(machine: &Machine) -> u8 {
+    machine.registers().a
+}
+
+fn hl_of(machine: &Machine) -> (u8, u8) {
+    let registers = machine.registers();
+    (registers.h, registers.l)
+}
+
+fn overrun(machine: &Machine) -> u8 {
+    machine.overrun()
+}
+
+// Whether interrupts are enabled, and whether they will be behind the next instruction.
+fn enabling(machine: &Machine) -> (bool, bool) {
+    let state = machine.state();
+    (state.state.ime, state.state.ime_pending)
 }
 
 fn is_blank(machine: &Machine) -> bool {
@@ -96,26 +132,41 @@ fn has_run(stepped: &Stepped, pc: u16, length: u8) -> bool {
 #[test]
 fn frames_keep_what_they_run_over(rt: HostRuntime) -> Result<(), Fail> {
     let mut machine = machine(rt.alloc(), &[0x23, 0x18, 0xfd])?;
-    for (h, l, overrun) in [(0x0f, 0x05, 1), (0x1c, 0xbc, 0)] {
+    for (h, l, ticks) in [(0x0f, 0x05, 1), (0x1c, 0xbc, 0)] {
         frame(&mut machine, 0);
-        let registers = machine.registers();
-        assert_eq!(rt; (registers.pc, registers.h, registers.l), (0x0101, h, l));
-        assert_eq!(rt; machine.overrun(), overrun);
+        same!(rt; pc_of(&machine), 0x0101);
+        same!(rt; hl_of(&machine), (h, l));
+        same!(rt; overrun(&machine), ticks);
     }
     Ok(())
+}
+
+fn has_jumped(rt: &impl Abort, machine: &Machine) {
+    same!(rt; pc_of(machine), 0x0100);
+    same!(rt; overrun(machine), 0);
+    same!(rt; byte_at(machine, 0xff04), 0xbd);
+    same!(rt; byte_at(machine, 0xff44), 0x00);
+    same!(rt; byte_at(machine, 0xff0f), 0xe1);
+    holds!(rt; is_blank(machine));
 }
 
 #[test]
 fn a_frame_of_jumps(rt: HostRuntime) -> Result<(), Fail> {
     let mut machine = machine(rt.alloc(), &[0x18, 0xfe])?;
     frame(&mut machine, 0);
-    assert_eq!(rt; machine.registers().pc, 0x0100);
-    assert_eq!(rt; machine.overrun(), 0);
-    assert_eq!(rt; byte_at(&machine, 0xff04), 0xbd);
-    assert_eq!(rt; byte_at(&machine, 0xff44), 0x00);
-    assert_eq!(rt; byte_at(&machine, 0xff0f), 0xe1);
-    assert!(rt; is_blank(&machine));
+    has_jumped(&rt, &machine);
     Ok(())
+}
+
+// The next step dispatches the interrupt of this address, from that of the instruction behind.
+fn dispatches(rt: &impl Abort, machine: &mut Machine, to: u16, from: [u8; 2]) {
+    let stepped = step(machine);
+    same!(rt; stepped.what, What::Dispatch(to));
+    same!(rt; stepped.cycles, 5);
+    same!(rt; pc_of(machine), to);
+    let sp = sp_of(machine);
+    same!(rt; byte_at(machine, sp.saturating_add(1)), from[0]);
+    same!(rt; byte_at(machine, sp), from[1]);
 }
 
 #[test]
@@ -124,18 +175,10 @@ fn interrupts_are_dispatched(rt: HostRuntime) -> Result<(), Fail> {
     set_registers(&mut machine, 0xc123, 0xd000);
     set_enabling(&mut machine, true, true);
     set_interrupts(&mut machine, 0x05, 0x04);
-    let stepped = step(&mut machine);
-    assert_eq!(rt; stepped.what, What::Dispatch(0x50));
-    assert_eq!(rt; stepped.cycles, 5);
-    let registers = machine.registers();
-    assert_eq!(rt; (registers.pc, registers.sp), (0x0050, 0xcffe));
-    assert_eq!(rt;
-        (byte_at(&machine, 0xcfff), byte_at(&machine, 0xcffe)),
-        (0xc1, 0x23)
-    );
-    let state = machine.state();
-    assert!(rt; !state.state.ime && !state.state.ime_pending);
-    assert_eq!(rt; byte_at(&machine, 0xff0f), 0xe0);
+    dispatches(&rt, &mut machine, 0x50, [0xc1, 0x23]);
+    same!(rt; sp_of(&machine), 0xcffe);
+    same!(rt; enabling(&machine), (false, false));
+    same!(rt; byte_at(&machine, 0xff0f), 0xe0);
     Ok(())
 }
 
@@ -147,8 +190,7 @@ fn a_halt_that_is_not_entered_repeats_a_byte(rt: HostRuntime) -> Result<(), Fail
     for _ in 0..3u32 {
         let _ = step(&mut machine);
     }
-    let registers = machine.registers();
-    assert_eq!(rt; (registers.a, registers.pc), (0x12, 0xc002));
+    same!(rt; (a_of(&machine), pc_of(&machine)), (0x12, 0xc002));
     Ok(())
 }
 
@@ -161,21 +203,21 @@ fn after_enabling(alloc: Global, opcode: u8) -> Result<Machine, Fail> {
     Ok(machine)
 }
 
+fn disables_again(rt: &impl Abort, alloc: Global) -> Result<(), Fail> {
+    let mut machine = after_enabling(alloc, 0xf3)?;
+    same!(rt; enabling(&machine).0, false);
+    let third = step(&mut machine);
+    holds!(rt; has_run(&third, 0xc002, 1));
+    Ok(())
+}
+
 #[test]
 fn interrupts_are_enabled_behind_the_next_instruction(rt: HostRuntime) -> Result<(), Fail> {
-    let mut machine = after_enabling(rt.alloc(), 0xf3)?;
-    assert!(rt; !machine.state().state.ime);
-    let third = step(&mut machine);
-    assert!(rt; has_run(&third, 0xc002, 1));
+    disables_again(&rt, rt.alloc())?;
     let mut machine = after_enabling(rt.alloc(), 0x00)?;
-    assert!(rt; machine.state().state.ime);
-    let third = step(&mut machine);
-    assert_eq!(rt; third.what, What::Dispatch(0x40));
-    assert_eq!(rt; machine.registers().pc, 0x0040);
-    assert_eq!(rt;
-        (byte_at(&machine, 0xfffd), byte_at(&machine, 0xfffc)),
-        (0xc0, 0x02)
-    );
+    same!(rt; enabling(&machine).0, true);
+    dispatches(&rt, &mut machine, 0x40, [0xc0, 0x02]);
+    same!(rt; sp_of(&machine), 0xfffc);
     Ok(())
 }
 
@@ -183,14 +225,14 @@ fn interrupts_are_enabled_behind_the_next_instruction(rt: HostRuntime) -> Result
 fn an_undefined_opcode_locks(rt: HostRuntime) -> Result<(), Fail> {
     let mut machine = machine_at_c000(rt.alloc(), &[0xd3])?;
     let first = step(&mut machine);
-    assert!(rt; has_run(&first, 0xc000, 1));
-    assert_eq!(rt; first.cycles, 1);
+    holds!(rt; has_run(&first, 0xc000, 1));
+    same!(rt; first.cycles, 1);
     for _ in 0..2u32 {
         let waited = step(&mut machine);
-        assert_eq!(rt; waited.what, What::Wait);
-        assert_eq!(rt; waited.cycles, 1);
+        same!(rt; waited.what, What::Wait);
+        same!(rt; waited.cycles, 1);
     }
-    assert_eq!(rt; machine.registers().pc, 0xc001);
+    same!(rt; pc_of(&machine), 0xc001);
     Ok(())
 }
 
@@ -198,23 +240,22 @@ fn an_undefined_opcode_locks(rt: HostRuntime) -> Result<(), Fail> {
 fn a_stop_ends_with_a_button(rt: HostRuntime) -> Result<(), Fail> {
     let mut machine = machine_at_c000(rt.alloc(), &[0x10, 0x00, 0x3c])?;
     let _ = step(&mut machine);
-    assert_eq!(rt; byte_at(&machine, 0xff04), 0x00);
+    same!(rt; byte_at(&machine, 0xff04), 0x00);
     let waited = step(&mut machine);
-    assert_eq!(rt; waited.what, What::Wait);
+    same!(rt; waited.what, What::Wait);
     press(&mut machine, 0x01);
     let _ = step(&mut machine);
-    let registers = machine.registers();
-    assert_eq!(rt; (registers.a, registers.pc), (0x02, 0xc003));
+    same!(rt; (a_of(&machine), pc_of(&machine)), (0x02, 0xc003));
     Ok(())
 }
 
 #[test]
 fn inputs_set_buttons_and_the_clock(rt: HostRuntime) -> Result<(), Fail> {
     let mut machine = machine(rt.alloc(), &[0x18, 0xfe])?;
-    machine.apply(Input::Frame(0x81));
-    assert_eq!(rt; machine.state().bus.buttons, 0x81);
+    apply(&mut machine, Input::Frame(0x81));
+    same!(rt; buttons(&machine), 0x81);
     let before = machine.state();
-    machine.apply(Input::Seconds(60));
-    assert!(rt; machine.state() == before);
+    apply(&mut machine, Input::Seconds(60));
+    holds!(rt; machine.state() == before);
     Ok(())
 }

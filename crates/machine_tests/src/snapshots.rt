@@ -1,4 +1,5 @@
 //! Worked values on texts.
+use crate::asserting::{holds, same};
 use cartridge::Cartridge;
 use machine::{Input, Machine, Region};
 use snapshot::{SnapError, decode, encode, length};
@@ -98,53 +99,73 @@ fn are_same(a: &Machine, b: &Machine) -> bool {
     true
 }
 
-// The machine comes back from its text, and goes on as before for ten frames.
-fn comes_back(alloc: Global, machine: &mut Machine, cartridge: &Cartridge) -> Result<bool, Fail> {
-    let text = text_of(alloc, machine)?;
-    let mut other = machine_of(alloc, &text, cartridge)?;
-    if !are_same(machine, &other) {
-        return Ok(false);
+// Whether two machines are the same, and stay so for ten frames.
+fn stay_same(machine: &mut Machine, other: &mut Machine) -> bool {
+    if !are_same(machine, other) {
+        return false;
     }
     for buttons in 0..10u8 {
         frame(machine, buttons);
-        frame(&mut other, buttons);
-        if !are_same(machine, &other) {
-            return Ok(false);
+        frame(other, buttons);
+        if !are_same(machine, other) {
+            return false;
         }
     }
-    Ok(true)
+    true
+}
+
+// The machine comes back from its text, and goes on as before for ten frames.
+fn comes_back(alloc: Global, machine: &mut Machine, cartridge: &Cartridge) -> Result<bool, Fail> {
+    let mut other = machine_of(alloc, &text_of(alloc, machine)?, cartridge)?;
+    Ok(stay_same(machine, &mut other))
+}
+
+fn text_at_power_on(alloc: Global, cartridge: &Cartridge) -> Result<Vec<u8>, Fail> {
+    text_of(alloc, &power_on(alloc, cartridge)?)
 }
 
 #[test]
 fn lengths(rt: HostRuntime) -> Result<(), Fail> {
-    assert_eq!(rt; length(0), 22_607);
-    assert_eq!(rt; length(512), 23_119);
-    assert_eq!(rt; length(8_192), 30_799);
-    assert_eq!(rt; length(32_768), 55_375);
-    assert_eq!(rt; length(65_536), 88_143);
-    assert_eq!(rt; length(131_072), 153_679);
+    same!(rt; length(0), 22_607);
+    same!(rt; length(512), 23_119);
+    same!(rt; length(8_192), 30_799);
+    same!(rt; length(32_768), 55_375);
+    same!(rt; length(65_536), 88_143);
+    same!(rt; length(131_072), 153_679);
     Ok(())
+}
+
+// Whether this is the text of a machine at power-on.
+fn is_at_power_on(alloc: Global, text: &[u8], cartridge: &Cartridge) -> Result<bool, Fail> {
+    let found = machine_of(alloc, text, cartridge)?;
+    Ok(are_same(&power_on(alloc, cartridge)?, &found))
+}
+
+fn has_fault(
+    rt: &impl Abort,
+    alloc: Global,
+    text: &[u8],
+    cartridge: &Cartridge,
+    wanted: Option<SnapError>,
+) {
+    same!(rt; fault_of(alloc, text, cartridge), wanted);
 }
 
 #[test]
 fn texts_are_refused_at_their_first_fault(rt: HostRuntime) -> Result<(), Fail> {
     let alloc = rt.alloc();
     let cartridge = cartridge(alloc, 0x00, 0, &[])?;
-    let machine = power_on(alloc, &cartridge)?;
-    let mut text = text_of(alloc, &machine)?;
-    assert_eq!(rt; text.len(), 22_607);
-    assert!(rt; are_same(&machine, &machine_of(alloc, &text, &cartridge)?));
+    let mut text = text_at_power_on(alloc, &cartridge)?;
+    same!(rt; text.len(), 22_607);
+    holds!(rt; is_at_power_on(alloc, &text, &cartridge)?);
     for (offset, field) in [(127, 67), (9, 9)] {
         put(&mut text, offset, 0x01);
-        assert_eq!(rt;
-            fault_of(alloc, &text, &cartridge),
-            Some(SnapError::Field(field))
-        );
+        has_fault(&rt, alloc, &text, &cartridge, Some(SnapError::Field(field)));
     }
     for length in [22_606, 0] {
         text.truncate(length);
         let wanted = Some(SnapError::SnapLength(length as u64));
-        assert_eq!(rt; fault_of(alloc, &text, &cartridge), wanted);
+        has_fault(&rt, alloc, &text, &cartridge, wanted);
     }
     Ok(())
 }
@@ -154,8 +175,8 @@ fn another_kind_is_refused(rt: HostRuntime) -> Result<(), Fail> {
     let alloc = rt.alloc();
     let plain = cartridge(alloc, 0x00, 0, &[])?;
     let mbc1 = cartridge(alloc, 0x01, 0, &[])?;
-    let text = text_of(alloc, &power_on(alloc, &plain)?)?;
-    assert_eq!(rt; fault_of(alloc, &text, &mbc1), Some(SnapError::Field(51)));
+    let text = text_at_power_on(alloc, &plain)?;
+    has_fault(&rt, alloc, &text, &mbc1, Some(SnapError::Field(51)));
     Ok(())
 }
 
@@ -172,9 +193,9 @@ const FRONT: [u8; 67] = [
 fn the_text_at_power_on(rt: HostRuntime) -> Result<(), Fail> {
     let alloc = rt.alloc();
     let cartridge = cartridge(alloc, 0x00, 0, &[])?;
-    let text = text_of(alloc, &power_on(alloc, &cartridge)?)?;
-    assert!(rt; text.starts_with(&FRONT));
-    assert!(rt; text.iter().skip(67).all(|byte| *byte == 0));
+    let text = text_at_power_on(alloc, &cartridge)?;
+    holds!(rt; text.starts_with(&FRONT));
+    holds!(rt; text.iter().skip(67).all(|byte| *byte == 0));
     Ok(())
 }
 
@@ -184,7 +205,7 @@ fn the_overrun_is_kept(rt: HostRuntime) -> Result<(), Fail> {
     let cartridge = cartridge(alloc, 0x00, 0, &[0x23, 0x18, 0xfd])?;
     let mut machine = power_on(alloc, &cartridge)?;
     frame(&mut machine, 0);
-    assert_eq!(rt; at(&text_of(alloc, &machine)?, 21), 0x01);
+    same!(rt; at(&text_of(alloc, &machine)?, 21), 0x01);
     Ok(())
 }
 
@@ -201,21 +222,29 @@ fn begin_copy(machine: &mut Machine) {
     machine.fill(Region::Wram, &wram);
 }
 
+// The text of a machine ten M-cycles after it began to copy.
+fn text_in_a_copy(alloc: Global, cartridge: &Cartridge) -> Result<Vec<u8>, Fail> {
+    let mut machine = power_on(alloc, cartridge)?;
+    begin_copy(&mut machine);
+    steps(&mut machine, 10);
+    text_of(alloc, &machine)
+}
+
+fn copy_goes_on(rt: &impl Abort, machine: &mut Machine) {
+    same!(rt; byte_at(machine, 0xfe9f), 0x00);
+    steps(machine, 150);
+    same!(rt; byte_at(machine, 0xfe09), 0x09);
+    same!(rt; byte_at(machine, 0xfe9f), 0x9f);
+}
+
 #[test]
 fn a_copy_goes_on(rt: HostRuntime) -> Result<(), Fail> {
     let alloc = rt.alloc();
     let cartridge = cartridge(alloc, 0x00, 0, &[])?;
-    let mut machine = power_on(alloc, &cartridge)?;
-    begin_copy(&mut machine);
-    steps(&mut machine, 10);
-    let text = text_of(alloc, &machine)?;
-    assert_eq!(rt; at(&text, 35), 0xc1);
-    assert_eq!(rt; at(&text, 36), 0x0a);
-    let mut other = machine_of(alloc, &text, &cartridge)?;
-    assert_eq!(rt; byte_at(&other, 0xfe9f), 0x00);
-    steps(&mut other, 150);
-    assert_eq!(rt; byte_at(&other, 0xfe09), 0x09);
-    assert_eq!(rt; byte_at(&other, 0xfe9f), 0x9f);
+    let text = text_in_a_copy(alloc, &cartridge)?;
+    same!(rt; at(&text, 35), 0xc1);
+    same!(rt; at(&text, 36), 0x0a);
+    copy_goes_on(&rt, &mut machine_of(alloc, &text, &cartridge)?);
     Ok(())
 }
 
@@ -312,7 +341,7 @@ fn machines_come_back_from_their_texts(rt: HostRuntime) -> Result<(), Fail> {
         let mut machine = power_on(alloc, &cartridge)?;
         frame(&mut machine, 0);
         set_variant(&mut machine, variant);
-        assert!(rt; comes_back(alloc, &mut machine, &cartridge)?);
+        holds!(rt; comes_back(alloc, &mut machine, &cartridge)?);
     }
     Ok(())
 }
@@ -345,37 +374,37 @@ fn set_h(machine: &mut Machine, h: u8) {
 
 #[test]
 fn plain_comes_back_from_its_text(rt: HostRuntime) -> Result<(), Fail> {
-    assert!(rt; come_back(rt.alloc(), 0x00)?);
+    holds!(rt; come_back(rt.alloc(), 0x00)?);
     Ok(())
 }
 
 #[test]
 fn mbc1_comes_back_from_its_text(rt: HostRuntime) -> Result<(), Fail> {
-    assert!(rt; come_back(rt.alloc(), 0x02)?);
+    holds!(rt; come_back(rt.alloc(), 0x02)?);
     Ok(())
 }
 
 #[test]
 fn mbc2_comes_back_from_its_text(rt: HostRuntime) -> Result<(), Fail> {
-    assert!(rt; come_back(rt.alloc(), 0x06)?);
+    holds!(rt; come_back(rt.alloc(), 0x06)?);
     Ok(())
 }
 
 #[test]
 fn mbc3_comes_back_from_its_text(rt: HostRuntime) -> Result<(), Fail> {
-    assert!(rt; come_back(rt.alloc(), 0x12)?);
+    holds!(rt; come_back(rt.alloc(), 0x12)?);
     Ok(())
 }
 
 #[test]
 fn mbc5_comes_back_from_its_text(rt: HostRuntime) -> Result<(), Fail> {
-    assert!(rt; come_back(rt.alloc(), 0x1a)?);
+    holds!(rt; come_back(rt.alloc(), 0x1a)?);
     Ok(())
 }
 
 #[test]
 fn mbc5_with_rumble_comes_back_from_its_text(rt: HostRuntime) -> Result<(), Fail> {
-    assert!(rt; come_back(rt.alloc(), 0x1d)?);
+    holds!(rt; come_back(rt.alloc(), 0x1d)?);
     Ok(())
 }
 
@@ -389,16 +418,23 @@ fn bytes_at(text: &[u8], offsets: [usize; 4]) -> [u8; 4] {
     offsets.map(|offset| at(text, offset))
 }
 
+fn pass_clock(machine: &mut Machine) {
+    steps(machine, 12);
+    apply(machine, Input::Seconds(3_725));
+}
+
+fn clocks_are_in(rt: &impl Abort, text: &[u8]) {
+    same!(rt; (at(text, 51), at(text, 56)), (4, 1));
+    same!(rt; bytes_at(text, [57, 58, 59, 61]), [5, 1, 2, 1]);
+    same!(rt; bytes_at(text, [62, 63, 64, 66]), [0, 59, 0, 1]);
+}
+
 fn clocks_come_back(rt: &impl Abort, alloc: Global, ram_code: u8) -> Result<(), Fail> {
     let cartridge = cartridge(alloc, 0x10, ram_code, &CLOCK)?;
     let mut machine = power_on(alloc, &cartridge)?;
-    steps(&mut machine, 12);
-    apply(&mut machine, Input::Seconds(3_725));
-    let text = text_of(alloc, &machine)?;
-    assert_eq!(rt; (at(&text, 51), at(&text, 56)), (4, 1));
-    assert_eq!(rt; bytes_at(&text, [57, 58, 59, 61]), [5, 1, 2, 1]);
-    assert_eq!(rt; bytes_at(&text, [62, 63, 64, 66]), [0, 59, 0, 1]);
-    assert!(rt; comes_back(alloc, &mut machine, &cartridge)?);
+    pass_clock(&mut machine);
+    clocks_are_in(rt, &text_of(alloc, &machine)?);
+    holds!(rt; comes_back(alloc, &mut machine, &cartridge)?);
     Ok(())
 }
 
@@ -588,7 +624,7 @@ fn refusals(alloc: Global, text: &mut [u8], row: Row, cartridge: &Cartridge) -> 
 
 fn each_field_is_looked_at(alloc: Global, kind: Kind) -> Result<u32, Fail> {
     let cartridge = cartridge(alloc, kind.cartridge_type, 0x02, &[])?;
-    let mut text = text_of(alloc, &power_on(alloc, &cartridge)?)?;
+    let mut text = text_at_power_on(alloc, &cartridge)?;
     let mut refused: u32 = 0;
     for row in rows(kind) {
         refused = refused.wrapping_add(refusals(alloc, &mut text, row, &cartridge)?);
@@ -600,7 +636,7 @@ fn each_field_is_looked_at(alloc: Global, kind: Kind) -> Result<u32, Fail> {
 fn each_field_of_each_kind_is_looked_at(rt: HostRuntime) -> Result<(), Fail> {
     for kind in kinds() {
         let refused = each_field_is_looked_at(rt.alloc(), kind)?;
-        assert!(rt; refused > 300);
+        holds!(rt; refused > 300);
     }
     Ok(())
 }
@@ -609,41 +645,41 @@ fn each_field_of_each_kind_is_looked_at(rt: HostRuntime) -> Result<(), Fail> {
 fn every_byte_of_magic_and_unused_is_looked_at(rt: HostRuntime) -> Result<(), Fail> {
     let alloc = rt.alloc();
     let cartridge = cartridge(alloc, 0x00, 0, &[])?;
-    let mut text = text_of(alloc, &power_on(alloc, &cartridge)?)?;
+    let mut text = text_at_power_on(alloc, &cartridge)?;
     for offset in 0..8 {
         let byte = at(&text, offset);
         put(&mut text, offset, byte ^ 1);
-        assert_eq!(rt;
-            fault_of(alloc, &text, &cartridge),
-            Some(SnapError::Field(0))
-        );
+        has_fault(&rt, alloc, &text, &cartridge, Some(SnapError::Field(0)));
         put(&mut text, offset, byte);
     }
     for offset in 67..128 {
         put(&mut text, offset, 0x80);
-        assert_eq!(rt;
-            fault_of(alloc, &text, &cartridge),
-            Some(SnapError::Field(67))
-        );
+        has_fault(&rt, alloc, &text, &cartridge, Some(SnapError::Field(67)));
         put(&mut text, offset, 0);
     }
-    assert_eq!(rt; fault_of(alloc, &text, &cartridge), None);
+    has_fault(&rt, alloc, &text, &cartridge, None);
     Ok(())
+}
+
+fn last_of_ram_in(alloc: Global, text: &[u8], cartridge: &Cartridge) -> Result<Option<u8>, Fail> {
+    Ok(last_of_ram(&machine_of(alloc, text, cartridge)?))
 }
 
 #[test]
 fn half_bytes_of_mbc2(rt: HostRuntime) -> Result<(), Fail> {
     let alloc = rt.alloc();
     let cartridge = cartridge(alloc, 0x05, 0, &[])?;
-    let mut text = text_of(alloc, &power_on(alloc, &cartridge)?)?;
-    assert_eq!(rt; text.len(), 23_119);
+    let mut text = text_at_power_on(alloc, &cartridge)?;
+    same!(rt; text.len(), 23_119);
     put(&mut text, 23_118, 0x0f);
-    let machine = machine_of(alloc, &text, &cartridge)?;
-    assert_eq!(rt; last_of_ram(&machine), Some(0x0f));
+    same!(rt; last_of_ram_in(alloc, &text, &cartridge)?, Some(0x0f));
     put(&mut text, 23_118, 0x10);
-    assert_eq!(rt;
-        fault_of(alloc, &text, &cartridge),
-        Some(SnapError::Field(22_607))
+    has_fault(
+        &rt,
+        alloc,
+        &text,
+        &cartridge,
+        Some(SnapError::Field(22_607)),
     );
     Ok(())
 }
@@ -682,9 +718,7 @@ fn is_made(alloc: Global, text: &[u8], cartridge: &Cartridge, kind: Kind) -> Res
     let fault = first_fault(text, kind);
     match decode(alloc, text, cartridge) {
         Ok(found) => {
-            if fault.is_some() || text_of(alloc, &found)?.as_slice() != text {
-                return Err(Fail::from("a wrong machine"));
-            }
+            has_no_fault(alloc, &found, text, fault)?;
             Ok(true)
         }
         Err(why) => {
@@ -696,17 +730,42 @@ fn is_made(alloc: Global, text: &[u8], cartridge: &Cartridge, kind: Kind) -> Res
     }
 }
 
+fn has_no_fault(
+    alloc: Global,
+    found: &Machine,
+    text: &[u8],
+    fault: Option<u32>,
+) -> Result<(), Fail> {
+    if fault.is_some() || text_of(alloc, found)?.as_slice() != text {
+        return Err(Fail::from("a wrong machine"));
+    }
+    Ok(())
+}
+
+fn text_behind_a_frame(alloc: Global, cartridge: &Cartridge) -> Result<Vec<u8>, Fail> {
+    let mut machine = power_on(alloc, cartridge)?;
+    frame(&mut machine, 0x81);
+    text_of(alloc, &machine)
+}
+
+fn is_made_once_changed(
+    alloc: Global,
+    sound: &[u8],
+    seed: &mut u64,
+    cartridge: &Cartridge,
+    kind: Kind,
+) -> Result<bool, Fail> {
+    is_made(alloc, &changed(alloc, sound, seed)?, cartridge, kind)
+}
+
 // How many of so many texts with some bytes changed are still a machine's.
 fn random_texts(alloc: Global, kind: Kind, count: u32) -> Result<u32, Fail> {
     let cartridge = cartridge(alloc, kind.cartridge_type, 0x02, &WRITER)?;
-    let mut machine = power_on(alloc, &cartridge)?;
-    frame(&mut machine, 0x81);
-    let sound = text_of(alloc, &machine)?;
+    let sound = text_behind_a_frame(alloc, &cartridge)?;
     let mut seed = u64::from(kind.cartridge_type);
     let mut made: u32 = 0;
     for _text in 0..count {
-        let text = changed(alloc, &sound, &mut seed)?;
-        if is_made(alloc, &text, &cartridge, kind)? {
+        if is_made_once_changed(alloc, &sound, &mut seed, &cartridge, kind)? {
             made = made.wrapping_add(1);
         }
     }
@@ -725,42 +784,42 @@ fn random_texts_are_answered(alloc: Global, index: usize) -> Result<bool, Fail> 
 
 #[test]
 fn random_texts_of_plain(rt: HostRuntime) -> Result<(), Fail> {
-    assert!(rt; random_texts_are_answered(rt.alloc(), 0)?);
+    holds!(rt; random_texts_are_answered(rt.alloc(), 0)?);
     Ok(())
 }
 
 #[test]
 fn random_texts_of_mbc1(rt: HostRuntime) -> Result<(), Fail> {
-    assert!(rt; random_texts_are_answered(rt.alloc(), 1)?);
+    holds!(rt; random_texts_are_answered(rt.alloc(), 1)?);
     Ok(())
 }
 
 #[test]
 fn random_texts_of_mbc2(rt: HostRuntime) -> Result<(), Fail> {
-    assert!(rt; random_texts_are_answered(rt.alloc(), 2)?);
+    holds!(rt; random_texts_are_answered(rt.alloc(), 2)?);
     Ok(())
 }
 
 #[test]
 fn random_texts_of_mbc3(rt: HostRuntime) -> Result<(), Fail> {
-    assert!(rt; random_texts_are_answered(rt.alloc(), 3)?);
+    holds!(rt; random_texts_are_answered(rt.alloc(), 3)?);
     Ok(())
 }
 
 #[test]
 fn random_texts_of_mbc3_with_clock(rt: HostRuntime) -> Result<(), Fail> {
-    assert!(rt; random_texts_are_answered(rt.alloc(), 4)?);
+    holds!(rt; random_texts_are_answered(rt.alloc(), 4)?);
     Ok(())
 }
 
 #[test]
 fn random_texts_of_mbc5(rt: HostRuntime) -> Result<(), Fail> {
-    assert!(rt; random_texts_are_answered(rt.alloc(), 5)?);
+    holds!(rt; random_texts_are_answered(rt.alloc(), 5)?);
     Ok(())
 }
 
 #[test]
 fn random_texts_of_mbc5_with_rumble(rt: HostRuntime) -> Result<(), Fail> {
-    assert!(rt; random_texts_are_answered(rt.alloc(), 6)?);
+    holds!(rt; random_texts_are_answered(rt.alloc(), 6)?);
     Ok(())
 }

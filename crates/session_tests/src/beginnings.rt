@@ -1,4 +1,5 @@
 //! New games.
+use crate::asserting::{holds, same};
 use crate::common::{
     begun, calls, cartridge, cartridge_of, clock_text, count, counts, fresh, game, has_bytes,
     image, into_device, is_blank_from, left_by_new_game, other_cartridge, refused, resumed,
@@ -13,14 +14,14 @@ fn sectors_that_are_needed(rt: HostRuntime) -> Result<(), Fail> {
     let alloc = rt.alloc();
     for (kind, ram_code, want) in [(0x00, 0x00, 156), (0x10, 0x02, 188)] {
         let cartridge = cartridge_of(alloc, kind, ram_code, b'A')?;
-        assert_eq!(rt; sectors_needed(&cartridge), want);
+        same!(rt; sectors_needed(&cartridge), want);
         let few = fresh(alloc, want as usize - 1)?;
         let (why, few) = left_by_new_game(alloc, few, &cartridge);
-        assert_eq!(rt; why, Some(SessionError::TooSmall { need: want }));
+        same!(rt; why, Some(SessionError::TooSmall { need: want }));
         // It was synced, and nothing was written.
-        assert_eq!(rt; few.calls(), 1);
+        same!(rt; few.calls(), 1);
         let session = begun(&rt, alloc, fresh(alloc, want as usize)?, &cartridge);
-        assert_eq!(rt; counts(&session), [0, 0, 0]);
+        same!(rt; counts(&session), [0, 0, 0]);
         resumes_at(
             &rt,
             alloc,
@@ -40,7 +41,7 @@ fn a_new_game_is_the_first_generation(rt: HostRuntime) -> Result<(), Fail> {
     // A sync; 32 blank log sectors, 61 of the snapshot, a sync, the root and a sync.
     let device = MemoryDevice::new(alloc, 188, 97)?;
     let session = begun(&rt, alloc, device, &cartridge);
-    assert_eq!(rt; calls(&session), 97);
+    same!(rt; calls(&session), 97);
     let text = text_of(alloc, session.machine())?;
     let mut device = into_device(session);
     let root = b"GBKPROOT\x02\x00\x00\x00\x01\x00\x00\x00\x00\x00\x00\x00";
@@ -66,8 +67,8 @@ fn a_new_game_is_the_first_generation(rt: HostRuntime) -> Result<(), Fail> {
 
     let device = MemoryDevice::new(alloc, 188, 96)?;
     let (why, device) = left_by_new_game(alloc, device, &cartridge);
-    assert_eq!(rt; why, Some(SessionError::Device));
-    assert_eq!(rt; device.calls(), 96);
+    same!(rt; why, Some(SessionError::Device));
+    same!(rt; device.calls(), 96);
     Ok(())
 }
 
@@ -77,10 +78,10 @@ fn a_new_game_replaces_that_of_another_rom(rt: HostRuntime) -> Result<(), Fail> 
     let ours = cartridge(alloc)?;
     let other = other_cartridge(alloc)?;
     let session = begun(&rt, alloc, game(&rt, alloc, &other, 5)?, &ours);
-    assert_eq!(rt; counts(&session), [0, 0, 0]);
+    same!(rt; counts(&session), [0, 0, 0]);
     let device = into_device(session);
     let refusal = refused(&rt, alloc, device, &other);
-    assert_eq!(rt; refusal.why, SessionError::OtherCartridge);
+    same!(rt; refusal.why, SessionError::OtherCartridge);
     resumes_at(
         &rt,
         alloc,
@@ -108,11 +109,11 @@ fn a_new_game_cut_anywhere_leaves_old_or_new(rt: HostRuntime) -> Result<(), Fail
         }
         for keeps in [[false, false], [true, true], [true, false]] {
             let left = count(&rt, alloc, image(alloc, &device, keeps)?, &cartridge);
-            assert!(rt; left == 0 || (left == 120 && why == Some(SessionError::Device)));
+            holds!(rt; left == 0 || (left == 120 && why == Some(SessionError::Device)));
         }
     }
     // A sync, two roots, two log sectors; 93 sectors, a sync, the root and a sync.
-    assert_eq!(rt; begun_after, Some(101));
+    same!(rt; begun_after, Some(101));
     Ok(())
 }
 
@@ -131,9 +132,9 @@ fn a_cut_new_game_of_another_rom(rt: HostRuntime) -> Result<(), Fail> {
             let left = image(alloc, &device, keeps)?;
             let is_new = why.is_none() || (keeps[0] && k > 97);
             if is_new {
-                assert_eq!(rt; count(&rt, alloc, left, &ours), 0);
+                same!(rt; count(&rt, alloc, left, &ours), 0);
             } else {
-                assert_eq!(rt; resumed(&rt, alloc, left, &other).counts().all, 5);
+                same!(rt; resumed(&rt, alloc, left, &other).counts().all, 5);
             }
         }
     }

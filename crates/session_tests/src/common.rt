@@ -1,4 +1,5 @@
 //! Cartridges, devices and sessions of the tests. These have no contract, so that a test's proof does not follow the numbers.
+use crate::asserting::{holds, same};
 use cartridge::Cartridge;
 use machine::{Input, Machine, Region};
 use sector_device::{MemoryDevice, SectorDevice};
@@ -189,7 +190,7 @@ pub(crate) fn resumes_at(
     text: &[u8],
 ) -> Result<(), Fail> {
     let session = resumed(rt, alloc, device, cartridge);
-    assert_eq!(rt;
+    same!(rt;
         session.counts(),
         Counts {
             all: inputs,
@@ -198,7 +199,7 @@ pub(crate) fn resumes_at(
         }
     );
     let found = text_of(alloc, session.machine())?;
-    assert!(rt; found.as_slice() == text);
+    holds!(rt; found.as_slice() == text);
     Ok(())
 }
 
@@ -215,7 +216,7 @@ pub(crate) fn give_frames(
 }
 
 pub(crate) fn give_input(rt: &impl Abort, session: &mut Session<MemoryDevice>, input: Input) {
-    assert_eq!(rt; session.input(input), Ok(()));
+    same!(rt; session.input(input), Ok(()));
 }
 
 /// Gives a session the seconds from one index up to another.
@@ -232,7 +233,7 @@ pub(crate) fn answer(session: &mut Session<MemoryDevice>, input: Input) -> Optio
 
 /// A save that succeeds and answers so many.
 pub(crate) fn save(rt: &impl Abort, session: &mut Session<MemoryDevice>, want: u64) {
-    assert_eq!(rt; session.save(), Ok(want));
+    same!(rt; session.save(), Ok(want));
 }
 
 /// A save that is refused.
@@ -287,7 +288,7 @@ pub(crate) fn image(
 pub(crate) fn sector(rt: &impl Abort, device: &mut MemoryDevice, at: u64) -> [u8; 512] {
     let mut bytes = [9; 512];
     assert!(rt; at < device.count());
-    assert!(rt; device.read(at, &mut bytes).is_ok());
+    holds!(rt; device.read(at, &mut bytes).is_ok());
     bytes
 }
 
@@ -301,14 +302,14 @@ pub(crate) fn has_bytes(
 ) {
     let bytes = sector(rt, device, at);
     assert!(rt; from < 512);
-    assert!(rt; bytes[from..].starts_with(want));
+    holds!(rt; bytes[from..].starts_with(want));
 }
 
 /// The sector is zeros from there on.
 pub(crate) fn is_blank_from(rt: &impl Abort, device: &mut MemoryDevice, at: u64, from: usize) {
     let bytes = sector(rt, device, at);
     for i in from..512 {
-        assert_eq!(rt; bytes[i], 0);
+        same!(rt; bytes[i], 0);
     }
 }
 
@@ -319,7 +320,7 @@ pub(crate) fn put(rt: &impl Abort, device: &mut MemoryDevice, at: u64, from: usi
         *i = *byte;
     }
     assert!(rt; at < device.count());
-    assert!(rt; device.write(at, &whole).is_ok());
+    holds!(rt; device.write(at, &whole).is_ok());
 }
 
 /// The device as it is, all of it synced and with an empty record.
@@ -328,6 +329,6 @@ pub(crate) fn settled(
     alloc: Global,
     mut device: MemoryDevice,
 ) -> Result<MemoryDevice, Fail> {
-    assert!(rt; device.sync().is_ok());
+    holds!(rt; device.sync().is_ok());
     Ok(device.image(alloc, &[])?)
 }

@@ -1,4 +1,5 @@
 //! Resumes cut at any device call.
+use crate::asserting::same;
 use crate::common::{
     begun, calls, cartridge, clock_text, fresh, game, give_input, has_bytes, image, into_device,
     left_by_resume, put, resumed, resumes_at, settled, text_of,
@@ -32,7 +33,7 @@ fn resume_cut_anywhere(
                     taken_up = Some(k);
                 }
             }
-            Some(why) => assert_eq!(rt; why, SessionError::Device),
+            Some(why) => same!(rt; why, SessionError::Device),
         }
         for keeps in [[false, false], [true, true], [true, false]] {
             let left = image(alloc, &device, keeps)?;
@@ -50,7 +51,7 @@ fn a_resume_cut_anywhere_loses_nothing(rt: HostRuntime) -> Result<(), Fail> {
     let text = clock_text(alloc, &cartridge, 5)?;
     let taken_up = resume_cut_anywhere(&rt, alloc, &cartridge, &old, 5, &text)?;
     // It looks by a sync and 64 reads: two roots, a log sector and 61 of the snapshot. Then it makes 96 calls.
-    assert_eq!(rt; taken_up, Some(161));
+    same!(rt; taken_up, Some(161));
     Ok(())
 }
 
@@ -61,7 +62,7 @@ fn a_resume_looks_and_writes_one_generation(rt: HostRuntime) -> Result<(), Fail>
     let old = game(&rt, alloc, &cartridge, 5)?;
     let session = resumed(&rt, alloc, old, &cartridge);
     // A sync; 32 blank log sectors, 61 of the snapshot, a sync, the root and a sync.
-    assert_eq!(rt; calls(&session), 97);
+    same!(rt; calls(&session), 97);
     Ok(())
 }
 
@@ -94,7 +95,7 @@ fn version_one_is_taken_up(rt: HostRuntime) -> Result<(), Fail> {
     let text = text_of(alloc, session.machine())?;
     let old = version_one(&rt, alloc, &cartridge)?;
     let session = resumed(&rt, alloc, old.image(alloc, &[])?, &cartridge);
-    assert_eq!(rt; session.counts().all, 7);
+    same!(rt; session.counts().all, 7);
     let mut device = into_device(session);
     has_bytes(
         &rt,

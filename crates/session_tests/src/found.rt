@@ -1,4 +1,5 @@
 //! What a resume finds on a device and refuses. Then it has made one sync and written nothing.
+use crate::asserting::same;
 use crate::common::{
     answer, begun, cartridge, clock_text, counts, fresh, game, give, into_device, other_cartridge,
     put, refused, resumed, resumes_at, save, settled,
@@ -22,11 +23,11 @@ fn is_refused(
 ) -> MemoryDevice {
     let made = device.calls();
     let first = refused(rt, alloc, device, cartridge);
-    assert_eq!(rt; first.why, why);
-    assert_eq!(rt; first.device.calls(), made.saturating_add(1));
+    same!(rt; first.why, why);
+    same!(rt; first.device.calls(), made.saturating_add(1));
     let second = refused(rt, alloc, first.device, cartridge);
-    assert_eq!(rt; second.why, why);
-    assert_eq!(rt; second.device.calls(), made.saturating_add(2));
+    same!(rt; second.why, why);
+    same!(rt; second.device.calls(), made.saturating_add(2));
     second.device
 }
 
@@ -205,12 +206,12 @@ fn the_greatest_count(rt: HostRuntime) -> Result<(), Fail> {
     put(&rt, &mut device, 1, 52, &u64::MAX.to_le_bytes());
     let device = settled(&rt, alloc, device)?;
     let mut session = resumed(&rt, alloc, device, &cartridge);
-    assert_eq!(rt; counts(&session), [u64::MAX, u64::MAX, 0]);
-    assert_eq!(rt;
+    same!(rt; counts(&session), [u64::MAX, u64::MAX, 0]);
+    same!(rt;
         answer(&mut session, Input::Frame(0)),
         Some(SessionError::CountFull)
     );
-    assert_eq!(rt; counts(&session), [u64::MAX, u64::MAX, 0]);
+    same!(rt; counts(&session), [u64::MAX, u64::MAX, 0]);
     save(&rt, &mut session, u64::MAX);
     Ok(())
 }

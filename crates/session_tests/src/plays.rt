@@ -1,4 +1,5 @@
 //! Whole plays of scripts, and what they report. One of them is cut before each of its device calls.
+use crate::asserting::{holds, same};
 use crate::common::{apply, cartridge, fresh, game, has_bytes, resumed, seconds, text_of};
 use cartridge::Cartridge;
 use machine::{Input, Machine};
@@ -186,13 +187,13 @@ fn resumes_between(
 ) -> Result<u64, Fail> {
     let session = resumed(rt, alloc, device, cartridge);
     let counts = session.counts();
-    assert!(rt; least <= counts.all && counts.all <= most);
-    assert_eq!(rt; counts.pending, 0);
+    holds!(rt; least <= counts.all && counts.all <= most);
+    same!(rt; counts.pending, 0);
     let Some(want) = texts.get(counts.all as usize) else {
         panic!(rt; "more inputs than there are");
     };
     let found = text_of(alloc, session.machine())?;
-    assert!(rt; found.as_slice() == want.as_slice());
+    holds!(rt; found.as_slice() == want.as_slice());
     Ok(counts.all)
 }
 
@@ -235,8 +236,8 @@ fn images_hold_what_was_told(
 
 /// The report has so many complete lines of the whole one and nothing behind them.
 fn complete_lines(rt: &impl Abort, alloc: Global, report: &[u8]) -> Result<usize, Fail> {
-    assert!(rt; REPORT.starts_with(report));
-    assert!(rt; report.is_empty() || report.ends_with(b"\n"));
+    holds!(rt; REPORT.starts_with(report));
+    holds!(rt; report.is_empty() || report.ends_with(b"\n"));
     Ok(counts_in(alloc, report)?.len())
 }
 
@@ -257,11 +258,11 @@ fn cut_before(
     let lines = complete_lines(rt, alloc, &report)?;
     images_hold_what_was_told(rt, alloc, &device, cartridge, known, lines, seen)?;
     if device.blown() {
-        assert_eq!(rt; why, Some(SessionError::Device));
+        same!(rt; why, Some(SessionError::Device));
         return Ok(false);
     }
-    assert_eq!(rt; why, None);
-    assert!(rt; report.as_slice() == REPORT);
+    same!(rt; why, None);
+    holds!(rt; report.as_slice() == REPORT);
     // the third generation: the one before the play, that of the resume, and that of the save that replaced
     let mut left = device.image(alloc, &[])?;
     has_bytes(
@@ -291,9 +292,9 @@ fn a_play_cut_before_any_call_keeps_what_it_told(rt: HostRuntime) -> Result<(), 
         }
     }
     // Taking up 161; a save of 16 sectors 17; the one that replaces 96; of the others 14 write one sector, and two nothing.
-    assert_eq!(rt; calls, 302);
-    assert_eq!(rt; seen.images, 6_060);
-    assert!(rt; seen.between > 0);
+    same!(rt; calls, 302);
+    same!(rt; seen.images, 6_060);
+    holds!(rt; seen.between > 0);
     Ok(())
 }
 
@@ -309,8 +310,8 @@ fn reports(
     let moves = moves_of(rt, alloc, script);
     let mut report = Vec::new(alloc);
     let (why, device) = left_by_play(alloc, device, cartridge, &moves, &mut report);
-    assert_eq!(rt; why, None);
-    assert!(rt; report.as_slice() == want);
+    same!(rt; why, None);
+    holds!(rt; report.as_slice() == want);
     device
 }
 
@@ -338,7 +339,7 @@ fn plays_report_what_is_saved(rt: HostRuntime) -> Result<(), Fail> {
     let made = second.calls();
     let third = reports(&rt, alloc, second, &cartridge, b"", b"resumed 5\n");
     // no call but those of a resume
-    assert_eq!(rt; third.calls().saturating_sub(made), 97);
+    same!(rt; third.calls().saturating_sub(made), 97);
     let mut script = Vec::new(alloc);
     add_lines(&mut script, b"seconds 0\n", 3_200)?;
     script.extend_from_slice(b"save")?;
@@ -361,8 +362,8 @@ fn a_play_on_an_empty_device_reports_nothing(rt: HostRuntime) -> Result<(), Fail
     let mut report = Vec::new(alloc);
     let device = fresh(alloc, 188)?;
     let (why, device) = left_by_play(alloc, device, &cartridge, &moves, &mut report);
-    assert_eq!(rt; why, Some(SessionError::NoSession));
-    assert_eq!(rt; report.len(), 0);
-    assert_eq!(rt; device.calls(), 1);
+    same!(rt; why, Some(SessionError::NoSession));
+    same!(rt; report.len(), 0);
+    same!(rt; device.calls(), 1);
     Ok(())
 }

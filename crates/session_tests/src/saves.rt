@@ -1,4 +1,5 @@
 //! Inputs and saves.
+use crate::asserting::{holds, same};
 use crate::common::{
     answer, begun, calls, cartridge, counts, frames_text, fresh, give, give_frames, give_input,
     has_bytes, into_device, is_blank_from, put, refused_save, resumed, resumes_at, save, settled,
@@ -25,7 +26,7 @@ fn cut(
     give_frames(rt, &mut session, 0, 40);
     save(rt, &mut session, 40);
     give_frames(rt, &mut session, 40, 120);
-    assert_eq!(rt; refused_save(rt, &mut session), SessionError::Device);
+    same!(rt; refused_save(rt, &mut session), SessionError::Device);
     Ok(session)
 }
 
@@ -55,7 +56,7 @@ fn what_was_lost_stays_lost(rt: HostRuntime) -> Result<(), Fail> {
     let device = into_device(cut(&rt, alloc, &cartridge)?);
     let image = device.image(alloc, &[false, true])?;
     let mut session = resumed(&rt, alloc, image, &cartridge);
-    assert_eq!(rt; counts(&session), [40, 40, 0]);
+    same!(rt; counts(&session), [40, 40, 0]);
     give_frames(&rt, &mut session, 40, 84);
     save(&rt, &mut session, 84);
     let left = into_device(session).image(alloc, &[])?;
@@ -68,18 +69,18 @@ fn a_failed_save_breaks_the_session(rt: HostRuntime) -> Result<(), Fail> {
     let alloc = rt.alloc();
     let cartridge = cartridge(alloc)?;
     let mut session = cut(&rt, alloc, &cartridge)?;
-    assert_eq!(rt; counts(&session), [120, 40, 80]);
+    same!(rt; counts(&session), [120, 40, 80]);
     let made = calls(&session);
-    assert_eq!(rt;
+    same!(rt;
         answer(&mut session, Input::Frame(0)),
         Some(SessionError::Broken)
     );
-    assert_eq!(rt; refused_save(&rt, &mut session), SessionError::Broken);
+    same!(rt; refused_save(&rt, &mut session), SessionError::Broken);
     // Neither made a call, and both left the machine and the counts.
-    assert_eq!(rt; calls(&session), made);
-    assert_eq!(rt; counts(&session), [120, 40, 80]);
+    same!(rt; calls(&session), made);
+    same!(rt; counts(&session), [120, 40, 80]);
     let text = frames_text(alloc, &cartridge, 120)?;
-    assert!(rt; text_of(alloc, session.machine())?.as_slice() == text.as_slice());
+    holds!(rt; text_of(alloc, session.machine())?.as_slice() == text.as_slice());
     // The device goes on: its reads give all that was written.
     resumes_at(&rt, alloc, into_device(session), &cartridge, 120, &text)
 }
@@ -110,7 +111,7 @@ fn a_save_that_does_not_fit_replaces(rt: HostRuntime) -> Result<(), Fail> {
     let mut session = long(&rt, alloc, &cartridge, false)?;
     let made = calls(&session);
     save(&rt, &mut session, 2689);
-    assert_eq!(rt; calls(&session).saturating_sub(made), 96);
+    same!(rt; calls(&session).saturating_sub(made), 96);
     let text = text_of(alloc, session.machine())?;
     let mut device = into_device(session);
     has_bytes(
@@ -132,8 +133,8 @@ fn a_cut_replacing_save_leaves_old_or_new(rt: HostRuntime) -> Result<(), Fail> {
     let mut session = long(&rt, alloc, &cartridge, true)?;
     let new = text_of(alloc, session.machine())?;
     let old = frames_text(alloc, &cartridge, 2680)?;
-    assert_eq!(rt; refused_save(&rt, &mut session), SessionError::Device);
-    assert_eq!(rt; counts(&session), [2689, 2680, 9]);
+    same!(rt; refused_save(&rt, &mut session), SessionError::Device);
+    same!(rt; counts(&session), [2689, 2680, 9]);
     let device = into_device(session);
     resumes_at(
         &rt,
@@ -166,7 +167,7 @@ fn a_full_sector_is_not_written_again(rt: HostRuntime) -> Result<(), Fail> {
     let made = calls(&session);
     save(&rt, &mut session, 94);
     // One write, that of the second sector, and a sync.
-    assert_eq!(rt; calls(&session).saturating_sub(made), 2);
+    same!(rt; calls(&session).saturating_sub(made), 2);
     let mut device = into_device(session);
     has_bytes(&rt, &mut device, 95, 0, b"GBL2\x00\x00\x54\x00");
     has_bytes(&rt, &mut device, 95, 506, b"\x00\x01\x01\x00\x00\x00");
@@ -182,16 +183,16 @@ fn a_save_of_one_sector_is_a_write_and_a_sync(rt: HostRuntime) -> Result<(), Fai
     let cartridge = cartridge(alloc)?;
     let mut session = begun(&rt, alloc, fresh(alloc, 188)?, &cartridge);
     save(&rt, &mut session, 0);
-    assert_eq!(rt; calls(&session), 97);
+    same!(rt; calls(&session), 97);
     give(&rt, &mut session, 0, 3);
     give_input(&rt, &mut session, Input::Seconds(60));
-    assert_eq!(rt; calls(&session), 97);
-    assert_eq!(rt; counts(&session), [4, 0, 4]);
+    same!(rt; calls(&session), 97);
+    same!(rt; counts(&session), [4, 0, 4]);
     save(&rt, &mut session, 4);
-    assert_eq!(rt; calls(&session), 99);
-    assert_eq!(rt; counts(&session), [4, 4, 0]);
+    same!(rt; calls(&session), 99);
+    same!(rt; counts(&session), [4, 4, 0]);
     save(&rt, &mut session, 4);
-    assert_eq!(rt; calls(&session), 99);
+    same!(rt; calls(&session), 99);
     Ok(())
 }
 
@@ -202,15 +203,15 @@ fn save_first_at_3200(rt: HostRuntime) -> Result<(), Fail> {
     let mut session = begun(&rt, alloc, fresh(alloc, 188)?, &cartridge);
     give(&rt, &mut session, 0, 3200);
     let before = text_of(alloc, session.machine())?;
-    assert_eq!(rt;
+    same!(rt;
         answer(&mut session, Input::Frame(1)),
         Some(SessionError::SaveFirst)
     );
-    assert_eq!(rt; counts(&session), [3200, 0, 3200]);
-    assert!(rt; text_of(alloc, session.machine())?.as_slice() == before.as_slice());
+    same!(rt; counts(&session), [3200, 0, 3200]);
+    holds!(rt; text_of(alloc, session.machine())?.as_slice() == before.as_slice());
     save(&rt, &mut session, 3200);
     give_input(&rt, &mut session, Input::Frame(1));
-    assert_eq!(rt; counts(&session), [3201, 3200, 1]);
+    same!(rt; counts(&session), [3201, 3200, 1]);
     save(&rt, &mut session, 3201);
     let text = text_of(alloc, session.machine())?;
     resumes_at(&rt, alloc, into_device(session), &cartridge, 3201, &text)
@@ -238,11 +239,11 @@ fn the_last_generation(rt: HostRuntime) -> Result<(), Fail> {
     let mut session = in_the_last_generation(&rt, alloc, &cartridge)?;
     give(&rt, &mut session, 0, 2689);
     let made = calls(&session);
-    assert_eq!(rt; refused_save(&rt, &mut session), SessionError::Worn);
-    assert_eq!(rt; counts(&session), [2689, 0, 2689]);
-    assert_eq!(rt; calls(&session), made);
+    same!(rt; refused_save(&rt, &mut session), SessionError::Worn);
+    same!(rt; counts(&session), [2689, 0, 2689]);
+    same!(rt; calls(&session), made);
     give_input(&rt, &mut session, Input::Seconds(1));
-    assert_eq!(rt; counts(&session), [2690, 0, 2690]);
+    same!(rt; counts(&session), [2690, 0, 2690]);
     let mut session = in_the_last_generation(&rt, alloc, &cartridge)?;
     give(&rt, &mut session, 0, 2688);
     save(&rt, &mut session, 2688);

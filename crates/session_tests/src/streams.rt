@@ -1,4 +1,5 @@
 //! Streams of lines, and what they answer.
+use crate::asserting::{holds, same};
 use crate::common::{cartridge, game, resumed, sector};
 use cartridge::Cartridge;
 use playing::play;
@@ -71,15 +72,15 @@ fn streams(
         &mut input,
         &mut out,
     );
-    assert_eq!(rt; why, want);
-    assert!(rt; out.as_slice() == text);
+    same!(rt; why, want);
+    holds!(rt; out.as_slice() == text);
     Ok(device)
 }
 
 fn sectors_are(rt: &impl Abort, one: &mut MemoryDevice, other: &mut MemoryDevice) {
-    assert_eq!(rt; one.count(), other.count());
+    same!(rt; one.count(), other.count());
     for at in 0..one.count() {
-        assert!(rt; sector(rt, one, at) == sector(rt, other, at));
+        holds!(rt; sector(rt, one, at) == sector(rt, other, at));
     }
 }
 
@@ -106,7 +107,7 @@ fn a_stream_of_a_script_is_its_play(rt: HostRuntime) -> Result<(), Fail> {
     };
     let mut played = session.into_device();
     let want = b"resumed 5\nsaved 7\nsaved 10\nsaved 10\nsaved 11\n".as_slice();
-    assert!(rt; report.as_slice() == want);
+    holds!(rt; report.as_slice() == want);
     for most in [1, 7, 5000] {
         let mut left = streams(
             &rt, alloc, &old, &cartridge, most, SCRIPT, false, None, want,
@@ -186,7 +187,7 @@ fn picture_in(
 ) -> Result<Vec<u8>, Fail> {
     let session = resumed(rt, alloc, game, cartridge);
     let mut text = Vec::new(alloc);
-    assert!(rt; session.machine().picture().write_pgm(&mut text).is_ok());
+    holds!(rt; session.machine().picture().write_pgm(&mut text).is_ok());
     Ok(text)
 }
 
@@ -208,8 +209,8 @@ fn pictures_are_those_of_their_machines(rt: HostRuntime) -> Result<(), Fail> {
         b"resumed 0\nsaved 2\n".as_slice(),
     )?;
     let second = picture_in(&rt, alloc, later, &cartridge)?;
-    assert_eq!(rt; first.len(), 46_093);
-    assert_eq!(rt; second.len(), 46_093);
+    same!(rt; first.len(), 46_093);
+    same!(rt; second.len(), 46_093);
     let mut text = Vec::new(alloc);
     text.extend_from_slice(b"resumed 0\n")?;
     text.extend_from_slice(&first)?;
@@ -255,9 +256,9 @@ fn a_full_output_ends_a_stream(rt: HostRuntime) -> Result<(), Fail> {
             &mut input,
             &mut out,
         );
-        assert_eq!(rt; why, Some(StreamError::Session(SessionError::Output)));
+        same!(rt; why, Some(StreamError::Session(SessionError::Output)));
         let counts = resumed(&rt, alloc, left, &cartridge).counts();
-        assert_eq!(rt; counts.all, if room < 10 { 1 } else { 2 });
+        same!(rt; counts.all, if room < 10 { 1 } else { 2 });
     }
     Ok(())
 }

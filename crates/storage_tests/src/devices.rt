@@ -1,3 +1,4 @@
+use crate::asserting::{holds, same};
 use sector_device::{DeviceFault, FileDevice, MemoryDevice, SectorDevice};
 use std::fs::{self, OpenOptions};
 use std::path::Path;
@@ -9,13 +10,13 @@ fn byte_at<D: SectorDevice>(rt: &impl Abort, device: &mut D, at: u64) -> Result<
     assert!(rt; at < device.count());
     let mut sector = [9; 512];
     device.read(at, &mut sector)?;
-    assert!(rt; sector.iter().all(|byte| *byte == sector[0]));
+    holds!(rt; sector.iter().all(|byte| *byte == sector[0]));
     Ok(sector[0])
 }
 
 /// Such bytes of a device of three sectors.
 fn three<D: SectorDevice>(rt: &impl Abort, device: &mut D) -> Result<[u8; 3], DeviceFault> {
-    assert_eq!(rt; device.count(), 3);
+    same!(rt; device.count(), 3);
     Ok([
         byte_at(rt, device, 0)?,
         byte_at(rt, device, 1)?,
@@ -37,12 +38,12 @@ fn put<D: SectorDevice>(
 #[test]
 fn images_keep_the_chosen_writes(rt: HostRuntime) -> Result<(), Fail> {
     let mut device = MemoryDevice::new(rt.alloc(), 3, 4)?;
-    assert_eq!(rt; three(&rt, &mut device)?, [0, 0, 0]);
+    same!(rt; three(&rt, &mut device)?, [0, 0, 0]);
     put(&rt, &mut device, 0, 1)?;
     device.sync()?;
     put(&rt, &mut device, 1, 2)?;
     put(&rt, &mut device, 2, 3)?;
-    assert_eq!(rt; device.calls(), 4);
+    same!(rt; device.calls(), 4);
     for (kept, want) in [
         ([true].as_slice(), [1, 2, 0]),
         ([false, true, true].as_slice(), [1, 0, 3]),
@@ -50,11 +51,11 @@ fn images_keep_the_chosen_writes(rt: HostRuntime) -> Result<(), Fail> {
         ([true, true].as_slice(), [1, 2, 3]),
     ] {
         let mut image = device.image(rt.alloc(), kept)?;
-        assert_eq!(rt; three(&rt, &mut image)?, want);
-        assert_eq!(rt; image.calls(), 0);
-        assert!(rt; !image.blown());
+        same!(rt; three(&rt, &mut image)?, want);
+        same!(rt; image.calls(), 0);
+        holds!(rt; !image.blown());
     }
-    assert_eq!(rt; three(&rt, &mut device)?, [1, 2, 3]);
+    same!(rt; three(&rt, &mut device)?, [1, 2, 3]);
     Ok(())
 }
 
@@ -63,12 +64,12 @@ fn a_full_record_fails_the_call(rt: HostRuntime) -> Result<(), Fail> {
     let mut device = MemoryDevice::new(rt.alloc(), 3, 2)?;
     put(&rt, &mut device, 0, 1)?;
     device.sync()?;
-    assert_eq!(rt; device.calls(), 2);
-    assert_eq!(rt; three(&rt, &mut device)?, [1, 0, 0]);
-    assert_eq!(rt; put(&rt, &mut device, 0, 2), Err(DeviceFault::Device));
-    assert_eq!(rt; device.sync(), Err(DeviceFault::Device));
-    assert_eq!(rt; device.calls(), 2);
-    assert_eq!(rt; three(&rt, &mut device)?, [1, 0, 0]);
+    same!(rt; device.calls(), 2);
+    same!(rt; three(&rt, &mut device)?, [1, 0, 0]);
+    same!(rt; put(&rt, &mut device, 0, 2), Err(DeviceFault::Device));
+    same!(rt; device.sync(), Err(DeviceFault::Device));
+    same!(rt; device.calls(), 2);
+    same!(rt; three(&rt, &mut device)?, [1, 0, 0]);
     Ok(())
 }
 
@@ -78,16 +79,16 @@ fn a_fuse_fails_every_later_call(rt: HostRuntime) -> Result<(), Fail> {
     device.fuse(2);
     put(&rt, &mut device, 0, 1)?;
     device.sync()?;
-    assert!(rt; !device.blown());
-    assert_eq!(rt; put(&rt, &mut device, 1, 2), Err(DeviceFault::Device));
-    assert!(rt; device.blown());
-    assert_eq!(rt; device.sync(), Err(DeviceFault::Device));
-    assert_eq!(rt; device.calls(), 4);
+    holds!(rt; !device.blown());
+    same!(rt; put(&rt, &mut device, 1, 2), Err(DeviceFault::Device));
+    holds!(rt; device.blown());
+    same!(rt; device.sync(), Err(DeviceFault::Device));
+    same!(rt; device.calls(), 4);
     let mut image = device.image(rt.alloc(), &[true])?;
-    assert_eq!(rt; three(&rt, &mut image)?, [1, 2, 0]);
+    same!(rt; three(&rt, &mut image)?, [1, 2, 0]);
     device.fuse(9);
-    assert!(rt; !device.blown());
-    assert_eq!(rt; three(&rt, &mut device)?, [1, 0, 0]);
+    holds!(rt; !device.blown());
+    same!(rt; three(&rt, &mut device)?, [1, 0, 0]);
     Ok(())
 }
 
@@ -97,17 +98,17 @@ fn one_call_fails(rt: HostRuntime) -> Result<(), Fail> {
         let mut device = MemoryDevice::new(rt.alloc(), 3, 9)?;
         device.fail_at(2, kept);
         device.sync()?;
-        assert_eq!(rt; put(&rt, &mut device, 1, 2), Err(DeviceFault::Device));
-        assert_eq!(rt; three(&rt, &mut device)?, want);
-        assert!(rt; !device.blown());
-        assert_eq!(rt; device.calls(), 2);
+        same!(rt; put(&rt, &mut device, 1, 2), Err(DeviceFault::Device));
+        same!(rt; three(&rt, &mut device)?, want);
+        holds!(rt; !device.blown());
+        same!(rt; device.calls(), 2);
     }
     let mut device = MemoryDevice::new(rt.alloc(), 3, 9)?;
     device.fuse(0);
     device.fail_at(1, true);
-    assert_eq!(rt; put(&rt, &mut device, 1, 2), Err(DeviceFault::Device));
+    same!(rt; put(&rt, &mut device, 1, 2), Err(DeviceFault::Device));
     device.fuse(9);
-    assert_eq!(rt; three(&rt, &mut device)?, [0, 0, 0]);
+    same!(rt; three(&rt, &mut device)?, [0, 0, 0]);
     Ok(())
 }
 
@@ -115,23 +116,23 @@ fn one_call_fails(rt: HostRuntime) -> Result<(), Fail> {
 fn a_file_keeps_sectors(rt: HostRuntime) -> Result<(), Fail> {
     let path = "kept.save";
     let mut device = FileDevice::create(&rt, Path::new(path), 3)?;
-    assert_eq!(rt; three(&rt, &mut device)?, [0, 0, 0]);
+    same!(rt; three(&rt, &mut device)?, [0, 0, 0]);
     put(&rt, &mut device, 1, 7)?;
     device.sync()?;
-    assert_eq!(rt; three(&rt, &mut device)?, [0, 7, 0]);
-    assert_eq!(rt; fs::metadata(&rt, path)?.len(), 1536);
+    same!(rt; three(&rt, &mut device)?, [0, 7, 0]);
+    same!(rt; fs::metadata(&rt, path)?.len(), 1536);
     drop(device);
     let mut again = FileDevice::attach(&rt, Path::new(path))?;
-    assert_eq!(rt; three(&rt, &mut again)?, [0, 7, 0]);
+    same!(rt; three(&rt, &mut again)?, [0, 7, 0]);
     match FileDevice::create(&rt, Path::new(path), 3) {
-        Ok(_) => assert!(rt; false, "made where a file stands"),
-        Err(fault) => assert_eq!(rt; fault, DeviceFault::Device),
+        Ok(_) => holds!(rt; false, "made where a file stands"),
+        Err(fault) => same!(rt; fault, DeviceFault::Device),
     }
-    assert_eq!(rt; fs::metadata(&rt, path)?.len(), 1536);
+    same!(rt; fs::metadata(&rt, path)?.len(), 1536);
     fs::remove_file(&rt, path)?;
     match FileDevice::attach(&rt, Path::new(path)) {
-        Ok(_) => assert!(rt; false, "attached to nothing"),
-        Err(fault) => assert_eq!(rt; fault, DeviceFault::Device),
+        Ok(_) => holds!(rt; false, "attached to nothing"),
+        Err(fault) => same!(rt; fault, DeviceFault::Device),
     }
     Ok(())
 }
@@ -140,7 +141,7 @@ fn a_file_keeps_sectors(rt: HostRuntime) -> Result<(), Fail> {
 fn a_file_that_another_device_holds_is_refused(rt: HostRuntime) -> Result<(), Fail> {
     let path = "held.save";
     let mut device = FileDevice::create(&rt, Path::new(path), 3)?;
-    assert_eq!(rt;
+    same!(rt;
         FileDevice::attach(&rt, Path::new(path)).err(),
         Some(DeviceFault::Device)
     );
@@ -148,11 +149,11 @@ fn a_file_that_another_device_holds_is_refused(rt: HostRuntime) -> Result<(), Fa
     device.sync()?;
     drop(device);
     let mut device = FileDevice::attach(&rt, Path::new(path))?;
-    assert_eq!(rt;
+    same!(rt;
         FileDevice::attach(&rt, Path::new(path)).err(),
         Some(DeviceFault::Device)
     );
-    assert_eq!(rt; three(&rt, &mut device)?, [0, 7, 0]);
+    same!(rt; three(&rt, &mut device)?, [0, 7, 0]);
     fs::remove_file(&rt, path)?;
     Ok(())
 }
@@ -162,8 +163,8 @@ fn a_file_of_other_size_is_refused(rt: HostRuntime) -> Result<(), Fail> {
     let path = "odd.save";
     fs::write(&rt, path, [0u8; 1000].as_slice())?;
     match FileDevice::attach(&rt, Path::new(path)) {
-        Ok(_) => assert!(rt; false, "attached to 1000 bytes"),
-        Err(fault) => assert_eq!(rt; fault, DeviceFault::SizeNotSectors(1000)),
+        Ok(_) => holds!(rt; false, "attached to 1000 bytes"),
+        Err(fault) => same!(rt; fault, DeviceFault::SizeNotSectors(1000)),
     }
     fs::remove_file(&rt, path)?;
     Ok(())
@@ -173,10 +174,10 @@ fn a_file_of_other_size_is_refused(rt: HostRuntime) -> Result<(), Fail> {
 fn a_length_that_is_too_great_leaves_no_file(rt: HostRuntime) -> Result<(), Fail> {
     let path = "great.save";
     match FileDevice::create(&rt, Path::new(path), u64::MAX) {
-        Ok(_) => assert!(rt; false, "made"),
-        Err(fault) => assert_eq!(rt; fault, DeviceFault::Device),
+        Ok(_) => holds!(rt; false, "made"),
+        Err(fault) => same!(rt; fault, DeviceFault::Device),
     }
-    assert!(rt; fs::metadata(&rt, path).is_err());
+    holds!(rt; fs::metadata(&rt, path).is_err());
     Ok(())
 }
 
@@ -184,16 +185,16 @@ fn a_length_that_is_too_great_leaves_no_file(rt: HostRuntime) -> Result<(), Fail
 fn a_changed_file_gives_a_fault(rt: HostRuntime) -> Result<(), Fail> {
     let path = "changed.save";
     let mut device = FileDevice::create(&rt, Path::new(path), 3)?;
-    assert_eq!(rt; three(&rt, &mut device)?, [0, 0, 0]);
+    same!(rt; three(&rt, &mut device)?, [0, 0, 0]);
     let other = OpenOptions::new().write(true).open(&rt, path)?;
     other.set_len(700)?;
-    assert_eq!(rt; byte_at(&rt, &mut device, 0)?, 0);
-    assert_eq!(rt; byte_at(&rt, &mut device, 1), Err(DeviceFault::Device));
-    assert_eq!(rt; byte_at(&rt, &mut device, 2), Err(DeviceFault::Device));
+    same!(rt; byte_at(&rt, &mut device, 0)?, 0);
+    same!(rt; byte_at(&rt, &mut device, 1), Err(DeviceFault::Device));
+    same!(rt; byte_at(&rt, &mut device, 2), Err(DeviceFault::Device));
     fs::write(&rt, path, [5u8; 1536].as_slice())?;
-    assert_eq!(rt; byte_at(&rt, &mut device, 0), Err(DeviceFault::Device));
+    same!(rt; byte_at(&rt, &mut device, 0), Err(DeviceFault::Device));
     put(&rt, &mut device, 0, 6)?;
-    assert_eq!(rt; byte_at(&rt, &mut device, 0)?, 6);
+    same!(rt; byte_at(&rt, &mut device, 0)?, 6);
     fs::remove_file(&rt, path)?;
     Ok(())
 }
@@ -201,11 +202,11 @@ fn a_changed_file_gives_a_fault(rt: HostRuntime) -> Result<(), Fail> {
 #[test]
 fn faults_have_texts(rt: HostRuntime) -> Result<(), Fail> {
     let alloc = rt.alloc();
-    assert_eq!(rt;
+    same!(rt;
         format!(in alloc; "{}", DeviceFault::Device)?.as_str(),
         "device failed"
     );
-    assert_eq!(rt;
+    same!(rt;
         format!(in alloc; "{}", DeviceFault::SizeNotSectors(1000))?.as_str(),
         "device size 1000"
     );

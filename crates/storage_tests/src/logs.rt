@@ -1,3 +1,4 @@
+use crate::asserting::{holds, same};
 use sector_device::{MemoryDevice, SectorDevice};
 use sector_log::{
     Content, Entry, Found, LogFault, Opened, Part, Refused, Store, Stored, are_inputs, open_log,
@@ -29,10 +30,10 @@ fn begun(rt: &impl Abort, alloc: Global) -> Store<MemoryDevice> {
         panic!(rt; "memory");
     };
     let opened = opened(rt, alloc, device);
-    assert_eq!(rt; opened.found(), Found::Nothing);
-    assert_eq!(rt; opened.generation(), 0);
-    assert!(rt; opened.entries().is_empty());
-    assert!(rt; opened.blob().is_none());
+    same!(rt; opened.found(), Found::Nothing);
+    same!(rt; opened.generation(), 0);
+    holds!(rt; opened.entries().is_empty());
+    holds!(rt; opened.blob().is_none());
     must_begin(rt, opened, 5, b"blob")
 }
 
@@ -81,7 +82,7 @@ fn refusal(
 fn sector(rt: &impl Abort, device: &mut MemoryDevice, at: u64) -> [u8; 512] {
     let mut bytes = [9; 512];
     assert!(rt; at < device.count());
-    assert!(rt; device.read(at, &mut bytes).is_ok());
+    holds!(rt; device.read(at, &mut bytes).is_ok());
     bytes
 }
 
@@ -89,14 +90,14 @@ fn sector(rt: &impl Abort, device: &mut MemoryDevice, at: u64) -> [u8; 512] {
 fn has_bytes(rt: &impl Abort, device: &mut MemoryDevice, at: u64, from: usize, want: &[u8]) {
     let bytes = sector(rt, device, at);
     assert!(rt; from < 512);
-    assert!(rt; bytes[from..].starts_with(want));
+    holds!(rt; bytes[from..].starts_with(want));
 }
 
 /// The sector is zeros from there on.
 fn is_blank_from(rt: &impl Abort, device: &mut MemoryDevice, at: u64, from: usize) {
     let bytes = sector(rt, device, at);
     for i in from..512 {
-        assert_eq!(rt; bytes[i], 0);
+        same!(rt; bytes[i], 0);
     }
 }
 
@@ -107,7 +108,7 @@ fn put(rt: &impl Abort, device: &mut MemoryDevice, at: u64, from: usize, bytes: 
         *i = *byte;
     }
     assert!(rt; at < device.count());
-    assert!(rt; device.write(at, &whole).is_ok());
+    holds!(rt; device.write(at, &whole).is_ok());
 }
 
 /// How many inputs the log of a device stands for.
@@ -128,7 +129,7 @@ fn inputs(rt: &impl Abort, alloc: Global, device: MemoryDevice) -> u32 {
 fn append(rt: &impl Abort, store: &mut Store<MemoryDevice>, more: &[Entry]) {
     assert!(rt; are_inputs(more));
     assert!(rt; store.fits(more));
-    assert_eq!(rt; store.append(more), Ok(()));
+    same!(rt; store.append(more), Ok(()));
 }
 
 /// An append that is refused.
@@ -166,7 +167,7 @@ fn frames(alloc: Global, many: usize) -> Result<Vec<Entry>, Fail> {
 
 fn has_entry(rt: &impl Abort, opened: &Opened<MemoryDevice>, at: usize, code: [u8; 6]) {
     assert!(rt; at < opened.entries().len());
-    assert_eq!(rt; opened.entries()[at], Stored { code });
+    same!(rt; opened.entries()[at], Stored { code });
 }
 
 fn content(base: u64, blob_length: u32) -> Content {
@@ -179,12 +180,12 @@ fn content(base: u64, blob_length: u32) -> Content {
 
 fn has_content(rt: &impl Abort, opened: &Opened<MemoryDevice>, base: u64, blob: &[u8]) {
     assert!(rt; blob.len() < 1000);
-    assert_eq!(rt;
+    same!(rt;
         opened.found(),
         Found::Content(content(base, blob.len() as u32))
     );
     match opened.blob() {
-        Some(found) => assert_eq!(rt; *found, *blob),
+        Some(found) => same!(rt; found, blob),
         None => panic!(rt; "no blob"),
     }
 }
@@ -195,7 +196,7 @@ fn a_new_generation_makes_these_calls(rt: HostRuntime) -> Result<(), Fail> {
     // A sync; 32 blank log sectors, 61 of the blob, a sync, the root and a sync.
     let device = MemoryDevice::new(rt.alloc(), 188, 97)?;
     let mut device = must_begin(&rt, opened(&rt, rt.alloc(), device), 0, &blob).into_device();
-    assert_eq!(rt; device.calls(), 97);
+    same!(rt; device.calls(), 97);
     has_bytes(
         &rt,
         &mut device,
@@ -215,11 +216,11 @@ fn a_new_generation_makes_these_calls(rt: HostRuntime) -> Result<(), Fail> {
 
     let device = MemoryDevice::new(rt.alloc(), 188, 96)?;
     let answer = refusal(&rt, opened(&rt, rt.alloc(), device), 0, &blob);
-    assert_eq!(rt; answer, (LogFault::Device, 96));
+    same!(rt; answer, (LogFault::Device, 96));
 
     let device = MemoryDevice::new(rt.alloc(), 187, 97)?;
     let answer = refusal(&rt, opened(&rt, rt.alloc(), device), 0, &blob);
-    assert_eq!(rt; answer, (LogFault::TooSmall { need: 188 }, 1));
+    same!(rt; answer, (LogFault::TooSmall { need: 188 }, 1));
     Ok(())
 }
 
@@ -227,17 +228,17 @@ fn a_new_generation_makes_these_calls(rt: HostRuntime) -> Result<(), Fail> {
 fn a_log_is_full_at_2688_entries(rt: HostRuntime) -> Result<(), Fail> {
     let mut store = begun(&rt, rt.alloc());
     append_alternating(&rt, rt.alloc(), &mut store, 0, 2688)?;
-    assert_eq!(rt; refused(&rt, &mut store, &[seconds(1)]), LogFault::LogFull);
+    same!(rt; refused(&rt, &mut store, &[seconds(1)]), LogFault::LogFull);
     // The last sector is full, so its last run is not lengthened either.
-    assert_eq!(rt;
+    same!(rt;
         refused(&rt, &mut store, &[alternating(2687)]),
         LogFault::LogFull
     );
     append(&rt, &mut store, &[]);
     let device = store.into_device();
     // A sync; 32 log sectors, one of the blob, a sync, the root, a sync; 32 log sectors and a sync.
-    assert_eq!(rt; device.calls(), 70);
-    assert_eq!(rt; inputs(&rt, rt.alloc(), device), 2688);
+    same!(rt; device.calls(), 70);
+    same!(rt; inputs(&rt, rt.alloc(), device), 2688);
     Ok(())
 }
 
@@ -255,8 +256,8 @@ fn equal_frames_are_one_entry(rt: HostRuntime) -> Result<(), Fail> {
     has_bytes(&rt, &mut device, 36, 14, b"\x01\x3c\x00\x00\x00\x00");
     is_blank_from(&rt, &mut device, 36, 20);
     let opened = opened(&rt, rt.alloc(), device);
-    assert_eq!(rt; opened.generation(), 1);
-    assert_eq!(rt; opened.entries().len(), 2);
+    same!(rt; opened.generation(), 1);
+    same!(rt; opened.entries().len(), 2);
     has_entry(&rt, &opened, 0, [0, 0, 3, 0, 0, 0]);
     has_content(&rt, &opened, 5, b"blob");
     Ok(())
@@ -269,7 +270,7 @@ fn a_full_sector_is_never_written_again(rt: HostRuntime) -> Result<(), Fail> {
     append(&rt, &mut store, &[frame(1); 10]);
     let mut device = store.into_device();
     // A sync, 33 sectors, a sync, the root, a sync; a log sector and a sync for each append.
-    assert_eq!(rt; device.calls(), 41);
+    same!(rt; device.calls(), 41);
     has_bytes(&rt, &mut device, 36, 506, b"\x00\x01\x01\x00\x00\x00");
     has_bytes(&rt, &mut device, 37, 0, b"GBL2\x01\x00\x01\x00");
     has_bytes(&rt, &mut device, 37, 8, b"\x00\x01\x0a\x00\x00\x00");
@@ -284,9 +285,9 @@ fn a_log_holds_216000_inputs(rt: HostRuntime) -> Result<(), Fail> {
     for _ in 0..67 {
         append(&rt, &mut store, &piece);
     }
-    assert_eq!(rt; refused(&rt, &mut store, &piece), LogFault::LogFull);
+    same!(rt; refused(&rt, &mut store, &piece), LogFault::LogFull);
     append(&rt, &mut store, &frames(rt.alloc(), 1600)?);
-    assert_eq!(rt; refused(&rt, &mut store, &[frame(0)]), LogFault::LogFull);
+    same!(rt; refused(&rt, &mut store, &[frame(0)]), LogFault::LogFull);
     let mut device = store.into_device();
     has_bytes(
         &rt,
@@ -295,7 +296,7 @@ fn a_log_holds_216000_inputs(rt: HostRuntime) -> Result<(), Fail> {
         0,
         b"GBL2\x00\x00\x01\x00\x00\x00\xc0\x4b\x03\x00",
     );
-    assert_eq!(rt; inputs(&rt, rt.alloc(), device), 216_000);
+    same!(rt; inputs(&rt, rt.alloc(), device), 216_000);
     Ok(())
 }
 
@@ -307,9 +308,9 @@ fn cut(rt: &impl Abort, alloc: Global) -> Result<MemoryDevice, Fail> {
     let mut store = must_begin(rt, opened(rt, alloc, device), 5, b"blob");
     append_alternating(rt, alloc, &mut store, 0, 40)?;
     let more = alternating_from(alloc, 40, 120)?;
-    assert_eq!(rt; refused(rt, &mut store, &more), LogFault::Device);
-    assert_eq!(rt; refused(rt, &mut store, &more), LogFault::Broken);
-    assert_eq!(rt; store.replace(5, b"blob"), Err(LogFault::Broken));
+    same!(rt; refused(rt, &mut store, &more), LogFault::Device);
+    same!(rt; refused(rt, &mut store, &more), LogFault::Broken);
+    same!(rt; store.replace(5, b"blob"), Err(LogFault::Broken));
     Ok(store.into_device())
 }
 
@@ -327,7 +328,7 @@ fn a_cut_leaves_a_prefix(rt: HostRuntime) -> Result<(), Fail> {
         ([true, true].as_slice(), 120),
     ] {
         let image = image_of_cut(&rt, rt.alloc(), kept)?;
-        assert_eq!(rt; inputs(&rt, rt.alloc(), image), want);
+        same!(rt; inputs(&rt, rt.alloc(), image), want);
     }
     Ok(())
 }
@@ -339,8 +340,8 @@ fn what_was_lost_stays_lost(rt: HostRuntime) -> Result<(), Fail> {
     let mut store = must_begin(&rt, opened(&rt, rt.alloc(), image), 45, b"blob");
     append_alternating(&rt, rt.alloc(), &mut store, 0, 84)?;
     let opened = opened(&rt, rt.alloc(), store.into_device());
-    assert_eq!(rt; opened.generation(), 2);
-    assert_eq!(rt; opened.entries().len(), 84);
+    same!(rt; opened.generation(), 2);
+    same!(rt; opened.entries().len(), 84);
     has_content(&rt, &opened, 45, b"blob");
     Ok(())
 }
@@ -367,7 +368,7 @@ fn image_after(
     let opened = opened(rt, alloc, device.image(alloc, &kept)?);
     let generation = opened.generation();
     if generation > 0 {
-        assert!(rt; opened.blob().is_some());
+        holds!(rt; opened.blob().is_some());
     }
     let device = opened.into_device();
     Ok(Outcome {
@@ -399,11 +400,11 @@ fn an_append_cut_anywhere_leaves_a_prefix(rt: HostRuntime) -> Result<(), Fail> {
         for keeps in [[false, false], [true, true], [true, false], [false, true]] {
             let device = cut_after(&rt, rt.alloc(), k, false)?;
             let left = image_after(&rt, rt.alloc(), &device, keeps)?;
-            assert_eq!(rt; left.generation, 1);
+            same!(rt; left.generation, 1);
             // Of the two sectors none, the first, or both count; after the sync all does.
-            assert!(rt; left.inputs == 3 || left.inputs == 84 || left.inputs == 123);
+            holds!(rt; left.inputs == 3 || left.inputs == 84 || left.inputs == 123);
             if k == 3 {
-                assert_eq!(rt; left.inputs, 123);
+                same!(rt; left.inputs, 123);
             }
         }
     }
@@ -417,12 +418,12 @@ fn a_replace_cut_anywhere_leaves_old_or_new(rt: HostRuntime) -> Result<(), Fail>
             let device = cut_after(&rt, rt.alloc(), k, true)?;
             let left = image_after(&rt, rt.alloc(), &device, keeps)?;
             if left.generation == 1 {
-                assert_eq!(rt; left.inputs, 3);
-                assert!(rt; k < 36);
+                same!(rt; left.inputs, 3);
+                holds!(rt; k < 36);
             } else {
-                assert_eq!(rt; left.generation, 2);
-                assert_eq!(rt; left.inputs, 0);
-                assert!(rt; k > 33);
+                same!(rt; left.generation, 2);
+                same!(rt; left.inputs, 0);
+                holds!(rt; k > 33);
             }
         }
     }
@@ -439,15 +440,15 @@ fn a_begin_cut_anywhere_leaves_nothing_or_the_new(rt: HostRuntime) -> Result<(),
             let device = match begin(&rt, opened, 5, b"blob") {
                 Ok(store) => store.into_device(),
                 Err(refused) => {
-                    assert_eq!(rt; refused.why, LogFault::Device);
+                    same!(rt; refused.why, LogFault::Device);
                     refused.device
                 }
             };
             let left = image_after(&rt, rt.alloc(), &device, keeps)?;
-            assert_eq!(rt; left.inputs, 0);
-            assert!(rt; left.generation < 2);
-            assert!(rt; k < 36 || left.generation == 1);
-            assert!(rt; k > 33 || left.generation == 0);
+            same!(rt; left.inputs, 0);
+            holds!(rt; left.generation < 2);
+            holds!(rt; k < 36 || left.generation == 1);
+            holds!(rt; k > 33 || left.generation == 0);
         }
     }
     Ok(())
@@ -485,8 +486,8 @@ fn version_one_is_read(rt: HostRuntime) -> Result<(), Fail> {
     put(&rt, &mut device, 68, 0, b"text");
     let first = opened(&rt, rt.alloc(), device);
     has_content(&rt, &first, 5, b"text");
-    assert_eq!(rt; first.generation(), 3);
-    assert_eq!(rt; first.entries().len(), 2);
+    same!(rt; first.generation(), 3);
+    same!(rt; first.entries().len(), 2);
     has_entry(&rt, &first, 0, [0, 1, 1, 0, 0, 0]);
     has_entry(&rt, &first, 1, [1, 16, 14, 0, 0, 0]);
     // What follows it is of version 2.
@@ -500,7 +501,7 @@ fn version_one_is_read(rt: HostRuntime) -> Result<(), Fail> {
     );
     let second = opened(&rt, rt.alloc(), device);
     has_content(&rt, &second, 7, b"next");
-    assert!(rt; second.entries().is_empty());
+    holds!(rt; second.entries().is_empty());
     Ok(())
 }
 
@@ -517,7 +518,7 @@ fn an_entry_of_version_one_that_is_no_input(rt: HostRuntime) -> Result<(), Fail>
         b"GBL1\x00\x00\x02\x00\x00\x09\x00\x01\x00\x07\x01\x02\x03\x04",
     );
     let opened = opened(&rt, rt.alloc(), device);
-    assert_eq!(rt; opened.entries().len(), 2);
+    same!(rt; opened.entries().len(), 2);
     has_entry(&rt, &opened, 0, [0, 9, 0, 0, 0, 0]);
     has_entry(&rt, &opened, 1, [7, 1, 2, 3, 4, 0]);
     Ok(())
@@ -536,7 +537,7 @@ fn what_ends_a_log(rt: HostRuntime) -> Result<(), Fail> {
         b"GBL2\x00\x00\x01\x00\x00\x01\x01\x00\x00\x00",
     );
     let first = opened(&rt, rt.alloc(), device);
-    assert!(rt; first.entries().is_empty());
+    holds!(rt; first.entries().is_empty());
     let mut device = first.into_device();
     put(
         &rt,
@@ -553,7 +554,7 @@ fn what_ends_a_log(rt: HostRuntime) -> Result<(), Fail> {
         b"GBL1\x01\x00\x01\x00\x00\x01\x00\x00\x00\x00",
     );
     let second = opened(&rt, rt.alloc(), device);
-    assert_eq!(rt; second.entries().len(), 1);
+    same!(rt; second.entries().len(), 1);
     Ok(())
 }
 
@@ -562,17 +563,17 @@ fn what_is_damaged(rt: HostRuntime) -> Result<(), Fail> {
     let mut device = MemoryDevice::new(rt.alloc(), 188, 100)?;
     put_root(&rt, &mut device, 2, 1, 5, u32::MAX);
     let first = opened(&rt, rt.alloc(), device);
-    assert_eq!(rt;
+    same!(rt;
         first.found(),
         Found::Damaged(content(5, u32::MAX), Part::Length { need: 16_777_282 })
     );
-    assert!(rt; first.blob().is_none());
-    assert!(rt; first.entries().is_empty());
+    holds!(rt; first.blob().is_none());
+    holds!(rt; first.entries().is_empty());
 
     let mut device = first.into_device();
     put_root(&rt, &mut device, 2, 1, u64::MAX, 4);
     let second = opened(&rt, rt.alloc(), device);
-    assert_eq!(rt; second.found(), Found::Content(content(u64::MAX, 4)));
+    same!(rt; second.found(), Found::Content(content(u64::MAX, 4)));
 
     let mut device = second.into_device();
     put(
@@ -583,11 +584,11 @@ fn what_is_damaged(rt: HostRuntime) -> Result<(), Fail> {
         b"GBL2\x00\x00\x01\x00\x02\x00\x00\x00\x00\x00",
     );
     let third = opened(&rt, rt.alloc(), device);
-    assert_eq!(rt;
+    same!(rt;
         third.found(),
         Found::Damaged(content(u64::MAX, 4), Part::Count)
     );
-    assert_eq!(rt; third.entries().len(), 1);
+    same!(rt; third.entries().len(), 1);
     Ok(())
 }
 
@@ -595,11 +596,11 @@ fn what_is_damaged(rt: HostRuntime) -> Result<(), Fail> {
 fn generations_are_used_up(rt: HostRuntime) -> Result<(), Fail> {
     let mut device = MemoryDevice::new(rt.alloc(), 70, 100)?;
     put_root(&rt, &mut device, 2, u64::MAX, 5, 4);
-    assert_eq!(rt; device.calls(), 6);
+    same!(rt; device.calls(), 6);
     let opened = opened(&rt, rt.alloc(), device);
-    assert_eq!(rt; opened.generation(), u64::MAX);
+    same!(rt; opened.generation(), u64::MAX);
     // One sync was made, and nothing was written.
-    assert_eq!(rt; refusal(&rt, opened, 5, b"blob"), (LogFault::Worn, 7));
+    same!(rt; refusal(&rt, opened, 5, b"blob"), (LogFault::Worn, 7));
     Ok(())
 }
 
@@ -607,16 +608,16 @@ fn generations_are_used_up(rt: HostRuntime) -> Result<(), Fail> {
 fn a_store_is_replaced(rt: HostRuntime) -> Result<(), Fail> {
     let mut store = begun(&rt, rt.alloc());
     append(&rt, &mut store, &[frame(1), frame(1)]);
-    assert_eq!(rt;
+    same!(rt;
         store.replace(7, &[1; 2000]),
         Err(LogFault::TooSmall { need: 74 })
     );
-    assert_eq!(rt; store.replace(7, b"later"), Ok(()));
+    same!(rt; store.replace(7, b"later"), Ok(()));
     append(&rt, &mut store, &[seconds(1)]);
     let opened = opened(&rt, rt.alloc(), store.into_device());
-    assert_eq!(rt; opened.generation(), 2);
+    same!(rt; opened.generation(), 2);
     has_content(&rt, &opened, 7, b"later");
-    assert_eq!(rt; opened.entries().len(), 1);
+    same!(rt; opened.entries().len(), 1);
     has_entry(&rt, &opened, 0, [1, 1, 0, 0, 0, 0]);
     Ok(())
 }
@@ -627,8 +628,8 @@ fn a_long_blob_is_not_kept(rt: HostRuntime) -> Result<(), Fail> {
     let Ok(opened) = open_log(rt.alloc(), store.into_device(), 3) else {
         panic!(rt; "not opened");
     };
-    assert!(rt; opened.blob().is_none());
-    assert_eq!(rt; opened.found(), Found::Content(content(5, 4)));
+    holds!(rt; opened.blob().is_none());
+    same!(rt; opened.found(), Found::Content(content(5, 4)));
     Ok(())
 }
 
@@ -639,7 +640,7 @@ fn a_failed_read_is_a_device_fault(rt: HostRuntime) -> Result<(), Fail> {
         device.fail_at(call, false);
         match open_log(rt.alloc(), device, 16) {
             Ok(_) => panic!(rt; "opened"),
-            Err(refused) => assert_eq!(rt; refused.why, LogFault::Device),
+            Err(refused) => same!(rt; refused.why, LogFault::Device),
         }
     }
     Ok(())
@@ -659,7 +660,7 @@ fn faults_have_texts(rt: HostRuntime) -> Result<(), Fail> {
         (LogFault::LogFull, "log full"),
         (LogFault::Broken, "broken, open it again"),
     ] {
-        assert_eq!(rt; format!(in alloc; "{}", fault)?.as_str(), text);
+        same!(rt; format!(in alloc; "{}", fault)?.as_str(), text);
     }
     Ok(())
 }

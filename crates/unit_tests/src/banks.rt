@@ -1,3 +1,4 @@
+use crate::asserting::{holds, same};
 use bank_controllers::{Banks, BanksState, ClockRegisters};
 use cartridge::{Cartridge, Controller};
 use std::alloc::Global;
@@ -30,6 +31,25 @@ fn bank_at(banks: &Banks, address: u16) -> u16 {
     u16::from(banks.read(address)) + 256 * u16::from(banks.read(address.saturating_add(1)))
 }
 
+// These have no contract, so that a test's proof does not follow the controller.
+
+fn write(banks: &mut Banks, address: u16, value: u8) {
+    banks.write(address, value);
+}
+
+fn read(banks: &Banks, address: u16) -> u8 {
+    banks.read(address)
+}
+
+/// Bytes of RAM.
+fn stored(banks: &Banks) -> usize {
+    banks.ram().len()
+}
+
+fn stored_at(banks: &Banks, at: usize) -> Option<u8> {
+    banks.ram().get(at).copied()
+}
+
 #[derive(Drop)]
 struct Shows {
     kind: u8,
@@ -42,10 +62,10 @@ struct Shows {
 fn select(rt: &impl Abort, alloc: Global, case: &Shows) -> Result<(), Fail> {
     let mut banks = inserted(alloc, case.kind, case.rom_banks, 0)?;
     for (address, value) in case.writes {
-        banks.write(*address, *value);
+        write(&mut banks, *address, *value);
     }
-    assert_eq!(rt; bank_at(&banks, 0x0000), case.low);
-    assert_eq!(rt; bank_at(&banks, 0x4000), case.high);
+    same!(rt; bank_at(&banks, 0x0000), case.low);
+    same!(rt; bank_at(&banks, 0x4000), case.high);
     Ok(())
 }
 
@@ -202,30 +222,30 @@ fn ram_banks(rt: HostRuntime) -> Result<(), Fail> {
         (0x1E, 0x05, 8),
     ] {
         let mut banks = inserted(rt.alloc(), kind, 2, ram_code)?;
-        assert_eq!(rt; banks.ram().len(), 0x2000 * usize::from(present));
-        assert_eq!(rt; banks.read(0xA000), if kind == 0x09 { 0x00 } else { 0xFF });
-        banks.write(0x1FFF, 0x1A);
-        banks.write(0x6000, 0x01);
+        same!(rt; stored(&banks), 0x2000 * usize::from(present));
+        same!(rt; read(&banks, 0xA000), if kind == 0x09 { 0x00 } else { 0xFF });
+        write(&mut banks, 0x1FFF, 0x1A);
+        write(&mut banks, 0x6000, 0x01);
         let selected = if kind == 0x10 || kind == 0x13 {
             8u8
         } else {
             16
         };
         for bank in 0..selected {
-            banks.write(0x4000, bank);
-            banks.write(0xBFFF, bank);
+            write(&mut banks, 0x4000, bank);
+            write(&mut banks, 0xBFFF, bank);
         }
         for bank in 0..selected {
-            banks.write(0x4000, bank);
+            write(&mut banks, 0x4000, bank);
             let last = if present == 0 {
                 0
             } else {
                 selected - present + bank % present
             };
-            assert_eq!(rt; banks.read(0xBFFF), last, "type {kind} bank {bank}");
+            same!(rt; read(&banks, 0xBFFF), last, "type {kind} bank {bank}");
         }
-        banks.write(0x0000, 0x0B);
-        assert_eq!(rt; banks.read(0xBFFF) == 0xFF, kind != 0x09);
+        write(&mut banks, 0x0000, 0x0B);
+        same!(rt; read(&banks, 0xBFFF) == 0xFF, kind != 0x09);
     }
     Ok(())
 }
@@ -234,21 +254,21 @@ fn ram_banks(rt: HostRuntime) -> Result<(), Fail> {
 #[test]
 fn ram_that_is_not_shown(rt: HostRuntime) -> Result<(), Fail> {
     let mut mbc1 = inserted(rt.alloc(), 0x03, 2, 0x03)?;
-    mbc1.write(0x0000, 0x0A);
-    mbc1.write(0x4000, 0x02);
-    mbc1.write(0xA123, 0x55);
-    assert!(rt; mbc1.ram().len() == 0x8000);
-    assert_eq!(rt; mbc1.ram()[0x0123], 0x55);
+    write(&mut mbc1, 0x0000, 0x0A);
+    write(&mut mbc1, 0x4000, 0x02);
+    write(&mut mbc1, 0xA123, 0x55);
+    same!(rt; stored(&mbc1), 0x8000);
+    same!(rt; stored_at(&mbc1, 0x0123), Some(0x55));
     let mut mbc3 = inserted(rt.alloc(), 0x12, 2, 0x03)?;
-    mbc3.write(0x0000, 0x0A);
+    write(&mut mbc3, 0x0000, 0x0A);
     for select in [0x08, 0x0C, 0x0D, 0x0F] {
-        mbc3.write(0x4000, select);
-        mbc3.write(0xA000, 0x55);
-        assert_eq!(rt; mbc3.read(0xA000), 0xFF);
+        write(&mut mbc3, 0x4000, select);
+        write(&mut mbc3, 0xA000, 0x55);
+        same!(rt; read(&mbc3, 0xA000), 0xFF);
     }
     let mut bare = inserted(rt.alloc(), 0x08, 2, 0x00)?;
-    bare.write(0xA000, 0x55);
-    assert_eq!(rt; bare.read(0xA000), 0xFF);
+    write(&mut bare, 0xA000, 0x55);
+    same!(rt; read(&bare, 0xA000), 0xFF);
     Ok(())
 }
 
@@ -256,28 +276,28 @@ fn ram_that_is_not_shown(rt: HostRuntime) -> Result<(), Fail> {
 #[test]
 fn half_bytes(rt: HostRuntime) -> Result<(), Fail> {
     let mut banks = inserted(rt.alloc(), 0x06, 16, 0x00)?;
-    banks.write(0x0000, 0x0A);
-    banks.write(0xA000, 0x35);
-    assert_eq!(rt; banks.read(0xA000), 0xF5);
-    assert_eq!(rt; banks.read(0xA200), 0xF5);
-    assert_eq!(rt; banks.read(0xBE00), 0xF5);
-    assert!(rt; banks.ram().len() == 512);
-    assert_eq!(rt; banks.ram()[0], 0x05);
-    banks.write(0x2100, 0x00);
-    assert_eq!(rt; bank_at(&banks, 0x4000), 1);
-    assert_eq!(rt; banks.read(0xA000), 0xF5);
-    banks.write(0x3EFF, 0x00);
-    assert_eq!(rt; banks.read(0xA000), 0xFF);
+    write(&mut banks, 0x0000, 0x0A);
+    write(&mut banks, 0xA000, 0x35);
+    same!(rt; read(&banks, 0xA000), 0xF5);
+    same!(rt; read(&banks, 0xA200), 0xF5);
+    same!(rt; read(&banks, 0xBE00), 0xF5);
+    same!(rt; stored(&banks), 512);
+    same!(rt; stored_at(&banks, 0), Some(0x05));
+    write(&mut banks, 0x2100, 0x00);
+    same!(rt; bank_at(&banks, 0x4000), 1);
+    same!(rt; read(&banks, 0xA000), 0xF5);
+    write(&mut banks, 0x3EFF, 0x00);
+    same!(rt; read(&banks, 0xA000), 0xFF);
     Ok(())
 }
 
 /// An MBC3 with clock, whose clock registers are set to these and enabled.
 fn clock(alloc: Global, registers: [u8; 5]) -> Result<Banks, Fail> {
     let mut banks = inserted(alloc, 0x10, 2, 0x00)?;
-    banks.write(0x0000, 0x0A);
+    write(&mut banks, 0x0000, 0x0A);
     for (register, value) in (8u8..13).zip(registers) {
-        banks.write(0x4000, register);
-        banks.write(0xA000, value);
+        write(&mut banks, 0x4000, register);
+        write(&mut banks, 0xA000, value);
     }
     Ok(banks)
 }
@@ -306,9 +326,9 @@ fn seconds(rt: HostRuntime) -> Result<(), Fail> {
         ([0, 0, 0, 0, 0], 4294967295, [0x0F, 0x1C, 0x06, 0x2E, 0x80]),
     ] {
         let mut banks = clock(rt.alloc(), registers)?;
-        assert_eq!(rt; latched(&mut banks), registers);
+        same!(rt; latched(&mut banks), registers);
         banks.pass_seconds(seconds);
-        assert_eq!(rt; latched(&mut banks), after);
+        same!(rt; latched(&mut banks), after);
     }
     Ok(())
 }
@@ -327,7 +347,7 @@ fn seconds_at_once(rt: HostRuntime) -> Result<(), Fail> {
         for _ in 0..20000 {
             one_by_one.pass_seconds(1);
         }
-        assert_eq!(rt; at_once.state(), one_by_one.state());
+        same!(rt; at_once.state(), one_by_one.state());
     }
     Ok(())
 }
@@ -344,10 +364,10 @@ fn the_latch_is_armed_by_zero(rt: HostRuntime) -> Result<(), Fail> {
         let mut banks = clock(rt.alloc(), [10, 0, 0, 0, 0])?;
         banks.pass_seconds(5);
         for value in writes {
-            banks.write(0x7FFF, value);
+            write(&mut banks, 0x7FFF, value);
         }
-        banks.write(0x4000, 0x08);
-        assert_eq!(rt; banks.read(0xA000), if copies { 15 } else { 10 });
+        write(&mut banks, 0x4000, 0x08);
+        same!(rt; read(&banks, 0xA000), if copies { 15 } else { 10 });
     }
     Ok(())
 }
@@ -357,7 +377,7 @@ fn without_a_clock_no_time_passes(rt: HostRuntime) -> Result<(), Fail> {
     let mut banks = inserted(rt.alloc(), 0x13, 2, 0x03)?;
     let before = banks.state();
     banks.pass_seconds(4294967295);
-    assert_eq!(rt; banks.state(), before);
+    same!(rt; banks.state(), before);
     Ok(())
 }
 
@@ -388,11 +408,11 @@ fn begins_as_at_power_on(rt: HostRuntime) -> Result<(), Fail> {
             clock: zero,
             latched: zero,
         };
-        assert_eq!(rt; banks.state(), state);
-        assert!(rt; banks.ram().iter().all(|byte| *byte == 0));
-        assert_eq!(rt; banks.read(0x8000), 0xFF);
-        assert_eq!(rt; banks.read(0xC000), 0xFF);
-        assert_eq!(rt; banks.read(0xFFFF), 0xFF);
+        same!(rt; banks.state(), state);
+        holds!(rt; banks.ram().iter().all(|byte| *byte == 0));
+        same!(rt; read(&banks, 0x8000), 0xFF);
+        same!(rt; read(&banks, 0xC000), 0xFF);
+        same!(rt; read(&banks, 0xFFFF), 0xFF);
     }
     Ok(())
 }
@@ -400,12 +420,12 @@ fn begins_as_at_power_on(rt: HostRuntime) -> Result<(), Fail> {
 #[test]
 fn restores_registers_and_ram(rt: HostRuntime) -> Result<(), Fail> {
     let mut banks = inserted(rt.alloc(), 0x1B, 64, 0x03)?;
-    banks.write(0x0000, 0x0A);
-    banks.write(0x2000, 0x2A);
-    banks.write(0x4000, 0x03);
+    write(&mut banks, 0x0000, 0x0A);
+    write(&mut banks, 0x2000, 0x2A);
+    write(&mut banks, 0x4000, 0x03);
     let state = banks.state();
     assert_eq!(rt; state.kind, Controller::Mbc5);
-    assert_eq!(rt;
+    same!(rt;
         (state.ram_enabled, state.rom_bank, state.ram_bank),
         (true, 0x2A, 3)
     );
@@ -415,11 +435,11 @@ fn restores_registers_and_ram(rt: HostRuntime) -> Result<(), Fail> {
         ..state
     };
     banks.restore(&other);
-    assert_eq!(rt; banks.state(), other);
-    assert_eq!(rt; bank_at(&banks, 0x4000), 0x15);
-    let bytes = repeated(rt.alloc(), 0x77, banks.ram().len())?;
+    same!(rt; banks.state(), other);
+    same!(rt; bank_at(&banks, 0x4000), 0x15);
+    let bytes = repeated(rt.alloc(), 0x77, stored(&banks))?;
     fill(&rt, &mut banks, &bytes);
-    assert_eq!(rt; banks.read(0xB234), 0x77);
+    same!(rt; read(&banks, 0xB234), 0x77);
     Ok(())
 }
 

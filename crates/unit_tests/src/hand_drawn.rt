@@ -1,4 +1,5 @@
 //! Rows of pixels drawn by hand from Pan Docs ("Tile Data", "OAM", "LCD Control", "Scrolling", "Window"), each by both bodies.
+use crate::asserting::holds;
 use picture_lines::{LineRegisters, TileMemory};
 use std::alloc::Global;
 use std::test::Fail;
@@ -718,7 +719,7 @@ static WINDOW_IS_PLACED: [Drawn; 20] = [
 #[test]
 fn objects_are_turned(rt: HostRuntime) -> Result<(), Fail> {
     for drawn in OBJECTS_ARE_TURNED.as_slice() {
-        assert!(rt; is_drawn(rt.alloc(), drawn)?, "{}", drawn.what);
+        holds!(rt; is_drawn(rt.alloc(), drawn)?, "{}", drawn.what);
     }
     Ok(())
 }
@@ -726,7 +727,7 @@ fn objects_are_turned(rt: HostRuntime) -> Result<(), Fail> {
 #[test]
 fn objects_are_chosen(rt: HostRuntime) -> Result<(), Fail> {
     for drawn in OBJECTS_ARE_CHOSEN.as_slice() {
-        assert!(rt; is_drawn(rt.alloc(), drawn)?, "{}", drawn.what);
+        holds!(rt; is_drawn(rt.alloc(), drawn)?, "{}", drawn.what);
     }
     Ok(())
 }
@@ -734,7 +735,7 @@ fn objects_are_chosen(rt: HostRuntime) -> Result<(), Fail> {
 #[test]
 fn background_is_found(rt: HostRuntime) -> Result<(), Fail> {
     for drawn in BACKGROUND_IS_FOUND.as_slice() {
-        assert!(rt; is_drawn(rt.alloc(), drawn)?, "{}", drawn.what);
+        holds!(rt; is_drawn(rt.alloc(), drawn)?, "{}", drawn.what);
     }
     Ok(())
 }
@@ -742,7 +743,7 @@ fn background_is_found(rt: HostRuntime) -> Result<(), Fail> {
 #[test]
 fn window_is_placed(rt: HostRuntime) -> Result<(), Fail> {
     for drawn in WINDOW_IS_PLACED.as_slice() {
-        assert!(rt; is_drawn(rt.alloc(), drawn)?, "{}", drawn.what);
+        holds!(rt; is_drawn(rt.alloc(), drawn)?, "{}", drawn.what);
     }
     Ok(())
 }

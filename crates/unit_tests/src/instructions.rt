@@ -1,4 +1,5 @@
 //! Texts and lengths that Pan Docs and the table of instructions give.
+use crate::asserting::{holds, same};
 use opcode_table::{decode, list_line, write_text};
 use std::process::Abort;
 use std::test::Fail;
@@ -58,17 +59,17 @@ fn is_decoded(rt: &impl Abort, row: Row) {
     let decoded = decode(row.bytes);
     let text = write_text(&decoded.instr);
     let same = text.as_str() == row.text;
-    assert!(rt; same);
-    assert_eq!(rt; decoded.length, row.length);
-    assert_eq!(rt; (decoded.cycles, decoded.cycles_taken), row.cycles);
+    holds!(rt; same);
+    same!(rt; decoded.length, row.length);
+    same!(rt; (decoded.cycles, decoded.cycles_taken), row.cycles);
 }
 
 #[test]
 fn lines_show_the_bytes_of_the_instruction(rt: HostRuntime) {
-    assert!(rt; list_line(0x0100, [0x00, 0xc3, 0x50]).as_str() == "0100 00     NOP\n");
-    assert!(rt; list_line(0x0101, [0xc3, 0x50, 0x01]).as_str() == "0101 C35001 JP 0150\n");
-    assert!(rt; list_line(0xfffe, [0xcb, 0x7c, 0x01]).as_str() == "FFFE CB7C   BIT 7,H\n");
-    assert!(rt; list_line(0xfffe, [0x10, 0x7c, 0x01]).as_str() == "FFFE 107C   STOP\n");
+    holds!(rt; list_line(0x0100, [0x00, 0xc3, 0x50]).as_str() == "0100 00     NOP\n");
+    holds!(rt; list_line(0x0101, [0xc3, 0x50, 0x01]).as_str() == "0101 C35001 JP 0150\n");
+    holds!(rt; list_line(0xfffe, [0xcb, 0x7c, 0x01]).as_str() == "FFFE CB7C   BIT 7,H\n");
+    holds!(rt; list_line(0xfffe, [0x10, 0x7c, 0x01]).as_str() == "FFFE 107C   STOP\n");
 }
 
 // The matrix of opcodes, eight a line, with 34 and 12 behind each: d8 and a8 are 34, r8 is +34, d16 and a16 are 1234.
@@ -154,7 +155,7 @@ fn the_matrix_has_256_opcodes(rt: HostRuntime) {
             count = count.saturating_add(1);
         }
     }
-    assert_eq!(rt; count, 256);
+    same!(rt; count, 256);
 }
 
 static REGISTERS: [&str; 8] = ["B", "C", "D", "E", "H", "L", "(HL)", "A"];
@@ -184,8 +185,8 @@ fn the_cb_opcodes_go_by_registers(rt: HostRuntime) -> Result<(), Fail> {
                 let text = format!(in rt.alloc(); "{name}{operand}{register}")?;
                 let decoded = decode([0xcb, opcode, 0]);
                 let same = write_text(&decoded.instr).as_str() == text.as_str();
-                assert!(rt; same, "{text}");
-                assert_eq!(rt;
+                holds!(rt; same, "{text}");
+                same!(rt;
                     (decoded.length, decoded.cycles, decoded.cycles_taken),
                     (2, cycles, cycles)
                 );
@@ -194,6 +195,6 @@ fn the_cb_opcodes_go_by_registers(rt: HostRuntime) -> Result<(), Fail> {
             }
         }
     }
-    assert_eq!(rt; count, 256);
+    same!(rt; count, 256);
     Ok(())
 }

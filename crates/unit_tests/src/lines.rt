@@ -1,5 +1,6 @@
 ghost use Rattle.std.specs.Prelude.{◌≡◌};
 
+use crate::asserting::holds;
 use picture_lines::{LineRegisters, TileMemory};
 use std::alloc::Global;
 use std::test::Fail;
@@ -67,7 +68,7 @@ fn ten_objects_by_oam_order(rt: HostRuntime) -> Result<(), Fail> {
         for column in 0..160 {
             want[column] = if column < end { 3 } else { 0 };
         }
-        assert!(rt; line == Some(want));
+        holds!(rt; line == Some(want));
     }
     Ok(())
 }
@@ -81,7 +82,7 @@ fn window_at_its_edges(rt: HostRuntime) -> Result<(), Fail> {
         for column in 0..160 {
             want[column] = if column >= start { 3 } else { 0 };
         }
-        assert!(rt; line == Some(want));
+        holds!(rt; line == Some(want));
     }
     Ok(())
 }

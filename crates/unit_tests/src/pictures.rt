@@ -1,5 +1,9 @@
-use picture_unit::{OutputFailed, Picture, PictureRegion, PictureState, map_shades, tile_colours};
+use crate::asserting::{holds, same};
+use picture_unit::{
+    OutputFailed, Picture, PictureRegion, PictureRequests, PictureState, map_shades, tile_colours,
+};
 use std::alloc::Global;
+use std::process::Abort;
 use std::test::Fail;
 
 const FRAME: u32 = 17556;
@@ -97,14 +101,52 @@ fn copy(alloc: Global, picture: &Picture) -> Result<Picture, Fail> {
     Ok(other)
 }
 
+// These have no contract, so that a test's proof does not follow the picture.
+
+fn pass(picture: &mut Picture, cycles: u32) -> PictureRequests {
+    picture.pass(cycles)
+}
+
+fn pass_plainly(picture: &mut Picture, cycles: u32) -> PictureRequests {
+    picture.pass_plainly(cycles)
+}
+
+fn write(picture: &mut Picture, address: u16, value: u8) -> bool {
+    picture.write_register(address, value)
+}
+
+fn read(picture: &Picture, address: u16) -> u8 {
+    picture.read_register(address)
+}
+
+fn put(picture: &mut Picture, offset: u16, value: u8) {
+    picture.write_vram(offset, value);
+}
+
+fn due(picture: &Picture) -> Option<u32> {
+    picture.due()
+}
+
+fn row_of(picture: &Picture, y: usize) -> [u8; 160] {
+    let mut row = [9; 160];
+    if y < 144 {
+        row.copy_from_slice(picture.row(y));
+    }
+    row
+}
+
+fn window_counter(picture: &Picture) -> u8 {
+    picture.state().window_counter
+}
+
 #[test]
 fn ten_objects_in_oam_order(rt: HostRuntime) -> Result<(), Fail> {
     for (is_reversed, end) in [(false, 72), (true, 80)] {
         let mut picture = off(rt.alloc())?;
         put_objects(&mut picture, is_reversed);
-        picture.write_register(0xff40, 0x93);
-        picture.pass(20);
-        assert_eq!(rt; picture.row(0), black(0, end).as_slice());
+        write(&mut picture, 0xff40, 0x93);
+        pass(&mut picture, 20);
+        same!(rt; row_of(&picture, 0), black(0, end));
     }
     Ok(())
 }
@@ -113,11 +155,11 @@ fn ten_objects_in_oam_order(rt: HostRuntime) -> Result<(), Fail> {
 fn window_at_the_edges(rt: HostRuntime) -> Result<(), Fail> {
     for (wx, start, counter) in [(0x03, 0, 1), (0xa6, 159, 1), (0xa7, 160, 0)] {
         let mut picture = off(rt.alloc())?;
-        picture.write_register(0xff4b, wx);
-        picture.write_register(0xff40, 0xf1);
-        picture.pass(114);
-        assert_eq!(rt; picture.row(0), black(start, 160).as_slice(), "WX {wx}");
-        assert_eq!(rt; picture.state().window_counter, counter, "WX {wx}");
+        write(&mut picture, 0xff4b, wx);
+        write(&mut picture, 0xff40, 0xf1);
+        pass(&mut picture, 114);
+        same!(rt; row_of(&picture, 0), black(start, 160), "WX {wx}");
+        same!(rt; window_counter(&picture), counter, "WX {wx}");
     }
     Ok(())
 }
@@ -125,48 +167,57 @@ fn window_at_the_edges(rt: HostRuntime) -> Result<(), Fail> {
 #[test]
 fn interrupts_of_a_frame(rt: HostRuntime) -> Result<(), Fail> {
     let mut picture = off(rt.alloc())?;
-    picture.write_register(0xff45, 1);
-    assert!(rt; !picture.write_register(0xff41, 0x40));
-    assert!(rt; !picture.write_register(0xff40, 0x91));
-    assert!(rt; !picture.pass(113).stat);
-    assert!(rt; picture.pass(1).stat);
-    assert!(rt; !picture.pass(143 * 114 - 1).vblank);
-    assert!(rt; picture.pass(1).vblank);
-    assert_eq!(rt; picture.read_register(0xff44), 144);
-    assert!(rt; picture.write_register(0xff45, 144));
+    write(&mut picture, 0xff45, 1);
+    holds!(rt; !write(&mut picture, 0xff41, 0x40));
+    holds!(rt; !write(&mut picture, 0xff40, 0x91));
+    holds!(rt; !pass(&mut picture, 113).stat);
+    holds!(rt; pass(&mut picture, 1).stat);
+    holds!(rt; !pass(&mut picture, 143 * 114 - 1).vblank);
+    holds!(rt; pass(&mut picture, 1).vblank);
+    same!(rt; read(&picture, 0xff44), 144);
+    holds!(rt; write(&mut picture, 0xff45, 144));
     Ok(())
 }
 
 #[test]
 fn tile_written_between_lines(rt: HostRuntime) -> Result<(), Fail> {
     let mut picture = off(rt.alloc())?;
-    picture.write_register(0xff40, 0x91);
-    picture.pass(FRAME + 63);
-    assert_eq!(rt; picture.read_register(0xff41) % 4, 0);
-    picture.write_vram(2, 0xff);
-    picture.write_vram(3, 0xff);
-    picture.pass(114);
-    assert_eq!(rt; picture.row(0), [0; 160].as_slice());
-    assert_eq!(rt; picture.row(1), [3; 160].as_slice());
+    write(&mut picture, 0xff40, 0x91);
+    pass(&mut picture, FRAME + 63);
+    same!(rt; read(&picture, 0xff41) % 4, 0);
+    put(&mut picture, 2, 0xff);
+    put(&mut picture, 3, 0xff);
+    pass(&mut picture, 114);
+    same!(rt; row_of(&picture, 0), [0; 160]);
+    same!(rt; row_of(&picture, 1), [3; 160]);
     Ok(())
+}
+
+fn frames_are_same(
+    rt: &impl Abort,
+    at_once: &mut Picture,
+    by_one: &mut Picture,
+    plain: &mut Picture,
+) {
+    let requests = pass(at_once, FRAME);
+    holds!(rt; requests.vblank && requests.stat);
+    for _cycle in 0..FRAME {
+        pass(by_one, 1);
+    }
+    pass_plainly(plain, FRAME);
+    holds!(rt; is_same(at_once, by_one));
+    holds!(rt; is_same(at_once, plain));
 }
 
 #[test]
 fn cycles_at_once_and_one_by_one(rt: HostRuntime) -> Result<(), Fail> {
     let mut at_once = off(rt.alloc())?;
     put_objects(&mut at_once, false);
-    at_once.write_register(0xff41, 0x78);
-    at_once.write_register(0xff40, 0x93);
+    write(&mut at_once, 0xff41, 0x78);
+    write(&mut at_once, 0xff40, 0x93);
     let mut by_one = copy(rt.alloc(), &at_once)?;
     let mut plain = copy(rt.alloc(), &at_once)?;
-    let requests = at_once.pass(FRAME);
-    assert!(rt; requests.vblank && requests.stat);
-    for _cycle in 0..FRAME {
-        by_one.pass(1);
-    }
-    plain.pass_plainly(FRAME);
-    assert!(rt; is_same(&at_once, &by_one));
-    assert!(rt; is_same(&at_once, &plain));
+    frames_are_same(&rt, &mut at_once, &mut by_one, &mut plain);
     Ok(())
 }
 
@@ -175,66 +226,81 @@ fn restored_picture_goes_on_the_same(rt: HostRuntime) -> Result<(), Fail> {
     for lcdc in [0xa1, 0xf3, 0xef] {
         let mut picture = off(rt.alloc())?;
         put_noise(&mut picture);
-        picture.write_register(0xff4b, 90);
-        picture.write_register(0xff42, 3);
-        picture.write_register(0xff43, 77);
-        picture.write_register(0xff40, lcdc);
-        picture.pass(FRAME + 5000);
+        write(&mut picture, 0xff4b, 90);
+        write(&mut picture, 0xff42, 3);
+        write(&mut picture, 0xff43, 77);
+        write(&mut picture, 0xff40, lcdc);
+        pass(&mut picture, FRAME + 5000);
         let mut restored = copy(rt.alloc(), &picture)?;
         for _frame in 0..10 {
-            assert!(rt; picture.pass(FRAME) == restored.pass(FRAME));
-            assert!(rt; is_same(&picture, &restored));
+            holds!(rt; pass(&mut picture, FRAME) == pass(&mut restored, FRAME));
+            holds!(rt; is_same(&picture, &restored));
         }
     }
     Ok(())
 }
 
+// STAT, and what VRAM reads and holds and OAM reads and holds behind a write to each. Then 11 is copied to OAM.
+fn seen(picture: &mut Picture, mode: u8) -> [u8; 5] {
+    let stat = picture.read_register(0xff41);
+    picture.write_vram(0x100, mode.wrapping_add(0x50));
+    picture.write_oam(0x9f, mode.wrapping_add(0x60));
+    let bytes = [
+        stat,
+        picture.read_vram(0x100),
+        picture.peek_vram(0x100),
+        picture.read_oam(0x9f),
+        picture.peek_oam(0x9f),
+    ];
+    picture.copy_to_oam(0x9f, 0x11);
+    bytes
+}
+
+fn outside(picture: &Picture) -> [u8; 3] {
+    [
+        picture.peek_oam(0x9f),
+        picture.read_oam(160),
+        picture.read_vram(0x2000),
+    ]
+}
+
 #[test]
 fn modes_close_vram_and_oam(rt: HostRuntime) -> Result<(), Fail> {
     let mut picture = off(rt.alloc())?;
-    picture.write_register(0xff40, 0x91);
-    // M-cycles to wait, the mode, what VRAM reads and holds, and what OAM reads and holds
+    write(&mut picture, 0xff40, 0x91);
+    // M-cycles to wait, the mode, and STAT, what VRAM reads and holds, and what OAM reads and holds
     let modes = [
-        (0, 2, 0x52, 0x52, 0xff, 0),
-        (20, 3, 0xff, 0x52, 0xff, 0x11),
-        (43, 0, 0x50, 0x50, 0x60, 0x60),
+        (0, 2, [0x86, 0x52, 0x52, 0xff, 0]),
+        (20, 3, [0x87, 0xff, 0x52, 0xff, 0x11]),
+        (43, 0, [0x84, 0x50, 0x50, 0x60, 0x60]),
     ];
-    for (wait, mode, vram_read, vram, oam_read, oam) in modes {
-        picture.pass(wait);
-        assert_eq!(rt; picture.read_register(0xff41), 0x84 + mode);
-        picture.write_vram(0x100, 0x50 + mode);
-        picture.write_oam(0x9f, 0x60 + mode);
-        assert_eq!(rt; picture.read_vram(0x100), vram_read);
-        assert_eq!(rt; picture.peek_vram(0x100), vram);
-        assert_eq!(rt; picture.read_oam(0x9f), oam_read);
-        assert_eq!(rt; picture.peek_oam(0x9f), oam);
-        picture.copy_to_oam(0x9f, 0x11);
+    for (wait, mode, wanted) in modes {
+        pass(&mut picture, wait);
+        same!(rt; seen(&mut picture, mode), wanted);
     }
-    assert_eq!(rt; picture.peek_oam(0x9f), 0x11);
-    assert_eq!(rt; picture.read_oam(160), 0);
-    assert_eq!(rt; picture.read_vram(0x2000), 0);
+    same!(rt; outside(&picture), [0x11, 0, 0]);
     Ok(())
 }
 
 #[test]
 fn switched_off_and_on(rt: HostRuntime) -> Result<(), Fail> {
     let mut picture = Picture::new(rt.alloc())?;
-    assert_eq!(rt; picture.due(), Some(20));
-    assert_eq!(rt; picture.read_register(0xff40), 0x91);
-    assert_eq!(rt; picture.read_register(0xff47), 0xfc);
-    picture.write_register(0xff47, 0xff);
-    picture.pass(1000);
-    assert_eq!(rt; picture.row(7), [3; 160].as_slice());
-    picture.write_register(0xff40, 0x11);
-    assert_eq!(rt; picture.due(), None);
-    assert_eq!(rt; picture.row(7), [0; 160].as_slice());
-    assert_eq!(rt; picture.read_register(0xff41), 0x84);
-    picture.pass(4294967295);
-    assert_eq!(rt; picture.read_register(0xff44), 0);
-    picture.write_register(0xff40, 0x91);
-    assert_eq!(rt; picture.read_register(0xff41), 0x86);
-    assert_eq!(rt; picture.due(), Some(20));
-    assert_eq!(rt; picture.read_register(0xff46), 0xff);
+    same!(rt; due(&picture), Some(20));
+    same!(rt; read(&picture, 0xff40), 0x91);
+    same!(rt; read(&picture, 0xff47), 0xfc);
+    write(&mut picture, 0xff47, 0xff);
+    pass(&mut picture, 1000);
+    same!(rt; row_of(&picture, 7), [3; 160]);
+    write(&mut picture, 0xff40, 0x11);
+    same!(rt; due(&picture), None);
+    same!(rt; row_of(&picture, 7), [0; 160]);
+    same!(rt; read(&picture, 0xff41), 0x84);
+    pass(&mut picture, 4294967295);
+    same!(rt; read(&picture, 0xff44), 0);
+    write(&mut picture, 0xff40, 0x91);
+    same!(rt; read(&picture, 0xff41), 0x86);
+    same!(rt; due(&picture), Some(20));
+    same!(rt; read(&picture, 0xff46), 0xff);
     Ok(())
 }
 
@@ -242,28 +308,28 @@ fn switched_off_and_on(rt: HostRuntime) -> Result<(), Fail> {
 fn picture_at_power_on_as_text(rt: HostRuntime) -> Result<(), Fail> {
     let picture = Picture::new(rt.alloc())?;
     let mut text = Vec::new(rt.alloc());
-    assert_eq!(rt; picture.write_pgm(&mut text), Ok(()));
+    same!(rt; picture.write_pgm(&mut text), Ok(()));
     assert_eq!(rt; text.len(), 46093);
-    assert!(rt; text.starts_with(b"P2\n160 144\n3\n"));
+    holds!(rt; text.starts_with(b"P2\n160 144\n3\n"));
     for line in text[13..].chunks_exact(64) {
-        assert!(rt;
+        holds!(rt;
             line == b"3 3 3 3 3 3 3 3 3 3 3 3 3 3 3 3 3 3 3 3 3 3 3 3 3 3 3 3 3 3 3 3\n".as_slice()
         );
     }
     let mut part = [0; 100];
     let mut room: &mut [u8] = &mut part;
-    assert_eq!(rt; picture.write_pgm(&mut room), Err(OutputFailed));
-    assert!(rt; text.starts_with(&part));
+    same!(rt; picture.write_pgm(&mut room), Err(OutputFailed));
+    holds!(rt; text.starts_with(&part));
     Ok(())
 }
 
 #[test]
 fn colours_and_shades(rt: HostRuntime) -> Result<(), Fail> {
     // the example of Pan Docs, "Tile Data"
-    assert_eq!(rt; tile_colours(0x3c, 0x7e), [0, 2, 3, 3, 3, 3, 2, 0]);
+    same!(rt; tile_colours(0x3c, 0x7e), [0, 2, 3, 3, 3, 3, 2, 0]);
     let mut shades = [0, 1, 2, 3, 3, 2, 1, 0, 0, 0, 1, 1, 2, 2, 3, 3, 1];
     map_shades(0x1b, &mut shades);
-    assert_eq!(rt; shades, [3, 2, 1, 0, 0, 1, 2, 3, 3, 3, 2, 2, 1, 1, 0, 0, 2]);
+    same!(rt; shades, [3, 2, 1, 0, 0, 1, 2, 3, 3, 3, 2, 2, 1, 1, 0, 0, 2]);
     Ok(())
 }
 
@@ -273,11 +339,19 @@ fn window_lines_are_counted_where_it_is_drawn(rt: HostRuntime) -> Result<(), Fai
     let mut picture = off(rt.alloc())?;
     for row in 0..8 {
         let colour = (row + 1) % 4;
-        picture.write_vram(16 + 2 * row, if colour % 2 == 1 { 0xff } else { 0 });
-        picture.write_vram(17 + 2 * row, if colour / 2 == 1 { 0xff } else { 0 });
+        put(
+            &mut picture,
+            16 + 2 * row,
+            if colour % 2 == 1 { 0xff } else { 0 },
+        );
+        put(
+            &mut picture,
+            17 + 2 * row,
+            if colour / 2 == 1 { 0xff } else { 0 },
+        );
     }
-    picture.write_register(0xff4a, 1);
-    picture.write_register(0xff40, 0xf1);
+    write(&mut picture, 0xff4a, 1);
+    write(&mut picture, 0xff40, 0xf1);
     // LCDC and WX of lines 0 to 6, the shade at the left, and the counter behind the line
     let lines = [
         (0xf1, 7, 0, 0),
@@ -289,13 +363,13 @@ fn window_lines_are_counted_where_it_is_drawn(rt: HostRuntime) -> Result<(), Fai
         (0xf1, 3, 3, 3),
     ];
     for (line, (lcdc, wx, shade, counter)) in lines.into_iter().enumerate() {
-        picture.write_register(0xff40, lcdc);
-        picture.write_register(0xff4b, wx);
-        picture.pass(114);
-        assert_eq!(rt; picture.row(line)[0], shade, "line {line}");
-        assert_eq!(rt; picture.state().window_counter, counter, "line {line}");
+        write(&mut picture, 0xff40, lcdc);
+        write(&mut picture, 0xff4b, wx);
+        pass(&mut picture, 114);
+        same!(rt; row_of(&picture, line)[0], shade, "line {line}");
+        same!(rt; window_counter(&picture), counter, "line {line}");
     }
-    picture.pass(147 * 114);
-    assert_eq!(rt; picture.state().window_counter, 0);
+    pass(&mut picture, 147 * 114);
+    same!(rt; window_counter(&picture), 0);
     Ok(())
 }

@@ -1,3 +1,4 @@
+use crate::asserting::{holds, same};
 use script::{Move, ScriptError, read_script};
 use std::alloc::Global;
 use std::process::Abort;
@@ -10,8 +11,8 @@ const fn frames(buttons: u8, times: u32) -> Move {
 /// A script is read as these moves.
 fn accepts(rt: &impl Abort, alloc: Global, script: &[u8], moves: &[Move]) {
     match read_script(alloc, script) {
-        Ok(read) => assert!(rt; read.as_slice() == moves, "{script:?} is read as {read:?}"),
-        Err(why) => assert!(rt; false, "{script:?} is refused: {why}"),
+        Ok(read) => holds!(rt; read.as_slice() == moves, "{script:?} is read as {read:?}"),
+        Err(why) => holds!(rt; false, "{script:?} is refused: {why}"),
     }
 }
 
@@ -95,7 +96,7 @@ fn names_the_first_wrong_line(rt: HostRuntime) {
     ];
     for (script, number) in cases {
         let read = read_script(rt.alloc(), script).err();
-        assert_eq!(rt; read, Some(ScriptError::Script(number)), "{script:?}");
+        same!(rt; read, Some(ScriptError::Script(number)), "{script:?}");
     }
 }
 
@@ -120,7 +121,7 @@ fn has_a_most_of_bytes(rt: HostRuntime) -> Result<(), Fail> {
     ] {
         let script = long_script(alloc, first.as_bytes(), newlines)?;
         let read = read_script(alloc, &script).err();
-        assert_eq!(rt;
+        same!(rt;
             read,
             Some(ScriptError::Script(number)),
             "{first} and {newlines}"
@@ -132,8 +133,8 @@ fn has_a_most_of_bytes(rt: HostRuntime) -> Result<(), Fail> {
 #[test]
 fn says_what_is_wrong(rt: HostRuntime) -> Result<(), Fail> {
     let line = format!(in rt.alloc(); "{}", ScriptError::Script(12))?;
-    assert_eq!(rt; line.as_str(), "script line 12");
+    same!(rt; line.as_str(), "script line 12");
     let memory = format!(in rt.alloc(); "{}", ScriptError::Memory)?;
-    assert_eq!(rt; memory.as_str(), "no memory");
+    same!(rt; memory.as_str(), "no memory");
     Ok(())
 }

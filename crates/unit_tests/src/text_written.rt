@@ -1,3 +1,4 @@
+use crate::asserting::{holds, same};
 use arrayvec::ArrayVec;
 use exact_text::{OutputFailed, byte_digits, word_digits, write_whole};
 use std::io::{self, Write};
@@ -49,9 +50,9 @@ fn run(rt: &impl Abort, case: &Case) {
         room: case.room,
     };
     let outcome = write_whole(&mut out, b"saved 120\n");
-    assert_eq!(rt; outcome, case.outcome);
-    assert!(rt; out.taken.as_slice() == case.taken);
-    assert_eq!(rt; out.calls, case.calls);
+    same!(rt; outcome, case.outcome);
+    holds!(rt; out.taken.as_slice() == case.taken);
+    same!(rt; out.calls, case.calls);
 }
 
 #[test]
@@ -103,22 +104,22 @@ fn writes_all_or_stops_at_the_first_failure(rt: HostRuntime) {
 fn writes_into_a_slice(rt: HostRuntime) {
     let mut buffer = [0; 4];
     let mut out: &mut [u8] = &mut buffer;
-    assert_eq!(rt; write_whole(&mut out, b"3A"), Ok(()));
-    assert_eq!(rt; write_whole(&mut out, b"C6C6"), Err(OutputFailed));
-    assert_eq!(rt; buffer, *b"3AC6");
+    same!(rt; write_whole(&mut out, b"3A"), Ok(()));
+    same!(rt; write_whole(&mut out, b"C6C6"), Err(OutputFailed));
+    same!(rt; buffer, *b"3AC6");
 }
 
 #[test]
 fn gives_digits(rt: HostRuntime) {
-    assert_eq!(rt; byte_digits(0x09).as_str(), "09");
-    assert_eq!(rt; byte_digits(0xAF).as_str(), "AF");
-    assert_eq!(rt; word_digits(0xC0F9).as_str(), "C0F9");
-    assert_eq!(rt; word_digits(0).as_str(), "0000");
+    same!(rt; byte_digits(0x09).as_str(), "09");
+    same!(rt; byte_digits(0xAF).as_str(), "AF");
+    same!(rt; word_digits(0xC0F9).as_str(), "C0F9");
+    same!(rt; word_digits(0).as_str(), "0000");
 }
 
 #[test]
 fn says_what_failed(rt: HostRuntime) -> Result<(), Fail> {
     let text = format!(in rt.alloc(); "{OutputFailed}")?;
-    assert_eq!(rt; text.as_str(), "output failed");
+    same!(rt; text.as_str(), "output failed");
     Ok(())
 }

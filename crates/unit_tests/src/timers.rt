@@ -1,3 +1,4 @@
+use crate::asserting::same;
 use timer_unit::{Requests, Serial, SerialState, Timer, TimerState};
 
 fn timer_in(counter: u16, tima: u8, tma: u8, tac: u8) -> Timer {
@@ -14,7 +15,7 @@ fn timer_in(counter: u16, tima: u8, tma: u8, tac: u8) -> Timer {
 #[test]
 fn power_on(rt: HostRuntime) {
     let timer = Timer::new();
-    assert_eq!(rt;
+    same!(rt;
         timer.state(),
         TimerState {
             counter: 0xab00,
@@ -23,13 +24,13 @@ fn power_on(rt: HostRuntime) {
             tac: 0
         }
     );
-    assert_eq!(rt;
+    same!(rt;
         [timer.div(), timer.tima(), timer.tma(), timer.tac()],
         [0xab, 0x00, 0x00, 0xf8]
     );
-    assert_eq!(rt; timer.due(), None);
+    same!(rt; timer.due(), None);
     let serial = Serial::new();
-    assert_eq!(rt;
+    same!(rt;
         serial.state(),
         SerialState {
             sb: 0,
@@ -37,16 +38,16 @@ fn power_on(rt: HostRuntime) {
             cycles_left: 0
         }
     );
-    assert_eq!(rt; [serial.sb(), serial.sc()], [0x00, 0x7e]);
-    assert_eq!(rt; serial.due(), None);
+    same!(rt; [serial.sb(), serial.sc()], [0x00, 0x7e]);
+    same!(rt; serial.due(), None);
 }
 
 #[test]
 fn overflow_reloads_and_requests(rt: HostRuntime) {
     let mut timer = timer_in(0x000c, 0xff, 0xfe, 5);
-    assert_eq!(rt; timer.due(), Some(1));
-    assert_eq!(rt; timer.pass(1), Requests { bits: 0x04 });
-    assert_eq!(rt;
+    same!(rt; timer.due(), Some(1));
+    same!(rt; timer.pass(1), Requests { bits: 0x04 });
+    same!(rt;
         timer.state(),
         TimerState {
             counter: 0x0010,
@@ -55,16 +56,16 @@ fn overflow_reloads_and_requests(rt: HostRuntime) {
             tac: 5
         }
     );
-    assert_eq!(rt; timer.due(), Some(4));
-    assert_eq!(rt; timer.pass(3), Requests { bits: 0 });
-    assert_eq!(rt; timer.tima(), 0xfe);
+    same!(rt; timer.due(), Some(4));
+    same!(rt; timer.pass(3), Requests { bits: 0 });
+    same!(rt; timer.tima(), 0xfe);
 }
 
 #[test]
 fn a_write_to_div_can_count(rt: HostRuntime) {
     let mut timer = timer_in(0x0008, 0x10, 0x00, 5);
-    assert_eq!(rt; timer.write_div(), Requests { bits: 0 });
-    assert_eq!(rt;
+    same!(rt; timer.write_div(), Requests { bits: 0 });
+    same!(rt;
         timer.state(),
         TimerState {
             counter: 0,
@@ -74,23 +75,23 @@ fn a_write_to_div_can_count(rt: HostRuntime) {
         }
     );
     let mut timer = timer_in(0x0008, 0xff, 0x77, 5);
-    assert_eq!(rt; timer.write_div(), Requests { bits: 0x04 });
-    assert_eq!(rt; timer.tima(), 0x77);
+    same!(rt; timer.write_div(), Requests { bits: 0x04 });
+    same!(rt; timer.tima(), 0x77);
     let mut timer = timer_in(0x0007, 0x10, 0x00, 5);
-    assert_eq!(rt; timer.write_div(), Requests { bits: 0 });
-    assert_eq!(rt; timer.tima(), 0x10);
+    same!(rt; timer.write_div(), Requests { bits: 0 });
+    same!(rt; timer.tima(), 0x10);
 }
 
 #[test]
 fn a_write_to_tac_can_count(rt: HostRuntime) {
     let mut timer = timer_in(0x0208, 0xff, 0x77, 5);
-    assert_eq!(rt; timer.write_tac(0xfc), Requests { bits: 0 });
-    assert_eq!(rt; [timer.tima(), timer.tac()], [0xff, 0xfc]);
-    assert_eq!(rt; timer.write_tac(0x00), Requests { bits: 0x04 });
-    assert_eq!(rt; [timer.tima(), timer.tac()], [0x77, 0xf8]);
+    same!(rt; timer.write_tac(0xfc), Requests { bits: 0 });
+    same!(rt; [timer.tima(), timer.tac()], [0xff, 0xfc]);
+    same!(rt; timer.write_tac(0x00), Requests { bits: 0x04 });
+    same!(rt; [timer.tima(), timer.tac()], [0x77, 0xf8]);
     timer.write_tima(0x12);
     timer.write_tma(0x34);
-    assert_eq!(rt; [timer.tima(), timer.tma()], [0x12, 0x34]);
+    same!(rt; [timer.tima(), timer.tma()], [0x12, 0x34]);
 }
 
 /// `pass` behind a function without a contract: a proof would count a literal number of M-cycles out, one by one.
@@ -106,9 +107,9 @@ fn pass_serial(serial: &mut Serial, cycles: u32) -> u8 {
 fn div_after_a_thousand_longest_passes(rt: HostRuntime) {
     let mut timer = Timer::new();
     for _ in 0..1000 {
-        assert_eq!(rt; pass_timer(&mut timer, u32::MAX), 0);
+        same!(rt; pass_timer(&mut timer, u32::MAX), 0);
     }
-    assert_eq!(rt; timer.div(), 0x9b);
+    same!(rt; timer.div(), 0x9b);
 }
 
 #[test]
@@ -116,13 +117,13 @@ fn a_transfer_takes_1024_cycles(rt: HostRuntime) {
     let mut serial = Serial::new();
     serial.write_sb(0x5a);
     serial.write_sc(0x81);
-    assert_eq!(rt; serial.due(), Some(1024));
-    assert_eq!(rt; pass_serial(&mut serial, 1023), 0);
-    assert_eq!(rt; [serial.sb(), serial.sc()], [0x5a, 0xff]);
-    assert_eq!(rt; serial.due(), Some(1));
-    assert_eq!(rt; pass_serial(&mut serial, 1), 0x08);
-    assert_eq!(rt; [serial.sb(), serial.sc()], [0xff, 0x7f]);
-    assert_eq!(rt; pass_serial(&mut serial, u32::MAX), 0);
+    same!(rt; serial.due(), Some(1024));
+    same!(rt; pass_serial(&mut serial, 1023), 0);
+    same!(rt; [serial.sb(), serial.sc()], [0x5a, 0xff]);
+    same!(rt; serial.due(), Some(1));
+    same!(rt; pass_serial(&mut serial, 1), 0x08);
+    same!(rt; [serial.sb(), serial.sc()], [0xff, 0x7f]);
+    same!(rt; pass_serial(&mut serial, u32::MAX), 0);
 }
 
 #[test]
@@ -130,13 +131,13 @@ fn another_write_to_sc_ends_a_transfer(rt: HostRuntime) {
     for (value, read) in [(0x01, 0x7f), (0x80, 0xfe), (0x00, 0x7e)] {
         let mut serial = Serial::new();
         serial.write_sc(0x81);
-        assert_eq!(rt; pass_serial(&mut serial, 500), 0);
+        same!(rt; pass_serial(&mut serial, 500), 0);
         serial.write_sc(value);
-        assert_eq!(rt; serial.sc(), read);
-        assert_eq!(rt; serial.due(), None);
-        assert_eq!(rt; pass_serial(&mut serial, 1024), 0);
+        same!(rt; serial.sc(), read);
+        same!(rt; serial.due(), None);
+        same!(rt; pass_serial(&mut serial, 1024), 0);
         serial.write_sc(0xff);
-        assert_eq!(rt;
+        same!(rt;
             serial.state(),
             SerialState {
                 sb: 0,
@@ -201,9 +202,9 @@ fn many_cycles_are_single_cycles_of_the_timer(rt: HostRuntime) {
                 bits = 0x04;
             }
         }
-        assert_eq!(rt; timer.state(), plain, "round {round}");
-        assert_eq!(rt; requests.bits, bits, "round {round}");
-        assert_eq!(rt; due.filter(|&at| at <= cycles), first, "round {round}");
+        same!(rt; timer.state(), plain, "round {round}");
+        same!(rt; requests.bits, bits, "round {round}");
+        same!(rt; due.filter(|&at| at <= cycles), first, "round {round}");
     }
 }
 
@@ -244,7 +245,7 @@ fn many_cycles_are_single_cycles_of_the_serial_port(rt: HostRuntime) {
                 bits = 0x08;
             }
         }
-        assert_eq!(rt; serial.state(), plain, "round {round}");
-        assert_eq!(rt; requests.bits, bits, "round {round}");
+        same!(rt; serial.state(), plain, "round {round}");
+        same!(rt; requests.bits, bits, "round {round}");
     }
 }

@@ -1,0 +1,34 @@
+//! Assertions whose proofs stand once, and not at each place as those of `assert!` and `assert_eq!` do.
+use std::fmt::{Debug, Display};
+use std::process::Abort;
+
+/// Ends the test where the two differ.
+pub fn is_same<T: PartialEq + Debug>(rt: &impl Abort, found: &T, wanted: &T, what: &impl Display) {
+    assert_eq!(rt; found, wanted, "{what}");
+}
+
+/// Ends the test where it is false.
+pub fn is_true(rt: &impl Abort, found: bool, what: &impl Display) {
+    assert!(rt; found, "{what}");
+}
+
+macro_rules! same {
+    ($rt:expr; $found:expr, $wanted:expr $(,)?) => {
+        $crate::asserting::is_same(&$rt, &$found, &$wanted, &stringify!($found))
+    };
+    ($rt:expr; $found:expr, $wanted:expr, $($what:tt)+) => {
+        $crate::asserting::is_same(&$rt, &$found, &$wanted, &format_args!($($what)+))
+    };
+}
+
+macro_rules! holds {
+    ($rt:expr; $found:expr $(,)?) => {
+        $crate::asserting::is_true(&$rt, $found, &stringify!($found))
+    };
+    ($rt:expr; $found:expr, $($what:tt)+) => {
+        $crate::asserting::is_true(&$rt, $found, &format_args!($($what)+))
+    };
+}
+
+pub(crate) use holds;
+pub(crate) use same;
