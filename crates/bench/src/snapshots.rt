@@ -1,4 +1,4 @@
-//! Snapshots: the text of a machine with 8 KiB of cartridge RAM, and the machine of that text.
+//! Snapshots: the snapshot of a machine with 8 KiB of cartridge RAM, and the machine of that snapshot.
 
 use crate::best::best_of;
 use crate::rom::cartridge;
@@ -29,31 +29,31 @@ fn run(machine: &mut Machine) {
     }
 }
 
-/// Writes the text again and again. Answers whether there was room for it.
-fn encode_often(machine: &Machine, text: &mut [u8]) -> bool {
+/// Writes the snapshot again and again. Answers whether there was room for it.
+fn encode_often(machine: &Machine, bytes: &mut [u8]) -> bool {
     let ram = machine.region(Region::CartRam).len();
-    if ram > 131_072 || text.len() != length(ram) {
+    if ram > 131_072 || bytes.len() != length(ram) {
         return false;
     }
     for _call in 0..CALLS {
-        encode(machine, text);
+        encode(machine, bytes);
     }
     true
 }
 
 /// How many of the calls give a machine.
-fn decode_often(alloc: Global, text: &[u8], cartridge: &Cartridge) -> u32 {
+fn decode_often(alloc: Global, bytes: &[u8], cartridge: &Cartridge) -> u32 {
     let mut made: u32 = 0;
     for _call in 0..CALLS {
-        if decode(alloc, text, cartridge).is_ok() {
+        if decode(alloc, bytes, cartridge).is_ok() {
             made = made.wrapping_add(1);
         }
     }
     made
 }
 
-fn time_encode(rt: &HostRuntime, machine: &Machine, text: &mut [u8]) -> io::Result<()> {
-    let written = best_of(rt, ROUNDS, || Ok(u32::from(encode_often(machine, text))))?;
+fn time_encode(rt: &HostRuntime, machine: &Machine, bytes: &mut [u8]) -> io::Result<()> {
+    let written = best_of(rt, ROUNDS, || Ok(u32::from(encode_often(machine, bytes))))?;
     let tenths = written.nanoseconds / u64::from(CALLS) / 100;
     println!(rt;
         "encode: {}.{} us (room {})",
@@ -63,8 +63,12 @@ fn time_encode(rt: &HostRuntime, machine: &Machine, text: &mut [u8]) -> io::Resu
     )
 }
 
-fn time_decode(rt: &HostRuntime, text: &[u8], cartridge: &Cartridge) -> io::Result<()> {
-    let read = best_of(rt, ROUNDS, || Ok(decode_often(rt.alloc(), text, cartridge)))?;
+fn time_decode(rt: &HostRuntime, bytes: &[u8], cartridge: &Cartridge) -> io::Result<()> {
+    let read = best_of(
+        rt,
+        ROUNDS,
+        || Ok(decode_often(rt.alloc(), bytes, cartridge)),
+    )?;
     let tenths = read.nanoseconds / u64::from(CALLS) / 100;
     println!(rt;
         "decode: {}.{} us ({} machines)",
@@ -80,7 +84,7 @@ pub(crate) fn time(rt: &HostRuntime) -> io::Result<()> {
     let cartridge = cartridge(alloc, &ROM)?;
     let mut machine = Machine::power_on(alloc, &cartridge)?;
     run(&mut machine);
-    let mut text = vec![in alloc; 0u8; length(8192)]?;
-    time_encode(rt, &machine, &mut text)?;
-    time_decode(rt, &text, &cartridge)
+    let mut bytes = vec![in alloc; 0u8; length(8192)]?;
+    time_encode(rt, &machine, &mut bytes)?;
+    time_decode(rt, &bytes, &cartridge)
 }

@@ -34,14 +34,14 @@ pub(crate) fn seconds(i: u32) -> Input {
 }
 
 /// The snapshot of a machine.
-pub(crate) fn text_of(alloc: Global, machine: &Machine) -> Result<Vec<u8>, Fail> {
+pub(crate) fn snapshot_of(alloc: Global, machine: &Machine) -> Result<Vec<u8>, Fail> {
     let ram = machine.region(Region::CartRam).len();
     if ram > 131_072 {
         return Err(Fail::from("too much RAM"));
     }
-    let mut text = vec![in alloc; 0u8; length(ram)]?;
-    encode(machine, &mut text);
-    Ok(text)
+    let mut bytes = vec![in alloc; 0u8; length(ram)]?;
+    encode(machine, &mut bytes);
+    Ok(bytes)
 }
 
 fn apply(machine: &mut Machine, input: Input) {
@@ -49,19 +49,19 @@ fn apply(machine: &mut Machine, input: Input) {
 }
 
 /// The snapshots of the machine after each number of seconds, up to that many.
-pub(crate) fn texts(
+pub(crate) fn snapshots(
     alloc: Global,
     cartridge: &Cartridge,
     inputs: u32,
 ) -> Result<Vec<Vec<u8>>, Fail> {
     let mut machine = Machine::power_on(alloc, cartridge)?;
-    let mut texts = Vec::new(alloc);
-    texts.push(text_of(alloc, &machine)?)?;
+    let mut snapshots = Vec::new(alloc);
+    snapshots.push(snapshot_of(alloc, &machine)?)?;
     for i in 0..inputs {
         apply(&mut machine, seconds(i));
-        texts.push(text_of(alloc, &machine)?)?;
+        snapshots.push(snapshot_of(alloc, &machine)?)?;
     }
-    Ok(texts)
+    Ok(snapshots)
 }
 
 /// Gives a session the seconds from one index up to another.
@@ -100,7 +100,7 @@ pub(crate) fn resumes_between(
     cartridge: &Cartridge,
     least: u64,
     most: u64,
-    texts: &[Vec<u8>],
+    snapshots: &[Vec<u8>],
 ) -> Result<MemoryDevice, Fail> {
     let Ok(session) = resume(alloc, device, cartridge) else {
         panic!(rt; "not resumed");
@@ -108,10 +108,10 @@ pub(crate) fn resumes_between(
     let counts = session.counts();
     assert!(rt; least <= counts.all && counts.all <= most);
     assert_eq!(rt; counts.pending, 0);
-    let Some(want) = texts.get(counts.all as usize) else {
+    let Some(want) = snapshots.get(counts.all as usize) else {
         panic!(rt; "more inputs than there are");
     };
-    let found = text_of(alloc, session.machine())?;
+    let found = snapshot_of(alloc, session.machine())?;
     assert!(rt; found.as_slice() == want.as_slice());
     Ok(session.into_device())
 }

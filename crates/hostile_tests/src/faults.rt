@@ -1,5 +1,5 @@
 //! A session of 120 inputs and three saves, of which one device call fails, or each from one on.
-use crate::common::{cartridge, game, give, resumes_between, texts};
+use crate::common::{cartridge, game, give, resumes_between, snapshots};
 use cartridge::Cartridge;
 use sector_device::MemoryDevice;
 use session::{Session, SessionError, resume};
@@ -56,7 +56,7 @@ fn one_call_fails(
     alloc: Global,
     cartridge: &Cartridge,
     old: &MemoryDevice,
-    texts: &[Vec<u8>],
+    snapshots: &[Vec<u8>],
     k: u64,
     kept: bool,
 ) -> Result<bool, Fail> {
@@ -80,9 +80,17 @@ fn one_call_fails(
         cartridge,
         end.acknowledged,
         end.all,
-        texts,
+        snapshots,
     )?;
-    resumes_between(rt, alloc, left, cartridge, end.acknowledged, end.all, texts)?;
+    resumes_between(
+        rt,
+        alloc,
+        left,
+        cartridge,
+        end.acknowledged,
+        end.all,
+        snapshots,
+    )?;
     Ok(whole)
 }
 
@@ -91,11 +99,13 @@ fn any_call_may_fail_once(rt: HostRuntime) -> Result<(), Fail> {
     let alloc = rt.alloc();
     let cartridge = cartridge(alloc)?;
     let old = game(&rt, alloc, &cartridge, BEFORE)?;
-    let texts = texts(alloc, &cartridge, 125)?;
+    let snapshots = snapshots(alloc, &cartridge, 125)?;
     for kept in [false, true] {
         let mut failed = 0;
         for k in 1..180 {
-            if k - 1 == failed && !one_call_fails(&rt, alloc, &cartridge, &old, &texts, k, kept)? {
+            if k - 1 == failed
+                && !one_call_fails(&rt, alloc, &cartridge, &old, &snapshots, k, kept)?
+            {
                 failed = k;
             }
         }
@@ -128,7 +138,7 @@ fn every_call_fails(
     alloc: Global,
     cartridge: &Cartridge,
     old: &MemoryDevice,
-    texts: &[Vec<u8>],
+    snapshots: &[Vec<u8>],
     k: u64,
 ) -> Result<bool, Fail> {
     let mut device = old.image(alloc, &[])?;
@@ -141,7 +151,15 @@ fn every_call_fails(
     }
     for choice in 0..17 {
         let left = end.device.image(alloc, &kept_in(alloc, choice)?)?;
-        resumes_between(rt, alloc, left, cartridge, end.acknowledged, end.all, texts)?;
+        resumes_between(
+            rt,
+            alloc,
+            left,
+            cartridge,
+            end.acknowledged,
+            end.all,
+            snapshots,
+        )?;
     }
     Ok(whole)
 }
@@ -151,10 +169,10 @@ fn every_call_may_fail_from_any_on(rt: HostRuntime) -> Result<(), Fail> {
     let alloc = rt.alloc();
     let cartridge = cartridge(alloc)?;
     let old = game(&rt, alloc, &cartridge, BEFORE)?;
-    let texts = texts(alloc, &cartridge, 125)?;
+    let snapshots = snapshots(alloc, &cartridge, 125)?;
     let mut passed = 0;
     for k in 0..180 {
-        if passed == k && !every_call_fails(&rt, alloc, &cartridge, &old, &texts, k)? {
+        if passed == k && !every_call_fails(&rt, alloc, &cartridge, &old, &snapshots, k)? {
             passed = passed + 1;
         }
     }

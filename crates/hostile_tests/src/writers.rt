@@ -1,5 +1,5 @@
 //! Plays whose report or picture can't be written from some byte on.
-use crate::common::{cartridge, game, resumes_between, rom, texts};
+use crate::common::{cartridge, game, resumes_between, rom, snapshots};
 use gbkeep::{PlayError, play_to_picture};
 use machine::Machine;
 use sector_device::MemoryDevice;
@@ -50,7 +50,7 @@ fn the_report_may_end_in_any_byte(rt: HostRuntime) -> Result<(), Fail> {
     let alloc = rt.alloc();
     let cartridge = cartridge(alloc)?;
     let old = game(&rt, alloc, &cartridge, 5)?;
-    let texts = texts(alloc, &cartridge, 9)?;
+    let snapshots = snapshots(alloc, &cartridge, 9)?;
     for room in 0..REPORT.len() {
         let mut buffer = [0; 64];
         let device = old.image(alloc, &[])?;
@@ -59,13 +59,13 @@ fn the_report_may_end_in_any_byte(rt: HostRuntime) -> Result<(), Fail> {
         assert!(rt; is_output);
         assert!(rt; buffer[..room] == REPORT[..room]);
         let count = saved_behind(room);
-        resumes_between(&rt, alloc, device, &cartridge, count, count, &texts)?;
+        resumes_between(&rt, alloc, device, &cartridge, count, count, &snapshots)?;
     }
     let mut buffer = [0; 64];
     let (why, device) = play_into(&rt, alloc, old, &mut buffer)?;
     assert!(rt; why.is_none());
     assert!(rt; buffer.starts_with(REPORT));
-    resumes_between(&rt, alloc, device, &cartridge, 9, 9, &texts)?;
+    resumes_between(&rt, alloc, device, &cartridge, 9, 9, &snapshots)?;
     Ok(())
 }
 

@@ -82,14 +82,14 @@ fn put(rt: &impl Abort, device: &mut MemoryDevice, at: u64, from: usize, bytes: 
 }
 
 /// The snapshot of a machine.
-pub(crate) fn text_of(alloc: Global, machine: &Machine) -> Result<Vec<u8>, Fail> {
+pub(crate) fn snapshot_of(alloc: Global, machine: &Machine) -> Result<Vec<u8>, Fail> {
     let ram = machine.region(Region::CartRam).len();
     if ram > 131_072 {
         return Err(Fail::from("too much RAM"));
     }
-    let mut text = vec![in alloc; 0u8; length(ram)]?;
-    encode(machine, &mut text);
-    Ok(text)
+    let mut bytes = vec![in alloc; 0u8; length(ram)]?;
+    encode(machine, &mut bytes);
+    Ok(bytes)
 }
 
 pub(crate) fn apply(machine: &mut Machine, input: Input) {

@@ -1,5 +1,5 @@
 //! A long life.
-use crate::common::{add_alternating, apply, cartridge, lived, text_of, version_one};
+use crate::common::{add_alternating, apply, cartridge, lived, snapshot_of, version_one};
 use machine::{Input, Machine};
 use script::Move;
 use std::alloc::Global;
@@ -128,7 +128,7 @@ struct Had {
 }
 
 /// Each round begins where the one before it ended, and none loses what was saved. The machine is given what survived.
-fn follow(
+fn give_survivors(
     rt: &impl Abort,
     machine: &mut Machine,
     first: u64,
@@ -184,9 +184,9 @@ fn three_hundred_rounds(rt: HostRuntime) -> Result<(), Fail> {
     apply(&mut machine, Input::Frame(1));
     apply(&mut machine, Input::Seconds(3600));
     let last = lived.session.counts().all;
-    let had = follow(&rt, &mut machine, 7, &rounds, &lived.rounds, last);
-    let found = text_of(alloc, lived.session.machine())?;
-    assert!(rt; found == text_of(alloc, &machine)?);
+    let had = give_survivors(&rt, &mut machine, 7, &rounds, &lived.rounds, last);
+    let found = snapshot_of(alloc, lived.session.machine())?;
+    assert!(rt; found == snapshot_of(alloc, &machine)?);
     assert!(rt;
         had.missed > 20 && had.lost > 50 && had.replaced > 3,
         "{had:?}"

@@ -1,4 +1,4 @@
-//! Worked values on texts.
+//! Worked values on snapshots.
 use crate::asserting::{holds, same};
 use cartridge::Cartridge;
 use machine::{Input, Machine, Region};
@@ -37,22 +37,22 @@ fn at(bytes: &[u8], at: usize) -> u8 {
     bytes.get(at).copied().unwrap_or(0)
 }
 
-fn text_of(alloc: Global, machine: &Machine) -> Result<Vec<u8>, Fail> {
+fn snapshot_of(alloc: Global, machine: &Machine) -> Result<Vec<u8>, Fail> {
     let ram = machine.region(Region::CartRam).len();
     if ram > 131_072 {
         return Err(Fail::from("too much RAM"));
     }
-    let mut text = vec![in alloc; 0u8; length(ram)]?;
-    encode(machine, &mut text);
-    Ok(text)
+    let mut bytes = vec![in alloc; 0u8; length(ram)]?;
+    encode(machine, &mut bytes);
+    Ok(bytes)
 }
 
-fn fault_of(alloc: Global, text: &[u8], cartridge: &Cartridge) -> Option<SnapError> {
-    decode(alloc, text, cartridge).err()
+fn fault_of(alloc: Global, bytes: &[u8], cartridge: &Cartridge) -> Option<SnapError> {
+    decode(alloc, bytes, cartridge).err()
 }
 
-fn machine_of(alloc: Global, text: &[u8], cartridge: &Cartridge) -> Result<Machine, Fail> {
-    decode(alloc, text, cartridge).map_err(|_| Fail::from("refused"))
+fn machine_of(alloc: Global, bytes: &[u8], cartridge: &Cartridge) -> Result<Machine, Fail> {
+    decode(alloc, bytes, cartridge).map_err(|_| Fail::from("refused"))
 }
 
 fn power_on(alloc: Global, cartridge: &Cartridge) -> Result<Machine, Fail> {
@@ -114,14 +114,14 @@ fn stay_same(machine: &mut Machine, other: &mut Machine) -> bool {
     true
 }
 
-// The machine comes back from its text, and goes on as before for ten frames.
+// The machine comes back from its snapshot, and goes on as before for ten frames.
 fn comes_back(alloc: Global, machine: &mut Machine, cartridge: &Cartridge) -> Result<bool, Fail> {
-    let mut other = machine_of(alloc, &text_of(alloc, machine)?, cartridge)?;
+    let mut other = machine_of(alloc, &snapshot_of(alloc, machine)?, cartridge)?;
     Ok(stay_same(machine, &mut other))
 }
 
-fn text_at_power_on(alloc: Global, cartridge: &Cartridge) -> Result<Vec<u8>, Fail> {
-    text_of(alloc, &power_on(alloc, cartridge)?)
+fn snapshot_at_power_on(alloc: Global, cartridge: &Cartridge) -> Result<Vec<u8>, Fail> {
+    snapshot_of(alloc, &power_on(alloc, cartridge)?)
 }
 
 #[test]
@@ -135,37 +135,43 @@ fn lengths(rt: HostRuntime) -> Result<(), Fail> {
     Ok(())
 }
 
-// Whether this is the text of a machine at power-on.
-fn is_at_power_on(alloc: Global, text: &[u8], cartridge: &Cartridge) -> Result<bool, Fail> {
-    let found = machine_of(alloc, text, cartridge)?;
+// Whether this is the snapshot of a machine at power-on.
+fn is_at_power_on(alloc: Global, bytes: &[u8], cartridge: &Cartridge) -> Result<bool, Fail> {
+    let found = machine_of(alloc, bytes, cartridge)?;
     Ok(are_same(&power_on(alloc, cartridge)?, &found))
 }
 
 fn has_fault(
     rt: &impl Abort,
     alloc: Global,
-    text: &[u8],
+    bytes: &[u8],
     cartridge: &Cartridge,
     wanted: Option<SnapError>,
 ) {
-    same!(rt; fault_of(alloc, text, cartridge), wanted);
+    same!(rt; fault_of(alloc, bytes, cartridge), wanted);
 }
 
 #[test]
-fn texts_are_refused_at_their_first_fault(rt: HostRuntime) -> Result<(), Fail> {
+fn snapshots_are_refused_at_their_first_fault(rt: HostRuntime) -> Result<(), Fail> {
     let alloc = rt.alloc();
     let cartridge = cartridge(alloc, 0x00, 0, &[])?;
-    let mut text = text_at_power_on(alloc, &cartridge)?;
-    same!(rt; text.len(), 22_607);
-    holds!(rt; is_at_power_on(alloc, &text, &cartridge)?);
+    let mut bytes = snapshot_at_power_on(alloc, &cartridge)?;
+    same!(rt; bytes.len(), 22_607);
+    holds!(rt; is_at_power_on(alloc, &bytes, &cartridge)?);
     for (offset, field) in [(127, 67), (9, 9)] {
-        put(&mut text, offset, 0x01);
-        has_fault(&rt, alloc, &text, &cartridge, Some(SnapError::Field(field)));
+        put(&mut bytes, offset, 0x01);
+        has_fault(
+            &rt,
+            alloc,
+            &bytes,
+            &cartridge,
+            Some(SnapError::Field(field)),
+        );
     }
     for length in [22_606, 0] {
-        text.truncate(length);
+        bytes.truncate(length);
         let wanted = Some(SnapError::SnapLength(length as u64));
-        has_fault(&rt, alloc, &text, &cartridge, wanted);
+        has_fault(&rt, alloc, &bytes, &cartridge, wanted);
     }
     Ok(())
 }
@@ -175,8 +181,8 @@ fn another_kind_is_refused(rt: HostRuntime) -> Result<(), Fail> {
     let alloc = rt.alloc();
     let plain = cartridge(alloc, 0x00, 0, &[])?;
     let mbc1 = cartridge(alloc, 0x01, 0, &[])?;
-    let text = text_at_power_on(alloc, &plain)?;
-    has_fault(&rt, alloc, &text, &mbc1, Some(SnapError::Field(51)));
+    let bytes = snapshot_at_power_on(alloc, &plain)?;
+    has_fault(&rt, alloc, &bytes, &mbc1, Some(SnapError::Field(51)));
     Ok(())
 }
 
@@ -190,12 +196,12 @@ const FRONT: [u8; 67] = [
 ];
 
 #[test]
-fn the_text_at_power_on(rt: HostRuntime) -> Result<(), Fail> {
+fn the_snapshot_at_power_on(rt: HostRuntime) -> Result<(), Fail> {
     let alloc = rt.alloc();
     let cartridge = cartridge(alloc, 0x00, 0, &[])?;
-    let text = text_at_power_on(alloc, &cartridge)?;
-    holds!(rt; text.starts_with(&FRONT));
-    holds!(rt; text.iter().skip(67).all(|byte| *byte == 0));
+    let bytes = snapshot_at_power_on(alloc, &cartridge)?;
+    holds!(rt; bytes.starts_with(&FRONT));
+    holds!(rt; bytes.iter().skip(67).all(|byte| *byte == 0));
     Ok(())
 }
 
@@ -205,7 +211,7 @@ fn the_overrun_is_kept(rt: HostRuntime) -> Result<(), Fail> {
     let cartridge = cartridge(alloc, 0x00, 0, &[0x23, 0x18, 0xfd])?;
     let mut machine = power_on(alloc, &cartridge)?;
     frame(&mut machine, 0);
-    same!(rt; at(&text_of(alloc, &machine)?, 21), 0x01);
+    same!(rt; at(&snapshot_of(alloc, &machine)?, 21), 0x01);
     Ok(())
 }
 
@@ -222,12 +228,12 @@ fn begin_copy(machine: &mut Machine) {
     machine.fill(Region::Wram, &wram);
 }
 
-// The text of a machine ten M-cycles after it began to copy.
-fn text_in_a_copy(alloc: Global, cartridge: &Cartridge) -> Result<Vec<u8>, Fail> {
+// The snapshot of a machine ten M-cycles after it began to copy.
+fn snapshot_in_a_copy(alloc: Global, cartridge: &Cartridge) -> Result<Vec<u8>, Fail> {
     let mut machine = power_on(alloc, cartridge)?;
     begin_copy(&mut machine);
     steps(&mut machine, 10);
-    text_of(alloc, &machine)
+    snapshot_of(alloc, &machine)
 }
 
 fn copy_goes_on(rt: &impl Abort, machine: &mut Machine) {
@@ -241,10 +247,10 @@ fn copy_goes_on(rt: &impl Abort, machine: &mut Machine) {
 fn a_copy_goes_on(rt: HostRuntime) -> Result<(), Fail> {
     let alloc = rt.alloc();
     let cartridge = cartridge(alloc, 0x00, 0, &[])?;
-    let text = text_in_a_copy(alloc, &cartridge)?;
-    same!(rt; at(&text, 35), 0xc1);
-    same!(rt; at(&text, 36), 0x0a);
-    copy_goes_on(&rt, &mut machine_of(alloc, &text, &cartridge)?);
+    let bytes = snapshot_in_a_copy(alloc, &cartridge)?;
+    same!(rt; at(&bytes, 35), 0xc1);
+    same!(rt; at(&bytes, 36), 0x0a);
+    copy_goes_on(&rt, &mut machine_of(alloc, &bytes, &cartridge)?);
     Ok(())
 }
 
@@ -334,7 +340,7 @@ fn set_variant(machine: &mut Machine, variant: u8) {
 const WRITER: [u8; 4] = [0x22, 0x3c, 0x18, 0xfc];
 
 #[test]
-fn machines_come_back_from_their_texts(rt: HostRuntime) -> Result<(), Fail> {
+fn machines_come_back_from_their_snapshots(rt: HostRuntime) -> Result<(), Fail> {
     let alloc = rt.alloc();
     let cartridge = cartridge(alloc, 0x03, 0x02, &WRITER)?;
     for variant in 0..9u8 {
@@ -373,37 +379,37 @@ fn set_h(machine: &mut Machine, h: u8) {
 }
 
 #[test]
-fn plain_comes_back_from_its_text(rt: HostRuntime) -> Result<(), Fail> {
+fn plain_comes_back_from_its_snapshot(rt: HostRuntime) -> Result<(), Fail> {
     holds!(rt; come_back(rt.alloc(), 0x00)?);
     Ok(())
 }
 
 #[test]
-fn mbc1_comes_back_from_its_text(rt: HostRuntime) -> Result<(), Fail> {
+fn mbc1_comes_back_from_its_snapshot(rt: HostRuntime) -> Result<(), Fail> {
     holds!(rt; come_back(rt.alloc(), 0x02)?);
     Ok(())
 }
 
 #[test]
-fn mbc2_comes_back_from_its_text(rt: HostRuntime) -> Result<(), Fail> {
+fn mbc2_comes_back_from_its_snapshot(rt: HostRuntime) -> Result<(), Fail> {
     holds!(rt; come_back(rt.alloc(), 0x06)?);
     Ok(())
 }
 
 #[test]
-fn mbc3_comes_back_from_its_text(rt: HostRuntime) -> Result<(), Fail> {
+fn mbc3_comes_back_from_its_snapshot(rt: HostRuntime) -> Result<(), Fail> {
     holds!(rt; come_back(rt.alloc(), 0x12)?);
     Ok(())
 }
 
 #[test]
-fn mbc5_comes_back_from_its_text(rt: HostRuntime) -> Result<(), Fail> {
+fn mbc5_comes_back_from_its_snapshot(rt: HostRuntime) -> Result<(), Fail> {
     holds!(rt; come_back(rt.alloc(), 0x1a)?);
     Ok(())
 }
 
 #[test]
-fn mbc5_with_rumble_comes_back_from_its_text(rt: HostRuntime) -> Result<(), Fail> {
+fn mbc5_with_rumble_comes_back_from_its_snapshot(rt: HostRuntime) -> Result<(), Fail> {
     holds!(rt; come_back(rt.alloc(), 0x1d)?);
     Ok(())
 }
@@ -414,8 +420,8 @@ const CLOCK: [u8; 31] = [
     0x0c, 0xea, 0x00, 0x40, 0x3e, 0x01, 0xea, 0x00, 0xa0, 0xaf, 0xea, 0x00, 0x60, 0x18, 0xfe,
 ];
 
-fn bytes_at(text: &[u8], offsets: [usize; 4]) -> [u8; 4] {
-    offsets.map(|offset| at(text, offset))
+fn bytes_at(bytes: &[u8], offsets: [usize; 4]) -> [u8; 4] {
+    offsets.map(|offset| at(bytes, offset))
 }
 
 fn pass_clock(machine: &mut Machine) {
@@ -423,17 +429,17 @@ fn pass_clock(machine: &mut Machine) {
     apply(machine, Input::Seconds(3_725));
 }
 
-fn clocks_are_in(rt: &impl Abort, text: &[u8]) {
-    same!(rt; (at(text, 51), at(text, 56)), (4, 1));
-    same!(rt; bytes_at(text, [57, 58, 59, 61]), [5, 1, 2, 1]);
-    same!(rt; bytes_at(text, [62, 63, 64, 66]), [0, 59, 0, 1]);
+fn clocks_are_in(rt: &impl Abort, bytes: &[u8]) {
+    same!(rt; (at(bytes, 51), at(bytes, 56)), (4, 1));
+    same!(rt; bytes_at(bytes, [57, 58, 59, 61]), [5, 1, 2, 1]);
+    same!(rt; bytes_at(bytes, [62, 63, 64, 66]), [0, 59, 0, 1]);
 }
 
 fn clocks_come_back(rt: &impl Abort, alloc: Global, ram_code: u8) -> Result<(), Fail> {
     let cartridge = cartridge(alloc, 0x10, ram_code, &CLOCK)?;
     let mut machine = power_on(alloc, &cartridge)?;
     pass_clock(&mut machine);
-    clocks_are_in(rt, &text_of(alloc, &machine)?);
+    clocks_are_in(rt, &snapshot_of(alloc, &machine)?);
     holds!(rt; comes_back(alloc, &mut machine, &cartridge)?);
     Ok(())
 }
@@ -543,12 +549,12 @@ fn rows(kind: Kind) -> [Row; 28] {
     ]
 }
 
-fn number(text: &[u8], row: Row) -> u16 {
-    let low = u16::from(at(text, row.offset as usize));
+fn number(bytes: &[u8], row: Row) -> u16 {
+    let low = u16::from(at(bytes, row.offset as usize));
     if row.width == 1 {
         return low;
     }
-    low.wrapping_add(u16::from(at(text, (row.offset as usize).wrapping_add(1))).wrapping_mul(256))
+    low.wrapping_add(u16::from(at(bytes, (row.offset as usize).wrapping_add(1))).wrapping_mul(256))
 }
 
 fn place_of(row: Row, place: usize) -> usize {
@@ -559,27 +565,27 @@ fn is_good(number: u16, row: Row) -> bool {
     row.least <= number && number <= row.most && number & row.bits == number
 }
 
-// The first fault of a text of the right length, by looking at each rule in turn.
-fn first_fault(text: &[u8], kind: Kind) -> Option<u32> {
+// The first fault of a snapshot of the right length, by looking at each rule in turn.
+fn first_fault(bytes: &[u8], kind: Kind) -> Option<u32> {
     let magic = *b"GBSNAP01";
     for (index, byte) in magic.iter().enumerate() {
-        if at(text, index) != *byte {
+        if at(bytes, index) != *byte {
             return Some(0);
         }
     }
     for row in rows(kind) {
-        if !is_good(number(text, row), row) {
+        if !is_good(number(bytes, row), row) {
             return Some(row.offset);
         }
     }
     for offset in 67..128 {
-        if at(text, offset) != 0 {
+        if at(bytes, offset) != 0 {
             return Some(67);
         }
     }
     if kind.number == 2 {
         for offset in 22_607..23_119 {
-            if at(text, offset) > 15 {
+            if at(bytes, offset) > 15 {
                 return Some(22_607);
             }
         }
@@ -592,42 +598,42 @@ const VALUES: [u8; 24] = [
     255,
 ];
 
-// Whether the text is refused with this byte of a field, which it has to be at this field, or not at all.
-fn is_refused(alloc: Global, text: &[u8], row: Row, cartridge: &Cartridge) -> Result<bool, Fail> {
-    let wanted = if is_good(number(text, row), row) {
+// Whether the snapshot is refused with this byte of a field, which it has to be at this field, or not at all.
+fn is_refused(alloc: Global, bytes: &[u8], row: Row, cartridge: &Cartridge) -> Result<bool, Fail> {
+    let wanted = if is_good(number(bytes, row), row) {
         None
     } else {
         Some(SnapError::Field(row.offset))
     };
-    if fault_of(alloc, text, cartridge) != wanted {
+    if fault_of(alloc, bytes, cartridge) != wanted {
         return Err(Fail::from("another answer"));
     }
     Ok(wanted.is_some())
 }
 
 // Each byte of a field becomes each of the values in turn: how many are refused.
-fn refusals(alloc: Global, text: &mut [u8], row: Row, cartridge: &Cartridge) -> Result<u32, Fail> {
+fn refusals(alloc: Global, bytes: &mut [u8], row: Row, cartridge: &Cartridge) -> Result<u32, Fail> {
     let mut refused: u32 = 0;
     for place in 0..usize::from(row.width) {
         let offset = place_of(row, place);
-        let before = at(text, offset);
+        let before = at(bytes, offset);
         for value in VALUES {
-            put(text, offset, value);
-            if is_refused(alloc, text, row, cartridge)? {
+            put(bytes, offset, value);
+            if is_refused(alloc, bytes, row, cartridge)? {
                 refused = refused.wrapping_add(1);
             }
         }
-        put(text, offset, before);
+        put(bytes, offset, before);
     }
     Ok(refused)
 }
 
 fn each_field_is_looked_at(alloc: Global, kind: Kind) -> Result<u32, Fail> {
     let cartridge = cartridge(alloc, kind.cartridge_type, 0x02, &[])?;
-    let mut text = text_at_power_on(alloc, &cartridge)?;
+    let mut bytes = snapshot_at_power_on(alloc, &cartridge)?;
     let mut refused: u32 = 0;
     for row in rows(kind) {
-        refused = refused.wrapping_add(refusals(alloc, &mut text, row, &cartridge)?);
+        refused = refused.wrapping_add(refusals(alloc, &mut bytes, row, &cartridge)?);
     }
     Ok(refused)
 }
@@ -645,39 +651,39 @@ fn each_field_of_each_kind_is_looked_at(rt: HostRuntime) -> Result<(), Fail> {
 fn every_byte_of_magic_and_unused_is_looked_at(rt: HostRuntime) -> Result<(), Fail> {
     let alloc = rt.alloc();
     let cartridge = cartridge(alloc, 0x00, 0, &[])?;
-    let mut text = text_at_power_on(alloc, &cartridge)?;
+    let mut bytes = snapshot_at_power_on(alloc, &cartridge)?;
     for offset in 0..8 {
-        let byte = at(&text, offset);
-        put(&mut text, offset, byte ^ 1);
-        has_fault(&rt, alloc, &text, &cartridge, Some(SnapError::Field(0)));
-        put(&mut text, offset, byte);
+        let byte = at(&bytes, offset);
+        put(&mut bytes, offset, byte ^ 1);
+        has_fault(&rt, alloc, &bytes, &cartridge, Some(SnapError::Field(0)));
+        put(&mut bytes, offset, byte);
     }
     for offset in 67..128 {
-        put(&mut text, offset, 0x80);
-        has_fault(&rt, alloc, &text, &cartridge, Some(SnapError::Field(67)));
-        put(&mut text, offset, 0);
+        put(&mut bytes, offset, 0x80);
+        has_fault(&rt, alloc, &bytes, &cartridge, Some(SnapError::Field(67)));
+        put(&mut bytes, offset, 0);
     }
-    has_fault(&rt, alloc, &text, &cartridge, None);
+    has_fault(&rt, alloc, &bytes, &cartridge, None);
     Ok(())
 }
 
-fn last_of_ram_in(alloc: Global, text: &[u8], cartridge: &Cartridge) -> Result<Option<u8>, Fail> {
-    Ok(last_of_ram(&machine_of(alloc, text, cartridge)?))
+fn last_of_ram_in(alloc: Global, bytes: &[u8], cartridge: &Cartridge) -> Result<Option<u8>, Fail> {
+    Ok(last_of_ram(&machine_of(alloc, bytes, cartridge)?))
 }
 
 #[test]
 fn half_bytes_of_mbc2(rt: HostRuntime) -> Result<(), Fail> {
     let alloc = rt.alloc();
     let cartridge = cartridge(alloc, 0x05, 0, &[])?;
-    let mut text = text_at_power_on(alloc, &cartridge)?;
-    same!(rt; text.len(), 23_119);
-    put(&mut text, 23_118, 0x0f);
-    same!(rt; last_of_ram_in(alloc, &text, &cartridge)?, Some(0x0f));
-    put(&mut text, 23_118, 0x10);
+    let mut bytes = snapshot_at_power_on(alloc, &cartridge)?;
+    same!(rt; bytes.len(), 23_119);
+    put(&mut bytes, 23_118, 0x0f);
+    same!(rt; last_of_ram_in(alloc, &bytes, &cartridge)?, Some(0x0f));
+    put(&mut bytes, 23_118, 0x10);
     has_fault(
         &rt,
         alloc,
-        &text,
+        &bytes,
         &cartridge,
         Some(SnapError::Field(22_607)),
     );
@@ -692,33 +698,33 @@ fn next(seed: &mut u64) -> u64 {
     *seed >> 33
 }
 
-fn change_byte(text: &mut [u8], seed: &mut u64) {
+fn change_byte(bytes: &mut [u8], seed: &mut u64) {
     let limit = if next(seed) % 4 == 0 {
-        text.len() as u64
+        bytes.len() as u64
     } else {
         70
     };
     if limit > 0 {
         let offset = next(seed) % limit;
-        put(text, offset as usize, (next(seed) % 256) as u8);
+        put(bytes, offset as usize, (next(seed) % 256) as u8);
     }
 }
 
-// This text with up to five bytes changed.
+// This snapshot with up to five bytes changed.
 fn changed(alloc: Global, sound: &[u8], seed: &mut u64) -> Result<Vec<u8>, Fail> {
-    let mut text = sound.to_vec(alloc)?;
+    let mut bytes = sound.to_vec(alloc)?;
     for _byte in 0..next(seed) % 6 {
-        change_byte(&mut text, seed);
+        change_byte(&mut bytes, seed);
     }
-    Ok(text)
+    Ok(bytes)
 }
 
-// Whether a machine was made. The answer has to be the first fault, or a machine with this very text.
-fn is_made(alloc: Global, text: &[u8], cartridge: &Cartridge, kind: Kind) -> Result<bool, Fail> {
-    let fault = first_fault(text, kind);
-    match decode(alloc, text, cartridge) {
+// Whether a machine was made. The answer has to be the first fault, or a machine with this very snapshot.
+fn is_made(alloc: Global, bytes: &[u8], cartridge: &Cartridge, kind: Kind) -> Result<bool, Fail> {
+    let fault = first_fault(bytes, kind);
+    match decode(alloc, bytes, cartridge) {
         Ok(found) => {
-            has_no_fault(alloc, &found, text, fault)?;
+            has_no_fault(alloc, &found, bytes, fault)?;
             Ok(true)
         }
         Err(why) => {
@@ -733,19 +739,19 @@ fn is_made(alloc: Global, text: &[u8], cartridge: &Cartridge, kind: Kind) -> Res
 fn has_no_fault(
     alloc: Global,
     found: &Machine,
-    text: &[u8],
+    bytes: &[u8],
     fault: Option<u32>,
 ) -> Result<(), Fail> {
-    if fault.is_some() || text_of(alloc, found)?.as_slice() != text {
+    if fault.is_some() || snapshot_of(alloc, found)?.as_slice() != bytes {
         return Err(Fail::from("a wrong machine"));
     }
     Ok(())
 }
 
-fn text_behind_a_frame(alloc: Global, cartridge: &Cartridge) -> Result<Vec<u8>, Fail> {
+fn snapshot_behind_a_frame(alloc: Global, cartridge: &Cartridge) -> Result<Vec<u8>, Fail> {
     let mut machine = power_on(alloc, cartridge)?;
     frame(&mut machine, 0x81);
-    text_of(alloc, &machine)
+    snapshot_of(alloc, &machine)
 }
 
 fn is_made_once_changed(
@@ -758,10 +764,10 @@ fn is_made_once_changed(
     is_made(alloc, &changed(alloc, sound, seed)?, cartridge, kind)
 }
 
-// How many of so many texts with some bytes changed are still a machine's.
-fn random_texts(alloc: Global, kind: Kind, count: u32) -> Result<u32, Fail> {
+// How many of so many snapshots with some bytes changed are still a machine's.
+fn random_snapshots(alloc: Global, kind: Kind, count: u32) -> Result<u32, Fail> {
     let cartridge = cartridge(alloc, kind.cartridge_type, 0x02, &WRITER)?;
-    let sound = text_behind_a_frame(alloc, &cartridge)?;
+    let sound = snapshot_behind_a_frame(alloc, &cartridge)?;
     let mut seed = u64::from(kind.cartridge_type);
     let mut made: u32 = 0;
     for _text in 0..count {
@@ -772,10 +778,10 @@ fn random_texts(alloc: Global, kind: Kind, count: u32) -> Result<u32, Fail> {
     Ok(made)
 }
 
-fn random_texts_are_answered(alloc: Global, index: usize) -> Result<bool, Fail> {
+fn random_snapshots_are_answered(alloc: Global, index: usize) -> Result<bool, Fail> {
     match kinds().get(index) {
         Some(kind) => {
-            let made = random_texts(alloc, *kind, 400)?;
+            let made = random_snapshots(alloc, *kind, 400)?;
             Ok(made > 80 && made < 360)
         }
         None => Ok(false),
@@ -783,43 +789,43 @@ fn random_texts_are_answered(alloc: Global, index: usize) -> Result<bool, Fail> 
 }
 
 #[test]
-fn random_texts_of_plain(rt: HostRuntime) -> Result<(), Fail> {
-    holds!(rt; random_texts_are_answered(rt.alloc(), 0)?);
+fn random_snapshots_of_plain(rt: HostRuntime) -> Result<(), Fail> {
+    holds!(rt; random_snapshots_are_answered(rt.alloc(), 0)?);
     Ok(())
 }
 
 #[test]
-fn random_texts_of_mbc1(rt: HostRuntime) -> Result<(), Fail> {
-    holds!(rt; random_texts_are_answered(rt.alloc(), 1)?);
+fn random_snapshots_of_mbc1(rt: HostRuntime) -> Result<(), Fail> {
+    holds!(rt; random_snapshots_are_answered(rt.alloc(), 1)?);
     Ok(())
 }
 
 #[test]
-fn random_texts_of_mbc2(rt: HostRuntime) -> Result<(), Fail> {
-    holds!(rt; random_texts_are_answered(rt.alloc(), 2)?);
+fn random_snapshots_of_mbc2(rt: HostRuntime) -> Result<(), Fail> {
+    holds!(rt; random_snapshots_are_answered(rt.alloc(), 2)?);
     Ok(())
 }
 
 #[test]
-fn random_texts_of_mbc3(rt: HostRuntime) -> Result<(), Fail> {
-    holds!(rt; random_texts_are_answered(rt.alloc(), 3)?);
+fn random_snapshots_of_mbc3(rt: HostRuntime) -> Result<(), Fail> {
+    holds!(rt; random_snapshots_are_answered(rt.alloc(), 3)?);
     Ok(())
 }
 
 #[test]
-fn random_texts_of_mbc3_with_clock(rt: HostRuntime) -> Result<(), Fail> {
-    holds!(rt; random_texts_are_answered(rt.alloc(), 4)?);
+fn random_snapshots_of_mbc3_with_clock(rt: HostRuntime) -> Result<(), Fail> {
+    holds!(rt; random_snapshots_are_answered(rt.alloc(), 4)?);
     Ok(())
 }
 
 #[test]
-fn random_texts_of_mbc5(rt: HostRuntime) -> Result<(), Fail> {
-    holds!(rt; random_texts_are_answered(rt.alloc(), 5)?);
+fn random_snapshots_of_mbc5(rt: HostRuntime) -> Result<(), Fail> {
+    holds!(rt; random_snapshots_are_answered(rt.alloc(), 5)?);
     Ok(())
 }
 
 #[test]
-fn random_texts_of_mbc5_with_rumble(rt: HostRuntime) -> Result<(), Fail> {
-    holds!(rt; random_texts_are_answered(rt.alloc(), 6)?);
+fn random_snapshots_of_mbc5_with_rumble(rt: HostRuntime) -> Result<(), Fail> {
+    holds!(rt; random_snapshots_are_answered(rt.alloc(), 6)?);
     Ok(())
 }

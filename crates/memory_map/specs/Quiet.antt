@@ -17,12 +17,16 @@ pub record AreQuiet (n copied : ℕ) (t : TimerState) (left : ℕ) (p : PictureS
   pub line : 0 < n → p.m_cycle + n < 114
   pub picture : picture.AreQuiet n p
 
+-- the same of the units of a bus
+abbrev pub AreQuietOn : ℕ → BusState → Type 0
+AreQuietOn n b = AreQuiet n b.control.dma_copied b.timer.timer b.serial.serial.cycles_left b.picture.picture.state
+
 -- What is known of a bus beside its value. Where `calm` is not 0, one M-cycle fewer is quiet, and IE and IF share no bit; else `quiet`
 -- M-cycles are quiet.
 pub record IsConsistent (calm quiet : ℕ) (b : BusState) : Type 0 where
   pub wram : length b.wram ≡ 8192
   pub control : IsLegalControl b.control
-  pub waiting : AreQuiet (calm - 1) b.control.dma_copied b.timer.timer b.serial.serial.cycles_left b.picture.picture.state
-  pub asked : AreQuiet quiet b.control.dma_copied b.timer.timer b.serial.serial.cycles_left b.picture.picture.state
+  pub waiting : AreQuietOn (calm - 1) b
+  pub asked : AreQuietOn quiet b
   pub either : 0 < calm → quiet ≡ 0
   pub none_pending : 0 < calm → pending_interrupts b ≡ 0

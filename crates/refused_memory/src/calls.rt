@@ -48,14 +48,14 @@ fn machine(alloc: Global, cartridge: &Cartridge) -> Option<Machine> {
     Some(machine)
 }
 
-fn text_of(alloc: Global, machine: &Machine) -> Option<Vec<u8>> {
+fn snapshot_of(alloc: Global, machine: &Machine) -> Option<Vec<u8>> {
     let ram = machine.region(Region::CartRam).len();
     if ram > 131_072 {
         return None;
     }
-    let mut text = Vec::from_elem(alloc, 0u8, length(ram)).ok()?;
-    encode(machine, &mut text);
-    Some(text)
+    let mut bytes = Vec::from_elem(alloc, 0u8, length(ram)).ok()?;
+    encode(machine, &mut bytes);
+    Some(bytes)
 }
 
 /// A device with the game on it, all of it synced.
@@ -77,10 +77,10 @@ fn holds_the_game(alloc: Global, device: MemoryDevice, cartridge: &Cartridge) ->
     let Some(machine) = machine(alloc, cartridge) else {
         return false;
     };
-    let Some(want) = text_of(alloc, &machine) else {
+    let Some(want) = snapshot_of(alloc, &machine) else {
         return false;
     };
-    let Some(found) = text_of(alloc, session.machine()) else {
+    let Some(found) = snapshot_of(alloc, session.machine()) else {
         return false;
     };
     session.counts().all == u64::from(INPUTS) && found.as_slice() == want.as_slice()
@@ -96,8 +96,8 @@ pub(crate) fn power_on(alloc: Global) -> Option<Answer> {
 
 pub(crate) fn decoded(alloc: Global) -> Option<Answer> {
     let cartridge = cartridge(alloc)?;
-    let text = text_of(alloc, &machine(alloc, &cartridge)?)?;
-    Some(match decode(alloc, &text, &cartridge) {
+    let bytes = snapshot_of(alloc, &machine(alloc, &cartridge)?)?;
+    Some(match decode(alloc, &bytes, &cartridge) {
         Ok(_) => Answer::Done,
         Err(why) => refused(why == SnapError::Memory),
     })
@@ -106,10 +106,10 @@ pub(crate) fn decoded(alloc: Global) -> Option<Answer> {
 pub(crate) fn debugger(alloc: Global) -> Option<Answer> {
     let cartridge = cartridge(alloc)?;
     let machine = machine(alloc, &cartridge)?;
-    let before = text_of(alloc, &machine)?;
+    let before = snapshot_of(alloc, &machine)?;
     Some(match Debugger::new(alloc, machine, 100) {
         Ok(_) => Answer::Done,
-        Err(machine) => match text_of(alloc, &machine) {
+        Err(machine) => match snapshot_of(alloc, &machine) {
             Some(after) => refused(before.as_slice() == after.as_slice()),
             None => Answer::Wrong,
         },

@@ -6,11 +6,11 @@ use Rattle.std.proofs.lemmas.Bool.Decides.{nat_tests}
 use Rattle.sector_log.specs.Log.{byte}
 use Rattle.sector_log.specs.Inputs.{AllFive, inputs, inputs_in, is_input, is_entry, all_input, all_entries, run_length, single, joins, joins_last, longer, with_input, with_inputs, sealed, grown}
 use Rattle.sector_log.specs.declared.Entry.{Entry}
-use Rattle.sector_log.specs.declared.Stored.{Stored}
+use Rattle.sector_log.specs.declared.StoredEntry.{StoredEntry}
 use Rattle.sector_log.proofs.Runs.{Snoc, snoc, joins_then, joins_else, joined, joined_length, length-with_inputs, inputs-append, entries-append, entries-take, entries-drop}
 use Rattle.sector_log.proofs.Grown.{Whole, whole_of}
 
-pub with_inputs-append : (log : List Stored) (xs ys : List Entry) → with_inputs log (xs ++ ys) ≡ with_inputs (with_inputs log xs) ys
+pub with_inputs-append : (log : List StoredEntry) (xs ys : List Entry) → with_inputs log (xs ++ ys) ≡ with_inputs (with_inputs log xs) ys
 with_inputs-append log [] ys = refl
 with_inputs-append log (x ∷ xs) ys = with_inputs-append (with_input log x) xs ys
 
@@ -29,28 +29,28 @@ input_at (e ∷ es) zero d le are = are.0
 input_at (e ∷ es) (suc k) d le are = input_at es k d (omega arith) are.1
 
 -- the last of a list
-pub last_is : (log : List Stored) (d : Stored) (v : Snoc log) → get_or log (length log - 1) d ≡ v.last
+pub last_is : (log : List StoredEntry) (d : StoredEntry) (v : Snoc log) → get_or log (length log - 1) d ≡ v.last
 last_is log d v =
     let at : length log - 1 ≡ length v.front = omega (arith, ap length v.is, length-append v.front (v.last ∷ [])) in
     (λ i. get_or (v.is i) (at i) d) ∙ get_or-append_seam v.front v.last [] d
 
-pub set_last : (log : List Stored) (x : Stored) (v : Snoc log) → set log (length log - 1) x ≡ v.front ++ x ∷ []
+pub set_last : (log : List StoredEntry) (x : StoredEntry) (v : Snoc log) → set log (length log - 1) x ≡ v.front ++ x ∷ []
 set_last log x v =
     let at : length log - 1 ≡ length v.front = omega (arith, ap length v.is, length-append v.front (v.last ∷ [])) in
     (λ i. set (v.is i) (at i) x) ∙ set-append_seam v.front v.last [] x
 
 -- behind entries that stay
-module _ (log : List Stored) (n : ℕ) (within : n ≤ length log) where
-  abbrev front : List Stored
+module _ (log : List StoredEntry) (n : ℕ) (within : n ≤ length log) where
+  abbrev front : List StoredEntry
   front = take n log
 
-  abbrev back : List Stored
+  abbrev back : List StoredEntry
   back = drop n log
 
   whole : front ++ back ≡ log
   whole = take-append-drop n log
 
-  module _ (d : Stored) (more : n < length log) where
+  module _ (d : StoredEntry) (more : n < length log) where
     abbrev some : 0 < length back
     some = omega (arith, length-drop n log)
 
@@ -85,11 +85,11 @@ module _ (log : List Stored) (n : ℕ) (within : n ≤ length log) where
         let mine : run_length last < 216000 = omega (arith, ap length parts, ap length one, length-append (inputs (front ++ v.front)) (inputs (last ∷ [])), joined_length last e j, few) in
         omega (arith, ap run_length back_last, mine)
       where
-        last_of : (f : List Stored) (s : Stored) → all_entries (f ++ s ∷ []) → is_entry s ≡ true
+        last_of : (f : List StoredEntry) (s : StoredEntry) → all_entries (f ++ s ∷ []) → is_entry s ≡ true
         last_of [] s are = are.0
         last_of (x ∷ f) s are = last_of f s are.1
 
-        last_entry : (f : List Stored) → all_entries ((f ++ v.front) ++ v.last ∷ []) → is_entry v.last ≡ true
+        last_entry : (f : List StoredEntry) → all_entries ((f ++ v.front) ++ v.last ∷ []) → is_entry v.last ≡ true
         last_entry f are = last_of (f ++ v.front) v.last are
 
   pub adds_first : (e : Entry) → length log ≡ n → log ++ single e ∷ [] ≡ front ++ with_input back e
@@ -97,24 +97,24 @@ module _ (log : List Stored) (n : ℕ) (within : n ≤ length log) where
       let none : back ≡ [] = drop_all_here log n size in
       ap (λ l. l ++ single e ∷ []) (sym (take_all n log (omega arith))) ∙ ap (λ l. front ++ with_input l e) (sym none)
     where
-      drop_all_here : (l : List Stored) (k : ℕ) → length l ≡ k → drop k l ≡ []
+      drop_all_here : (l : List StoredEntry) (k : ℕ) → length l ≡ k → drop k l ≡ []
       drop_all_here [] zero is = refl
       drop_all_here [] (suc k) is = refl
       drop_all_here (x ∷ l) zero is = absurd (omega arith)
       drop_all_here (x ∷ l) (suc k) is = drop_all_here l k (omega arith)
 
-pub step : (log : List Stored) (es : List Entry) (k : ℕ) (d : Entry) → k < length es → with_inputs log (take (k + 1) es) ≡ with_input (with_inputs log (take k es)) (get_or es k d)
+pub step : (log : List StoredEntry) (es : List Entry) (k : ℕ) (d : Entry) → k < length es → with_inputs log (take (k + 1) es) ≡ with_input (with_inputs log (take k es)) (get_or es k d)
 step log es k d le = ap (with_inputs log) (take_more es k d le) ∙ with_inputs-append log (take k es) (get_or es k d ∷ [])
 
 -- no fewer entries later on
-pub fewer_before : (log : List Stored) (es : List Entry) (k : ℕ) → length (with_inputs log (take k es)) ≤ length (with_inputs log es)
+pub fewer_before : (log : List StoredEntry) (es : List Entry) (k : ℕ) → length (with_inputs log (take k es)) ≤ length (with_inputs log es)
 fewer_before log es k =
     let all : with_inputs log es ≡ with_inputs (with_inputs log (take k es)) (drop k es) = ap (with_inputs log) (sym (take-append-drop k es)) ∙ with_inputs-append log (take k es) (drop k es) in
     omega (arith, ap length all, length-with_inputs (with_inputs log (take k es)) (drop k es))
 
 -- in the middle of an append
-module _ (log : List Stored) (es : List Entry) (n : ℕ) (within : n ≤ length log) (k : ℕ) (less : k < length es) (are : all_entries log) (few : length (inputs log) + length es ≤ 216000) (input : all_input es) (fives : AllFive (take k es)) where
-  abbrev here : List Stored
+module _ (log : List StoredEntry) (es : List Entry) (n : ℕ) (within : n ≤ length log) (k : ℕ) (less : k < length es) (are : all_entries log) (few : length (inputs log) + length es ≤ 216000) (input : all_input es) (fives : AllFive (take k es)) where
+  abbrev here : List StoredEntry
   here = take n log ++ with_inputs (drop n log) (take k es)
 
   parts_of : inputs (take n log) ++ inputs (drop n log) ≡ inputs log
@@ -161,27 +161,27 @@ module _ (log : List Stored) (es : List Entry) (n : ℕ) (within : n ≤ length 
   pub next_here : (d : Entry) → take n here ++ with_input (drop n here) (get_or es k d) ≡ take n log ++ with_inputs (drop n log) (take (k + 1) es)
   next_here d = (λ i. front_here i ++ with_input (back_here i) (get_or es k d)) ∙ ap (λ l. take n log ++ l) (sym (step (drop n log) es k d less))
 
-pub grown_by : (log : List Stored) (es : List Entry) (n : ℕ) → n ≡ sealed log → take n log ++ with_inputs (drop n log) es ≡ grown log es
+pub grown_by : (log : List StoredEntry) (es : List Entry) (n : ℕ) → n ≡ sealed log → take n log ++ with_inputs (drop n log) es ≡ grown log es
 unfolding grown
 grown_by log es n is = ap (λ k. take k log ++ with_inputs (drop k log) es) is
 
 -- an entry that stands for the last one: the same inputs join it
-abbrev pub Like : Option Stored → List Stored → Type 0
+abbrev pub Like : Option StoredEntry → List StoredEntry → Type 0
 Like None log = log ≡ []
 Like (Some s) log = (v : Snoc log) × ((e : Entry) → joins s e ≡ joins v.last e)
 
-joins_longer : (s : Stored) (e f : Entry) → joins s e ≡ true → joins (longer s) f ≡ joins s f
+joins_longer : (s : StoredEntry) (e f : Entry) → joins s e ≡ true → joins (longer s) f ≡ joins s f
 unfolding joins longer
 joins_longer s e f join =
     let zeroth : (byte 0 s.code == 0) ≡ true = grind (arith, nat_tests) in
     ap (λ (t : Bool). t && byte 0 f.code == 0 && byte 1 s.code == byte 1 f.code) (sym zeroth)
 
-pub like_first : (log : List Stored) (e : Entry) → Like None log → (length (with_input log e) ≡ length log + 1) × Like (Some (single e)) (with_input log e)
+pub like_first : (log : List StoredEntry) (e : Entry) → Like None log → (length (with_input log e) ≡ length log + 1) × Like (Some (single e)) (with_input log e)
 like_first log e none =
     let is : with_input log e ≡ single e ∷ [] = ap (λ l. with_input l e) none in
     (omega (arith, ap length is, ap length none), (record { front = []; last = single e; is = is }, λ f. refl))
 
-pub like_joins : (s : Stored) (log : List Stored) (e : Entry) → joins s e ≡ true → Like (Some s) log → (length (with_input log e) ≡ length log) × Like (Some s) (with_input log e)
+pub like_joins : (s : StoredEntry) (log : List StoredEntry) (e : Entry) → joins s e ≡ true → Like (Some s) log → (length (with_input log e) ≡ length log) × Like (Some s) (with_input log e)
 like_joins s log e join like =
     let v = like.0 in
     let mine : joins v.last e ≡ true = sym (like.1 e) ∙ join in
@@ -190,26 +190,26 @@ like_joins s log e join like =
       (record { front = v.front; last = longer v.last; is = is }, λ f. like.1 f ∙ sym (joins_longer v.last e f mine)),
     )
 
-pub like_adds : (s : Stored) (log : List Stored) (e : Entry) → joins s e ≡ false → Like (Some s) log → (length (with_input log e) ≡ length log + 1) × Like (Some (single e)) (with_input log e)
+pub like_adds : (s : StoredEntry) (log : List StoredEntry) (e : Entry) → joins s e ≡ false → Like (Some s) log → (length (with_input log e) ≡ length log + 1) × Like (Some (single e)) (with_input log e)
 like_adds s log e join like =
     let v = like.0 in
     let mine : joins v.last e ≡ false = sym (like.1 e) ∙ join in
     let is : with_input log e ≡ log ++ single e ∷ [] = ap (λ l. with_input l e) v.is ∙ joins_else v.front v.last e mine ∙ ap (λ l. l ++ single e ∷ []) (sym v.is) in
     (omega (arith, ap length is, length-append log (single e ∷ [])), (record { front = log; last = single e; is = is }, λ f. refl))
 
-pub like_begins : (log : List Stored) (d : Stored) → 0 < length log % 84 → Like (Some (get_or log (length log - 1) d)) (drop (sealed log) log)
+pub like_begins : (log : List StoredEntry) (d : StoredEntry) → 0 < length log % 84 → Like (Some (get_or log (length log - 1) d)) (drop (sealed log) log)
 like_begins log d begun =
     let less : sealed log < length log = omega arith in
     let within : sealed log ≤ length log = omega arith in
     (v log (sealed log) within d less, λ f. ap (λ x. joins x f) (back_last log (sealed log) within d less))
 
-pub like_none : (log : List Stored) → length log % 84 ≡ 0 → Like None (drop (sealed log) log)
+pub like_none : (log : List StoredEntry) → length log % 84 ≡ 0 → Like None (drop (sealed log) log)
 like_none log none = nil_from_length (drop (sealed log) log) (omega (arith, length-drop (sealed log) log))
 
-pub like_goes : (last : Option Stored) (log : List Stored) (e : Entry) → joins_last last e ≡ true → Like last log → (length (with_input log e) ≡ length log) × Like last (with_input log e)
+pub like_goes : (last : Option StoredEntry) (log : List StoredEntry) (e : Entry) → joins_last last e ≡ true → Like last log → (length (with_input log e) ≡ length log) × Like last (with_input log e)
 like_goes None log e join like = absurd (cc)
 like_goes (Some s) log e join like = like_joins s log e join like
 
-pub like_ends : (last : Option Stored) (log : List Stored) (e : Entry) → joins_last last e ≡ false → Like last log → (length (with_input log e) ≡ length log + 1) × Like (Some (single e)) (with_input log e)
+pub like_ends : (last : Option StoredEntry) (log : List StoredEntry) (e : Entry) → joins_last last e ≡ false → Like last log → (length (with_input log e) ≡ length log + 1) × Like (Some (single e)) (with_input log e)
 like_ends None log e join like = like_first log e like
 like_ends (Some s) log e join like = like_adds s log e join like

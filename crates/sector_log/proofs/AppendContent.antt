@@ -11,7 +11,7 @@ use Rattle.sector_log.specs.Content.{chosen, last_generation, generation_in, are
 use Rattle.sector_log.specs.Calls.{HoldsPrefix, ChangesOpenLog, Adds, IsAppended}
 use Rattle.sector_log.specs.Store.{IsStored}
 use Rattle.sector_log.specs.declared.Entry.{Entry}
-use Rattle.sector_log.specs.declared.Stored.{Stored}
+use Rattle.sector_log.specs.declared.StoredEntry.{StoredEntry}
 use Rattle.sector_log.specs.declared.root.Version.TheVariants.{Two}
 use Rattle.sector_log.specs.Inputs.{inputs, all_input, AllFive, AreInputs, grown, sealed}
 use Rattle.sector_log.proofs.Codec.{AreCodes}
@@ -39,7 +39,7 @@ body_is root sectors two fits =
     ap (λ (b : Bool). record { header = header_of root; body = if b then Some (record { blob = take root.blob_length (flat_map (λ (s : List ℕ). s) (drop 32 sectors)); log = log_from root.version 0 (take 32 sectors) }) else None }) enough
     ∙ ap (λ v. record { header = header_of root; body = Some (record { blob = take root.blob_length (flat_map (λ (s : List ℕ). s) (drop 32 sectors)); log = log_from v 0 (take 32 sectors) }) }) two
 
-module _ (base : List (List ℕ)) (start : ℕ) (log : List Stored) (root : Root) (two : root.version ≡ Two)
+module _ (base : List (List ℕ)) (start : ℕ) (log : List StoredEntry) (root : Root) (two : root.version ≡ Two)
     (chosen_is : chosen base ≡ Some root) (start_is : area_start root.generation base ≡ start) (within : start + area_length base ≤ length base)
     (fits : 32 + blob_sectors root.blob_length ≤ area_length base) (log_is : base ≡ replaced start (log_area log) base)
     (new : List Entry) (b : AreCodes log) (w : AllFive new) (are : AreInputs log) (input : all_input new) (few : length (inputs log) + length new ≤ 216000) (old_small : length log ≤ 2688) (room : length (grown log new) ≤ 2688) where
@@ -49,7 +49,7 @@ module _ (base : List (List ℕ)) (start : ℕ) (log : List Stored) (root : Root
   long : 32 ≤ area_length base
   long = omega (arith, fits)
 
-  room_for : (entries : List Stored) → start + length (log_area entries) ≤ length base
+  room_for : (entries : List StoredEntry) → start + length (log_area entries) ≤ length base
   room_for entries = omega (arith, length-log_area entries, within, long)
 
   past : 2 ≤ start
@@ -113,7 +113,7 @@ module _ (base : List (List ℕ)) (start : ℕ) (log : List Stored) (root : Root
   chosen_in : (c : List (List ℕ)) → Mixed base target c → chosen c ≡ Some root
   chosen_in c mixed = chosen_same base c mixed.size (same_outside c mixed 0 (inl (omega (arith, past)))) (same_outside c mixed 1 (inl (omega (arith, past)))) ∙ chosen_is
 
-  abbrev whole : List Stored → ImageContent
+  abbrev whole : List StoredEntry → ImageContent
   whole entries = record { header = header_of root; body = Some (record { blob = take root.blob_length (flat_map (λ (s : List ℕ). s) (drop 32 (area root.generation base))); log = entries }) }
 
   content_mixed : (c : List (List ℕ)) → Mixed base target c → content c ≡ Some (whole (log_from Two 0 (take 32 (area root.generation c))))
@@ -122,7 +122,7 @@ module _ (base : List (List ℕ)) (start : ℕ) (log : List Stored) (root : Root
       ∙ ap Some (body_is root (area root.generation c) two (omega (arith, area_long c mixed, fits)))
       ∙ ap (λ (l : List (List ℕ)). Some (record { header = header_of root; body = Some (record { blob = take root.blob_length (flat_map (λ (s : List ℕ). s) l); log = log_from Two 0 (take 32 (area root.generation c)) }) })) (blob_same c mixed)
 
-  log_at : (c : List (List ℕ)) → Mixed base target c → (l : List Stored) → AreCodes l → length l ≤ 2688 → ((k : ℕ) → k < 32 → sector_at c (start + k) ≡ sector_at (log_area l) k) → log_from Two 0 (take 32 (area root.generation c)) ≡ l
+  log_at : (c : List (List ℕ)) → Mixed base target c → (l : List StoredEntry) → AreCodes l → length l ≤ 2688 → ((k : ℕ) → k < 32 → sector_at c (start + k) ≡ sector_at (log_area l) k) → log_from Two 0 (take 32 (area root.generation c)) ≡ l
   log_at c mixed l codes small same =
       read_back l (take 32 (area root.generation c)) codes small
       (each_from_index (log_area l) (log_area l) (take 32 (area root.generation c)) (length-log_area l ∙ sym (log_sectors_long c mixed)) (length-log_area l ∙ sym (log_sectors_long c mixed))
@@ -134,7 +134,7 @@ module _ (base : List (List ℕ)) (start : ℕ) (log : List Stored) (root : Root
   log_at_base = log_at base base_mixed log b old_small log_old
 
   pub content_base : content base ≡ Some (whole log)
-  content_base = content_mixed base base_mixed ∙ ap (λ (l : List Stored). Some (whole l)) log_at_base
+  content_base = content_mixed base base_mixed ∙ ap (λ (l : List StoredEntry). Some (whole l)) log_at_base
 
   -- any image in the middle of the append
   pub holds_more : (c : List (List ℕ)) → Mixed base target c → HoldsPrefix base new c
@@ -170,7 +170,7 @@ module _ (base : List (List ℕ)) (start : ℕ) (log : List Stored) (root : Root
     before = log;
     after = grown log new;
     old_is = content_base;
-    new_is = content_mixed target target_mixed ∙ ap (λ (l : List Stored). Some (whole l)) (log_at target target_mixed (grown log new) codes_now room log_new);
+    new_is = content_mixed target target_mixed ∙ ap (λ (l : List StoredEntry). Some (whole l)) (log_at target target_mixed (grown log new) codes_now room log_new);
     are = inputs_grown log new b w are input few;
     adds = (whole_grown log new b w are input few).stand;
   }

@@ -7,55 +7,55 @@ use Rattle.std.specs.List.{flat_map}
 use Rattle.std.specs.Int.{w16, to_le_bytes, from_le_bytes}
 use lib.ListN.{replicate}
 use Rattle.sector_log.specs.Log.{count_in, is_log_sector, entries_from, entries_at, log_sector}
-use Rattle.sector_log.specs.declared.Stored.{Stored}
+use Rattle.sector_log.specs.declared.StoredEntry.{StoredEntry}
 use Rattle.sector_log.specs.declared.root.Version.TheVariants.{Two}
 
 -- each entry has six bytes
-abbrev pub AreCodes : List Stored → Type 0
+abbrev pub AreCodes : List StoredEntry → Type 0
 AreCodes [] = Unit {0}
 AreCodes (e ∷ es) = (length e.code ≡ 6) × AreCodes es
 
-pub codes-take : (n : ℕ) (es : List Stored) → AreCodes es → AreCodes (take n es)
+pub codes-take : (n : ℕ) (es : List StoredEntry) → AreCodes es → AreCodes (take n es)
 codes-take zero es are = tt
 codes-take (suc n) [] are = tt
 codes-take (suc n) (e ∷ es) are = (are.0, codes-take n es are.1)
 
-pub codes-drop : (n : ℕ) (es : List Stored) → AreCodes es → AreCodes (drop n es)
+pub codes-drop : (n : ℕ) (es : List StoredEntry) → AreCodes es → AreCodes (drop n es)
 codes-drop zero es are = are
 codes-drop (suc n) [] are = tt
 codes-drop (suc n) (e ∷ es) are = codes-drop n es are.1
 
-pub codes-append : (xs ys : List Stored) → AreCodes xs → AreCodes ys → AreCodes (xs ++ ys)
+pub codes-append : (xs ys : List StoredEntry) → AreCodes xs → AreCodes ys → AreCodes (xs ++ ys)
 codes-append [] ys a b = b
 codes-append (x ∷ xs) ys a b = (a.0, codes-append xs ys a.1 b)
 
-entries_read : (es : List Stored) (rest : List ℕ) → AreCodes es → entries_from Two (length es) (flat_map (λ (x : Stored). x.code) es ++ rest) ≡ es
+entries_read : (es : List StoredEntry) (rest : List ℕ) → AreCodes es → entries_from Two (length es) (flat_map (λ (x : StoredEntry). x.code) es ++ rest) ≡ es
 entries_read [] rest are = refl
 entries_read (e ∷ es) rest are =
-    let front : (e.code ++ flat_map (λ (x : Stored). x.code) es) ++ rest ≡ e.code ++ (flat_map (λ (x : Stored). x.code) es ++ rest) = append_assoc e.code (flat_map (λ (x : Stored). x.code) es) rest in
-    let first : take 6 ((e.code ++ flat_map (λ (x : Stored). x.code) es) ++ rest) ≡ e.code = ap (take 6) front ∙ take_at e.code (flat_map (λ (x : Stored). x.code) es ++ rest) 6 are.0 in
-    let later : drop 6 ((e.code ++ flat_map (λ (x : Stored). x.code) es) ++ rest) ≡ flat_map (λ (x : Stored). x.code) es ++ rest = ap (drop 6) front ∙ drop_at e.code (flat_map (λ (x : Stored). x.code) es ++ rest) 6 are.0 in
+    let front : (e.code ++ flat_map (λ (x : StoredEntry). x.code) es) ++ rest ≡ e.code ++ (flat_map (λ (x : StoredEntry). x.code) es ++ rest) = append_assoc e.code (flat_map (λ (x : StoredEntry). x.code) es) rest in
+    let first : take 6 ((e.code ++ flat_map (λ (x : StoredEntry). x.code) es) ++ rest) ≡ e.code = ap (take 6) front ∙ take_at e.code (flat_map (λ (x : StoredEntry). x.code) es ++ rest) 6 are.0 in
+    let later : drop 6 ((e.code ++ flat_map (λ (x : StoredEntry). x.code) es) ++ rest) ≡ flat_map (λ (x : StoredEntry). x.code) es ++ rest = ap (drop 6) front ∙ drop_at e.code (flat_map (λ (x : StoredEntry). x.code) es ++ rest) 6 are.0 in
     λ i. record { code = first i } ∷ (ap (entries_from Two (length es)) later ∙ entries_read es rest are.1) i
 
 pub entries_blank : (index : ℕ) → entries_at Two index (replicate 512 0) ≡ []
 entries_blank index = refl
 
-pub valid_written : (index : ℕ) (e : Stored) (es : List Stored) → index < 65536 → length (e ∷ es) ≤ 84 → is_log_sector Two index (log_sector index (e ∷ es)) ≡ true
+pub valid_written : (index : ℕ) (e : StoredEntry) (es : List StoredEntry) → index < 65536 → length (e ∷ es) ≤ 84 → is_log_sector Two index (log_sector index (e ∷ es)) ≡ true
 valid_written index e es small few =
     let here : from_le_bytes w16 (to_le_bytes w16 index) ≡ index = from_le_bytes-to_le_bytes_2 index (omega arith) in
     let many : from_le_bytes w16 (to_le_bytes w16 (length (e ∷ es))) ≡ length (e ∷ es) = from_le_bytes-to_le_bytes_2 (length (e ∷ es)) (omega arith) in
     rw (here, many) (grind (arith, nat_tests))
 
-pub count_written : (index : ℕ) (e : Stored) (es : List Stored) → length (e ∷ es) ≤ 84 → count_in (log_sector index (e ∷ es)) ≡ length (e ∷ es)
+pub count_written : (index : ℕ) (e : StoredEntry) (es : List StoredEntry) → length (e ∷ es) ≤ 84 → count_in (log_sector index (e ∷ es)) ≡ length (e ∷ es)
 count_written index e es few = from_le_bytes-to_le_bytes_2 (length (e ∷ es)) (omega arith)
 
-pub entries_written : (index : ℕ) (es : List Stored) → index < 65536 → length es ≤ 84 → AreCodes es → entries_at Two index (log_sector index es) ≡ es
+pub entries_written : (index : ℕ) (es : List StoredEntry) → index < 65536 → length es ≤ 84 → AreCodes es → entries_at Two index (log_sector index es) ≡ es
 entries_written index [] small few are = refl
 entries_written index (e ∷ es) small few are =
     let valid = valid_written index e es small few in
     let count = count_written index e es few in
     let rest = replicate (504 - 6 * length (e ∷ es)) 0 in
-    let tail : drop 8 (log_sector index (e ∷ es)) ≡ flat_map (λ (x : Stored). x.code) (e ∷ es) ++ rest = refl in
+    let tail : drop 8 (log_sector index (e ∷ es)) ≡ flat_map (λ (x : StoredEntry). x.code) (e ∷ es) ++ rest = refl in
     (ap (λ b. if b then entries_from Two (count_in (log_sector index (e ∷ es))) (drop 8 (log_sector index (e ∷ es))) else []) valid)
     ∙ ap (λ n. entries_from Two n (drop 8 (log_sector index (e ∷ es)))) count
     ∙ ap (entries_from Two (length (e ∷ es))) tail

@@ -9,7 +9,7 @@ use Rattle.sector_log.specs.Log.{log_from}
 use Rattle.sector_log.specs.Content.{ImageContent, Body, chosen, area, area_length, area_start, blob_sectors, content_by, content_in, need}
 use Rattle.sector_log.specs.Inputs.{inputs, inputs_in, all_entries, counted}
 use Rattle.sector_log.specs.Laws.{AFoundBlobFits, AFoundBlobHasItsLength, ALogOfInputsCountsThem}
-use Rattle.sector_log.specs.declared.Stored.{Stored}
+use Rattle.sector_log.specs.declared.StoredEntry.{StoredEntry}
 use Rattle.sector_log.specs.declared.root.Root.{Root}
 
 fits_by : (image : List (List ℕ)) (r : Option Root) (held : ImageContent) (body : Body) → content_by r image ≡ Some held → held.body ≡ Some body → need held.header.blob_length ≤ length image
@@ -77,7 +77,7 @@ pub found_length : AFoundBlobHasItsLength
 unfolding AreWhole
 found_length image held body sized is some = length_by image (chosen image) held body sized.bytes is some
 
-counted_from : (log : List Stored) (before : ℕ) → all_entries log → before + length (inputs log) ≤ 216000 → counted before log ≡ before + length (inputs log)
+counted_from : (log : List StoredEntry) (before : ℕ) → all_entries log → before + length (inputs log) ≤ 216000 → counted before log ≡ before + length (inputs log)
 counted_from [] before are few = omega arith
 counted_from (s ∷ log) before are few =
     let m = length (inputs_in s) in

@@ -6,7 +6,7 @@ use Rattle.std.specs.Int.{w32, to_le_bytes}
 use Rattle.sector_log.specs.Log.{log_from, log_sectors, log_area, byte}
 use Rattle.sector_log.specs.Inputs.{AllFive, inputs, all_input, all_entries, AreInputs, single, longer, joins, with_input, with_inputs, sealed, grown}
 use Rattle.sector_log.specs.declared.Entry.{Entry}
-use Rattle.sector_log.specs.declared.Stored.{Stored}
+use Rattle.sector_log.specs.declared.StoredEntry.{StoredEntry}
 use Rattle.sector_log.specs.declared.root.Version.TheVariants.{Two}
 use Rattle.sector_log.proofs.Codec.{AreCodes, codes-take, codes-drop, codes-append}
 use Rattle.sector_log.proofs.AppendLaw.{EachOldOrNew, append_law}
@@ -19,11 +19,11 @@ code_single e size = elim (cases_Bool (byte 0 e.code == 0)) [
   | inr fails ↦ ap (λ (t : Bool). length (if t then 0 ∷ byte 1 e.code ∷ to_le_bytes w32 1 else e.code ++ 0 ∷ [])) fails ∙ omega (arith, length-append e.code (0 ∷ []), size)
 ]
 
-code_longer : (s : Stored) → length (longer s).code ≡ 6
+code_longer : (s : StoredEntry) → length (longer s).code ≡ 6
 unfolding longer
 code_longer s = refl
 
-pub codes-with_input : (log : List Stored) (e : Entry) → AreCodes log → length e.code ≡ 5 → AreCodes (with_input log e)
+pub codes-with_input : (log : List StoredEntry) (e : Entry) → AreCodes log → length e.code ≡ 5 → AreCodes (with_input log e)
 codes-with_input [] e codes size = (code_single e size, tt)
 codes-with_input (s ∷ []) e codes size = elim (cases_Bool (joins s e)) [
   | inl holds ↦ subst AreCodes (sym (joins_then [] s e holds)) (code_longer s, tt)
@@ -31,27 +31,27 @@ codes-with_input (s ∷ []) e codes size = elim (cases_Bool (joins s e)) [
 ]
 codes-with_input (s ∷ t ∷ log) e codes size = (codes.0, codes-with_input (t ∷ log) e codes.1 size)
 
-pub codes-with_inputs : (log : List Stored) (es : List Entry) → AreCodes log → AllFive es → AreCodes (with_inputs log es)
+pub codes-with_inputs : (log : List StoredEntry) (es : List Entry) → AreCodes log → AllFive es → AreCodes (with_inputs log es)
 codes-with_inputs log [] codes fives = codes
 codes-with_inputs log (e ∷ es) codes fives = codes-with_inputs (with_input log e) es (codes-with_input log e codes fives.0) fives.1
 
 -- all of them were added
-pub record Whole (log now : List Stored) (new : List Entry) : Type 0 where
+pub record Whole (log now : List StoredEntry) (new : List Entry) : Type 0 where
   pub each : all_entries now
   pub stand : inputs now ≡ inputs log ++ new
 
-pub whole_of : (log : List Stored) (new : List Entry) → all_entries log → AllFive new → all_input new → length (inputs log) + length new ≤ 216000 → Whole log (with_inputs log new) new
+pub whole_of : (log : List StoredEntry) (new : List Entry) → all_entries log → AllFive new → all_input new → length (inputs log) + length new ≤ 216000 → Whole log (with_inputs log new) new
 whole_of log [] are fives input room = record { each = are; stand = sym (append-nil (inputs log)) }
 whole_of log (e ∷ es) are fives input room =
     let next = one_more log e are fives.0 input.0 (omega arith) in
     let later = whole_of (with_input log e) es next.each fives.1 input.1 (omega (arith, ap length next.stand, length-append (inputs log) (e ∷ []))) in
     record { each = later.each; stand = later.stand ∙ ap (λ l. l ++ es) next.stand ∙ append_assoc (inputs log) (e ∷ []) es }
 
-module _ (log : List Stored) where
-  abbrev full : List Stored
+module _ (log : List StoredEntry) where
+  abbrev full : List StoredEntry
   full = take (sealed log) log
 
-  abbrev tail : List Stored
+  abbrev tail : List StoredEntry
   tail = drop (sealed log) log
 
   parts : full ++ tail ≡ log
@@ -78,11 +78,11 @@ module _ (log : List Stored) where
   read_back sectors codes small mixed =
       let r = append_law (length log / 84) 32 0 full tail tail sectors (omega arith) (codes-take (sealed log) log codes) (codes-drop (sealed log) log codes) (codes-drop (sealed log) log codes)
       full_size tail_size (omega arith) (omega (arith, full_size, tail_length))
-      (subst (λ (l : List Stored). EachOldOrNew (log_sectors 32 0 l) (log_sectors 32 0 l) sectors) (sym parts) mixed) in
-      ⊎_elim (λ old. old ∙ parts) (λ new. new.1 ∙ ap (λ (l : List Stored). full ++ l) (take_all r.count tail new.0) ∙ parts) r.is
+      (subst (λ (l : List StoredEntry). EachOldOrNew (log_sectors 32 0 l) (log_sectors 32 0 l) sectors) (sym parts) mixed) in
+      ⊎_elim (λ old. old ∙ parts) (λ new. new.1 ∙ ap (λ (l : List StoredEntry). full ++ l) (take_all r.count tail new.0) ∙ parts) r.is
 
   module _ (new : List Entry) (codes : AreCodes log) (fives : AllFive new) (are : AreInputs log) (input : all_input new) (few : length (inputs log) + length new ≤ 216000) where
-    abbrev rest : List Stored
+    abbrev rest : List StoredEntry
     rest = with_inputs tail new
 
     pub codes_grown : AreCodes (grown log new)
@@ -107,7 +107,7 @@ module _ (log : List Stored) where
         let grows : length tail ≤ length rest = length-with_inputs tail new in
         let r = append_law (length log / 84) 32 0 full tail rest sectors (omega arith) (codes-take (sealed log) log codes) (codes-drop (sealed log) log codes) (codes-with_inputs tail new (codes-drop (sealed log) log codes) fives)
         full_size tail_size grows (omega (arith, length-append full rest, small))
-        (subst (λ (l : List Stored). EachOldOrNew (log_sectors 32 0 l) (log_sectors 32 0 (full ++ rest)) sectors) (sym parts) mixed) in
+        (subst (λ (l : List StoredEntry). EachOldOrNew (log_sectors 32 0 l) (log_sectors 32 0 (full ++ rest)) sectors) (sym parts) mixed) in
         ⊎_elim
         (λ old. record {
           count = 0;
@@ -125,17 +125,17 @@ module _ (log : List Stored) where
         })
         r.is
 
-pub length-grown : (log : List Stored) (new : List Entry) → length log ≤ length (grown log new)
+pub length-grown : (log : List StoredEntry) (new : List Entry) → length log ≤ length (grown log new)
 unfolding grown
 length-grown log new = omega (arith, length-append (take (sealed log) log) (with_inputs (drop (sealed log) log) new), length-with_inputs (drop (sealed log) log) new, length-take (sealed log) log, length-drop (sealed log) log)
 
 -- a full sector has the same entries before and after
-pub sealed_sector : (log : List Stored) (new : List Entry) (j : ℕ) → 84 * j + 84 ≤ sealed log → take 84 (drop (84 * j) log) ≡ take 84 (drop (84 * j) (grown log new))
+pub sealed_sector : (log : List StoredEntry) (new : List Entry) (j : ℕ) → 84 * j + 84 ≤ sealed log → take 84 (drop (84 * j) log) ≡ take 84 (drop (84 * j) (grown log new))
 unfolding grown
 sealed_sector log new j whole_sector =
     let front = take (sealed log) log in
     let size : length front ≡ sealed log = length-take-le (sealed log) log (omega arith) in
     let long : 84 ≤ length (drop (84 * j) front) = omega (arith, length-drop (84 * j) front, size) in
-    let at : (rest : List Stored) → take 84 (drop (84 * j) (front ++ rest)) ≡ take 84 (drop (84 * j) front) =
+    let at : (rest : List StoredEntry) → take 84 (drop (84 * j) (front ++ rest)) ≡ take 84 (drop (84 * j) front) =
     λ rest. ap (take 84) (drop-append-le (84 * j) front rest (omega (arith, size))) ∙ take-append-le 84 (drop (84 * j) front) rest long in
-    ap (λ (l : List Stored). take 84 (drop (84 * j) l)) (sym (take-append-drop (sealed log) log)) ∙ at (drop (sealed log) log) ∙ sym (at (with_inputs (drop (sealed log) log) new))
+    ap (λ (l : List StoredEntry). take 84 (drop (84 * j) l)) (sym (take-append-drop (sealed log) log)) ∙ at (drop (sealed log) log) ∙ sym (at (with_inputs (drop (sealed log) log) new))

@@ -9,11 +9,11 @@ use Rattle.std.specs.List.{flat_map}
 use Rattle.sector_device.specs.DiskState.{DiskState, Settled, NoLostImage, HasRead, HasSynced, sector_at}
 use Rattle.sector_device.proofs.Runs.{throughout_weaker, throughout_then, remembers_then, holds_since}
 use Rattle.sector_log.specs.Calls.{HasLooked}
-use Rattle.sector_log.specs.Log.{most, entries_at, log_from}
+use Rattle.sector_log.specs.Log.{entries_of_full_sector, entries_at, log_from}
 use Rattle.sector_log.specs.Content.{Body, root_at, newer, chosen, area_length, area_start, area, blob_sectors, content, content_by, content_in}
 use Rattle.sector_log.specs.Found.{log_of, log_in, is_too_small, no_body, blob_by, blob_in}
 use Rattle.sector_log.specs.Reading.{LooksOnly, IsFound}
-use Rattle.sector_log.specs.declared.Stored.{Stored}
+use Rattle.sector_log.specs.declared.StoredEntry.{StoredEntry}
 use Rattle.sector_log.specs.declared.root.Root.{Root}
 use Rattle.sector_log.specs.declared.root.Version.{Version}
 
@@ -81,7 +81,7 @@ pub area_end : (sectors : List (List ℕ)) (start index : ℕ) → 32 ≤ index 
 area_end sectors start index past = drop_all index (take 32 (drop start sectors)) (omega (arith, length-take 32 (drop start sectors)))
 
 pub log_next : (v : Version) (sectors : List (List ℕ)) (start index : ℕ) (s : List ℕ) → index < 32 → start + 32 ≤ length sectors → s ≡ sector_at sectors (start + index)
-    → log_from v index (drop index (take 32 (drop start sectors))) ≡ entries_at v index s ++ (if length (entries_at v index s) == most v then log_from v (suc index) (drop (suc index) (take 32 (drop start sectors))) else [])
+    → log_from v index (drop index (take 32 (drop start sectors))) ≡ entries_at v index s ++ (if length (entries_at v index s) == entries_of_full_sector v then log_from v (suc index) (drop (suc index) (take 32 (drop start sectors))) else [])
 log_next v sectors start index s less room is = ap (log_from v index) (area_next sectors start index less room ∙ ap (λ x. x ∷ drop (suc index) (take 32 (drop start sectors))) (sym is))
 
 -- no root
@@ -129,7 +129,7 @@ found_short now root settled many is few =
     }
 
 -- the blob fits, and this is the log
-pub found_log : (now : DiskState) (root : Root) (start : ℕ) (log : List Stored) → Settled now → 2 ≤ length now.sectors → chosen now.sectors ≡ Some root → 32 + blob_sectors root.blob_length ≤ area_length now.sectors
+pub found_log : (now : DiskState) (root : Root) (start : ℕ) (log : List StoredEntry) → Settled now → 2 ≤ length now.sectors → chosen now.sectors ≡ Some root → 32 + blob_sectors root.blob_length ≤ area_length now.sectors
     → start ≡ area_start root.generation now.sectors → log_from root.version 0 (take 32 (drop start now.sectors)) ≡ log → IsFound now (Some root) false log
 found_log now root start log settled many is enough at log_is =
     let all = area root.generation now.sectors in
@@ -145,24 +145,24 @@ found_log now root start log settled many is enough at log_is =
     }
 
 module _ (v : Version) (sectors : List (List ℕ)) (start index : ℕ) (s : List ℕ) (less : index < 32) (room : start + 32 ≤ length sectors) (is : s ≡ sector_at sectors (start + index))
-    (whole items new : List Stored) (so_far : whole ≡ items ++ log_from v index (drop index (take 32 (drop start sectors)))) (read : new ≡ items ++ entries_at v index s) where
-  later : List Stored
+    (whole items new : List StoredEntry) (so_far : whole ≡ items ++ log_from v index (drop index (take 32 (drop start sectors)))) (read : new ≡ items ++ entries_at v index s) where
+  later : List StoredEntry
   later = log_from v (suc index) (drop (suc index) (take 32 (drop start sectors)))
 
-  pub log_stops : (length (entries_at v index s) == most v) ≡ false → whole ≡ new
+  pub log_stops : (length (entries_at v index s) == entries_of_full_sector v) ≡ false → whole ≡ new
   unfolding later
   log_stops fails =
-      so_far ∙ ap (λ (l : List Stored). items ++ l) (log_next v sectors start index s less room is ∙ ap (λ (t : Bool). entries_at v index s ++ (if t then later else [])) fails ∙ append-nil (entries_at v index s)) ∙ sym read
+      so_far ∙ ap (λ (l : List StoredEntry). items ++ l) (log_next v sectors start index s less room is ∙ ap (λ (t : Bool). entries_at v index s ++ (if t then later else [])) fails ∙ append-nil (entries_at v index s)) ∙ sym read
 
-  pub log_goes : (length (entries_at v index s) == most v) ≡ true → whole ≡ new ++ log_from v (index + 1) (drop (index + 1) (take 32 (drop start sectors)))
+  pub log_goes : (length (entries_at v index s) == entries_of_full_sector v) ≡ true → whole ≡ new ++ log_from v (index + 1) (drop (index + 1) (take 32 (drop start sectors)))
   unfolding later
   log_goes holds =
       let next : suc index ≡ index + 1 = omega arith in
-      so_far ∙ ap (λ (l : List Stored). items ++ l) (log_next v sectors start index s less room is ∙ ap (λ (t : Bool). entries_at v index s ++ (if t then later else [])) holds)
-      ∙ sym (append_assoc items (entries_at v index s) later) ∙ ap (λ (l : List Stored). l ++ later) (sym read)
+      so_far ∙ ap (λ (l : List StoredEntry). items ++ l) (log_next v sectors start index s less room is ∙ ap (λ (t : Bool). entries_at v index s ++ (if t then later else [])) holds)
+      ∙ sym (append_assoc items (entries_at v index s) later) ∙ ap (λ (l : List StoredEntry). l ++ later) (sym read)
       ∙ ap (λ n. new ++ log_from v n (drop n (take 32 (drop start sectors)))) next
 
-pub log_ends : (v : Version) (sectors : List (List ℕ)) (start index : ℕ) (whole items : List Stored) → 32 ≤ index → whole ≡ items ++ log_from v index (drop index (take 32 (drop start sectors))) → whole ≡ items
+pub log_ends : (v : Version) (sectors : List (List ℕ)) (start index : ℕ) (whole items : List StoredEntry) → 32 ≤ index → whole ≡ items ++ log_from v index (drop index (take 32 (drop start sectors))) → whole ≡ items
 log_ends v sectors start index whole items past so_far = so_far ∙ ap (λ l. items ++ log_from v index l) (area_end sectors start index past) ∙ append-nil items
 
 take_split : (m : ℕ) (s r : List ℕ) → length s ≡ 512 → take m (s ++ r) ≡ take (min m 512) s ++ take (m - 512) r
@@ -231,7 +231,7 @@ module _ (now : List (List ℕ)) (root : Root) (most : ℕ) (is : chosen now ≡
       ∙ ap (λ (t : Bool). if t then Some (take root.blob_length (flat_map (λ (s : List ℕ). s) (drop 32 all))) else None) few
       ∙ ap (λ (l : List (List ℕ)). Some (take root.blob_length (flat_map (λ (s : List ℕ). s) l))) part ∙ ap Some blob_is
 
-pub found_looked : {a b : DiskState} (root : Option Root) (short : Bool) (log : List Stored) → IsFound a root short log → LooksOnly a b → IsFound b root short log
+pub found_looked : {a b : DiskState} (root : Option Root) (short : Bool) (log : List StoredEntry) → IsFound a root short log → LooksOnly a b → IsFound b root short log
 found_looked root short log f l = record {
   settled = settled_looked f.settled l;
   chosen_is = ap chosen l.sectors ∙ f.chosen_is;

@@ -14,7 +14,7 @@ use Rattle.sector_log.specs.declared.root.Root.{Root}
 use Rattle.sector_log.proofs.ContentLaw.{chosen_same}
 use Rattle.std.specs.List.{flat_map}
 use Rattle.sector_log.specs.declared.Entry.{Entry}
-use Rattle.sector_log.specs.declared.Stored.{Stored}
+use Rattle.sector_log.specs.declared.StoredEntry.{StoredEntry}
 use Rattle.sector_log.specs.declared.root.Version.TheVariants.{Two}
 use Rattle.sector_log.proofs.Codec.{AreCodes, codes-drop}
 use Rattle.sector_log.proofs.AppendLaw.{EachOldOrNew, CutOf, log_full, log_last, open_sector, blank_law}
@@ -31,7 +31,7 @@ blank_all zero index (o ∷ olds) size blank = absurd (omega arith)
 blank_all (suc n) index [] size blank = absurd (omega arith)
 blank_all (suc n) index (o ∷ olds) size blank = λ i. blank 0 (omega arith) i ∷ blank_all n (suc index) olds (omega arith) (λ k le. blank (suc k) (omega arith)) i
 
-length-log_sectors : (n index : ℕ) (es : List Stored) → length (log_sectors n index es) ≡ n
+length-log_sectors : (n index : ℕ) (es : List StoredEntry) → length (log_sectors n index es) ≡ n
 length-log_sectors zero index es = refl
 length-log_sectors (suc n) index es = ap suc (length-log_sectors n (suc index) (drop 84 es))
 
@@ -44,7 +44,7 @@ few_entries index s = elim (cases_Bool (is_log_sector Two index s)) [
 ]
 
 -- behind a full sector
-module _ (log : List Stored) (new : List Entry) (many : 84 ≤ length log) where
+module _ (log : List StoredEntry) (new : List Entry) (many : 84 ≤ length log) where
   sealed_behind : sealed log ≡ 84 + sealed (drop 84 log)
   sealed_behind = omega (arith, length-drop 84 log)
 
@@ -57,7 +57,7 @@ module _ (log : List Stored) (new : List Entry) (many : 84 ≤ length log) where
       let same : drop n (drop 84 log) ≡ drop (sealed log) log = drop-drop n 84 log ∙ ap (λ m. drop m log) (sym sealed_behind) in
       (λ i. sym cut i ++ with_inputs (same i) new) ∙ sym (drop-append-le 84 (take (sealed log) log) (with_inputs (drop (sealed log) log) new) (omega (arith, front)))
 
-open_now : (n index : ℕ) (olds now : List (List ℕ)) (log : List Stored) (new : List Entry) → length olds ≡ n → index + n ≤ 65536
+open_now : (n index : ℕ) (olds now : List (List ℕ)) (log : List StoredEntry) (new : List Entry) → length olds ≡ n → index + n ≤ 65536
     → AreCodes log → all_entries log → length (inputs log) + length new ≤ 216000 → AllFive new → all_input new → length (grown log new) ≤ 84 * n
     → log_from Two index olds ≡ log → ((k : ℕ) → length log / 84 < k → k < n → sector_at olds k ≡ replicate 512 0)
     → length now ≡ n → ((k : ℕ) → k < length log / 84 → sector_at now k ≡ sector_at olds k)
@@ -90,7 +90,7 @@ open_now (suc n) index (o ∷ olds) (c ∷ cs) log new size small codes are few 
           let p = open_now n (suc index) olds cs (drop 84 log) new (omega (arith, size)) (omega (arith, small)) (codes-drop 84 log codes) (entries-drop 84 log are)
           (omega (arith, few, ap length parts, length-append (inputs (take 84 log)) (inputs (drop 84 log)))) fives input (omega (arith, ap length grows, length-drop 84 (grown log new), room))
           back (λ k past le. blank (suc k) (omega (arith, one, past)) (omega (arith, le))) (omega (arith, size')) (λ k le. full (suc k) (omega (arith, one, le)))
-          (λ k from to. ⊎_elim (λ old. inl old) (λ put. inr (put ∙ ap (λ (l : List Stored). sector_at (log_sectors n (suc index) l) k) (sym grows))) (each (suc k) (omega (arith, one, from)) (omega (arith, to)))) in
+          (λ k from to. ⊎_elim (λ old. inl old) (λ put. inr (put ∙ ap (λ (l : List StoredEntry). sector_at (log_sectors n (suc index) l) k) (sym grows))) (each (suc k) (omega (arith, one, from)) (omega (arith, to)))) in
           let now_is : log_from Two index (c ∷ cs) ≡ take 84 log ++ log_from Two (suc index) cs = log_full index c cs (take 84 log) read_now (length-take-le 84 log many) in
           record {
             count = p.count;
@@ -102,7 +102,7 @@ open_now (suc n) index (o ∷ olds) (c ∷ cs) log new size small codes are few 
     ]
   where
     -- the log ends in the first sector
-    open_here : (es : List Stored) → entries_at Two index o ≡ es → length es < 84 → Prefix log (log_from Two index (c ∷ cs)) new
+    open_here : (es : List StoredEntry) → entries_at Two index o ≡ es → length es < 84 → Prefix log (log_from Two index (c ∷ cs)) new
     open_here es read short =
         let log_is : log ≡ es = sym is ∙ log_last index o olds es read short in
         let little : length log < 84 = omega (arith, ap length log_is) in
@@ -117,7 +117,7 @@ open_now (suc n) index (o ∷ olds) (c ∷ cs) log new size small codes are few 
         (omega (arith, length-log_sectors n (suc index) [], size')) (omega (arith, length-log_sectors n (suc index) (drop 84 rest), size'))
         (λ k le. ⊎_elim
         (λ old. inl (old ∙ ap (λ (l : List (List ℕ)). sector_at l k) behind_blank))
-        (λ put. inr (put ∙ ap (λ (l : List Stored). sector_at (log_sectors n (suc index) (drop 84 l)) k) grows))
+        (λ put. inr (put ∙ ap (λ (l : List StoredEntry). sector_at (log_sectors n (suc index) (drop 84 l)) k) grows))
         (each (suc k) (omega (arith, none)) (omega (arith, le, size')))) in
         ⊎_elim
         (λ old. record {
@@ -127,10 +127,10 @@ open_now (suc n) index (o ∷ olds) (c ∷ cs) log new size small codes are few 
           stand = ap inputs (stays old log_is short read) ∙ sym (append-nil (inputs log));
         })
         (λ put.
-        let first : c ≡ log_sector index (take 84 rest) = put ∙ ap (λ (l : List Stored). log_sector index (take 84 l)) grows in
+        let first : c ≡ log_sector index (take 84 rest) = put ∙ ap (λ (l : List StoredEntry). log_sector index (take 84 l)) grows in
         let nothing : drop 84 log ≡ [] = drop_all 84 log (omega (arith, little)) in
         let mixed : EachOldOrNew (log_sectors (suc n) index log) (log_sectors (suc n) index rest) (c ∷ cs) =
-        (inr first, subst (λ (l : List Stored). EachOldOrNew (log_sectors n (suc index) l) (log_sectors n (suc index) (drop 84 rest)) cs) (sym nothing) later) in
+        (inr first, subst (λ (l : List StoredEntry). EachOldOrNew (log_sectors n (suc index) l) (log_sectors n (suc index) (drop 84 rest)) cs) (sym nothing) later) in
         cut_prefix (open_sector n index log rest c cs small codes (codes-with_inputs log new codes fives) little (length-with_inputs log new) size_rest mixed
         (λ newer codes fits later. blank_law n (suc index) newer cs (omega arith) codes fits later)))
         (each 0 (omega (arith, none)) (omega arith))
@@ -146,7 +146,7 @@ open_now (suc n) index (o ∷ olds) (c ∷ cs) log new size small codes are few 
             record { count = p.count; within = p.within; each = subst all_entries (sym cut.1) p.each; stand = ap inputs cut.1 ∙ p.stand })
             r.is
 
-pub any_written : (olds now : List (List ℕ)) (log : List Stored) (more : List Entry) → EndsOpen olds log → AllFive more → all_input more → fits log more ≡ true → AnyWritten olds log more now → ExtendsBy log more (log_from Two 0 now)
+pub any_written : (olds now : List (List ℕ)) (log : List StoredEntry) (more : List Entry) → EndsOpen olds log → AllFive more → all_input more → fits log more ≡ true → AnyWritten olds log more now → ExtendsBy log more (log_from Two 0 now)
 unfolding log_area
 any_written olds now log more ends fives input fit written =
     let means = fits_means log more fit in
@@ -160,7 +160,7 @@ any_written olds now log more ends fives input fit written =
 
 -- ---- the same of a whole image
 
-module _ (old now : List (List ℕ)) (root : Root) (log : List Stored) (more : List Entry) (opened : IsOpenEnded old root log) (fives : AllFive more) (input : all_input more) (fit : fits log more ≡ true) (changed : IsInAppend old root log more now) where
+module _ (old now : List (List ℕ)) (root : Root) (log : List StoredEntry) (more : List Entry) (opened : IsOpenEnded old root log) (fives : AllFive more) (input : all_input more) (fit : fits log more ≡ true) (changed : IsInAppend old root log more now) where
   two_sectors : 2 ≤ length old
   two_sectors = elim (cases_lt (length old) 2) [
     | inl few ↦ let none : None ≡ Some root = sym (few_sectors old few) ∙ opened.chosen_is in absurd (cc)
@@ -236,7 +236,7 @@ module _ (old now : List (List ℕ)) (root : Root) (log : List Stored) (more : L
           after = log_from Two 0 (take 32 (area root.generation now));
           old_is = ap (λ (r : Option Root). content_by r old) opened.chosen_is
               ∙ ap Some (body_is root (area root.generation old) opened.version_is (omega (arith, old_size, opened.fits)))
-              ∙ ap (λ (x : List Stored). Some (record { header = header_of root; body = Some (record { blob = blob; log = x }) })) opened.ends.is;
+              ∙ ap (λ (x : List StoredEntry). Some (record { header = header_of root; body = Some (record { blob = blob; log = x }) })) opened.ends.is;
           new_is = ap (λ (r : Option Root). content_by r now) chosen_now
               ∙ ap Some (body_is root (area root.generation now) opened.version_is (omega (arith, now_size, opened.fits)))
               ∙ ap (λ (x : List (List ℕ)). Some (record { header = header_of root; body = Some (record { blob = take root.blob_length (flat_map (λ (s : List ℕ). s) x); log = log_from Two 0 (take 32 (area root.generation now)) }) })) blob_same;

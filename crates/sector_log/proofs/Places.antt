@@ -4,13 +4,13 @@ use Rattle.std.proofs.lemmas.List.{length-take-le, get_or_append_left, get_or-ap
 use Rattle.sector_device.specs.DiskState.{sector_at}
 use Rattle.sector_log.specs.Layout.{replaced}
 use Rattle.sector_log.specs.Log.{log_sector, log_sectors, log_area, padded, blob_area, fresh_area}
-use Rattle.sector_log.specs.declared.Stored.{Stored}
+use Rattle.sector_log.specs.declared.StoredEntry.{StoredEntry}
 
-pub length-log_sectors : (n index : ℕ) (entries : List Stored) → length (log_sectors n index entries) ≡ n
+pub length-log_sectors : (n index : ℕ) (entries : List StoredEntry) → length (log_sectors n index entries) ≡ n
 length-log_sectors zero index entries = refl
 length-log_sectors (suc n) index entries = omega (arith, length-log_sectors n (suc index) (drop 84 entries))
 
-pub log_sectors_at : (n index k : ℕ) (entries : List Stored) → k < n → sector_at (log_sectors n index entries) k ≡ log_sector (index + k) (take 84 (drop (84 * k) entries))
+pub log_sectors_at : (n index k : ℕ) (entries : List StoredEntry) → k < n → sector_at (log_sectors n index entries) k ≡ log_sector (index + k) (take 84 (drop (84 * k) entries))
 log_sectors_at zero index k entries le = absurd (omega arith)
 log_sectors_at (suc n) index zero entries le = let e : index ≡ index + 0 = omega arith in ap (λ i. log_sector i (take 84 entries)) e
 log_sectors_at (suc n) index (suc k) entries le =
@@ -20,11 +20,11 @@ log_sectors_at (suc n) index (suc k) entries le =
     ∙ (λ i. log_sector (e i) (take 84 (drop-drop (84 * k) 84 entries i)))
     ∙ ap (λ j. log_sector (index + suc k) (take 84 (drop j entries))) m
 
-pub length-log_area : (entries : List Stored) → length (log_area entries) ≡ 32
+pub length-log_area : (entries : List StoredEntry) → length (log_area entries) ≡ 32
 unfolding log_area
 length-log_area entries = length-log_sectors 32 0 entries
 
-pub log_area_at : (k : ℕ) (entries : List Stored) → k < 32 → sector_at (log_area entries) k ≡ log_sector k (take 84 (drop (84 * k) entries))
+pub log_area_at : (k : ℕ) (entries : List StoredEntry) → k < 32 → sector_at (log_area entries) k ≡ log_sector k (take 84 (drop (84 * k) entries))
 unfolding log_area
 log_area_at k entries le = let e : 0 + k ≡ k = omega arith in log_sectors_at 32 0 k entries le ∙ ap (λ i. log_sector i (take 84 (drop (84 * k) entries))) e
 
@@ -55,7 +55,7 @@ module _ (start : ℕ) (s image : List (List ℕ)) (room : start + length s ≤ 
       ∙ get_or-drop (start + length s) image (k - (start + length s)) [] ∙ ap (λ n. get_or image n []) same
 
 -- a log sector of the new image
-pub new_log_at : (start k : ℕ) (entries : List Stored) (image : List (List ℕ)) → start + 32 ≤ length image → k < 32 → sector_at (replaced start (log_area entries) image) (start + k) ≡ log_sector k (take 84 (drop (84 * k) entries))
+pub new_log_at : (start k : ℕ) (entries : List StoredEntry) (image : List (List ℕ)) → start + 32 ≤ length image → k < 32 → sector_at (replaced start (log_area entries) image) (start + k) ≡ log_sector k (take 84 (drop (84 * k) entries))
 new_log_at start k entries image room le =
     replaced_at start (log_area entries) image (omega (arith, length-log_area entries)) k (omega (arith, length-log_area entries)) ∙ log_area_at k entries le
 
@@ -79,7 +79,7 @@ pub length-fresh_area : (blob : List ℕ) → length (fresh_area blob) ≡ 32 + 
 unfolding fresh_area
 length-fresh_area blob = omega (arith, length-append (log_area []) (blob_area ((length blob + 511) / 512) blob), length-log_area [], length-blob_area ((length blob + 511) / 512) blob)
 
-blank_at : (k n : ℕ) → k < n → take 84 (drop {A = Stored} k []) ≡ []
+blank_at : (k n : ℕ) → k < n → take 84 (drop {A = StoredEntry} k []) ≡ []
 blank_at zero n le = refl
 blank_at (suc k) n le = refl
 

@@ -9,7 +9,7 @@ use lib.ListN.{replicate}
 use Rattle.sector_log.specs.Log.{byte}
 use Rattle.sector_log.specs.Inputs.{AllFive, frame, is_input, all_input, run_length, is_run, is_seconds, is_entry, inputs_in, inputs, all_entries, single, joins, longer, with_input, with_inputs}
 use Rattle.sector_log.specs.declared.Entry.{Entry}
-use Rattle.sector_log.specs.declared.Stored.{Stored}
+use Rattle.sector_log.specs.declared.StoredEntry.{StoredEntry}
 
 pub record Five (code : List ℕ) : Type 0 where
   pub a : ℕ
@@ -77,12 +77,12 @@ single_entry e size is =
     ap (λ (x : Entry). is_entry (single x)) same ∙ single_entry_at f.a f.b f.c f.d f.e (ap is_input (sym same) ∙ is)
 
 -- a run that an input joins
-pub record Joined (s : Stored) (e : Entry) : Type 0 where
+pub record Joined (s : StoredEntry) (e : Entry) : Type 0 where
   pub stands : inputs_in s ≡ replicate (run_length s) (frame (byte 1 s.code))
   pub input : e ≡ frame (byte 1 s.code)
   pub least : 1 ≤ run_length s
 
-joined_at : (s : Stored) (a b c d e : ℕ) → is_entry s ≡ true → is_input (record { code = a ∷ b ∷ c ∷ d ∷ e ∷ [] }) ≡ true → joins s (record { code = a ∷ b ∷ c ∷ d ∷ e ∷ [] }) ≡ true → Joined s (record { code = a ∷ b ∷ c ∷ d ∷ e ∷ [] })
+joined_at : (s : StoredEntry) (a b c d e : ℕ) → is_entry s ≡ true → is_input (record { code = a ∷ b ∷ c ∷ d ∷ e ∷ [] }) ≡ true → joins s (record { code = a ∷ b ∷ c ∷ d ∷ e ∷ [] }) ≡ true → Joined s (record { code = a ∷ b ∷ c ∷ d ∷ e ∷ [] })
 unfolding is_entry joins inputs_in
 joined_at s a b c d e entry input join =
     let zeroth : a ≡ 0 = grind (arith, nat_tests) in
@@ -97,13 +97,13 @@ joined_at s a b c d e entry input join =
       least = low;
     }
 
-pub joined : (s : Stored) (e : Entry) → length e.code ≡ 5 → is_entry s ≡ true → is_input e ≡ true → joins s e ≡ true → Joined s e
+pub joined : (s : StoredEntry) (e : Entry) → length e.code ≡ 5 → is_entry s ≡ true → is_input e ≡ true → joins s e ≡ true → Joined s e
 joined s e size entry input join =
     let f = five e.code size in
     let same : e ≡ record { code = f.a ∷ f.b ∷ f.c ∷ f.d ∷ f.e ∷ [] } = ap (λ (l : List ℕ). record { code = l }) f.is in
     subst (Joined s) (sym same) (joined_at s f.a f.b f.c f.d f.e entry (ap is_input (sym same) ∙ input) (ap (joins s) (sym same) ∙ join))
 
-pub joined_length : (s : Stored) (e : Entry) → Joined s e → length (inputs_in s) ≡ run_length s
+pub joined_length : (s : StoredEntry) (e : Entry) → Joined s e → length (inputs_in s) ≡ run_length s
 joined_length s e j = ap length j.stands ∙ length-replicate (run_length s) (frame (byte 1 s.code))
 
 is_run_now : (b n : ℕ) → 1 ≤ n → n ≤ 216000 → is_run (record { code = 0 ∷ b ∷ to_le_bytes w32 n }) ≡ true
@@ -111,7 +111,7 @@ is_run_now b n low high =
     let back : from_le_bytes w32 (to_le_bytes w32 n) ≡ n = from_le_bytes-to_le_bytes_4 n (omega arith) in
     ap (λ k. nat_le 1 k && nat_le k 216000) back ∙ (grind (arith, nat_tests))
 
-pub longer_inputs : (s : Stored) (e : Entry) → Joined s e → run_length s < 216000 → inputs_in (longer s) ≡ inputs_in s ++ e ∷ []
+pub longer_inputs : (s : StoredEntry) (e : Entry) → Joined s e → run_length s < 216000 → inputs_in (longer s) ≡ inputs_in s ++ e ∷ []
 unfolding longer inputs_in
 longer_inputs s e j room =
     let n = run_length s in
@@ -121,57 +121,57 @@ longer_inputs s e j room =
     ∙ ap (λ k. replicate k x) back ∙ sym (replicate-append-replicate n 1 x)
     ∙ (λ i. sym j.stands i ++ sym j.input i ∷ [])
 
-pub longer_entry : (s : Stored) → run_length s < 216000 → is_entry (longer s) ≡ true
+pub longer_entry : (s : StoredEntry) → run_length s < 216000 → is_entry (longer s) ≡ true
 unfolding longer is_entry
 longer_entry s room = ap (λ (t : Bool). t || is_seconds (longer s)) (is_run_now (byte 1 s.code) (run_length s + 1) (omega arith) (omega arith))
 
-pub inputs-append : (xs ys : List Stored) → inputs (xs ++ ys) ≡ inputs xs ++ inputs ys
+pub inputs-append : (xs ys : List StoredEntry) → inputs (xs ++ ys) ≡ inputs xs ++ inputs ys
 inputs-append [] ys = refl
 inputs-append (x ∷ xs) ys = ap (λ l. inputs_in x ++ l) (inputs-append xs ys) ∙ sym (append_assoc (inputs_in x) (inputs xs) (inputs ys))
 
-pub entries-append : (xs ys : List Stored) → all_entries xs → all_entries ys → all_entries (xs ++ ys)
+pub entries-append : (xs ys : List StoredEntry) → all_entries xs → all_entries ys → all_entries (xs ++ ys)
 entries-append [] ys a b = b
 entries-append (x ∷ xs) ys a b = (a.0, entries-append xs ys a.1 b)
 
-pub entries-take : (n : ℕ) (log : List Stored) → all_entries log → all_entries (take n log)
+pub entries-take : (n : ℕ) (log : List StoredEntry) → all_entries log → all_entries (take n log)
 entries-take zero log are = tt
 entries-take (suc n) [] are = tt
 entries-take (suc n) (s ∷ log) are = (are.0, entries-take n log are.1)
 
-pub entries-drop : (n : ℕ) (log : List Stored) → all_entries log → all_entries (drop n log)
+pub entries-drop : (n : ℕ) (log : List StoredEntry) → all_entries log → all_entries (drop n log)
 entries-drop zero log are = are
 entries-drop (suc n) [] are = tt
 entries-drop (suc n) (s ∷ log) are = entries-drop n log are.1
 
 -- the last entry alone may change
-pub with_input-snoc : (front : List Stored) (s : Stored) (e : Entry) → with_input (front ++ s ∷ []) e ≡ front ++ (if joins s e then longer s ∷ [] else s ∷ single e ∷ [])
+pub with_input-snoc : (front : List StoredEntry) (s : StoredEntry) (e : Entry) → with_input (front ++ s ∷ []) e ≡ front ++ (if joins s e then longer s ∷ [] else s ∷ single e ∷ [])
 with_input-snoc [] s e = refl
 with_input-snoc (x ∷ []) s e = refl
 with_input-snoc (x ∷ y ∷ front) s e = ap (λ l. x ∷ l) (with_input-snoc (y ∷ front) s e)
 
-pub record Snoc (log : List Stored) : Type 0 where
-  pub front : List Stored
-  pub last : Stored
+pub record Snoc (log : List StoredEntry) : Type 0 where
+  pub front : List StoredEntry
+  pub last : StoredEntry
   pub is : log ≡ front ++ last ∷ []
 
-pub snoc : (log : List Stored) → 0 < length log → Snoc log
+pub snoc : (log : List StoredEntry) → 0 < length log → Snoc log
 snoc [] some = absurd (omega arith)
 snoc (s ∷ []) some = record { front = []; last = s; is = refl }
 snoc (s ∷ t ∷ log) some = let r = snoc (t ∷ log) (omega arith) in record { front = s ∷ r.front; last = r.last; is = ap (λ l. s ∷ l) r.is }
 
 -- one input more: the last entry goes on, or a new one is added
-pub joins_then : (front : List Stored) (s : Stored) (e : Entry) → joins s e ≡ true → with_input (front ++ s ∷ []) e ≡ front ++ longer s ∷ []
+pub joins_then : (front : List StoredEntry) (s : StoredEntry) (e : Entry) → joins s e ≡ true → with_input (front ++ s ∷ []) e ≡ front ++ longer s ∷ []
 joins_then front s e holds = with_input-snoc front s e ∙ ap (λ (t : Bool). front ++ (if t then longer s ∷ [] else s ∷ single e ∷ [])) holds
 
-pub joins_else : (front : List Stored) (s : Stored) (e : Entry) → joins s e ≡ false → with_input (front ++ s ∷ []) e ≡ (front ++ s ∷ []) ++ single e ∷ []
+pub joins_else : (front : List StoredEntry) (s : StoredEntry) (e : Entry) → joins s e ≡ false → with_input (front ++ s ∷ []) e ≡ (front ++ s ∷ []) ++ single e ∷ []
 joins_else front s e fails = with_input-snoc front s e ∙ ap (λ (t : Bool). front ++ (if t then longer s ∷ [] else s ∷ single e ∷ [])) fails ∙ sym (append_assoc front (s ∷ []) (single e ∷ []))
 
 -- what one input more makes of a log
-pub record OneMore (log new : List Stored) (e : Entry) : Type 0 where
+pub record OneMore (log new : List StoredEntry) (e : Entry) : Type 0 where
   pub each : all_entries new
   pub stand : inputs new ≡ inputs log ++ e ∷ []
 
-pub one_more : (log : List Stored) (e : Entry) → all_entries log → length e.code ≡ 5 → is_input e ≡ true → length (inputs log) < 216000 → OneMore log (with_input log e) e
+pub one_more : (log : List StoredEntry) (e : Entry) → all_entries log → length e.code ≡ 5 → is_input e ≡ true → length (inputs log) < 216000 → OneMore log (with_input log e) e
 one_more [] e are size input room = record { each = (single_entry e size input, tt); stand = append-nil (inputs_in (single e)) ∙ single_inputs e size input }
 one_more (s ∷ []) e are size input room = elim (cases_Bool (joins s e)) [
   | inl holds ↦
@@ -196,7 +196,7 @@ one_more (s ∷ t ∷ log) e are size input room =
       stand = ap (λ l. inputs_in s ++ l) later.stand ∙ sym (append_assoc (inputs_in s) (inputs (t ∷ log)) (e ∷ []));
     }
 
-pub length-with_input : (log : List Stored) (e : Entry) → length log ≤ length (with_input log e)
+pub length-with_input : (log : List StoredEntry) (e : Entry) → length log ≤ length (with_input log e)
 length-with_input [] e = omega arith
 length-with_input (s ∷ []) e = elim (cases_Bool (joins s e)) [
   | inl holds ↦ omega (arith, ap length (joins_then [] s e holds))
@@ -204,12 +204,12 @@ length-with_input (s ∷ []) e = elim (cases_Bool (joins s e)) [
 ]
 length-with_input (s ∷ t ∷ log) e = omega (arith, length-with_input (t ∷ log) e)
 
-pub length-with_inputs : (log : List Stored) (es : List Entry) → length log ≤ length (with_inputs log es)
+pub length-with_inputs : (log : List StoredEntry) (es : List Entry) → length log ≤ length (with_inputs log es)
 length-with_inputs log [] = omega arith
 length-with_inputs log (e ∷ es) = omega (arith, length-with_input log e, length-with_inputs (with_input log e) es)
 
 -- entries before the last one are never changed again
-pub settled_front : (log : List Stored) (s : Stored) (es : List Entry) → take (length log) (with_inputs (log ++ s ∷ []) es) ≡ log
+pub settled_front : (log : List StoredEntry) (s : StoredEntry) (es : List Entry) → take (length log) (with_inputs (log ++ s ∷ []) es) ≡ log
 settled_front log s [] = take_at log (s ∷ []) (length log) refl
 settled_front log s (e ∷ es) = elim (cases_Bool (joins s e)) [
   | inl holds ↦ ap (λ l. take (length log) (with_inputs l es)) (joins_then log s e holds) ∙ settled_front log (longer s) es
@@ -224,13 +224,13 @@ settled_front log s (e ∷ es) = elim (cases_Bool (joins s e)) [
 ]
 
 -- what a log that was cut stands for
-pub record Prefix (log cut : List Stored) (new : List Entry) : Type 0 where
+pub record Prefix (log cut : List StoredEntry) (new : List Entry) : Type 0 where
   pub count : ℕ
   pub within : count ≤ length new
   pub each : all_entries cut
   pub stand : inputs cut ≡ inputs log ++ take count new
 
-pub prefix : (log : List Stored) (new : List Entry) → all_entries log → AllFive new → all_input new → length (inputs log) + length new ≤ 216000 → (m : ℕ) → length log ≤ m → Prefix log (take m (with_inputs log new)) new
+pub prefix : (log : List StoredEntry) (new : List Entry) → all_entries log → AllFive new → all_input new → length (inputs log) + length new ≤ 216000 → (m : ℕ) → length log ≤ m → Prefix log (take m (with_inputs log new)) new
 prefix log [] are fives input room m long = record {
   count = 0;
   within = omega arith;
@@ -258,7 +258,7 @@ prefix log (e ∷ es) are fives input room m long =
           }
     ]
   where
-    cut_here : (log : List Stored) (e : Entry) (es : List Entry) (m : ℕ) → length log ≤ m → m < length (with_input log e) → take m (with_inputs (with_input log e) es) ≡ log
+    cut_here : (log : List StoredEntry) (e : Entry) (es : List Entry) (m : ℕ) → length log ≤ m → m < length (with_input log e) → take m (with_inputs (with_input log e) es) ≡ log
     cut_here [] e es m long short = let none : m ≡ 0 = omega arith in ap (λ k. take k (with_inputs (single e ∷ []) es)) none
     cut_here (x ∷ xs) e es m long short =
         let v = snoc (x ∷ xs) (omega arith) in

@@ -6,10 +6,10 @@ use Rattle.std.specs.Int.{w32, from_le_bytes, to_le_bytes}
 use lib.ListN.{replicate}
 use Rattle.sector_log.specs.Log.{byte}
 use Rattle.sector_log.specs.Inputs.{frame, seconds, run_length, is_run, is_seconds, is_entry, inputs_in, inputs_logged}
-use Rattle.sector_log.specs.declared.Stored.{Stored}
+use Rattle.sector_log.specs.declared.StoredEntry.{StoredEntry}
 use Rattle.sector_log.specs.declared.logged.Logged.TheVariants.{Frames, Seconds}
 
-pub run_logged : (s : Stored) (times : ℕ) → is_run s ≡ true → times ≡ run_length s → (is_entry s ≡ true) × (inputs_in s ≡ inputs_logged (Frames (byte 1 s.code) times))
+pub run_logged : (s : StoredEntry) (times : ℕ) → is_run s ≡ true → times ≡ run_length s → (is_entry s ≡ true) × (inputs_in s ≡ inputs_logged (Frames (byte 1 s.code) times))
 unfolding is_entry inputs_in
 run_logged s times run is = (
   ap (λ (t : Bool). t || is_seconds s) run,
@@ -22,7 +22,7 @@ five_of_seconds (a ∷ rest) n size kind is =
     let one : a ≡ 1 = grind (arith, nat_tests) in
     (λ i. one i ∷ sym is i)
 
-pub seconds_logged : (s : Stored) (n : ℕ) → is_run s ≡ false → is_seconds s ≡ true → length s.code ≡ 6 → to_le_bytes w32 n ≡ take 4 (drop 1 s.code) → (is_entry s ≡ true) × (inputs_in s ≡ inputs_logged (Seconds n))
+pub seconds_logged : (s : StoredEntry) (n : ℕ) → is_run s ≡ false → is_seconds s ≡ true → length s.code ≡ 6 → to_le_bytes w32 n ≡ take 4 (drop 1 s.code) → (is_entry s ≡ true) × (inputs_in s ≡ inputs_logged (Seconds n))
 unfolding is_entry inputs_in
 seconds_logged s n run is_so size is =
     let kind : (byte 0 s.code == 1) ≡ true = grind (arith, nat_tests) in
@@ -48,6 +48,6 @@ four_of (a ∷ b ∷ c ∷ d ∷ e ∷ rest) n size bytes is = le_bytes_4 (b ∷
     within (suc (suc (suc zero))) = bytes.3
     within (suc (suc (suc (suc k)))) = omega arith
 
-pub none_logged : (s : Stored) → is_run s ≡ false → is_seconds s ≡ false → is_entry s ≡ false
+pub none_logged : (s : StoredEntry) → is_run s ≡ false → is_seconds s ≡ false → is_entry s ≡ false
 unfolding is_entry
 none_logged s run seconds = λ i. run i || seconds i

@@ -5,13 +5,13 @@ use Rattle.std.proofs.lemmas.Bool.{cases_Bool}
 use Rattle.std.proofs.lemmas.Bool.Decides.{nat_tests}
 use Rattle.sector_log.specs.Inputs.{is_entry, inputs_in, inputs, all_entries, wrong_from}
 use Rattle.sector_log.specs.Laws.{ALogOfInputsHasNoneWrong}
-use Rattle.sector_log.specs.declared.Stored.{Stored}
+use Rattle.sector_log.specs.declared.StoredEntry.{StoredEntry}
 use Rattle.sector_log.proofs.Counting.{own_count, some_inputs}
 
-abbrev goes_on : ℕ → Stored → Bool
+abbrev goes_on : ℕ → StoredEntry → Bool
 goes_on before s = is_entry s && nat_le (before + length (inputs_in s)) 216000
 
-wrong_here : (log : List Stored) (k before : ℕ) (d : Stored) (t : Bool) → k < length log → goes_on before (get_or log k d) ≡ t
+wrong_here : (log : List StoredEntry) (k before : ℕ) (d : StoredEntry) (t : Bool) → k < length log → goes_on before (get_or log k d) ≡ t
     → wrong_from k before (drop k log) ≡ (if t then wrong_from (k + 1) (before + length (inputs_in (get_or log k d))) (drop (k + 1) log) else Some k)
 wrong_here log k before d t less is =
     let s = get_or log k d in
@@ -20,7 +20,7 @@ wrong_here log k before d t less is =
     ∙ (λ i. if is i then wrong_from (k + 1) (before + length (inputs_in s)) (drop (next i) log) else Some k)
 
 -- it stands for none
-pub wrong_none : (log : List Stored) (k before : ℕ) (d : Stored) → k < length log → 0 ≡ own_count (get_or log k d) → wrong_from k before (drop k log) ≡ Some k
+pub wrong_none : (log : List StoredEntry) (k before : ℕ) (d : StoredEntry) → k < length log → 0 ≡ own_count (get_or log k d) → wrong_from k before (drop k log) ≡ Some k
 wrong_none log k before d less none =
     let s = get_or log k d in
     elim (cases_Bool (is_entry s)) [
@@ -30,8 +30,8 @@ wrong_none log k before d less none =
       | inr fails ↦ wrong_here log k before d false less (ap (λ (t : Bool). t && nat_le (before + length (inputs_in s)) 216000) fails)
     ]
 
-module _ (log : List Stored) (k before n : ℕ) (d : Stored) (less : k < length log) (is : n ≡ own_count (get_or log k d)) (some : 0 < n) where
-  s : Stored
+module _ (log : List StoredEntry) (k before n : ℕ) (d : StoredEntry) (less : k < length log) (is : n ≡ own_count (get_or log k d)) (some : 0 < n) where
+  s : StoredEntry
   s = get_or log k d
 
   stands : is_entry s ≡ true
@@ -60,7 +60,7 @@ module _ (log : List Stored) (k before n : ℕ) (d : Stored) (less : k < length 
       let holds : nat_le (before + length (inputs_in s)) 216000 ≡ true = grind (arith, nat_tests) in
       wrong_here log k before d true less ((λ i. stands i && holds i)) ∙ ap (λ m. wrong_from (k + 1) (before + m) (drop (k + 1) log)) (sym same)
 
-none_then : (log : List Stored) (index before : ℕ) → before ≤ 216000 → wrong_from index before log ≡ None → all_entries log × (before + length (inputs log) ≤ 216000)
+none_then : (log : List StoredEntry) (index before : ℕ) → before ≤ 216000 → wrong_from index before log ≡ None → all_entries log × (before + length (inputs log) ≤ 216000)
 none_then [] index before few none = (tt, omega arith)
 none_then (s ∷ log) index before few none =
     let m = length (inputs_in s) in
@@ -76,7 +76,7 @@ none_then (s ∷ log) index before few none =
           absurd (cc)
     ]
 
-then_none : (log : List Stored) (index before : ℕ) → all_entries log → before + length (inputs log) ≤ 216000 → wrong_from index before log ≡ None
+then_none : (log : List StoredEntry) (index before : ℕ) → all_entries log → before + length (inputs log) ≤ 216000 → wrong_from index before log ≡ None
 then_none [] index before are few = refl
 then_none (s ∷ log) index before are few =
     let m = length (inputs_in s) in

@@ -6,8 +6,8 @@ use Rattle.sector_log.specs.Content.{ImageContent, area_start, content, generati
 use Rattle.sector_log.specs.Inputs.{inputs, AreInputs}
 use Rattle.sector_log.specs.Sizes.{entries_per_sector, log_sectors_per_area}
 use Rattle.sector_log.specs.declared.Entry.{Entry}
-use Rattle.sector_log.specs.declared.Stored.{Stored}
-use Rattle.sector_log.specs.declared.found.Content.{Content}
+use Rattle.sector_log.specs.declared.StoredEntry.{StoredEntry}
+use Rattle.sector_log.specs.declared.found.Header.{Header}
 use Rattle.sector_log.specs.declared.fault.LogFault.{LogFault}
 use Rattle.sector_log.specs.declared.fault.LogFault.TheVariants.{Memory, Device, TooSmall, Worn, LogFull, Broken}
 
@@ -57,10 +57,10 @@ IsReplaceCause why broken blob_length count last = (broken ≡ false) × IsBegin
 
 -- the second content is the first with these inputs behind its log
 pub record Adds (more : List Entry) (old new : Option ImageContent) : Type 0 where
-  pub header : Content
+  pub header : Header
   pub blob : List ℕ
-  pub before : List Stored
-  pub after : List Stored
+  pub before : List StoredEntry
+  pub after : List StoredEntry
   pub old_is : old ≡ Some (record { header = header; body = Some (record { blob = blob; log = before }) })
   pub new_is : new ≡ Some (record { header = header; body = Some (record { blob = blob; log = after }) })
   pub are : AreInputs after

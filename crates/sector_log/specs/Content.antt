@@ -6,8 +6,8 @@ use lib.ListN.{replicate}
 use Rattle.sector_device.specs.DiskState.{sector_at}
 use Rattle.sector_log.specs.Log.{begins_with, zeros, log_from}
 use Rattle.sector_log.specs.Sizes.{log_sectors_per_area}
-use Rattle.sector_log.specs.declared.Stored.{Stored}
-use Rattle.sector_log.specs.declared.found.Content.{Content}
+use Rattle.sector_log.specs.declared.StoredEntry.{StoredEntry}
+use Rattle.sector_log.specs.declared.found.Header.{Header}
 use Rattle.sector_log.specs.declared.root.Version.{Version}
 use Rattle.sector_log.specs.declared.root.Version.TheVariants.{One, Two}
 use Rattle.sector_log.specs.declared.root.Root.{Root}
@@ -96,15 +96,15 @@ need blob_length = 2 + 2 * (log_sectors_per_area + blob_sectors blob_length)
 pub record Body : Type 0 where
   pub blob : List ℕ
   -- the entries, a run of frames as one
-  pub log : List Stored
+  pub log : List StoredEntry
 
 pub record ImageContent : Type 0 where
   -- the id, the count of inputs before the blob, and the blob's length
-  pub header : Content
+  pub header : Header
   -- none where the blob does not fit the area
   pub body : Option Body
 
-abbrev pub header_of : Root → Content
+abbrev pub header_of : Root → Header
 header_of root = record { id = root.id; base = root.base; blob_length = root.blob_length }
 
 -- what a root and the sectors of its area hold

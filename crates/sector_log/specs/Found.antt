@@ -3,28 +3,28 @@ use Rattle.std.specs.Prelude.{◌≡◌, ◌≤◌, ◌<◌, ◌+◌, ◌-◌, �
 use Rattle.sector_log.specs.Content.{ImageContent, Body, header_of, need}
 use Rattle.sector_log.specs.Inputs.{counted}
 use Rattle.sector_log.specs.Sizes.{most_entries_read}
-use Rattle.sector_log.specs.declared.Stored.{Stored}
-use Rattle.sector_log.specs.declared.found.Content.{Content}
+use Rattle.sector_log.specs.declared.StoredEntry.{StoredEntry}
+use Rattle.sector_log.specs.declared.found.Header.{Header}
 use Rattle.sector_log.specs.declared.found.Found.{Found}
-use Rattle.sector_log.specs.declared.found.Found.TheVariants.{Nothing, Content as Sound, Damaged}
+use Rattle.sector_log.specs.declared.found.Found.TheVariants.{Nothing, Intact, Damaged}
 use Rattle.sector_log.specs.declared.found.Part.TheVariants.{Length, Count}
 use Rattle.sector_log.specs.declared.root.Root.{Root}
 
 -- damaged in length where the blob does not fit its area, in count where base and log are above the greatest `u64`
-abbrev pub found_by : Content → Option Body → Found
+abbrev pub found_by : Header → Option Body → Found
 found_by header None = Damaged header (Length (need header.blob_length))
-found_by header (Some body) = if nat_lt (2 ^ 64 - 1) (header.base + counted 0 body.log) then Damaged header Count else Sound header
+found_by header (Some body) = if nat_lt (2 ^ 64 - 1) (header.base + counted 0 body.log) then Damaged header Count else Intact header
 
 abbrev pub found_in : Option ImageContent → Found
 found_in None = Nothing
 found_in (Some content) = found_by content.header content.body
 
-abbrev pub log_in : Option Body → List Stored
+abbrev pub log_in : Option Body → List StoredEntry
 log_in None = []
 log_in (Some body) = body.log
 
 -- the log's entries, none where there is no content or the blob does not fit
-abbrev pub log_of : Option ImageContent → List Stored
+abbrev pub log_of : Option ImageContent → List StoredEntry
 log_of None = []
 log_of (Some found) = log_in found.body
 
@@ -52,7 +52,7 @@ blob_in most (Some found) = blob_by most found.header.blob_length found.body
 -- long to be kept
 pub record Seen : Type 0 where
   pub found : Found
-  pub log : List Stored
+  pub log : List StoredEntry
   pub blob : Option (List ℕ)
 
 abbrev pub seen_in : ℕ → Option ImageContent → Seen
@@ -61,10 +61,10 @@ seen_in most held = record { found = found_in held; log = log_of held; blob = bl
 -- what holds of any device, honest or not
 pub record IsSound (seen : Seen) : Type 0 where
   pub few : length seen.log ≤ most_entries_read
-  pub counts : (c : Content) → seen.found ≡ Sound c → c.base + counted 0 seen.log < 2 ^ 64
+  pub counts : (c : Header) → seen.found ≡ Intact c → c.base + counted 0 seen.log < 2 ^ 64
 
 -- what a chosen root says whose blob does not fit its area, or behind whose blob this log stands
-abbrev pub found_with : Option Root → Bool → List Stored → Found
+abbrev pub found_with : Option Root → Bool → List StoredEntry → Found
 found_with None too_small log = Nothing
 found_with (Some root) true log = Damaged (header_of root) (Length (need root.blob_length))
-found_with (Some root) false log = if nat_lt (2 ^ 64 - 1) (root.base + counted 0 log) then Damaged (header_of root) Count else Sound (header_of root)
+found_with (Some root) false log = if nat_lt (2 ^ 64 - 1) (root.base + counted 0 log) then Damaged (header_of root) Count else Intact (header_of root)

@@ -4,7 +4,7 @@ use Rattle.std.specs.List.{flat_map, list_all}
 use Rattle.std.specs.Int.{w16, to_le_bytes, from_le_bytes}
 use lib.ListN.{replicate}
 use Rattle.sector_log.specs.Sizes.{entries_per_sector, entries_per_old_sector, log_sectors_per_area}
-use Rattle.sector_log.specs.declared.Stored.{Stored}
+use Rattle.sector_log.specs.declared.StoredEntry.{StoredEntry}
 use Rattle.sector_log.specs.declared.root.Version.{Version}
 use Rattle.sector_log.specs.declared.root.Version.TheVariants.{One, Two}
 
@@ -25,9 +25,9 @@ log_magic One = 71 ∷ 66 ∷ 76 ∷ 49 ∷ []
 log_magic Two = 71 ∷ 66 ∷ 76 ∷ 50 ∷ []
 
 -- how many entries fill a sector
-abbrev pub most : Version → ℕ
-most One = entries_per_old_sector
-most Two = entries_per_sector
+abbrev pub entries_of_full_sector : Version → ℕ
+entries_of_full_sector One = entries_per_old_sector
+entries_of_full_sector Two = entries_per_sector
 
 -- the bytes of an entry
 abbrev pub width : Version → ℕ
@@ -35,7 +35,7 @@ width One = 5
 width Two = 6
 
 -- an entry as it is read: a frame of the first version is a run of one, and one that is no frame has length zero
-abbrev pub stored : Version → List ℕ → Stored
+abbrev pub stored : Version → List ℕ → StoredEntry
 stored One bytes = record {
   code = if byte 0 bytes == 0
       then 0 ∷ byte 1 bytes ∷ (if zeros (drop 2 bytes) then 1 else 0) ∷ 0 ∷ 0 ∷ 0 ∷ []
@@ -50,36 +50,36 @@ count_in sector = from_le_bytes w16 (take 2 (drop 6 sector))
 -- a log sector that stands at this index of the log
 abbrev pub is_log_sector : Version → ℕ → List ℕ → Bool
 is_log_sector version index sector =
-    begins_with (log_magic version) sector && from_le_bytes w16 (take 2 (drop 4 sector)) == index && nat_lt 0 (count_in sector) && nat_le (count_in sector) (most version)
+    begins_with (log_magic version) sector && from_le_bytes w16 (take 2 (drop 4 sector)) == index && nat_lt 0 (count_in sector) && nat_le (count_in sector) (entries_of_full_sector version)
 
 -- the first n entries of these bytes
-abbrev pub entries_from : Version → ℕ → List ℕ → List Stored
+abbrev pub entries_from : Version → ℕ → List ℕ → List StoredEntry
 entries_from version zero bytes = []
 entries_from version (suc n) bytes = stored version (take (width version) bytes) ∷ entries_from version n (drop (width version) bytes)
 
 -- the entries of a sector at this index, none if it is not valid there
-abbrev pub entries_at : Version → ℕ → List ℕ → List Stored
+abbrev pub entries_at : Version → ℕ → List ℕ → List StoredEntry
 entries_at version index sector = if is_log_sector version index sector then entries_from version (count_in sector) (drop 8 sector) else []
 
 -- the entries of these sectors from that index on, up to the first sector that is not full
-abbrev pub log_from : Version → ℕ → List (List ℕ) → List Stored
+abbrev pub log_from : Version → ℕ → List (List ℕ) → List StoredEntry
 log_from version index [] = []
 log_from version index (s ∷ sectors) =
-    entries_at version index s ++ (if length (entries_at version index s) == most version then log_from version (suc index) sectors else [])
+    entries_at version index s ++ (if length (entries_at version index s) == entries_of_full_sector version then log_from version (suc index) sectors else [])
 
 -- the sector of the second version at this index with these entries; blank with none
-abbrev pub log_sector : ℕ → List Stored → List ℕ
+abbrev pub log_sector : ℕ → List StoredEntry → List ℕ
 log_sector index [] = replicate 512 0
 log_sector index (e ∷ es) =
-    log_magic Two ++ to_le_bytes w16 index ++ to_le_bytes w16 (length (e ∷ es)) ++ flat_map (λ (x : Stored). x.code) (e ∷ es) ++ replicate (504 - 6 * length (e ∷ es)) 0
+    log_magic Two ++ to_le_bytes w16 index ++ to_le_bytes w16 (length (e ∷ es)) ++ flat_map (λ (x : StoredEntry). x.code) (e ∷ es) ++ replicate (504 - 6 * length (e ∷ es)) 0
 
 -- n log sectors from this index on with these entries, as many in each as fit, and then blank ones
-abbrev pub log_sectors : ℕ → ℕ → List Stored → List (List ℕ)
+abbrev pub log_sectors : ℕ → ℕ → List StoredEntry → List (List ℕ)
 log_sectors zero index entries = []
 log_sectors (suc n) index entries = log_sector index (take entries_per_sector entries) ∷ log_sectors n (suc index) (drop entries_per_sector entries)
 
 -- the log sectors of an area with these entries
-unfoldable pub log_area : List Stored → List (List ℕ)
+unfoldable pub log_area : List StoredEntry → List (List ℕ)
 log_area entries = log_sectors log_sectors_per_area 0 entries
 
 -- these bytes, and zeros up to a whole sector

@@ -4,7 +4,7 @@ use Rattle.std.proofs.Props.{props}
 use Rattle.sector_device.specs.DiskState.{DiskState, Settled, Throughout, Remembers, NoNewImage, NoLostImage}
 use Rattle.sector_log.specs.Content.{chosen, content}
 use Rattle.sector_log.specs.Found.{log_of, is_too_small, blob_in}
-use Rattle.sector_log.specs.declared.Stored.{Stored}
+use Rattle.sector_log.specs.declared.StoredEntry.{StoredEntry}
 use Rattle.sector_log.specs.declared.root.Root.{Root}
 
 -- nothing was written
@@ -17,16 +17,16 @@ pub record LooksOnly (old now : DiskState) : Type 0 where
   pub past : Remembers old now
 
 -- one image is left; it has this chosen root, and this log unless it is damaged in length
-pub record IsFound (now : DiskState) (root : Option Root) (too_small : Bool) (log : List Stored) : Type 0 where
+pub record IsFound (now : DiskState) (root : Option Root) (too_small : Bool) (log : List StoredEntry) : Type 0 where
   pub settled : Settled now
   pub chosen_is : chosen now.sectors ≡ root
   pub too_small_is : is_too_small (content now.sectors) ≡ too_small
   pub log_is : log_of (content now.sectors) ≡ log
 
-abbrev pub FoundIs : DiskState → Option Root → Bool → List Stored → Type 0
+abbrev pub FoundIs : DiskState → Option Root → Bool → List StoredEntry → Type 0
 FoundIs now root too_small log = now.honest → IsFound now root too_small log
 
-pub found_prop : (now : DiskState) (root : Option Root) (too_small : Bool) (log : List Stored) → IsProp (FoundIs now root too_small log)
+pub found_prop : (now : DiskState) (root : Option Root) (too_small : Bool) (log : List StoredEntry) → IsProp (FoundIs now root too_small log)
 found_prop now root too_small log = hlevel props
 
 abbrev pub BlobIs : DiskState → ℕ → Bool → List ℕ → Type 0

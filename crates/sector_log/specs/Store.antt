@@ -8,11 +8,11 @@ use Rattle.sector_log.specs.Layout.{replaced}
 use Rattle.sector_log.specs.Log.{log_area}
 use Rattle.sector_log.specs.Inputs.{inputs, is_entry}
 use Rattle.sector_log.specs.Sizes.{log_sectors_per_area, most_entries, most_inputs}
-use Rattle.sector_log.specs.declared.Stored.{Stored}
+use Rattle.sector_log.specs.declared.StoredEntry.{StoredEntry}
 use Rattle.sector_log.specs.declared.root.Version.TheVariants.{Two}
 
 -- one image is left; its chosen root's area begins at `start`, holds the whole blob, and has exactly this log
-pub record IsStored (now : DiskState) (start : ℕ) (root : Root) (log : List Stored) : Type 0 where
+pub record IsStored (now : DiskState) (start : ℕ) (root : Root) (log : List StoredEntry) : Type 0 where
   pub version_is : root.version ≡ Two
   pub settled : Settled now
   pub chosen_is : chosen now.sectors ≡ Some root
@@ -21,28 +21,28 @@ pub record IsStored (now : DiskState) (start : ℕ) (root : Root) (log : List St
   pub fits : log_sectors_per_area + blob_sectors root.blob_length ≤ area_length now.sectors
   pub log_is : now.sectors ≡ replaced start (log_area log) now.sectors
 
-abbrev pub StoredUnlessBroken : DiskState → ℕ → Root → List Stored → Bool → Type 0
+abbrev pub StoredUnlessBroken : DiskState → ℕ → Root → List StoredEntry → Bool → Type 0
 StoredUnlessBroken now start root log broken = broken ≡ false → now.honest → IsStored now start root log
 
-pub stored_prop : (now : DiskState) (start : ℕ) (root : Root) (log : List Stored) (broken : Bool) → IsProp (StoredUnlessBroken now start root log broken)
+pub stored_prop : (now : DiskState) (start : ℕ) (root : Root) (log : List StoredEntry) (broken : Bool) → IsProp (StoredUnlessBroken now start root log broken)
 stored_prop now start root log broken = hlevel props
 
 -- each entry has its six bytes
-abbrev pub HaveSix : List Stored → Type 0
+abbrev pub HaveSix : List StoredEntry → Type 0
 HaveSix log = (k : ℕ) → k < length log → length (slice_index_or log k (record { code = [] })).code ≡ 6
 
 -- each entry stands for inputs
-abbrev pub StandForInputs : List Stored → Type 0
+abbrev pub StandForInputs : List StoredEntry → Type 0
 StandForInputs log = (k : ℕ) → k < length log → is_entry (slice_index_or log k (record { code = [] })) ≡ true
 
 -- what a store keeps of its log
-pub record Kept (log : List Stored) : Type 0 where
+pub record Kept (log : List StoredEntry) : Type 0 where
   pub six : HaveSix log
   pub entries : StandForInputs log
   pub few : length (inputs log) ≤ most_inputs
   pub small : length log ≤ most_entries
 
-pub kept_prop : (log : List Stored) → IsProp (Kept log)
+pub kept_prop : (log : List StoredEntry) → IsProp (Kept log)
 kept_prop log = hlevel props
 
 -- its numbers have their widths

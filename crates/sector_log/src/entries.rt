@@ -5,7 +5,7 @@ ghost use Rattle.sector_log.specs.Sizes.{most_entries, most_inputs};
 
 use crate::parse::is_zeros;
 use crate::sizes::ENTRIES_PER_SECTOR;
-use crate::{Entry, Stored};
+use crate::{Entry, StoredEntry};
 
 /// Whether the entry is a frame or seconds.
 #[tactic(auto, unfolding(crate::specs::Inputs::is_input))]
@@ -35,16 +35,16 @@ pub fn are_inputs(entries: &[Entry]) -> bool
 }
 
 /// An entry for one input.
-pub(crate) fn single(entry: &Entry) -> Stored
+pub(crate) fn single(entry: &Entry) -> StoredEntry
     ensures { result ≡ single entry.now }
 {
     let code = entry.code;
     if code[0] == 0 {
-        Stored {
+        StoredEntry {
             code: [0, code[1], 1, 0, 0, 0],
         }
     } else {
-        Stored {
+        StoredEntry {
             code: [code[0], code[1], code[2], code[3], code[4], 0],
         }
     }
@@ -52,7 +52,7 @@ pub(crate) fn single(entry: &Entry) -> Stored
 
 /// Whether the input is one more frame of the run.
 #[tactic(auto, unfolding(crate::specs::Inputs::joins))]
-pub(crate) fn joins(last: &Stored, entry: &Entry) -> bool
+pub(crate) fn joins(last: &StoredEntry, entry: &Entry) -> bool
     ensures { result ≡ joins last.now entry.now }
 {
     if last.code[0] != 0 {
@@ -65,7 +65,7 @@ pub(crate) fn joins(last: &Stored, entry: &Entry) -> bool
 }
 
 /// The same for the last entry, if there is one.
-fn joins_last(last: &Option<Stored>, input: &Entry) -> bool
+fn joins_last(last: &Option<StoredEntry>, input: &Entry) -> bool
     ensures { result ≡ joins_last last.now input.now }
 {
     match last {
@@ -75,20 +75,20 @@ fn joins_last(last: &Option<Stored>, input: &Entry) -> bool
 }
 
 /// The run, one frame longer.
-pub(crate) fn longer(run: &Stored) -> Stored
+pub(crate) fn longer(run: &StoredEntry) -> StoredEntry
     requires { run_length run.now + 1 < 2 ^ 32 }
     ensures { result ≡ longer run.now }
 {
     let code = run.code;
     let times = u32::from_le_bytes([code[2], code[3], code[4], code[5]]) + 1;
     let bytes = times.to_le_bytes();
-    Stored {
+    StoredEntry {
         code: [0, code[1], bytes[0], bytes[1], bytes[2], bytes[3]],
     }
 }
 
 /// Adds one input; the first `sealed` entries stay as they are.
-fn add_input(log: &mut Vec<Stored>, sealed: usize, input: &Entry)
+fn add_input(log: &mut Vec<StoredEntry>, sealed: usize, input: &Entry)
     requires sealed { sealed ≤ length log.old.items }
     requires room { length (with_input (drop sealed log.old.items) input.now) + sealed ≤ vec_capacity log.old }
     requires entries { all_entries log.old.items }
@@ -110,7 +110,7 @@ fn add_input(log: &mut Vec<Stored>, sealed: usize, input: &Entry)
 }
 
 /// Adds inputs after the entries of full sectors, which stay as they are.
-pub(crate) fn add_inputs(log: &mut Vec<Stored>, more: &[Entry])
+pub(crate) fn add_inputs(log: &mut Vec<StoredEntry>, more: &[Entry])
     requires room { length (grown log.old.items more.now) ≤ vec_capacity log.old }
     requires entries { all_entries log.old.items }
     requires few { length (inputs log.old.items) + length more.now ≤ most_inputs }
@@ -126,7 +126,7 @@ pub(crate) fn add_inputs(log: &mut Vec<Stored>, more: &[Entry])
 }
 
 /// How many entries a log has once these inputs are added.
-pub(crate) fn grown_length(log: &[Stored], more: &[Entry]) -> usize
+pub(crate) fn grown_length(log: &[StoredEntry], more: &[Entry]) -> usize
     requires log { length log.now ≤ most_entries }
     requires more { length more.now ≤ most_inputs }
     ensures { result ≡ length (grown log.now more.now) }

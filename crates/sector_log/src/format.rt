@@ -7,12 +7,12 @@ ghost use Rattle.sector_log.specs.declared.root.Version.TheVariants.{Two};
 ghost use Rattle.sector_log.specs.Log.{log_sector, padded, fresh_area};
 ghost use Rattle.sector_log.specs.Sizes.{entries_per_sector, log_sectors_per_area};
 
-use crate::Stored;
+use crate::StoredEntry;
 use crate::root::Root;
 use crate::sizes::LOG_SECTORS_PER_AREA;
 
 /// The log sector at this index with these entries; blank if there are none.
-pub(crate) fn log_sector(index: u16, entries: &[Stored]) -> [u8; 512]
+pub(crate) fn log_sector(index: u16, entries: &[StoredEntry]) -> [u8; 512]
     requires { length entries.now ≤ entries_per_sector }
     ensures { result ≡ log_sector index entries.now }
 {

@@ -3,12 +3,12 @@ ghost use Rattle.std.specs.Prelude.{◌≡◌, ◌≤◌, ◌<◌, ◌+◌, ◌^
 ghost use Rattle.sector_log.specs.Inputs.{is_run, is_seconds, run_length, is_entry, inputs_in, counted};
 ghost use Rattle.sector_log.specs.Sizes.{most_entries_read, most_inputs};
 
-use crate::Stored;
+use crate::StoredEntry;
 use crate::sizes::MOST_INPUTS;
 
 /// What the chosen root says.
 #[derive(Clone, Copy, Debug, PartialEq, Eq)]
-pub struct Content {
+pub struct Header {
     /// What `begin` was given: in this project, the SHA-256 of the ROM.
     pub id: [u8; 32],
     /// The count of inputs before the blob.
@@ -35,19 +35,19 @@ pub enum Part {
 pub enum Found {
     /// There is no valid root.
     Nothing,
-    Content(Content),
-    Damaged(Content, Part),
+    Intact(Header),
+    Damaged(Header, Part),
 }
 
 /// The length of a run.
-pub(crate) fn times(entry: &Stored) -> u32
+pub(crate) fn times(entry: &StoredEntry) -> u32
     ensures { result ≡ run_length entry.now }
 {
     let code = entry.code;
     u32::from_le_bytes([code[2], code[3], code[4], code[5]])
 }
 
-pub(crate) fn is_run(entry: &Stored) -> bool
+pub(crate) fn is_run(entry: &StoredEntry) -> bool
     ensures { result ≡ is_run entry.now }
 {
     if entry.code[0] != 0 {
@@ -60,7 +60,7 @@ pub(crate) fn is_run(entry: &Stored) -> bool
     times <= MOST_INPUTS
 }
 
-pub(crate) fn is_seconds(entry: &Stored) -> bool
+pub(crate) fn is_seconds(entry: &StoredEntry) -> bool
     ensures { result ≡ is_seconds entry.now }
 {
     if entry.code[0] != 1 {
@@ -70,7 +70,7 @@ pub(crate) fn is_seconds(entry: &Stored) -> bool
 }
 
 /// How many inputs an entry stands for; 0 if it stands for none.
-pub(crate) fn inputs_of(entry: &Stored) -> u32
+pub(crate) fn inputs_of(entry: &StoredEntry) -> u32
     ensures { result ≡ (if is_entry entry.now then length (inputs_in entry.now) else 0) }
 {
     if is_run(entry) {
@@ -98,7 +98,7 @@ fn counted_with(count: u64, inputs: u32) -> u64
 }
 
 /// How many inputs a log counts.
-pub(crate) fn counted(log: &[Stored]) -> u64
+pub(crate) fn counted(log: &[StoredEntry]) -> u64
     requires { length log.now ≤ most_entries_read }
     ensures { result ≡ counted 0 log.now }
 {

@@ -6,7 +6,7 @@ ghost use Rattle.sector_log.specs.Sizes.{most_entries_read};
 
 use crate::found::{inputs_of, is_run, is_seconds, times};
 use crate::sizes::MOST_INPUTS;
-use crate::{Entry, Stored};
+use crate::{Entry, StoredEntry};
 
 /// What an entry of a log stands for.
 #[derive(Clone, Copy, Debug, PartialEq, Eq)]
@@ -48,7 +48,7 @@ impl Entry {
 }
 
 /// The seconds of an entry that is not a run.
-fn seconds_of(entry: &Stored) -> u32
+fn seconds_of(entry: &StoredEntry) -> u32
     ensures { to_le_bytes w32 result ≡ take 4 (drop 1 entry.now.code) }
 {
     let code = entry.code;
@@ -56,7 +56,7 @@ fn seconds_of(entry: &Stored) -> u32
     u32::from_le_bytes([first, second, third, fourth])
 }
 
-impl Stored {
+impl StoredEntry {
     /// What the entry stands for; `None` if it is neither a run of 1 to 216,000 frames nor seconds.
     pub fn logged(&self) -> Option<Logged>
         ensures none { IsNone result → is_entry self.now ≡ false }
@@ -79,7 +79,7 @@ impl Stored {
 
 /// The index of the first entry of a log that is not an input, or with which there would be more
 /// than 216,000 inputs; `None` if there is none.
-pub fn first_wrong(log: &[Stored]) -> Option<u32>
+pub fn first_wrong(log: &[StoredEntry]) -> Option<u32>
     requires { length log.now ≤ most_entries_read }
     ensures { result ≡ first_wrong log.now }
 {

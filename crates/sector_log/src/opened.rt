@@ -9,9 +9,9 @@ ghost use Rattle.sector_log.specs.Found.{found_in, log_of, blob_in};
 ghost use Rattle.sector_log.specs.Sizes.{most_entries_read};
 ghost use Rattle.sector_log.specs.declared.fault.LogFault.TheVariants.{Memory, Device};
 
-use crate::Stored;
+use crate::StoredEntry;
 use crate::fault::{LogFault, Refused};
-use crate::found::{Content, Found, Part, counted};
+use crate::found::{Found, Header, Part, counted};
 use crate::generation::{begin_generation, refusal};
 use crate::root::{Root, last_generation, sectors_needed};
 use crate::store::Store;
@@ -25,7 +25,7 @@ pub struct Opened<D: SectorDevice> {
     pub(crate) root: Option<Root>,
     /// The area is too small for the blob.
     pub(crate) too_small: bool,
-    pub(crate) log: Vec<Stored>,
+    pub(crate) log: Vec<StoredEntry>,
     pub(crate) most: usize,
     /// The blob was read.
     pub(crate) blob_read: bool,
@@ -49,19 +49,19 @@ impl<D: SectorDevice> Opened<D> {
             return Found::Nothing;
         };
         let id = root.id;
-        let content = Content {
+        let header = Header {
             id,
             base: root.base,
             blob_length: root.blob_length,
         };
         if self.too_small {
             let need = sectors_needed(root.blob_length);
-            return Found::Damaged(content, Part::Length { need });
+            return Found::Damaged(header, Part::Length { need });
         }
         if counted(&self.log) > u64::MAX - root.base {
-            return Found::Damaged(content, Part::Count);
+            return Found::Damaged(header, Part::Count);
         }
-        Found::Content(content)
+        Found::Intact(header)
     }
 
     /// The generation of the chosen root; 0 if there is none.
@@ -74,7 +74,7 @@ impl<D: SectorDevice> Opened<D> {
 
     /// The entries of the log; none if nothing is found or the blob does not fit the area.
     #[tactic(auto, unfolding(crate::specs::Words::seen))]
-    pub fn entries(&self) -> &[Stored]
+    pub fn entries(&self) -> &[StoredEntry]
         ensures seen { result.now ≡ (seen self.now).log }
         ensures reads { (D.disk (device_under self.now)).honest → log_of (content (D.disk (device_under self.now)).sectors) ≡ result.now }
     {

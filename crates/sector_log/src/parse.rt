@@ -1,11 +1,11 @@
 //! What the bytes of sectors say.
 ghost use Rattle.std.specs.Prelude.{◌≡◌, ◌==◌, ◌≤◌, ◌<◌, ◌+◌, ◌*◌, ◌++◌, length, take, drop, Some, None, Bool, true, false, if◌then◌else◌, vec_capacity};
-ghost use Rattle.sector_log.specs.Log.{begins_with, zeros, stored, width, most, count_in, is_log_sector, entries_at};
+ghost use Rattle.sector_log.specs.Log.{begins_with, zeros, stored, width, entries_of_full_sector, count_in, is_log_sector, entries_at};
 ghost use Rattle.sector_log.specs.Sizes.{entries_per_old_sector};
 ghost use Rattle.sector_log.specs.Content.{is_valid_root, root_in, root_front, version_in, newer};
 ghost use Rattle.std.specs.Int.{w16, w32, w64, from_le_bytes};
 
-use crate::Stored;
+use crate::StoredEntry;
 use crate::root::{Root, Version};
 use crate::sizes::{ENTRIES_PER_OLD_SECTOR, ENTRIES_PER_SECTOR};
 
@@ -128,22 +128,22 @@ pub(crate) fn newer(a: Option<Root>, b: Option<Root>) -> Option<Root>
 }
 
 /// An entry as it is read.
-fn read_entry(version: Version, bytes: &[u8]) -> Stored
+fn read_entry(version: Version, bytes: &[u8]) -> StoredEntry
     requires { length bytes.now ≡ width version }
     ensures { result ≡ stored version bytes.now }
 {
     match version {
-        Version::Two => Stored {
+        Version::Two => StoredEntry {
             code: [bytes[0], bytes[1], bytes[2], bytes[3], bytes[4], bytes[5]],
         },
         Version::One => {
             if bytes[0] != 0 {
-                return Stored {
+                return StoredEntry {
                     code: [bytes[0], bytes[1], bytes[2], bytes[3], bytes[4], 0],
                 };
             }
             let times = if is_zeros(&bytes[2..]) { 1 } else { 0 };
-            Stored {
+            StoredEntry {
                 code: [0, bytes[1], times, 0, 0, 0],
             }
         }
@@ -151,7 +151,7 @@ fn read_entry(version: Version, bytes: &[u8]) -> Stored
 }
 
 fn room(version: Version) -> u16
-    ensures { result ≡ most version }
+    ensures { result ≡ entries_of_full_sector version }
 {
     match version {
         Version::One => ENTRIES_PER_OLD_SECTOR as u16,
@@ -171,7 +171,7 @@ fn size(version: Version) -> usize
 /// How many entries a sector at this index of the log has.
 fn entry_count(version: Version, index: u16, sector: &[u8; 512]) -> u16
     ensures count { result ≡ (if is_log_sector version index sector.now then count_in sector.now else 0) }
-    ensures few { result ≤ most version }
+    ensures few { result ≤ entries_of_full_sector version }
 {
     let magic = match version {
         Version::One => b"GBL1",
@@ -195,7 +195,7 @@ fn entry_count(version: Version, index: u16, sector: &[u8; 512]) -> u16
 
 /// Adds the entries of a sector at this index of the log, and answers whether the sector is full.
 pub(crate) fn read_entries(
-    log: &mut Vec<Stored>,
+    log: &mut Vec<StoredEntry>,
     version: Version,
     index: u16,
     sector: &[u8; 512],
@@ -204,7 +204,7 @@ pub(crate) fn read_entries(
     ensures items { log.new.items ≡ log.old.items ++ entries_at version index sector.now }
     ensures capacity { vec_capacity log.old ≤ vec_capacity log.new }
     ensures few { length log.new.items ≤ length log.old.items + entries_per_old_sector }
-    ensures full { result ≡ (length (entries_at version index sector.now) == most version) }
+    ensures full { result ≡ (length (entries_at version index sector.now) == entries_of_full_sector version) }
 {
     let count = entry_count(version, index, sector);
     let width = size(version);

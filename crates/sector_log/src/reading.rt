@@ -8,7 +8,7 @@ ghost use Rattle.sector_log.specs.Found.{blob_in};
 ghost use Rattle.sector_log.specs.Reading.{LooksOnly, IsFound};
 ghost use Rattle.sector_log.specs.Sizes.{log_sectors_per_area, most_entries_read};
 
-use crate::Stored;
+use crate::StoredEntry;
 use crate::parse::{newer, parse_root, read_entries};
 use crate::root::{Root, Version};
 use crate::sizes::LOG_SECTORS_PER_AREA;
@@ -44,7 +44,7 @@ fn read_log<D: SectorDevice>(
     device: &mut D,
     start: u64,
     version: Version,
-    log: &mut Vec<Stored>,
+    log: &mut Vec<StoredEntry>,
 ) -> Result<(), DeviceFault>
     requires room { start + log_sectors_per_area ≤ length (D.disk device.old).sectors }
     requires range { start + log_sectors_per_area < 2 ^ 64 }
@@ -77,7 +77,7 @@ pub(crate) struct Finding {
 /// Syncs, and reads the chosen root and its log. It writes nothing.
 pub(crate) fn look<D: SectorDevice>(
     device: &mut D,
-    log: &mut Vec<Stored>,
+    log: &mut Vec<StoredEntry>,
 ) -> Result<Finding, DeviceFault>
     requires empty { log.old.items ≡ [] }
     requires reserved { most_entries_read ≤ vec_capacity log.old }

@@ -14,7 +14,7 @@ use crate::generation::{begin_generation, refusal};
 use crate::root::Root;
 use crate::sizes::{ENTRIES_PER_SECTOR, MOST_ENTRIES, MOST_INPUTS};
 use crate::writes::{sync_once, write_log};
-use crate::{Entry, Stored};
+use crate::{Entry, StoredEntry};
 use sector_device::{DeviceFault, SectorDevice};
 
 /// The log of a generation that this process began. Inputs can be appended until a call of the
@@ -25,7 +25,7 @@ pub struct Store<D: SectorDevice> {
     /// The first sector of the area.
     start: u64,
     root: Root,
-    log: Vec<Stored>,
+    log: Vec<StoredEntry>,
     /// How many inputs the log stands for.
     input_count: u32,
     broken: bool,
@@ -42,7 +42,7 @@ impl<D: SectorDevice> Store<D> {
     ghost use Rattle.sector_log.specs.Words.{device_of, is_broken, entries_of, generation_of, id_of};
 
     /// The store that a new generation leaves.
-    pub(crate) fn at(device: D, start: u64, root: Root, log: Vec<Stored>) -> Self
+    pub(crate) fn at(device: D, start: u64, root: Root, log: Vec<StoredEntry>) -> Self
         requires placed { start + log_sectors_per_area ≤ length (D.disk device).sectors }
         requires range { start + log_sectors_per_area < 2 ^ 64 }
         requires reserved { most_entries_read ≤ vec_capacity log }

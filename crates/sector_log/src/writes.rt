@@ -6,13 +6,13 @@ ghost use Rattle.sector_log.specs.Log.{log_area, fresh_area};
 ghost use Rattle.sector_log.specs.Layout.{replaced};
 ghost use Rattle.sector_log.specs.Sizes.{entries_per_sector, log_sectors_per_area, most_entries};
 
-use crate::Stored;
+use crate::StoredEntry;
 use crate::format::{area_sector, log_sector};
 use crate::sizes::{ENTRIES_PER_SECTOR, LOG_SECTORS_PER_AREA};
 use sector_device::{DeviceFault, SectorDevice};
 
 /// The entries in the log's sector at this index.
-fn chunk(log: &[Stored], index: u16) -> &[Stored]
+fn chunk(log: &[StoredEntry], index: u16) -> &[StoredEntry]
     requires { length log.now ≤ most_entries }
     ensures { result.now ≡ take entries_per_sector (drop (entries_per_sector * index) log.now) }
 {
@@ -25,7 +25,7 @@ fn chunk(log: &[Stored], index: u16) -> &[Stored]
 pub(crate) fn write_log<D: SectorDevice>(
     device: &mut D,
     start: u64,
-    log: &[Stored],
+    log: &[StoredEntry],
     first: u16,
     end: u16,
 ) -> Result<(), DeviceFault>

@@ -9,7 +9,8 @@ use Rattle.machine.specs.Machine.{MachineState, start, after}
 use Rattle.machine.specs.declared.input.Input.{Input}
 use Rattle.machine.proofs.KeptByInputs.{by_inputs}
 use Rattle.snapshot.specs.Encoding.{encoded}
-use Rattle.snapshot.specs.Legal.{IsMachineOf, IsLegalMachine}
+use Rattle.machine.specs.Legal.{IsLegalMachine}
+use Rattle.snapshot.specs.Legal.{IsMachineOf}
 use Rattle.snapshot.specs.Table.{kind_of_image}
 use Rattle.sector_device.specs.DiskState.{DiskState, Settled, Throughout}
 use Rattle.sector_device.specs.Runs.{HoldsSince}
@@ -17,7 +18,7 @@ use Rattle.sector_device.proofs.Runs.{throughout_then, remembers_then, holds_sin
 use Rattle.sector_log.specs.Calls.{HasLooked, HasBegun, HasOldOrNewContent}
 use Rattle.sector_log.specs.Content.{content, generation_in, new_generation}
 use Rattle.sector_log.specs.Found.{log_of}
-use Rattle.sector_log.specs.declared.Stored.{Stored}
+use Rattle.sector_log.specs.declared.StoredEntry.{StoredEntry}
 use Rattle.sector_log.specs.declared.fault.LogFault.{LogFault}
 use Rattle.sector_log.specs.declared.fault.LogFault.TheVariants.{Memory as LogMemory, Device as LogDevice}
 use Rattle.session.specs.Beginning.{session_fault}
@@ -109,7 +110,7 @@ begun_at_rest rom id written m base old now of few id_is written_is begun = reco
       ∙ (let same = after_none m in λ i. Some (record { count = base + 0; machine = same i }));
 }
 
-pub begun_rests : (id written : List ℕ) (m : MachineState) (base : ℕ) (old now : DiskState) (log : List Stored) → IsMachineOf m.processor.memory.banks.rom m → base < 2 ^ 64 → id ≡ sha256 m.processor.memory.banks.rom → written ≡ encoded m
+pub begun_rests : (id written : List ℕ) (m : MachineState) (base : ℕ) (old now : DiskState) (log : List StoredEntry) → IsMachineOf m.processor.memory.banks.rom m → base < 2 ^ 64 → id ≡ sha256 m.processor.memory.banks.rom → written ≡ encoded m
     → HasBegun old now id base written → log ≡ [] → Rests now log base [] m
 begun_rests id written m base old now log of few id_is written_is begun empty = record {
   at_rest = begun_at_rest m.processor.memory.banks.rom id written m base old now of few id_is written_is begun;

@@ -15,10 +15,10 @@ use Rattle.sector_device.specs.DiskState.{IsSized}
 use Rattle.sector_log.specs.Content.{ImageContent, Body, content, need}
 use Rattle.sector_log.specs.Found.{Seen, seen_in, found_in, found_by, log_of, log_in, blob_in, blob_by}
 use Rattle.sector_log.specs.Inputs.{inputs, counted, first_wrong}
-use Rattle.sector_log.specs.declared.Stored.{Stored}
-use Rattle.sector_log.specs.declared.found.Content.{Content}
+use Rattle.sector_log.specs.declared.StoredEntry.{StoredEntry}
+use Rattle.sector_log.specs.declared.found.Header.{Header}
 use Rattle.sector_log.specs.declared.found.Found.{Found}
-use Rattle.sector_log.specs.declared.found.Found.TheVariants.{Nothing, Content as Sound, Damaged as DamagedLog}
+use Rattle.sector_log.specs.declared.found.Found.TheVariants.{Nothing, Intact, Damaged as DamagedLog}
 use Rattle.sector_log.specs.declared.found.Part.TheVariants.{Length, Count as TooMany}
 use Rattle.sector_log.proofs.FoundLaws.{found_length, found_fits}
 use Rattle.session.specs.Inputs.{logged}
@@ -36,36 +36,36 @@ use Rattle.session.proofs.Beginnings.{own_after, rom_after, own_of_machine}
 -- ---- what was found
 
 -- a sound content, and one whose inputs can't be counted
-pub record FoundSound (held : Option ImageContent) (c : Content) : Type 0 where
+pub record FoundSound (held : Option ImageContent) (c : Header) : Type 0 where
   pub body : Body
   pub is : held ≡ Some (record { header = c; body = Some body })
   pub counts : c.base + counted 0 body.log < 2 ^ 64
 
-pub record FoundUncounted (held : Option ImageContent) (c : Content) : Type 0 where
+pub record FoundUncounted (held : Option ImageContent) (c : Header) : Type 0 where
   pub body : Body
   pub is : held ≡ Some (record { header = c; body = Some body })
   pub many : 2 ^ 64 ≤ c.base + counted 0 body.log
 
-found_whole : (header : Content) (body : Body) (b : Bool) → nat_lt (2 ^ 64 - 1) (header.base + counted 0 body.log) ≡ b → found_by header (Some body) ≡ (if b then DamagedLog header TooMany else Sound header)
-found_whole header body b is = ap (λ (t : Bool). if t then DamagedLog header TooMany else Sound header) is
+found_whole : (header : Header) (body : Body) (b : Bool) → nat_lt (2 ^ 64 - 1) (header.base + counted 0 body.log) ≡ b → found_by header (Some body) ≡ (if b then DamagedLog header TooMany else Intact header)
+found_whole header body b is = ap (λ (t : Bool). if t then DamagedLog header TooMany else Intact header) is
 
-sound_by_body : (header : Content) (body : Option Body) (c : Content) → found_by header body ≡ Sound c → FoundSound (Some (record { header = header; body = body })) c
+sound_by_body : (header : Header) (body : Option Body) (c : Header) → found_by header body ≡ Intact c → FoundSound (Some (record { header = header; body = body })) c
 sound_by_body header None c is = absurd (cc)
 sound_by_body header (Some body) c is =
     elim (cases_Bool (nat_lt (2 ^ 64 - 1) (header.base + counted 0 body.log))) [
-      | inl many ↦ let wrong : DamagedLog header TooMany ≡ Sound c = sym (found_whole header body true many) ∙ is in absurd (cc)
+      | inl many ↦ let wrong : DamagedLog header TooMany ≡ Intact c = sym (found_whole header body true many) ∙ is in absurd (cc)
       | inr few ↦
-          let same : Sound header ≡ Sound c = sym (found_whole header body false few) ∙ is in
+          let same : Intact header ≡ Intact c = sym (found_whole header body false few) ∙ is in
           let header_is : header ≡ c = cc in
           let below : header.base + counted 0 body.log < 2 ^ 64 = let e = few in grind (arith, nat_tests) in
-          record { body = body; is = ap (λ (h : Content). Some (record { header = h; body = Some body })) header_is; counts = subst (λ (h : Content). h.base + counted 0 body.log < 2 ^ 64) header_is below }
+          record { body = body; is = ap (λ (h : Header). Some (record { header = h; body = Some body })) header_is; counts = subst (λ (h : Header). h.base + counted 0 body.log < 2 ^ 64) header_is below }
     ]
 
-pub found_sound : (held : Option ImageContent) (c : Content) → found_in held ≡ Sound c → FoundSound held c
+pub found_sound : (held : Option ImageContent) (c : Header) → found_in held ≡ Intact c → FoundSound held c
 found_sound None c is = absurd (cc)
 found_sound (Some x) c is = sound_by_body x.header x.body c is
 
-uncounted_by_body : (header : Content) (body : Option Body) (c : Content) → found_by header body ≡ DamagedLog c TooMany → FoundUncounted (Some (record { header = header; body = body })) c
+uncounted_by_body : (header : Header) (body : Option Body) (c : Header) → found_by header body ≡ DamagedLog c TooMany → FoundUncounted (Some (record { header = header; body = body })) c
 uncounted_by_body header None c is = absurd (cc)
 uncounted_by_body header (Some body) c is =
     elim (cases_Bool (nat_lt (2 ^ 64 - 1) (header.base + counted 0 body.log))) [
@@ -73,15 +73,15 @@ uncounted_by_body header (Some body) c is =
           let same : DamagedLog header TooMany ≡ DamagedLog c TooMany = sym (found_whole header body true many) ∙ is in
           let header_is : header ≡ c = cc in
           let above : 2 ^ 64 ≤ header.base + counted 0 body.log = let e = many in grind (arith, nat_tests) in
-          record { body = body; is = ap (λ (h : Content). Some (record { header = h; body = Some body })) header_is; many = subst (λ (h : Content). 2 ^ 64 ≤ h.base + counted 0 body.log) header_is above }
-      | inr few ↦ let wrong : Sound header ≡ DamagedLog c TooMany = sym (found_whole header body false few) ∙ is in absurd (cc)
+          record { body = body; is = ap (λ (h : Header). Some (record { header = h; body = Some body })) header_is; many = subst (λ (h : Header). 2 ^ 64 ≤ h.base + counted 0 body.log) header_is above }
+      | inr few ↦ let wrong : Intact header ≡ DamagedLog c TooMany = sym (found_whole header body false few) ∙ is in absurd (cc)
     ]
 
-pub found_uncounted : (held : Option ImageContent) (c : Content) → found_in held ≡ DamagedLog c TooMany → FoundUncounted held c
+pub found_uncounted : (held : Option ImageContent) (c : Header) → found_in held ≡ DamagedLog c TooMany → FoundUncounted held c
 found_uncounted None c is = absurd (cc)
 found_uncounted (Some x) c is = uncounted_by_body x.header x.body c is
 
-short_by_body : (header : Content) (body : Option Body) (c : Content) (n : ℕ) → found_by header body ≡ DamagedLog c (Length n) → IsShort (Some (record { header = header; body = body })) n
+short_by_body : (header : Header) (body : Option Body) (c : Header) (n : ℕ) → found_by header body ≡ DamagedLog c (Length n) → IsShort (Some (record { header = header; body = body })) n
 short_by_body header None c n is =
     let same : DamagedLog header (Length (need header.blob_length)) ≡ DamagedLog c (Length n) = is in
     let needed : need header.blob_length ≡ n = cc in
@@ -89,19 +89,19 @@ short_by_body header None c n is =
 short_by_body header (Some body) c n is =
     elim (cases_Bool (nat_lt (2 ^ 64 - 1) (header.base + counted 0 body.log))) [
       | inl many ↦ let wrong : DamagedLog header TooMany ≡ DamagedLog c (Length n) = sym (found_whole header body true many) ∙ is in absurd (cc)
-      | inr few ↦ let wrong : Sound header ≡ DamagedLog c (Length n) = sym (found_whole header body false few) ∙ is in absurd (cc)
+      | inr few ↦ let wrong : Intact header ≡ DamagedLog c (Length n) = sym (found_whole header body false few) ∙ is in absurd (cc)
     ]
 
-pub found_short : (held : Option ImageContent) (c : Content) (n : ℕ) → found_in held ≡ DamagedLog c (Length n) → IsShort held n
+pub found_short : (held : Option ImageContent) (c : Header) (n : ℕ) → found_in held ≡ DamagedLog c (Length n) → IsShort held n
 found_short None c n is = absurd (cc)
 found_short (Some x) c n is = short_by_body x.header x.body c n is
 
-nothing_by_body : (header : Content) (body : Option Body) → found_by header body ≡ Nothing → ⊥
+nothing_by_body : (header : Header) (body : Option Body) → found_by header body ≡ Nothing → ⊥
 nothing_by_body header None is = cc
 nothing_by_body header (Some body) is =
     elim (cases_Bool (nat_lt (2 ^ 64 - 1) (header.base + counted 0 body.log))) [
       | inl many ↦ let wrong : DamagedLog header TooMany ≡ Nothing = sym (found_whole header body true many) ∙ is in cc
-      | inr few ↦ let wrong : Sound header ≡ Nothing = sym (found_whole header body false few) ∙ is in cc
+      | inr few ↦ let wrong : Intact header ≡ Nothing = sym (found_whole header body false few) ∙ is in cc
     ]
 
 pub found_nothing : (held : Option ImageContent) → found_in held ≡ Nothing → held ≡ None
@@ -145,7 +145,7 @@ longer_blob most size body is =
       | inr long ↦ let e = long in grind (arith, nat_tests)
     ]
 
-module _ (rom : List ℕ) (generation most : ℕ) (held : Option ImageContent) (c : Content) (own : c.id ≡ sha256 rom) (found : FoundSound held c) where
+module _ (rom : List ℕ) (generation most : ℕ) (held : Option ImageContent) (c : Header) (own : c.id ≡ sha256 rom) (found : FoundSound held c) where
   bytes_are : (bytes : List ℕ) → blob_in most held ≡ Some bytes → found.body.blob ≡ bytes
   bytes_are bytes is = kept_blob most c.blob_length found.body bytes (sym (ap (blob_in most) found.is) ∙ is)
 
@@ -190,13 +190,13 @@ cause_found rom generation most image seen why most_is sized is cause =
     (λ header. header_cause rom generation held why (subst (λ (f : Found). IsHeaderCause f (sha256 rom) why) found_is header))
     (⊎_elim
     (λ long.
-    let found = found_sound held long.content (sym found_is ∙ long.found_is) in
+    let found = found_sound held long.header (sym found_is ∙ long.found_is) in
     subst (IsResumeCause rom generation held) (sym long.why_is)
-    (too_long rom generation most held long.content long.id_is found most_is (found_length image (record { header = long.content; body = Some found.body }) found.body sized found.is refl) (sym blob_is ∙ long.none)))
+    (too_long rom generation most held long.header long.id_is found most_is (found_length image (record { header = long.header; body = Some found.body }) found.body sized found.is refl) (sym blob_is ∙ long.none)))
     (λ refusal.
-    let found = found_sound held refusal.content (sym found_is ∙ refusal.found_is) in
-    rebuild_cause rom generation most held refusal.content refusal.id_is found refusal.bytes why (sym blob_is ∙ refusal.blob_is)
-    (subst (λ (l : List Stored). IsRebuildCause rom refusal.bytes l generation why) log_are refusal.cause)))
+    let found = found_sound held refusal.header (sym found_is ∙ refusal.found_is) in
+    rebuild_cause rom generation most held refusal.header refusal.id_is found refusal.bytes why (sym blob_is ∙ refusal.blob_is)
+    (subst (λ (l : List StoredEntry). IsRebuildCause rom refusal.bytes l generation why) log_are refusal.cause)))
     cause
 
 -- what was recovered is what the content stands for
@@ -205,7 +205,7 @@ pub recovered_stands :
     → seen ≡ seen_in most (content image) → IsRecovered rom seen generation count m → stands rom (content image) ≡ Some (record { count = count; machine = m })
 recovered_stands rom generation most count image seen m is recovered =
     let held = content image in
-    let c = recovered.content in
+    let c = recovered.header in
     let rebuilt = recovered.rebuilt in
     let found = found_sound held c (sym (ap (λ (s : Seen). s.found) is) ∙ recovered.found_is) in
     let body = found.body in
@@ -219,10 +219,10 @@ recovered_stands rom generation most count image seen m is recovered =
       snapshot = ap (is_snapshot rom) blob_encoded ∙ encoded_is_snapshot rom rebuilt.snapshot rebuilt.of;
       inputs = sym (ap first_wrong log_are) ∙ rebuilt.inputs_are;
     }) in
-    let count_is : c.base + length (inputs body.log) ≡ count = sym (rebuilt.count_is ∙ ap (λ (l : List Stored). c.base + length (inputs l)) log_are) in
+    let count_is : c.base + length (inputs body.log) ≡ count = sym (rebuilt.count_is ∙ ap (λ (l : List StoredEntry). c.base + length (inputs l)) log_are) in
     let snapshot_is : machine_in rom body.blob ≡ rebuilt.snapshot = ap (machine_in rom) blob_encoded ∙ machine_back rom rebuilt.snapshot rebuilt.of in
     let machine_is : after (machine_in rom body.blob) (logged body.log) ≡ m =
-    ap (λ (n : MachineState). after n (logged body.log)) snapshot_is ∙ ap (λ (l : List Stored). after rebuilt.snapshot (logged l)) (sym log_are) ∙ sym rebuilt.machine_is in
+    ap (λ (n : MachineState). after n (logged body.log)) snapshot_is ∙ ap (λ (l : List StoredEntry). after rebuilt.snapshot (logged l)) (sym log_are) ∙ sym rebuilt.machine_is in
     ap (stands rom) found.is ∙ stands_sound rom c body sound ∙ (λ i. Some (record { count = count_is i; machine = machine_is i }))
 
 -- and its machine is one of this ROM
@@ -240,7 +240,7 @@ pub recovered_fits :
     → IsSized (length image) image → seen ≡ seen_in most (content image) → IsRecovered rom seen generation count m → need (snapshot_length (ram_length_of rom)) ≤ length image
 recovered_fits rom generation most count image seen m sized is recovered =
     let held = content image in
-    let c = recovered.content in
+    let c = recovered.header in
     let rebuilt = recovered.rebuilt in
     let found = found_sound held c (sym (ap (λ (s : Seen). s.found) is) ∙ recovered.found_is) in
     let whole : ImageContent = record { header = c; body = Some found.body } in

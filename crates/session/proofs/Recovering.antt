@@ -9,8 +9,8 @@ use Rattle.snapshot.specs.Legal.{IsMachineOf, IsLegalSnapshot, IsRefusal}
 use Rattle.snapshot.specs.declared.error.SnapError.{SnapError}
 use Rattle.snapshot.proofs.Machines.{encoded_legal, machine_back}
 use Rattle.sector_log.specs.Inputs.{inputs, counted, first_wrong, AreInputs}
-use Rattle.sector_log.specs.declared.Stored.{Stored}
-use Rattle.sector_log.specs.declared.found.Content.{Content}
+use Rattle.sector_log.specs.declared.StoredEntry.{StoredEntry}
+use Rattle.sector_log.specs.declared.found.Header.{Header}
 use Rattle.sector_log.proofs.FoundLaws.{counts_inputs}
 use Rattle.sector_log.proofs.Wrong.{none_wrong}
 use Rattle.session.specs.Inputs.{logged}
@@ -20,14 +20,14 @@ use Rattle.session.specs.declared.error.SessionError.{SessionError}
 use Rattle.session.specs.declared.error.SessionError.TheVariants.{Memory, Device, NoSession, TooSmall, OtherCartridge, Damaged, Worn, Broken, SaveFirst, CountFull, Output}
 
 -- a log of inputs counts as many as it stands for
-pub counted_all : (log : List Stored) → first_wrong log ≡ None → counted 0 log ≡ length (inputs log)
+pub counted_all : (log : List StoredEntry) → first_wrong log ≡ None → counted 0 log ≡ length (inputs log)
 counted_all log none = counts_inputs log ((none_wrong log).0 none)
 
 pub legal_of : (rom bytes : List ℕ) (m : MachineState) → IsMachineOf rom m → encoded m ≡ bytes → IsLegalSnapshot rom bytes
 legal_of rom bytes m of same = subst (λ (t : List ℕ). IsLegalSnapshot rom t) same (encoded_legal rom m of)
 
 -- a refusal of the log behind a legal snapshot
-pub log_cause : (rom bytes : List ℕ) (log : List Stored) (generation : ℕ) (why : SessionError) → IsLegalSnapshot rom bytes → IsLogCause log generation why → IsRebuildCause rom bytes log generation why
+pub log_cause : (rom bytes : List ℕ) (log : List StoredEntry) (generation : ℕ) (why : SessionError) → IsLegalSnapshot rom bytes → IsLogCause log generation why → IsRebuildCause rom bytes log generation why
 log_cause rom bytes log generation Memory legal cause = absurd cause
 log_cause rom bytes log generation Device legal cause = absurd cause
 log_cause rom bytes log generation NoSession legal cause = absurd cause

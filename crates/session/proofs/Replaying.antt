@@ -10,7 +10,7 @@ use Rattle.machine.specs.declared.input.Input.{Input}
 use Rattle.machine.specs.declared.input.Input.TheVariants.{Frame, Seconds}
 use Rattle.sector_log.specs.Inputs.{frame, seconds, is_entry, inputs_in, inputs, wrong_from}
 use Rattle.sector_log.specs.declared.Entry.{Entry}
-use Rattle.sector_log.specs.declared.Stored.{Stored}
+use Rattle.sector_log.specs.declared.StoredEntry.{StoredEntry}
 use Rattle.session.specs.Inputs.{input_of, inputs_of, logged}
 use Rattle.session.proofs.StandsLaws.{after_none, after_one, logged_append}
 
@@ -34,25 +34,25 @@ pub seconds_back : (n : ℕ) → n < 2 ^ 32 → input_of (seconds n) ≡ Seconds
 seconds_back n fits = ap Seconds (from_le_bytes-to_le_bytes_4 n fits)
 
 -- the inputs of an entry by its kind
-pub after_frames : (m after_it : MachineState) (entry : Stored) (buttons times : ℕ) → inputs_in entry ≡ replicate times (frame buttons) → after_it ≡ after m (replicate times (Frame buttons)) → after_it ≡ after m (inputs_of (inputs_in entry))
+pub after_frames : (m after_it : MachineState) (entry : StoredEntry) (buttons times : ℕ) → inputs_in entry ≡ replicate times (frame buttons) → after_it ≡ after m (replicate times (Frame buttons)) → after_it ≡ after m (inputs_of (inputs_in entry))
 after_frames m after_it entry buttons times are is = is ∙ ap (after m) (sym (ap inputs_of are ∙ frames_of buttons times))
 
-pub after_seconds : (m after_it : MachineState) (entry : Stored) (n : ℕ) → n < 2 ^ 32 → inputs_in entry ≡ seconds n ∷ [] → after_it ≡ applied (Seconds n) m → after_it ≡ after m (inputs_of (inputs_in entry))
+pub after_seconds : (m after_it : MachineState) (entry : StoredEntry) (n : ℕ) → n < 2 ^ 32 → inputs_in entry ≡ seconds n ∷ [] → after_it ≡ applied (Seconds n) m → after_it ≡ after m (inputs_of (inputs_in entry))
 after_seconds m after_it entry n fits are is =
     is ∙ sym (after_one m (Seconds n)) ∙ ap (λ (i : Input). after m (i ∷ [])) (sym (seconds_back n fits)) ∙ ap (λ (l : List Entry). after m (inputs_of l)) (sym are)
 
 -- the next entry of a log of which each is an input
-pub record NextEntry (log : List Stored) (k before : ℕ) (entry : Stored) : Type 0 where
+pub record NextEntry (log : List StoredEntry) (k before : ℕ) (entry : StoredEntry) : Type 0 where
   pub is_one : is_entry entry ≡ true
   pub few : before + length (inputs_in entry) ≤ 216000
   pub none : wrong_from (k + 1) (before + length (inputs_in entry)) (drop (k + 1) log) ≡ None
   pub logged_is : logged (drop k log) ≡ inputs_of (inputs_in entry) ++ logged (drop (k + 1) log)
   pub count_is : length (inputs (drop k log)) ≡ length (inputs_in entry) + length (inputs (drop (k + 1) log))
 
-abbrev goes_on : ℕ → Stored → Bool
+abbrev goes_on : ℕ → StoredEntry → Bool
 goes_on before s = is_entry s && nat_le (before + length (inputs_in s)) 216000
 
-pub next_entry : (log : List Stored) (k before : ℕ) (d : Stored) → k < length log → wrong_from k before (drop k log) ≡ None → NextEntry log k before (get_or log k d)
+pub next_entry : (log : List StoredEntry) (k before : ℕ) (d : StoredEntry) → k < length log → wrong_from k before (drop k log) ≡ None → NextEntry log k before (get_or log k d)
 next_entry log k before d less none =
     let s = get_or log k d in
     let next : suc k ≡ k + 1 = omega arith in
@@ -67,7 +67,7 @@ next_entry log k before d less none =
             few = grind (arith, nat_tests);
             none = sym (ap (λ (t : Bool). if t then wrong_from (k + 1) (before + length (inputs_in s)) (drop (k + 1) log) else Some k) holds) ∙ here;
             logged_is = ap logged front ∙ logged_append (inputs_in s) (inputs (drop (k + 1) log));
-            count_is = ap (λ (l : List Stored). length (inputs l)) front ∙ length-append (inputs_in s) (inputs (drop (k + 1) log));
+            count_is = ap (λ (l : List StoredEntry). length (inputs l)) front ∙ length-append (inputs_in s) (inputs (drop (k + 1) log));
           }
       | inr fails ↦
           let wrong : Some k ≡ None = sym (ap (λ (t : Bool). if t then wrong_from (k + 1) (before + length (inputs_in s)) (drop (k + 1) log) else Some k) fails) ∙ here in

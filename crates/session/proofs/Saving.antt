@@ -10,7 +10,8 @@ use Rattle.machine.specs.declared.input.Input.{Input}
 use Rattle.machine.proofs.KeptByInputs.{by_inputs}
 use Rattle.cartridge.specs.Header.{has_rumble, ram_length_of}
 use Rattle.snapshot.specs.Encoding.{encoded}
-use Rattle.snapshot.specs.Legal.{IsMachineOf, IsLegalMachine}
+use Rattle.machine.specs.Legal.{IsLegalMachine}
+use Rattle.snapshot.specs.Legal.{IsMachineOf}
 use Rattle.snapshot.specs.Table.{kind_of_image}
 use Rattle.sector_device.specs.DiskState.{DiskState, Settled}
 use Rattle.sector_device.specs.Runs.{HoldsSince}
@@ -20,7 +21,7 @@ use Rattle.sector_log.specs.Content.{content, generation_in, new_generation}
 use Rattle.sector_log.specs.Found.{log_of}
 use Rattle.sector_log.specs.Inputs.{is_input, grown}
 use Rattle.sector_log.specs.declared.Entry.{Entry}
-use Rattle.sector_log.specs.declared.Stored.{Stored}
+use Rattle.sector_log.specs.declared.StoredEntry.{StoredEntry}
 use Rattle.session.specs.Calls.{IsAtRest, IsSaved}
 use Rattle.session.specs.Inputs.{input_of, inputs_of}
 use Rattle.session.specs.Resting.{IsOfItsRom, Rests}
@@ -63,7 +64,7 @@ listed_more (e ∷ entries) entry all one =
     λ i. parts.0 i && listed_more entries entry parts.1 one i
 
 pub rests_more :
-    (now : DiskState) (log : List Stored) (acknowledged : ℕ) (pending after_it : List Entry) (entry : Entry) (m then : MachineState) (input : Input)
+    (now : DiskState) (log : List StoredEntry) (acknowledged : ℕ) (pending after_it : List Entry) (entry : Entry) (m then : MachineState) (input : Input)
     → Rests now log acknowledged pending m → after_it ≡ pending ++ entry ∷ [] → input_of entry ≡ input → then ≡ applied input m → Rests now log acknowledged after_it then
 rests_more now log acknowledged pending after_it entry m then input rests more input_is is =
     let rom = m.processor.memory.banks.rom in
@@ -88,7 +89,7 @@ rests_more now log acknowledged pending after_it entry m then input rests more i
 -- ---- a save
 
 module _
-    (old : DiskState) (log : List Stored) (acknowledged : ℕ) (pending : List Entry) (m : MachineState) (rests : Rests old log acknowledged pending m)
+    (old : DiskState) (log : List StoredEntry) (acknowledged : ℕ) (pending : List Entry) (m : MachineState) (rests : Rests old log acknowledged pending m)
     (few : acknowledged + length pending < 2 ^ 64) where
   abbrev rom : List ℕ
   rom = m.processor.memory.banks.rom
@@ -136,7 +137,7 @@ module _
   written_within false now id of id_is held = since_weaker held (λ image. ⊎_elim (here image) (whole id image (of refl) id_is))
 
   -- after an append
-  appended_rests : (now : DiskState) (then : List Stored) → IsAppended old now pending → log_of (content now.sectors) ≡ then → Rests now then (acknowledged + length pending) [] m
+  appended_rests : (now : DiskState) (then : List StoredEntry) → IsAppended old now pending → log_of (content now.sectors) ≡ then → Rests now then (acknowledged + length pending) [] m
   appended_rests now then appended reads =
       let all : length (inputs_of pending) ≡ length pending = length-map pending input_of in
       let less : from.position.count + length pending < 2 ^ 64 = omega (arith, all, from.count_is, few) in
@@ -149,14 +150,14 @@ module _
         log_is = reads;
       }
 
-  pub written_rests : (fits : Bool) (now : DiskState) (id : List ℕ) (then : List Stored) → (fits ≡ false → IsMachineOf rom m) → id ≡ sha256 rom
+  pub written_rests : (fits : Bool) (now : DiskState) (id : List ℕ) (then : List StoredEntry) → (fits ≡ false → IsMachineOf rom m) → id ≡ sha256 rom
       → IsWritten fits old now pending id (acknowledged + length pending) (encoded m) log then → Rests now then (acknowledged + length pending) [] m
   written_rests true now id then of id_is written = appended_rests now then written.0 written.2
   written_rests false now id then of id_is written = begun_rests id (encoded m) m (acknowledged + length pending) old now then (of refl) few id_is refl written.0 written.1
 
-  pub written_saved : (fits : Bool) (now : DiskState) (id : List ℕ) (then : List Stored) → id ≡ sha256 rom
+  pub written_saved : (fits : Bool) (now : DiskState) (id : List ℕ) (then : List StoredEntry) → id ≡ sha256 rom
       → IsWritten fits old now pending id (acknowledged + length pending) (encoded m) log then → IsSaved fits rom (acknowledged + length pending) m pending old.sectors now.sectors
-  written_saved true now id then id_is written = (written.0.adds, written.2 ∙ written.1 ∙ ap (λ (l : List Stored). grown l pending) (sym rests.log_is), written.0.generation_is)
+  written_saved true now id then id_is written = (written.0.adds, written.2 ∙ written.1 ∙ ap (λ (l : List StoredEntry). grown l pending) (sym rests.log_is), written.0.generation_is)
   written_saved false now id then id_is written =
       (written.0.holds.content_is ∙ ap (λ (i : List ℕ). Some (new_generation i (acknowledged + length pending) (encoded m))) id_is, written.0.holds.generation_is)
 
@@ -175,7 +176,7 @@ module _
 
   -- the same where entries and count have other names
   module _ (test : List Entry → Bool) (now : DiskState) (id : List ℕ) (entries : List Entry) (all : ℕ) (entries_are : entries ≡ pending) (all_is : all ≡ acknowledged + length pending) (id_is : id ≡ sha256 rom) where
-    renamed : (then : List Stored) → IsWritten (test entries) old now entries id all (encoded m) log then → IsWritten (test pending) old now pending id (acknowledged + length pending) (encoded m) log then
+    renamed : (then : List StoredEntry) → IsWritten (test entries) old now entries id all (encoded m) log then → IsWritten (test pending) old now pending id (acknowledged + length pending) (encoded m) log then
     renamed then written =
         subst (λ (l : List Entry). IsWritten (test l) old now l id (acknowledged + length pending) (encoded m) log then) entries_are
         (subst (λ (n : ℕ). IsWritten (test entries) old now entries id n (encoded m) log then) all_is written)
@@ -183,14 +184,14 @@ module _
     legal_then : (test entries ≡ false → IsMachineOf rom m) → test pending ≡ false → IsMachineOf rom m
     legal_then of e = of (ap test entries_are ∙ e)
 
-    pub rests_after : (then : List Stored) (cleared : List Entry) → cleared ≡ [] → (test entries ≡ false → IsMachineOf rom m)
+    pub rests_after : (then : List StoredEntry) (cleared : List Entry) → cleared ≡ [] → (test entries ≡ false → IsMachineOf rom m)
         → IsWritten (test entries) old now entries id all (encoded m) log then → Rests now then all cleared m
     rests_after then cleared empty of written =
         subst (λ (n : ℕ). Rests now then n cleared m) (sym all_is)
         (subst (λ (l : List Entry). Rests now then (acknowledged + length pending) l m) (sym empty)
         (written_rests (test pending) now id then (legal_then of) id_is (renamed then written)))
 
-    pub saved_after : (then : List Stored) → IsWritten (test entries) old now entries id all (encoded m) log then → IsSaved (test pending) rom all m pending old.sectors now.sectors
+    pub saved_after : (then : List StoredEntry) → IsWritten (test entries) old now entries id all (encoded m) log then → IsSaved (test pending) rom all m pending old.sectors now.sectors
     saved_after then written =
         subst (λ (n : ℕ). IsSaved (test pending) rom n m pending old.sectors now.sectors) (sym all_is) (written_saved (test pending) now id then id_is (renamed then written))
 

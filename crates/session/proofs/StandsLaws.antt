@@ -22,8 +22,8 @@ use Rattle.sector_log.specs.Calls.{Adds}
 use Rattle.sector_log.specs.Content.{ImageContent, Body, content, new_generation}
 use Rattle.sector_log.specs.Inputs.{inputs, counted, first_wrong, AreInputs}
 use Rattle.sector_log.specs.declared.Entry.{Entry}
-use Rattle.sector_log.specs.declared.Stored.{Stored}
-use Rattle.sector_log.specs.declared.found.Content.{Content}
+use Rattle.sector_log.specs.declared.StoredEntry.{StoredEntry}
+use Rattle.sector_log.specs.declared.found.Header.{Header}
 use Rattle.sector_log.proofs.FoundLaws.{counts_inputs}
 use Rattle.sector_log.proofs.Wrong.{none_wrong}
 use Rattle.session.specs.Inputs.{input_of, inputs_of, logged}
@@ -61,7 +61,7 @@ encoded_is_snapshot rom m of = legal_is_snapshot rom (encoded m) (encoded_legal 
 
 -- ---- sound contents
 
-pub record Soundness (rom : List ℕ) (header : Content) (body : Body) : Type 0 where
+pub record Soundness (rom : List ℕ) (header : Header) (body : Body) : Type 0 where
   pub id : bytes_eq header.id (sha256 rom) ≡ true
   pub count : header.base + counted 0 body.log < 2 ^ 64
   pub snapshot : is_snapshot rom body.blob ≡ true
@@ -71,29 +71,29 @@ none_of : (o : Option ℕ) → is_none o ≡ true → o ≡ None
 none_of None e = refl
 none_of (Some n) e = absurd (cc)
 
-pub soundness : (rom : List ℕ) (header : Content) (body : Body) → is_sound rom header body ≡ true → Soundness rom header body
+pub soundness : (rom : List ℕ) (header : Header) (body : Body) → is_sound rom header body ≡ true → Soundness rom header body
 soundness rom header body sound =
     let a = and_parts _ _ sound in
     let b = and_parts _ _ a.1 in
     let c = and_parts _ _ b.1 in
     record { id = a.0; count = ltb-true _ _ b.0; snapshot = c.0; inputs = none_of (first_wrong body.log) c.1 }
 
-pub sound_by : (rom : List ℕ) (header : Content) (body : Body) → Soundness rom header body → is_sound rom header body ≡ true
+pub sound_by : (rom : List ℕ) (header : Header) (body : Body) → Soundness rom header body → is_sound rom header body ≡ true
 sound_by rom header body s =
     λ i. s.id i && (lt-ltb (header.base + counted 0 body.log) (2 ^ 64) s.count i && (s.snapshot i && is_none (s.inputs i)))
 
 -- ---- what they stand for
 
-pub stands_sound : (rom : List ℕ) (header : Content) (body : Body) → is_sound rom header body ≡ true → stands rom (Some (record { header = header; body = Some body })) ≡ Some (position_in rom header body)
+pub stands_sound : (rom : List ℕ) (header : Header) (body : Body) → is_sound rom header body ≡ true → stands rom (Some (record { header = header; body = Some body })) ≡ Some (position_in rom header body)
 unfolding stands
 stands_sound rom header body sound = λ i. if sound i then Some (position_in rom header body) else None
 
 -- what stands for something is sound
-pub record Standing (rom : List ℕ) (header : Content) (body : Body) (from : Position) : Type 0 where
+pub record Standing (rom : List ℕ) (header : Header) (body : Body) (from : Position) : Type 0 where
   pub sound : is_sound rom header body ≡ true
   pub position : position_in rom header body ≡ from
 
-pub standing : (rom : List ℕ) (header : Content) (body : Body) (from : Position) → stands rom (Some (record { header = header; body = Some body })) ≡ Some from → Standing rom header body from
+pub standing : (rom : List ℕ) (header : Header) (body : Body) (from : Position) → stands rom (Some (record { header = header; body = Some body })) ≡ Some from → Standing rom header body from
 unfolding stands
 standing rom header body from is =
     elim (cases_Bool (is_sound rom header body)) [
@@ -134,7 +134,7 @@ more_stands rom old new more from adds is few =
 -- a snapshot of a machine
 pub new_stands : ASnapshotStandsForItsMachine
 new_stands rom m base of few =
-    let header : Content = record { id = sha256 rom; base = base; blob_length = length (encoded m) } in
+    let header : Header = record { id = sha256 rom; base = base; blob_length = length (encoded m) } in
     let body : Body = record { blob = encoded m; log = [] } in
     let same : bytes_eq (sha256 rom) (sha256 rom) ≡ true = (bytes_eq-Decides (sha256 rom) (sha256 rom)).1 refl in
     let sound : is_sound rom header body ≡ true = sound_by rom header body (record { id = same; count = omega (arith, few); snapshot = encoded_is_snapshot rom m of; inputs = refl }) in

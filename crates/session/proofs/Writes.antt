@@ -10,7 +10,7 @@ use Rattle.sector_log.specs.Content.{content, need, new_generation}
 use Rattle.sector_log.specs.Found.{log_of}
 use Rattle.sector_log.specs.Inputs.{is_input, all_input, grown}
 use Rattle.sector_log.specs.declared.Entry.{Entry}
-use Rattle.sector_log.specs.declared.Stored.{Stored}
+use Rattle.sector_log.specs.declared.StoredEntry.{StoredEntry}
 use Rattle.sector_log.specs.declared.fault.LogFault.{LogFault}
 use Rattle.sector_log.specs.declared.fault.LogFault.TheVariants.{Memory, Device, TooSmall, Worn, LogFull, Broken}
 use Rattle.session.specs.Writing.{HoldsWritten, IsWritten}
@@ -32,12 +32,12 @@ since_replaced {old} {now} {id} {all} {written} {blob} fits entries is same held
     subst (λ (b : Bool). HoldsSince old now (HoldsWritten b old.sectors entries id all blob)) (sym is)
     (since_weaker held (λ image. ⊎_elim (λ stays. inl stays.content_is) (λ new. inr (new.content_is ∙ ap (λ (b : List ℕ). Some (new_generation id all b)) same))))
 
-pub written_behind : (fits : Bool) (old new : DiskState) (entries : List Entry) (id : List ℕ) (all : ℕ) (blob : List ℕ) (log after : List Stored) → fits ≡ true
+pub written_behind : (fits : Bool) (old new : DiskState) (entries : List Entry) (id : List ℕ) (all : ℕ) (blob : List ℕ) (log after : List StoredEntry) → fits ≡ true
     → IsAppended old new entries → after ≡ grown log entries → log_of (content new.sectors) ≡ after → IsWritten fits old new entries id all blob log after
 written_behind fits old new entries id all blob log after is appended entries_are reads =
     subst (λ b. IsWritten b old new entries id all blob log after) (sym is) (appended, entries_are, reads)
 
-pub written_anew : (fits : Bool) (old new : DiskState) (entries : List Entry) (id : List ℕ) (all : ℕ) (written blob : List ℕ) (log after : List Stored) → fits ≡ false
+pub written_anew : (fits : Bool) (old new : DiskState) (entries : List Entry) (id : List ℕ) (all : ℕ) (written blob : List ℕ) (log after : List StoredEntry) → fits ≡ false
     → written ≡ blob → HasBegun old new id all written → after ≡ [] → IsWritten fits old new entries id all blob log after
 written_anew fits old new entries id all written blob log after is same begun empty =
     subst (λ b. IsWritten b old new entries id all blob log after) (sym is) (subst (λ b. HasBegun old new id all b) same begun, empty)

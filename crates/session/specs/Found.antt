@@ -6,7 +6,7 @@ use Rattle.snapshot.specs.declared.error.SnapError.TheVariants.{Memory as NoMemo
 use Rattle.snapshot.specs.Legal.{IsLegalSnapshot, IsRefusal}
 use Rattle.sector_log.specs.Content.{ImageContent, Body, need}
 use Rattle.sector_log.specs.Inputs.{counted, first_wrong}
-use Rattle.sector_log.specs.declared.found.Content.{Content}
+use Rattle.sector_log.specs.declared.found.Header.{Header}
 use Rattle.session.specs.declared.error.Damage.{Damage}
 use Rattle.session.specs.declared.error.Damage.TheVariants.{Count, Snapshot, Entry}
 use Rattle.session.specs.declared.error.SessionError.{SessionError}
@@ -14,27 +14,27 @@ use Rattle.session.specs.declared.error.SessionError.TheVariants.{Memory, Device
 
 -- the blob does not fit an area, which would need so many sectors
 pub record IsShort (held : Option ImageContent) (needed : ℕ) : Type 0 where
-  pub header : Content
+  pub header : Header
   pub is : held ≡ Some (record { header = header; body = None })
   pub needed_is : needed ≡ need header.blob_length
 
 -- the blob fits, and this holds of header and body
-pub record IsWhole (held : Option ImageContent) (P : Content → Body → Type 0) : Type 0 where
-  pub header : Content
+pub record IsWhole (held : Option ImageContent) (P : Header → Body → Type 0) : Type 0 where
+  pub header : Header
   pub body : Body
   pub is : held ≡ Some (record { header = header; body = Some body })
   pub holds : P header body
 
 -- the content is of this ROM
-abbrev pub IsOfRom : (rom : List ℕ) → Content → Type 0
+abbrev pub IsOfRom : (rom : List ℕ) → Header → Type 0
 IsOfRom rom header = header.id ≡ sha256 rom
 
 -- it is of this ROM, and its inputs can be counted
-abbrev pub IsCounted : (rom : List ℕ) → Content → Body → Type 0
+abbrev pub IsCounted : (rom : List ℕ) → Header → Body → Type 0
 IsCounted rom header body = IsOfRom rom header × (header.base + counted 0 body.log < 2 ^ 64)
 
 -- so it is, and the blob is a legal snapshot
-abbrev pub HasSnapshot : (rom : List ℕ) → Content → Body → Type 0
+abbrev pub HasSnapshot : (rom : List ℕ) → Header → Body → Type 0
 HasSnapshot rom header body = IsCounted rom header body × IsLegalSnapshot rom body.blob
 
 -- each damage comes only where nothing before it holds

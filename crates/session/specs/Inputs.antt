@@ -4,7 +4,7 @@ use Rattle.std.specs.Int.{w32, from_le_bytes}
 use Rattle.machine.specs.declared.input.Input.{Input}
 use Rattle.machine.specs.declared.input.Input.TheVariants.{Frame, Seconds}
 use Rattle.sector_log.specs.declared.Entry.{Entry}
-use Rattle.sector_log.specs.declared.Stored.{Stored}
+use Rattle.sector_log.specs.declared.StoredEntry.{StoredEntry}
 use Rattle.sector_log.specs.Inputs.{frame, seconds, inputs}
 use Rattle.sector_log.specs.Log.{byte}
 
@@ -21,5 +21,5 @@ abbrev pub inputs_of : List Entry → List Input
 inputs_of entries = map input_of entries
 
 -- the inputs that a log stands for, each frame of a run as one
-abbrev pub logged : List Stored → List Input
+abbrev pub logged : List StoredEntry → List Input
 logged log = inputs_of (inputs log)

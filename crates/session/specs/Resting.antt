@@ -8,7 +8,7 @@ use Rattle.sector_device.specs.DiskState.{DiskState, Settled}
 use Rattle.sector_log.specs.Content.{content}
 use Rattle.sector_log.specs.Found.{log_of}
 use Rattle.sector_log.specs.declared.Entry.{Entry}
-use Rattle.sector_log.specs.declared.Stored.{Stored}
+use Rattle.sector_log.specs.declared.StoredEntry.{StoredEntry}
 use Rattle.session.specs.Inputs.{inputs_of}
 use Rattle.session.specs.Stands.{Position, stands, further}
 use Rattle.session.specs.Calls.{IsAtRest}
@@ -22,12 +22,12 @@ pub record IsOfItsRom (m : MachineState) : Type 0 where
 pub own_prop : (m : MachineState) → IsProp (IsOfItsRom m)
 own_prop m = hlevel props
 
-pub record Rests (now : DiskState) (log : List Stored) (acknowledged : ℕ) (pending : List Entry) (machine : MachineState) : Type 0 where
+pub record Rests (now : DiskState) (log : List StoredEntry) (acknowledged : ℕ) (pending : List Entry) (machine : MachineState) : Type 0 where
   pub at_rest : IsAtRest machine.processor.memory.banks.rom now acknowledged pending machine
   pub log_is : log_of (content now.sectors) ≡ log
 
-abbrev pub RestsUnlessBroken : DiskState → List Stored → ℕ → List Entry → MachineState → Bool → Type 0
+abbrev pub RestsUnlessBroken : DiskState → List StoredEntry → ℕ → List Entry → MachineState → Bool → Type 0
 RestsUnlessBroken now log acknowledged pending machine broken = broken ≡ false → now.honest → Rests now log acknowledged pending machine
 
-pub rests_prop : (now : DiskState) (log : List Stored) (acknowledged : ℕ) (pending : List Entry) (machine : MachineState) (broken : Bool) → IsProp (RestsUnlessBroken now log acknowledged pending machine broken)
+pub rests_prop : (now : DiskState) (log : List StoredEntry) (acknowledged : ℕ) (pending : List Entry) (machine : MachineState) (broken : Bool) → IsProp (RestsUnlessBroken now log acknowledged pending machine broken)
 rests_prop now log acknowledged pending machine broken = hlevel props

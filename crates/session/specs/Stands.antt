@@ -11,8 +11,8 @@ use Rattle.snapshot.specs.Table.{is_legal, table_of}
 use Rattle.snapshot.specs.Reading.{machine_in}
 use Rattle.sector_log.specs.Content.{ImageContent, Body, content}
 use Rattle.sector_log.specs.Inputs.{inputs, counted, first_wrong}
-use Rattle.sector_log.specs.declared.Stored.{Stored}
-use Rattle.sector_log.specs.declared.found.Content.{Content}
+use Rattle.sector_log.specs.declared.StoredEntry.{StoredEntry}
+use Rattle.sector_log.specs.declared.found.Header.{Header}
 use Rattle.session.specs.Inputs.{logged}
 
 -- a machine, and how many inputs brought it there
@@ -25,18 +25,18 @@ abbrev pub is_snapshot : (rom bytes : List ℕ) → Bool
 is_snapshot rom bytes = length bytes == snapshot_length (ram_length_of rom) && list_all (λ field. is_legal field bytes) (table_of rom)
 
 -- the content is this ROM's, no count overflows, the blob is a legal snapshot, and each entry is an input
-abbrev pub is_sound : (rom : List ℕ) → Content → Body → Bool
+abbrev pub is_sound : (rom : List ℕ) → Header → Body → Bool
 is_sound rom header body =
     bytes_eq header.id (sha256 rom) && (nat_lt (header.base + counted 0 body.log) (2 ^ 64) && (is_snapshot rom body.blob && is_none (first_wrong body.log)))
 
 -- the inputs before the snapshot and those of the log, and the machine of the snapshot after those of the log
-abbrev pub position_in : (rom : List ℕ) → Content → Body → Position
+abbrev pub position_in : (rom : List ℕ) → Header → Body → Position
 position_in rom header body = record {
   count = header.base + length (inputs body.log);
   machine = after (machine_in rom body.blob) (logged body.log);
 }
 
-abbrev pub stands_by : (rom : List ℕ) → Content → Option Body → Option Position
+abbrev pub stands_by : (rom : List ℕ) → Header → Option Body → Option Position
 stands_by rom header None = None
 stands_by rom header (Some body) = if is_sound rom header body then Some (position_in rom header body) else None
 

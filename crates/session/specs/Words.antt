@@ -3,7 +3,7 @@ use Rattle.std.specs.Prelude.{◌≡◌, ℕ, List, Bool, Result, Ok, Err}
 use Rattle.sector_device.specs.declared.device.SectorDevice.{Ghosts}
 use Rattle.sector_log.specs.Words.{device_of as device_of_store, is_broken as is_broken_store, entries_of, generation_of}
 use Rattle.sector_log.specs.declared.Entry.{Entry}
-use Rattle.sector_log.specs.declared.Stored.{Stored}
+use Rattle.sector_log.specs.declared.StoredEntry.{StoredEntry}
 use Rattle.machine.specs.Machine.{MachineState}
 use Rattle.session.specs.declared.error.Refused.{Refused}
 use Rattle.session.specs.declared.session.Session.{Session}
@@ -33,7 +33,7 @@ module _ {D : Type 0} {disk : Ghosts D} where
   is_broken s = is_broken_store s.store
 
   -- the entries of the log on the device
-  abbrev pub log_in : Session D disk → List Stored
+  abbrev pub log_in : Session D disk → List StoredEntry
   log_in s = entries_of s.store
 
   abbrev pub generation_in_use : Session D disk → ℕ

@@ -6,14 +6,14 @@ use Rattle.sector_log.specs.Content.{content, generation_in, new_generation}
 use Rattle.sector_log.specs.Found.{log_of}
 use Rattle.sector_log.specs.Inputs.{grown}
 use Rattle.sector_log.specs.declared.Entry.{Entry}
-use Rattle.sector_log.specs.declared.Stored.{Stored}
+use Rattle.sector_log.specs.declared.StoredEntry.{StoredEntry}
 
 -- where they fit, the old content with a prefix of the entries behind its log; else the old content or the new one
 abbrev pub HoldsWritten : (fits : Bool) → (old : List (List ℕ)) → List Entry → (id : List ℕ) → (all : ℕ) → (blob : List ℕ) → List (List ℕ) → Type 0
 HoldsWritten true old entries id all blob image = HoldsPrefix old entries image
 HoldsWritten false old entries id all blob image = (content image ≡ content old) ⊎ (content image ≡ Some (new_generation id all blob))
 
-abbrev pub IsWritten : (fits : Bool) → (old new : DiskState) → List Entry → (id : List ℕ) → (all : ℕ) → (blob : List ℕ) → (log after : List Stored) → Type 0
+abbrev pub IsWritten : (fits : Bool) → (old new : DiskState) → List Entry → (id : List ℕ) → (all : ℕ) → (blob : List ℕ) → (log after : List StoredEntry) → Type 0
 IsWritten true old new entries id all blob log after =
     IsAppended old new entries × (after ≡ grown log entries) × (log_of (content new.sectors) ≡ after)
 IsWritten false old new entries id all blob log after = HasBegun old new id all blob × (after ≡ [])

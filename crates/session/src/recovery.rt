@@ -15,7 +15,7 @@ use crate::error::{Damage, SessionError};
 use cartridge::Cartridge;
 use machine::{Input, Machine};
 use sector_device::SectorDevice;
-use sector_log::{Content, Found, Logged, Opened, Part, Stored, first_wrong};
+use sector_log::{Found, Header, Logged, Opened, Part, StoredEntry, first_wrong};
 use snapshot::{SnapError, decode};
 use std::alloc::Global;
 
@@ -29,7 +29,7 @@ fn play_frames(machine: &mut Machine, buttons: u8, times: u32)
 }
 
 /// Gives the machine the inputs of one entry, and answers how many there are.
-fn replay_entry(machine: &mut Machine, entry: &Stored) -> u32
+fn replay_entry(machine: &mut Machine, entry: &StoredEntry) -> u32
     requires { is_entry entry.now ≡ true }
     ensures machine { machine.new ≡ after machine.old (inputs_of (inputs_in entry.now)) }
     ensures count { result ≡ length (inputs_in entry.now) }
@@ -49,7 +49,7 @@ fn replay_entry(machine: &mut Machine, entry: &Stored) -> u32
 
 /// Gives the machine the inputs of a log in which each entry is an input, and answers how many
 /// there are.
-fn replay(machine: &mut Machine, log: &[Stored]) -> u64
+fn replay(machine: &mut Machine, log: &[StoredEntry]) -> u64
     requires { first_wrong log.now ≡ None }
     ensures machine { machine.new ≡ after machine.old (logged log.now) }
     ensures count { result ≡ length (inputs log.now) }
@@ -62,31 +62,31 @@ fn replay(machine: &mut Machine, log: &[Stored]) -> u64
 }
 
 /// What was found, if it is whole, of this ROM and can be counted.
-fn header_of(found: Found, digest: [u8; 32]) -> Result<Content, SessionError>
+fn header_of(found: Found, digest: [u8; 32]) -> Result<Header, SessionError>
     ensures ok { IfOk result (IsHeader found digest) }
     ensures err { IfErr result (IsHeaderCause found digest) }
 {
     match found {
         Found::Nothing => Err(SessionError::NoSession),
         Found::Damaged(_, Part::Length { need }) => Err(SessionError::TooSmall { need }),
-        Found::Damaged(content, Part::Count) => {
-            if content.id != digest {
+        Found::Damaged(header, Part::Count) => {
+            if header.id != digest {
                 return Err(SessionError::OtherCartridge);
             }
             Err(SessionError::Damaged(Damage::Count))
         }
-        Found::Content(content) => {
-            if content.id != digest {
+        Found::Intact(header) => {
+            if header.id != digest {
                 return Err(SessionError::OtherCartridge);
             }
-            Ok(content)
+            Ok(header)
         }
     }
 }
 
 /// Why a log is not replayed after a legal snapshot: an entry is not an input, or else the
 /// generations are used up.
-fn log_refusal(log: &[Stored], generation: u64) -> Result<(), SessionError>
+fn log_refusal(log: &[StoredEntry], generation: u64) -> Result<(), SessionError>
     requires { length log.now ≤ most_entries_read }
     ensures ok { IfOk result (λ _. (first_wrong log.now ≡ None) × (generation < 2 ^ 64 - 1)) }
     ensures err { IfErr result (IsLogCause log.now generation) }
@@ -103,15 +103,15 @@ fn log_refusal(log: &[Stored], generation: u64) -> Result<(), SessionError>
 /// The count of inputs and the machine that a snapshot and the log after it stand for.
 fn rebuilt(
     alloc: Global,
-    content: &Content,
+    header: &Header,
     encoded: &[u8],
-    log: &[Stored],
+    log: &[StoredEntry],
     generation: u64,
     cartridge: &Cartridge,
 ) -> Result<(u64, Machine), SessionError>
     requires few { length log.now ≤ most_entries_read }
-    requires counts { content.now.base + counted 0 log.now < 2 ^ 64 }
-    ensures ok { IfOk result (λ found. IsRebuilt cartridge.now content.now encoded.now log.now generation found.0 found.1) }
+    requires counts { header.now.base + counted 0 log.now < 2 ^ 64 }
+    ensures ok { IfOk result (λ found. IsRebuilt cartridge.now header.now encoded.now log.now generation found.0 found.1) }
     ensures fits { IfOk result (λ found. found.0 < 2 ^ 64) }
     ensures err { IfErr result (IsRebuildCause cartridge.now encoded.now log.now generation) }
 {
@@ -121,7 +121,7 @@ fn rebuilt(
                 return Err(why);
             }
             let count = replay(&mut machine, log);
-            Ok((content.base + count, machine))
+            Ok((header.base + count, machine))
         }
         Err(SnapError::Memory) => {
             if let Err(why) = log_refusal(log, generation) {
@@ -145,17 +145,17 @@ pub(crate) fn recovered<D: SectorDevice>(
     ensures fits { IfOk result (λ found. found.0 < 2 ^ 64) }
     ensures err { IfErr result (IsRecoveryCause cartridge.now (seen opened.now) (found_generation opened.now)) }
 {
-    let content = match header_of(opened.found(), cartridge.digest()) {
-        Ok(content) => content,
+    let header = match header_of(opened.found(), cartridge.digest()) {
+        Ok(header) => header,
         Err(why) => return Err(why),
     };
     let Some(encoded) = opened.blob() else {
-        let length = u64::from(content.blob_length);
+        let length = u64::from(header.blob_length);
         return Err(SessionError::Damaged(Damage::Snapshot(SnapError::SnapLength(length))));
     };
     rebuilt(
         alloc,
-        &content,
+        &header,
         encoded,
         opened.entries(),
         opened.generation(),

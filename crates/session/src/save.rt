@@ -3,7 +3,7 @@ ghost use Rattle.std.specs.Prelude.{◌≡◌, ◌↔◌, ◌≤◌, ◌<◌, �
 ghost use Rattle.std.specs.List.{list_all};
 ghost use Rattle.machine.specs.Machine.{start};
 ghost use Rattle.snapshot.specs.Encoding.{encoded, snapshot_length};
-ghost use Rattle.snapshot.specs.Legal.{IsLegalMachine};
+ghost use Rattle.machine.specs.Legal.{IsLegalMachine};
 ghost use Rattle.sector_device.specs.DiskState.{HasAnswered};
 ghost use Rattle.sector_device.specs.Runs.{HoldsSince};
 ghost use Rattle.sector_log.specs.Content.{need};

@@ -1,9 +1,9 @@
 //! New games.
 use crate::asserting::{holds, same};
 use crate::common::{
-    begun, calls, cartridge, cartridge_of, clock_text, count, counts, fresh, game, has_bytes,
+    begun, calls, cartridge, cartridge_of, clock_snapshot, count, counts, fresh, game, has_bytes,
     image, into_device, is_blank_from, left_by_new_game, other_cartridge, refused, resumed,
-    resumes_at, text_of,
+    resumes_at, snapshot_of,
 };
 use sector_device::MemoryDevice;
 use session::{SessionError, sectors_needed};
@@ -28,7 +28,7 @@ fn sectors_that_are_needed(rt: HostRuntime) -> Result<(), Fail> {
             into_device(session),
             &cartridge,
             0,
-            &clock_text(alloc, &cartridge, 0)?,
+            &clock_snapshot(alloc, &cartridge, 0)?,
         )?;
     }
     Ok(())
@@ -42,7 +42,7 @@ fn a_new_game_is_the_first_generation(rt: HostRuntime) -> Result<(), Fail> {
     let device = MemoryDevice::new(alloc, 188, 97)?;
     let session = begun(&rt, alloc, device, &cartridge);
     same!(rt; calls(&session), 97);
-    let text = text_of(alloc, session.machine())?;
+    let bytes = snapshot_of(alloc, session.machine())?;
     let mut device = into_device(session);
     let root = b"GBKPROOT\x02\x00\x00\x00\x01\x00\x00\x00\x00\x00\x00\x00";
     has_bytes(&rt, &mut device, 1, 0, root);
@@ -62,7 +62,7 @@ fn a_new_game_is_the_first_generation(rt: HostRuntime) -> Result<(), Fail> {
         &mut device,
         127,
         0,
-        text.get(..512).unwrap_or(b"short".as_slice()),
+        bytes.get(..512).unwrap_or(b"short".as_slice()),
     );
 
     let device = MemoryDevice::new(alloc, 188, 96)?;
@@ -88,7 +88,7 @@ fn a_new_game_replaces_that_of_another_rom(rt: HostRuntime) -> Result<(), Fail> 
         refusal.device,
         &ours,
         0,
-        &clock_text(alloc, &ours, 0)?,
+        &clock_snapshot(alloc, &ours, 0)?,
     )?;
     Ok(())
 }

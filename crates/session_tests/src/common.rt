@@ -64,14 +64,14 @@ pub(crate) fn alternating(i: u32) -> Input {
 }
 
 /// The snapshot of a machine.
-pub(crate) fn text_of(alloc: Global, machine: &Machine) -> Result<Vec<u8>, Fail> {
+pub(crate) fn snapshot_of(alloc: Global, machine: &Machine) -> Result<Vec<u8>, Fail> {
     let ram = machine.region(Region::CartRam).len();
     if ram > 131_072 {
         return Err(Fail::from("too much RAM"));
     }
-    let mut text = vec![in alloc; 0u8; length(ram)]?;
-    encode(machine, &mut text);
-    Ok(text)
+    let mut bytes = vec![in alloc; 0u8; length(ram)]?;
+    encode(machine, &mut bytes);
+    Ok(bytes)
 }
 
 pub(crate) fn apply(machine: &mut Machine, input: Input) {
@@ -79,7 +79,7 @@ pub(crate) fn apply(machine: &mut Machine, input: Input) {
 }
 
 /// The snapshot of the machine after so many seconds since power-on.
-pub(crate) fn clock_text(
+pub(crate) fn clock_snapshot(
     alloc: Global,
     cartridge: &Cartridge,
     inputs: u32,
@@ -88,11 +88,11 @@ pub(crate) fn clock_text(
     for i in 0..inputs {
         apply(&mut machine, seconds(i));
     }
-    text_of(alloc, &machine)
+    snapshot_of(alloc, &machine)
 }
 
 /// The snapshot of the machine after so many alternating frames since power-on.
-pub(crate) fn frames_text(
+pub(crate) fn frames_snapshot(
     alloc: Global,
     cartridge: &Cartridge,
     inputs: u32,
@@ -101,7 +101,7 @@ pub(crate) fn frames_text(
     for i in 0..inputs {
         apply(&mut machine, alternating(i));
     }
-    text_of(alloc, &machine)
+    snapshot_of(alloc, &machine)
 }
 
 /// A device of zeros, with room to record 1,000 writes and syncs.
@@ -187,7 +187,7 @@ pub(crate) fn resumes_at(
     device: MemoryDevice,
     cartridge: &Cartridge,
     inputs: u64,
-    text: &[u8],
+    bytes: &[u8],
 ) -> Result<(), Fail> {
     let session = resumed(rt, alloc, device, cartridge);
     same!(rt;
@@ -198,8 +198,8 @@ pub(crate) fn resumes_at(
             pending: 0
         }
     );
-    let found = text_of(alloc, session.machine())?;
-    holds!(rt; found.as_slice() == text);
+    let found = snapshot_of(alloc, session.machine())?;
+    holds!(rt; found.as_slice() == bytes);
     Ok(())
 }
 

@@ -1,8 +1,8 @@
 //! Resumes cut at any device call.
 use crate::asserting::same;
 use crate::common::{
-    begun, calls, cartridge, clock_text, fresh, game, give_input, has_bytes, image, into_device,
-    left_by_resume, put, resumed, resumes_at, settled, text_of,
+    begun, calls, cartridge, clock_snapshot, fresh, game, give_input, has_bytes, image,
+    into_device, left_by_resume, put, resumed, resumes_at, settled, snapshot_of,
 };
 use cartridge::Cartridge;
 use machine::Input;
@@ -20,7 +20,7 @@ fn resume_cut_anywhere(
     cartridge: &Cartridge,
     old: &MemoryDevice,
     inputs: u64,
-    text: &[u8],
+    bytes: &[u8],
 ) -> Result<Option<u64>, Fail> {
     let mut taken_up = None;
     for k in 0..163 {
@@ -37,7 +37,7 @@ fn resume_cut_anywhere(
         }
         for keeps in [[false, false], [true, true], [true, false]] {
             let left = image(alloc, &device, keeps)?;
-            resumes_at(rt, alloc, left, cartridge, inputs, text)?;
+            resumes_at(rt, alloc, left, cartridge, inputs, bytes)?;
         }
     }
     Ok(taken_up)
@@ -48,8 +48,8 @@ fn a_resume_cut_anywhere_loses_nothing(rt: HostRuntime) -> Result<(), Fail> {
     let alloc = rt.alloc();
     let cartridge = cartridge(alloc)?;
     let old = game(&rt, alloc, &cartridge, 5)?;
-    let text = clock_text(alloc, &cartridge, 5)?;
-    let taken_up = resume_cut_anywhere(&rt, alloc, &cartridge, &old, 5, &text)?;
+    let bytes = clock_snapshot(alloc, &cartridge, 5)?;
+    let taken_up = resume_cut_anywhere(&rt, alloc, &cartridge, &old, 5, &bytes)?;
     // It looks by a sync and 64 reads: two roots, a log sector and 61 of the snapshot. Then it makes 96 calls.
     same!(rt; taken_up, Some(161));
     Ok(())
@@ -92,7 +92,7 @@ fn version_one_is_taken_up(rt: HostRuntime) -> Result<(), Fail> {
     let mut session = begun(&rt, alloc, fresh(alloc, 188)?, &cartridge);
     give_input(&rt, &mut session, Input::Frame(1));
     give_input(&rt, &mut session, Input::Seconds(3600));
-    let text = text_of(alloc, session.machine())?;
+    let bytes = snapshot_of(alloc, session.machine())?;
     let old = version_one(&rt, alloc, &cartridge)?;
     let session = resumed(&rt, alloc, old.image(alloc, &[])?, &cartridge);
     same!(rt; session.counts().all, 7);
@@ -105,6 +105,6 @@ fn version_one_is_taken_up(rt: HostRuntime) -> Result<(), Fail> {
         b"GBKPROOT\x02\x00\x00\x00\x04\x00\x00\x00\x00\x00\x00\x00",
     );
     has_bytes(&rt, &mut device, 0, 52, b"\x07\x00\x00\x00\x00\x00\x00\x00");
-    resume_cut_anywhere(&rt, alloc, &cartridge, &old, 7, &text)?;
+    resume_cut_anywhere(&rt, alloc, &cartridge, &old, 7, &bytes)?;
     Ok(())
 }

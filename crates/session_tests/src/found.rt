@@ -1,8 +1,8 @@
 //! What a resume finds on a device and refuses. Then it has made one sync and written nothing.
 use crate::asserting::same;
 use crate::common::{
-    answer, begun, cartridge, clock_text, counts, fresh, game, give, into_device, other_cartridge,
-    put, refused, resumed, resumes_at, save, settled,
+    answer, begun, cartridge, clock_snapshot, counts, fresh, game, give, into_device,
+    other_cartridge, put, refused, resumed, resumes_at, save, settled,
 };
 use cartridge::Cartridge;
 use machine::Input;
@@ -111,8 +111,8 @@ fn a_game_of_another_rom_is_left_alone(rt: HostRuntime) -> Result<(), Fail> {
     let other = other_cartridge(alloc)?;
     let device = game(&rt, alloc, &ours, 5)?;
     let device = is_refused(&rt, alloc, device, &other, SessionError::OtherCartridge);
-    let text = clock_text(alloc, &ours, 5)?;
-    resumes_at(&rt, alloc, device, &ours, 5, &text)
+    let bytes = clock_snapshot(alloc, &ours, 5)?;
+    resumes_at(&rt, alloc, device, &ours, 5, &bytes)
 }
 
 #[test]

@@ -1,6 +1,6 @@
 //! Whole plays of scripts, and what they report. One of them is cut before each of its device calls.
 use crate::asserting::{holds, same};
-use crate::common::{apply, cartridge, fresh, game, has_bytes, resumed, seconds, text_of};
+use crate::common::{apply, cartridge, fresh, game, has_bytes, resumed, seconds, snapshot_of};
 use cartridge::Cartridge;
 use machine::{Input, Machine};
 use playing::play;
@@ -57,12 +57,12 @@ fn long_script(alloc: Global) -> Result<Vec<u8>, Fail> {
 #[derive(Drop)]
 struct Past {
     machine: Machine,
-    texts: Vec<Vec<u8>>,
+    snapshots: Vec<Vec<u8>>,
 }
 
 fn give(past: &mut Past, alloc: Global, input: Input) -> Result<(), Fail> {
     apply(&mut past.machine, input);
-    past.texts.push(text_of(alloc, &past.machine)?)?;
+    past.snapshots.push(snapshot_of(alloc, &past.machine)?)?;
     Ok(())
 }
 
@@ -74,17 +74,17 @@ fn give_frames(past: &mut Past, alloc: Global, buttons: u8, times: u32) -> Resul
 }
 
 /// The snapshots of a machine that is given so many seconds, as the game before, and then the inputs of the moves.
-fn texts_of(
+fn snapshots_of(
     alloc: Global,
     cartridge: &Cartridge,
     before: u32,
     moves: &[Move],
 ) -> Result<Vec<Vec<u8>>, Fail> {
     let machine = Machine::power_on(alloc, cartridge)?;
-    let first = text_of(alloc, &machine)?;
+    let first = snapshot_of(alloc, &machine)?;
     let mut past = Past {
         machine,
-        texts: vec![in alloc; first]?,
+        snapshots: vec![in alloc; first]?,
     };
     for i in 0..before {
         give(&mut past, alloc, seconds(i))?;
@@ -96,7 +96,7 @@ fn texts_of(
             Move::Save => {}
         }
     }
-    Ok(past.texts)
+    Ok(past.snapshots)
 }
 
 /// What a play answers and leaves.
@@ -158,7 +158,7 @@ fn choices(alloc: Global) -> Result<Vec<Vec<bool>>, Fail> {
 struct Known {
     moves: Vec<Move>,
     /// The snapshots after each number of inputs.
-    texts: Vec<Vec<u8>>,
+    snapshots: Vec<Vec<u8>>,
     /// The counts that the lines of the report tell.
     counts: Vec<u64>,
     choices: Vec<Vec<bool>>,
@@ -166,10 +166,10 @@ struct Known {
 
 fn make_known(rt: &impl Abort, alloc: Global, cartridge: &Cartridge) -> Result<Known, Fail> {
     let moves = moves_of(rt, alloc, &long_script(alloc)?);
-    let texts = texts_of(alloc, cartridge, 5, &moves)?;
+    let snapshots = snapshots_of(alloc, cartridge, 5, &moves)?;
     Ok(Known {
         moves,
-        texts,
+        snapshots,
         counts: counts_in(alloc, REPORT)?,
         choices: choices(alloc)?,
     })
@@ -183,16 +183,16 @@ fn resumes_between(
     cartridge: &Cartridge,
     least: u64,
     most: u64,
-    texts: &[Vec<u8>],
+    snapshots: &[Vec<u8>],
 ) -> Result<u64, Fail> {
     let session = resumed(rt, alloc, device, cartridge);
     let counts = session.counts();
     holds!(rt; least <= counts.all && counts.all <= most);
     same!(rt; counts.pending, 0);
-    let Some(want) = texts.get(counts.all as usize) else {
+    let Some(want) = snapshots.get(counts.all as usize) else {
         panic!(rt; "more inputs than there are");
     };
-    let found = text_of(alloc, session.machine())?;
+    let found = snapshot_of(alloc, session.machine())?;
     holds!(rt; found.as_slice() == want.as_slice());
     Ok(counts.all)
 }
@@ -225,7 +225,7 @@ fn images_hold_what_was_told(
     let most = known.counts.get(lines).copied().unwrap_or(last);
     for kept in &known.choices {
         let image = device.image(alloc, kept)?;
-        let found = resumes_between(rt, alloc, image, cartridge, least, most, &known.texts)?;
+        let found = resumes_between(rt, alloc, image, cartridge, least, most, &known.snapshots)?;
         seen.images = seen.images.wrapping_add(1);
         if least < found && found < most {
             seen.between = seen.between.wrapping_add(1);

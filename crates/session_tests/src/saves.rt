@@ -1,9 +1,9 @@
 //! Inputs and saves.
 use crate::asserting::{holds, same};
 use crate::common::{
-    answer, begun, calls, cartridge, counts, frames_text, fresh, give, give_frames, give_input,
+    answer, begun, calls, cartridge, counts, frames_snapshot, fresh, give, give_frames, give_input,
     has_bytes, into_device, is_blank_from, put, refused_save, resumed, resumes_at, save, settled,
-    text_of,
+    snapshot_of,
 };
 use cartridge::Cartridge;
 use machine::Input;
@@ -41,9 +41,9 @@ fn a_cut_save_leaves_a_prefix(rt: HostRuntime) -> Result<(), Fail> {
         ([true, false].as_slice(), 84),
         ([true, true].as_slice(), 120),
     ] {
-        let text = frames_text(alloc, &cartridge, want)?;
+        let bytes = frames_snapshot(alloc, &cartridge, want)?;
         let image = device.image(alloc, kept)?;
-        resumes_at(&rt, alloc, image, &cartridge, u64::from(want), &text)?;
+        resumes_at(&rt, alloc, image, &cartridge, u64::from(want), &bytes)?;
     }
     Ok(())
 }
@@ -60,8 +60,8 @@ fn what_was_lost_stays_lost(rt: HostRuntime) -> Result<(), Fail> {
     give_frames(&rt, &mut session, 40, 84);
     save(&rt, &mut session, 84);
     let left = into_device(session).image(alloc, &[])?;
-    let text = frames_text(alloc, &cartridge, 84)?;
-    resumes_at(&rt, alloc, left, &cartridge, 84, &text)
+    let bytes = frames_snapshot(alloc, &cartridge, 84)?;
+    resumes_at(&rt, alloc, left, &cartridge, 84, &bytes)
 }
 
 #[test]
@@ -79,10 +79,10 @@ fn a_failed_save_breaks_the_session(rt: HostRuntime) -> Result<(), Fail> {
     // Neither made a call, and both left the machine and the counts.
     same!(rt; calls(&session), made);
     same!(rt; counts(&session), [120, 40, 80]);
-    let text = frames_text(alloc, &cartridge, 120)?;
-    holds!(rt; text_of(alloc, session.machine())?.as_slice() == text.as_slice());
+    let bytes = frames_snapshot(alloc, &cartridge, 120)?;
+    holds!(rt; snapshot_of(alloc, session.machine())?.as_slice() == bytes.as_slice());
     // The device goes on: its reads give all that was written.
-    resumes_at(&rt, alloc, into_device(session), &cartridge, 120, &text)
+    resumes_at(&rt, alloc, into_device(session), &cartridge, 120, &bytes)
 }
 
 /// A session of 2,680 saved frames with 9 more pending, which the log has no room for. The last sync of a replacing save may fail.
@@ -112,7 +112,7 @@ fn a_save_that_does_not_fit_replaces(rt: HostRuntime) -> Result<(), Fail> {
     let made = calls(&session);
     save(&rt, &mut session, 2689);
     same!(rt; calls(&session).saturating_sub(made), 96);
-    let text = text_of(alloc, session.machine())?;
+    let bytes = snapshot_of(alloc, session.machine())?;
     let mut device = into_device(session);
     has_bytes(
         &rt,
@@ -123,7 +123,7 @@ fn a_save_that_does_not_fit_replaces(rt: HostRuntime) -> Result<(), Fail> {
     );
     has_bytes(&rt, &mut device, 0, 52, b"\x81\x0a\x00\x00\x00\x00\x00\x00");
     is_blank_from(&rt, &mut device, 2, 0);
-    resumes_at(&rt, alloc, device, &cartridge, 2689, &text)
+    resumes_at(&rt, alloc, device, &cartridge, 2689, &bytes)
 }
 
 #[test]
@@ -131,8 +131,8 @@ fn a_cut_replacing_save_leaves_old_or_new(rt: HostRuntime) -> Result<(), Fail> {
     let alloc = rt.alloc();
     let cartridge = cartridge(alloc)?;
     let mut session = long(&rt, alloc, &cartridge, true)?;
-    let new = text_of(alloc, session.machine())?;
-    let old = frames_text(alloc, &cartridge, 2680)?;
+    let new = snapshot_of(alloc, session.machine())?;
+    let old = frames_snapshot(alloc, &cartridge, 2680)?;
     same!(rt; refused_save(&rt, &mut session), SessionError::Device);
     same!(rt; counts(&session), [2689, 2680, 9]);
     let device = into_device(session);
@@ -202,19 +202,19 @@ fn save_first_at_3200(rt: HostRuntime) -> Result<(), Fail> {
     let cartridge = cartridge(alloc)?;
     let mut session = begun(&rt, alloc, fresh(alloc, 188)?, &cartridge);
     give(&rt, &mut session, 0, 3200);
-    let before = text_of(alloc, session.machine())?;
+    let before = snapshot_of(alloc, session.machine())?;
     same!(rt;
         answer(&mut session, Input::Frame(1)),
         Some(SessionError::SaveFirst)
     );
     same!(rt; counts(&session), [3200, 0, 3200]);
-    holds!(rt; text_of(alloc, session.machine())?.as_slice() == before.as_slice());
+    holds!(rt; snapshot_of(alloc, session.machine())?.as_slice() == before.as_slice());
     save(&rt, &mut session, 3200);
     give_input(&rt, &mut session, Input::Frame(1));
     same!(rt; counts(&session), [3201, 3200, 1]);
     save(&rt, &mut session, 3201);
-    let text = text_of(alloc, session.machine())?;
-    resumes_at(&rt, alloc, into_device(session), &cartridge, 3201, &text)
+    let bytes = snapshot_of(alloc, session.machine())?;
+    resumes_at(&rt, alloc, into_device(session), &cartridge, 3201, &bytes)
 }
 
 /// A session in the last generation.

@@ -18,7 +18,8 @@ use Rattle.machine.specs.MachineStores.{without_memory, AreLegalFor}
 use Rattle.snapshot.specs.Encoding.{fixed_fields, unused, picture_bytes, stores_bytes, encoded, snapshot_length}
 use Rattle.snapshot.specs.Table.{bytes, is_legal, ram_rule, table, kind_of_image, table_of}
 use Rattle.snapshot.specs.Reading.{registers_in, rows_in, machine_in}
-use Rattle.snapshot.specs.Legal.{IsRow, IsLegalMachine, IsMachineOf, IsLegalSnapshot}
+use Rattle.machine.specs.Legal.{IsRow, IsLegalMachine}
+use Rattle.snapshot.specs.Legal.{IsMachineOf, IsLegalSnapshot}
 use Rattle.snapshot.proofs.Bytes.{bit_back, digit_small, numbers_at}
 use Rattle.snapshot.proofs.Parts.{AreParts, parts_of, parts_length, parts_join, part_length}
 use Rattle.snapshot.proofs.Pictures.{picture_length, picture_again, rows_back, rows_length, rows_are_rows}

@@ -8,7 +8,7 @@ use Rattle.std.proofs.lemmas.List.{get_or_default, get_or_past}
 use Rattle.std.proofs.lemmas.List.FromFn.{fill_by_all, length-map-range_with_len, get_or-map-range_with_len}
 use Rattle.snapshot.specs.Encoding.{byte_of_four, picture_bytes}
 use Rattle.snapshot.specs.Reading.{shade_in, row_in, rows_in}
-use Rattle.snapshot.specs.Legal.{IsRow}
+use Rattle.machine.specs.Legal.{IsRow}
 
 -- ---- a byte
 

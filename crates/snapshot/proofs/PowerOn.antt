@@ -12,7 +12,7 @@ use Rattle.memory_map.specs.State.{zeros}
 use Rattle.machine.specs.Machine.{start}
 use Rattle.machine.specs.MachineStores.{AreLegalFor, without_memory}
 use Rattle.snapshot.specs.Table.{kind_of_image}
-use Rattle.snapshot.specs.Legal.{IsRow}
+use Rattle.machine.specs.Legal.{IsRow}
 use Rattle.snapshot.specs.Laws.{ALegalSnapshotIsAMachine, TheStartIsAMachine}
 use Rattle.snapshot.proofs.Decoding.{made_legal}
 use Rattle.snapshot.proofs.Machines.{encoded_again}

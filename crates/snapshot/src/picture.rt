@@ -1,7 +1,7 @@
 //! The shades of a picture as bytes: four shades a byte, the leftmost in bits 7 and 6, row by row.
 
 ghost use Rattle.std.specs.Prelude.{◌≡◌, ℕ, ◌<◌, [], length, slice_index_or, All};
-ghost use Rattle.snapshot.specs.Legal.{IsRow};
+ghost use Rattle.machine.specs.Legal.{IsRow};
 ghost use Rattle.snapshot.specs.Encoding.{byte_of_four, picture_bytes};
 ghost use Rattle.snapshot.specs.Reading.{shade_in, row_in};
 

@@ -1,7 +1,7 @@
 //! A machine as bytes.
 
 ghost use Rattle.std.specs.Prelude.{◌≡◌, ◌^◌, ◌-◌, ◌+◌, min, length};
-ghost use Rattle.snapshot.specs.Legal.{AreLegalStores, IsLegalMachine};
+ghost use Rattle.machine.specs.Legal.{AreLegalStores, IsLegalMachine};
 ghost use Rattle.snapshot.specs.Encoding.{encoded, snapshot_length, stores_bytes, unused};
 
 use crate::picture::write_picture;

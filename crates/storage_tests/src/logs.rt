@@ -1,7 +1,7 @@
 use crate::asserting::{holds, same};
 use sector_device::{MemoryDevice, SectorDevice};
 use sector_log::{
-    Content, Entry, Found, LogFault, Opened, Part, Refused, Store, Stored, are_inputs, open_log,
+    Entry, Found, Header, LogFault, Opened, Part, Refused, Store, StoredEntry, are_inputs, open_log,
 };
 use std::alloc::Global;
 use std::process::Abort;
@@ -167,11 +167,11 @@ fn frames(alloc: Global, many: usize) -> Result<Vec<Entry>, Fail> {
 
 fn has_entry(rt: &impl Abort, opened: &Opened<MemoryDevice>, at: usize, code: [u8; 6]) {
     assert!(rt; at < opened.entries().len());
-    same!(rt; opened.entries()[at], Stored { code });
+    same!(rt; opened.entries()[at], StoredEntry { code });
 }
 
-fn content(base: u64, blob_length: u32) -> Content {
-    Content {
+fn header(base: u64, blob_length: u32) -> Header {
+    Header {
         id: [7; 32],
         base,
         blob_length,
@@ -182,7 +182,7 @@ fn has_content(rt: &impl Abort, opened: &Opened<MemoryDevice>, base: u64, blob: 
     assert!(rt; blob.len() < 1000);
     same!(rt;
         opened.found(),
-        Found::Content(content(base, blob.len() as u32))
+        Found::Intact(header(base, blob.len() as u32))
     );
     match opened.blob() {
         Some(found) => same!(rt; found, blob),
@@ -565,7 +565,7 @@ fn what_is_damaged(rt: HostRuntime) -> Result<(), Fail> {
     let first = opened(&rt, rt.alloc(), device);
     same!(rt;
         first.found(),
-        Found::Damaged(content(5, u32::MAX), Part::Length { need: 16_777_282 })
+        Found::Damaged(header(5, u32::MAX), Part::Length { need: 16_777_282 })
     );
     holds!(rt; first.blob().is_none());
     holds!(rt; first.entries().is_empty());
@@ -573,7 +573,7 @@ fn what_is_damaged(rt: HostRuntime) -> Result<(), Fail> {
     let mut device = first.into_device();
     put_root(&rt, &mut device, 2, 1, u64::MAX, 4);
     let second = opened(&rt, rt.alloc(), device);
-    same!(rt; second.found(), Found::Content(content(u64::MAX, 4)));
+    same!(rt; second.found(), Found::Intact(header(u64::MAX, 4)));
 
     let mut device = second.into_device();
     put(
@@ -586,7 +586,7 @@ fn what_is_damaged(rt: HostRuntime) -> Result<(), Fail> {
     let third = opened(&rt, rt.alloc(), device);
     same!(rt;
         third.found(),
-        Found::Damaged(content(u64::MAX, 4), Part::Count)
+        Found::Damaged(header(u64::MAX, 4), Part::Count)
     );
     same!(rt; third.entries().len(), 1);
     Ok(())
@@ -629,7 +629,7 @@ fn a_long_blob_is_not_kept(rt: HostRuntime) -> Result<(), Fail> {
         panic!(rt; "not opened");
     };
     holds!(rt; opened.blob().is_none());
-    same!(rt; opened.found(), Found::Content(content(5, 4)));
+    same!(rt; opened.found(), Found::Intact(header(5, 4)));
     Ok(())
 }
 

@@ -13,7 +13,7 @@ use Rattle.snapshot.specs.declared.error.SnapError.{SnapError}
 use Rattle.snapshot.specs.declared.error.SnapError.TheVariants.{SnapLength, Field, Memory as NoMemory}
 use Rattle.snapshot.specs.declared.field.SnapshotField.{SnapshotField}
 use Rattle.sector_log.specs.Content.{ImageContent, Body}
-use Rattle.sector_log.specs.declared.found.Content.{Content}
+use Rattle.sector_log.specs.declared.found.Header.{Header}
 use Rattle.session.specs.Found.{IsWhole, IsResumeCause, IsDamaged}
 use Rattle.session.specs.Stands.{Position, is_snapshot, stands}
 use Rattle.session.specs.declared.error.Damage.{Damage}
@@ -32,14 +32,14 @@ no_refusal rom bytes (Field offset) sound refused other =
     absurd (cc)
 no_refusal rom bytes NoMemory sound refused other = other refl
 
-sound_whole : {rom : List ℕ} {held : Option ImageContent} {position : Position} {P : Content → Body → Type 0} → stands rom held ≡ Some position → (w : IsWhole held P) → Soundness rom w.header w.body
+sound_whole : {rom : List ℕ} {held : Option ImageContent} {position : Position} {P : Header → Body → Type 0} → stands rom held ≡ Some position → (w : IsWhole held P) → Soundness rom w.header w.body
 sound_whole {rom} {held} {position} {P} is w = soundness rom w.header w.body (standing rom w.header w.body position (sym (ap (stands rom) w.is) ∙ is)).sound
 
 nothing_stands : (rom : List ℕ) (held : Option ImageContent) (position : Position) → stands rom held ≡ Some position → held ≡ None → ⊥
 unfolding stands
 nothing_stands rom held position is none = let no : None ≡ Some position = ap (stands rom) (sym none) ∙ is in absurd (cc)
 
-short_stands : (rom : List ℕ) (held : Option ImageContent) (header : Content) (position : Position) → stands rom held ≡ Some position → held ≡ Some (record { header = header; body = None }) → ⊥
+short_stands : (rom : List ℕ) (held : Option ImageContent) (header : Header) (position : Position) → stands rom held ≡ Some position → held ≡ Some (record { header = header; body = None }) → ⊥
 unfolding stands
 short_stands rom held header position is short = let no : None ≡ Some position = ap (stands rom) (sym short) ∙ is in absurd (cc)
 

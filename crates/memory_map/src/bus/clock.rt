@@ -3,7 +3,7 @@ ghost use Rattle.memory_map.specs.Bus.{pending_interrupts};
 ghost use Rattle.std.specs.Fn.{iterate};
 ghost use Rattle.repeated_steps.specs.NextEvent.{IsNextEvent, earlier};
 ghost use Rattle.memory_map.specs.Ticks.{tick, tick_timer, tick_serial, tick_dma_and_picture, tick_picture, copied_byte, happens};
-ghost use Rattle.memory_map.specs.Quiet.{AreQuiet};
+ghost use Rattle.memory_map.specs.Quiet.{AreQuietOn};
 
 use super::Bus;
 
@@ -91,7 +91,7 @@ impl Bus {
 
     fn quiet_cycles(&self) -> u8
         ensures few { result < 255 }
-        ensures quiet { AreQuiet result self.now.control.dma_copied self.now.timer.timer self.now.serial.serial.cycles_left self.now.picture.picture.state }
+        ensures quiet { AreQuietOn result self.now }
     {
         if self.control.dma_copied < 160 {
             return 0;

@@ -1,7 +1,7 @@
 use Rattle.std.proofs.Common.{◌≡◌, ◌+◌, ◌++◌, length, take, drop, List, [], Option, Some, get_or, refl, sym, ap, ◌∙◌, subst, arith, length-append, length-take, length-drop}
 use Rattle.std.proofs.lemmas.List.{take_all}
 use Rattle.sector_log.specs.declared.Entry.{Entry}
-use Rattle.sector_log.specs.declared.Stored.{Stored}
+use Rattle.sector_log.specs.declared.StoredEntry.{StoredEntry}
 use Rattle.sector_log.specs.Inputs.{single, with_input, with_inputs, sealed, grown}
 use Rattle.sector_log.proofs.Adding.{Like, like_none, like_begins, like_goes, like_ends, step, grown_by}
 use Rattle.sector_log.proofs.entries.grown_length.Goals as goal
@@ -27,13 +27,13 @@ loop-input-preserved c =
     let e : Entry = get_or es i (record { code = [] }) in
     let next : with_inputs (drop (sealed log) log) (take (i + 1) es) ≡ with_input (with_inputs (drop (sealed log) log) (take i es)) e = step (drop (sealed log) log) es i (record { code = [] }) c.loop-input-test.true in
     let last = c.loop-input.last in
-    let w_log : List Stored = with_inputs (drop (sealed log) log) (take i es) in
+    let w_log : List StoredEntry = with_inputs (drop (sealed log) log) (take i es) in
     elim c.if-not-joins_last.branch [
       | then-not-joins_last w ↦
           let r = like_ends last w_log e (sym c.joins_last.ensures ∙ w.if-not-joins_last.true) c.loop-input.invariant.like in
           record {
             count = omega (arith, w.count-is, c.loop-input.invariant.count, r.0, ap length next);
-            like = (λ (l : List Stored) (n : l ≡ with_input w_log e) (o : Option Stored) (is : o ≡ Some (single e)). subst (Like o) (sym n) (subst (λ x. Like x (with_input w_log e)) (sym is) r.1))
+            like = (λ (l : List StoredEntry) (n : l ≡ with_input w_log e) (o : Option StoredEntry) (is : o ≡ Some (single e)). subst (Like o) (sym n) (subst (λ x. Like x (with_input w_log e)) (sym is) r.1))
                 (with_inputs (drop (sealed log) log) (take (i + 1) es)) next c.if-not-joins_last.last (w.last-is ∙ ap Some w.single.ensures);
             bound = omega (arith, w.count-is, c.loop-input.invariant.bound);
           }
@@ -41,7 +41,7 @@ loop-input-preserved c =
           let r = like_goes last w_log e (sym c.joins_last.ensures ∙ w.if-not-joins_last.false) c.loop-input.invariant.like in
           record {
             count = omega (arith, w.count-is, c.loop-input.invariant.count, r.0, ap length next);
-            like = (λ (l : List Stored) (n : l ≡ with_input w_log e) (o : Option Stored) (is : o ≡ last). subst (Like o) (sym n) (subst (λ x. Like x (with_input w_log e)) (sym is) r.1))
+            like = (λ (l : List StoredEntry) (n : l ≡ with_input w_log e) (o : Option StoredEntry) (is : o ≡ last). subst (Like o) (sym n) (subst (λ x. Like x (with_input w_log e)) (sym is) r.1))
                 (with_inputs (drop (sealed log) log) (take (i + 1) es)) next c.if-not-joins_last.last w.last-is;
             bound = omega (arith, w.count-is, c.loop-input.invariant.bound);
           }

@@ -1,6 +1,6 @@
 use Rattle.std.proofs.Common.{◌≡◌, ◌==◌, ◌+◌, ◌-◌, ◌*◌, ◌++◌, ◌∷◌, List, [], length, take, drop, refl, sym, ap, ◌∙◌, arith, length-append, append_assoc}
 use Rattle.sector_log.specs.Log.{stored, width, entries_from, entries_at}
-use Rattle.sector_log.specs.declared.Stored.{Stored}
+use Rattle.sector_log.specs.declared.StoredEntry.{StoredEntry}
 use Rattle.sector_log.proofs.Parsing.{chunk_at, few_fill, length-entries_from, entries_more, entries_by_count}
 use Rattle.sector_log.proofs.parse.read_entries.Goals as goal
 
@@ -27,7 +27,7 @@ loop-i-preserved c =
       items = c.push_reserved.ensures.items
           ∙ (λ j. c.loop-i.invariant.items j ++ one j ∷ [])
           ∙ append_assoc c.args.log.now.items (entries_from v i (drop 8 sector)) (stored v (take w (drop (w * i) (drop 8 sector))) ∷ [])
-          ∙ ap (λ (l : List Stored). c.args.log.now.items ++ l) (sym (entries_more v i (drop 8 sector)));
+          ∙ ap (λ (l : List StoredEntry). c.args.log.now.items ++ l) (sym (entries_more v i (drop 8 sector)));
       capacity = omega (arith, c.loop-i.invariant.capacity, c.push_reserved.ensures.capacity);
     }
 
@@ -35,7 +35,7 @@ pub returns-clause-items : goal.returns-clause-items
 returns-clause-items c =
     let sector = c.args.sector.now in
     let end : c.loop-i.i ≡ c.entry_count-count.result = omega (arith, c.loop-i.auto, c.loop-i-test.false) in
-    c.loop-i.invariant.items ∙ ap (λ (l : List Stored). c.args.log.now.items ++ l)
+    c.loop-i.invariant.items ∙ ap (λ (l : List StoredEntry). c.args.log.now.items ++ l)
     (ap (λ n. entries_from c.args.version n (drop 8 sector)) end ∙ sym (entries_by_count c.args.version c.args.index c.entry_count-count.result sector c.entry_count-count.ensures.count))
 
 pub returns-clause-few : goal.returns-clause-few

@@ -2,7 +2,7 @@ use Rattle.std.proofs.Common.{◌≡◌, ◌+◌, ℕ, List, [], drop, length, g
 use Rattle.std.proofs.lemmas.List.{drop_all}
 use Rattle.machine.specs.Machine.{MachineState, after}
 use Rattle.sector_log.specs.Inputs.{inputs, inputs_in, wrong_from}
-use Rattle.sector_log.specs.declared.Stored.{Stored}
+use Rattle.sector_log.specs.declared.StoredEntry.{StoredEntry}
 use Rattle.session.specs.Inputs.{logged, inputs_of}
 use Rattle.session.proofs.StandsLaws.{after_append, after_none}
 use Rattle.session.proofs.Replaying.{next_entry}
@@ -34,6 +34,6 @@ pub returns : goal.returns
 returns c =
     let none = drop_all c.loop-entry.entry-index c.args.log.now c.loop-entry-test.false in
     record {
-      machine = sym (after_none c.loop-entry.machine) ∙ ap (λ (l : List Stored). after c.loop-entry.machine (logged l)) (sym none) ∙ c.loop-entry.invariant.machine_is;
-      count = omega (arith, c.loop-entry.invariant.count_is, ap (λ (l : List Stored). length (inputs l)) none);
+      machine = sym (after_none c.loop-entry.machine) ∙ ap (λ (l : List StoredEntry). after c.loop-entry.machine (logged l)) (sym none) ∙ c.loop-entry.invariant.machine_is;
+      count = omega (arith, c.loop-entry.invariant.count_is, ap (λ (l : List StoredEntry). length (inputs l)) none);
     }

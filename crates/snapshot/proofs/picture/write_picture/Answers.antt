@@ -1,7 +1,7 @@
 use Rattle.std.proofs.Common.{◌≡◌, ◌<◌, ℕ, ◌*◌, ◌/◌, ◌%◌, [], List, get_or, refl, subst, arith}
 use Rattle.std.proofs.lemmas.List.FromFn.{fill_by_all}
 use Rattle.snapshot.specs.Encoding.{byte_of_four, picture_bytes}
-use Rattle.snapshot.specs.Legal.{IsRow}
+use Rattle.machine.specs.Legal.{IsRow}
 use Rattle.snapshot.proofs.picture.write_picture.Goals as goal
 
 pub returns-clause-bytes : goal.returns-clause-bytes

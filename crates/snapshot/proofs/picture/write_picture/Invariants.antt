@@ -1,6 +1,6 @@
 use Rattle.std.proofs.Common.{◌≡◌, ◌<◌, ℕ, ◌/◌, ◌%◌, [], get_or}
 use Rattle.snapshot.specs.Encoding.{byte_of_four}
-use Rattle.snapshot.specs.Legal.{IsRow}
+use Rattle.machine.specs.Legal.{IsRow}
 use Rattle.snapshot.proofs.picture.write_picture.Given as goal
 
 abbrev pub invariant-loop-k : goal.invariant-loop-k

@@ -1,7 +1,7 @@
 use Rattle.std.proofs.Common.{◌≡◌, ◌<◌, ℕ, List, [], length, get_or, ap, subst}
 use Rattle.picture_unit.specs.Picture.{PictureUnit}
 use Rattle.bank_controllers.specs.CartridgeState.{IsLegalRam}
-use Rattle.snapshot.specs.Legal.{IsRow}
+use Rattle.machine.specs.Legal.{IsRow}
 use Rattle.snapshot.proofs.Pictures.{rows_each}
 use Rattle.snapshot.proofs.to_bytes.write_stores.Goals as goal
 

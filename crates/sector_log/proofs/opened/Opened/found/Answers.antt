@@ -4,7 +4,7 @@ use Rattle.sector_log.specs.Content.{header_of}
 use Rattle.sector_log.specs.Found.{found_with}
 use Rattle.sector_log.specs.Inputs.{counted}
 use Rattle.sector_log.specs.Words.{seen}
-use Rattle.sector_log.specs.declared.found.Found.TheVariants.{Content as Sound, Damaged}
+use Rattle.sector_log.specs.declared.found.Found.TheVariants.{Intact, Damaged}
 use Rattle.sector_log.specs.declared.found.Part.TheVariants.{Length, Count}
 use Rattle.sector_log.specs.declared.root.Root.{Root}
 use Rattle.sector_log.proofs.Findings.{found_with_is}
@@ -30,7 +30,7 @@ returns-then-counted-root-clause-seen g c =
     let is : c.counted.result ≡ counted 0 self.log.items = c.counted.ensures ∙ ap (counted 0) c.deref.ensures.value in
     let many : 2 ^ 64 - 1 < root.base + counted 0 self.log.items = omega (arith, is, c.if-counted-root.true) in
     let holds : nat_lt (2 ^ 64 - 1) (root.base + counted 0 self.log.items) ≡ true = grind (arith, nat_tests) in
-    sym (ap (λ (t : Bool). if t then Damaged (header_of root) Count else Sound (header_of root)) holds)
+    sym (ap (λ (t : Bool). if t then Damaged (header_of root) Count else Intact (header_of root)) holds)
     ∙ (λ i. found_with (sym c.in-Some.is i) (sym c.if-self.false i) self.log.items)
 
 pub returns-then-counted-root-clause-reads : goal.returns-then-counted-root-clause-reads
@@ -48,7 +48,7 @@ returns-clause-seen g c =
     let base : root.base ≤ 2 ^ 64 - 1 = search rules in
     let few : root.base + counted 0 self.log.items ≤ 2 ^ 64 - 1 = omega (arith, is, c.if-counted-root.false, base) in
     let fails : nat_lt (2 ^ 64 - 1) (root.base + counted 0 self.log.items) ≡ false = grind (arith, nat_tests) in
-    sym (ap (λ (t : Bool). if t then Damaged (header_of root) Count else Sound (header_of root)) fails)
+    sym (ap (λ (t : Bool). if t then Damaged (header_of root) Count else Intact (header_of root)) fails)
     ∙ (λ i. found_with (sym c.in-Some.is i) (sym c.if-self.false i) self.log.items)
 
 pub returns-clause-reads : goal.returns-clause-reads

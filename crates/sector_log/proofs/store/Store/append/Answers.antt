@@ -1,7 +1,7 @@
 use Rattle.std.proofs.Common.{rules, ◌≡◌, ◌≤◌, ◌+◌, ◌/◌, length, List, sym, ap, ◌∙◌, subst, arith}
 use Rattle.sector_device.proofs.Runs.{has_synced}
 use Rattle.std.proofs.lemmas.Bool.Decides.{nat_tests}
-use Rattle.sector_log.specs.declared.Stored.{Stored}
+use Rattle.sector_log.specs.declared.StoredEntry.{StoredEntry}
 use Rattle.sector_log.specs.Inputs.{grown}
 use Rattle.sector_log.proofs.Appending.{front, rests_again, added, fits_means, kept_after, count_after, nothing_grown, nothing_added, entries_of_each, log_stored}
 use Rattle.sector_log.specs.Store.{IsStored}
@@ -193,7 +193,7 @@ invariant_of-self-2-clause-stored g c = λ open_now honest_now.
     let first : c.len.result / 84 ≡ length self.log.items / 84 = ap (λ n. n / 84) size in
     let end : (c.len-2.result + 83) / 84 ≡ (length (grown self.log.items c.args.more.now) + 83) / 84 = ap (λ n. (n + 83) / 84) (now ∙ ap length c.add_inputs.ensures.items) in
     let synced = c.in_ok-sync_once.ensures.synced held.honest in
-    subst (λ (l : List Stored). IsStored (g.D.SectorDevice.disk c.sync_once.new.device) self.start self.root l) c.deref.ensures.value
+    subst (λ (l : List StoredEntry). IsStored (g.D.SectorDevice.disk c.sync_once.new.device) self.start self.root l) c.deref.ensures.value
     (rests_again (g.D.SectorDevice.disk self.device) self.start self.root self.log.items c.deref.result.now c.args.more.now rests self.kept c.add_inputs.ensures.five c.requires means.1 means.0 all
     ((c.len-2.result + 83) / 84) end (g.D.SectorDevice.disk c.write_log.new.device) (g.D.SectorDevice.disk c.sync_once.new.device) synced.settled synced.sectors
     (c.in_ok-write_log.ensures.written honest rests.settled

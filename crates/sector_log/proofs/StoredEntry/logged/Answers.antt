@@ -1,6 +1,6 @@
 use Rattle.std.proofs.Common.{rules, ◌≡◌, length, sym, ◌∙◌}
 use Rattle.sector_log.proofs.Standing.{run_logged, seconds_logged, none_logged}
-use Rattle.sector_log.proofs.Stored.logged.Goals as goal
+use Rattle.sector_log.proofs.StoredEntry.logged.Goals as goal
 
 pub returns-then-is_run-clause-some : goal.returns-then-is_run-clause-some
 returns-then-is_run-clause-some c = run_logged c.args.self.now c.times.result (sym c.is_run.ensures ∙ c.if-is_run.true) c.times.ensures
