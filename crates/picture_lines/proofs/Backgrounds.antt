@@ -1,5 +1,5 @@
 -- The background of a line, by the tile rows that are put into it.
-use Rattle.std.proofs.Common.{◌≡◌, ℕ, ◌+◌, ◌-◌, ◌%◌, ◌<◌, ◌≤◌, true, false, List, get_or, length, map, refl, ◌∙◌, arith, zero, suc}
+use Rattle.std.proofs.Common.{◌≡◌, ℕ, ◌+◌, ◌-◌, ◌%◌, ◌<◌, ◌≤◌, true, false, List, get_or, length, map, refl, sym, ap, ◌∙◌, arith, zero, suc}
 use Rattle.std.specs.Prelude.{All, replicate, nat_le, ◌&&◌}
 use Rattle.std.proofs.lemmas.List.{get_or-map}
 use Rattle.std.proofs.lemmas.Simd.{length-replicate}
@@ -42,6 +42,21 @@ module _ (s : LineRegisters) (vram : List ℕ) (x : ℕ) where
     colour = right;
     shade = rw off (right ∙ background_colour-off off);
   }
+
+-- the palette E4
+own_shade : (colour : ℕ) → colour < 4 → shade_of 228 colour ≡ colour
+unfolding shade_of
+own_shade zero small = refl
+own_shade (suc zero) small = refl
+own_shade (suc (suc zero)) small = refl
+own_shade (suc (suc (suc zero))) small = refl
+own_shade (suc (suc (suc (suc n)))) small = absurd (omega arith)
+
+pub background_shade-own : (s : LineRegisters) (vram : List ℕ) (x colour : ℕ) → colour < 4 → has_bit s.lcdc 0 ≡ true → s.bgp ≡ 228 → colour ≡ background_colour s vram x → colour ≡ background_shade s vram x
+unfolding background_shade
+background_shade-own s vram x colour small on own right =
+    let same : shade_of 228 colour ≡ shade_of s.bgp (background_colour s vram x) = ap (shade_of 228) right ∙ ap (λ p. shade_of p (background_colour s vram x)) (sym own) in
+    rw on (sym (own_shade colour small) ∙ same)
 
 -- the columns and rows of the maps at which a column of the line stands
 pub scrolled : (scroll x : ℕ) → (scroll - scroll % 8 + (x + 8 - (8 - scroll % 8))) % 256 ≡ (scroll + x) % 256

@@ -1,10 +1,10 @@
 -- The steps of composing a line of tile rows.
-use Rattle.std.proofs.Common.{◌≡◌, ℕ, ◌+◌, ◌-◌, ◌/◌, ◌%◌, ◌<◌, ◌≤◌, List, length, get_or, ◌∙◌, ap, subst, take, drop, ◌++◌, arith}
+use Rattle.std.proofs.Common.{◌≡◌, ℕ, ◌+◌, ◌*◌, ◌-◌, ◌/◌, ◌%◌, ◌<◌, ◌≤◌, List, length, get_or, ◌∙◌, ap, subst, take, drop, ◌++◌, arith}
 use Rattle.std.specs.Prelude.{All}
 use lib.Lanes.{put_chunk}
 use Rattle.std.proofs.lemmas.Simd.{get_or-put_chunk_at, put_chunk_is}
 use Rattle.std.proofs.lemmas.List.Elements.{All-append, All-take, All-drop}
-use Rattle.picture_lines.specs.Pixel.{map_row, map_colour}
+use Rattle.picture_lines.specs.Pixel.{map_row, map_colour, tile_of}
 use Rattle.picture_lines.specs.Tiles.{tile_row}
 use Rattle.picture_lines.proofs.TileCache.{get_or-tile_row, length-tile_row}
 
@@ -12,6 +12,13 @@ use Rattle.picture_lines.proofs.TileCache.{get_or-tile_row, length-tile_row}
 pub put_chunk-small : (at : ℕ) (xs ys : List ℕ) → at + length ys ≤ length xs → All (λ x. x < 4) xs → All (λ x. x < 4) ys → All (λ x. x < 4) (put_chunk at xs ys)
 put_chunk-small at xs ys room small_xs small_ys =
     rw (put_chunk_is at xs ys room) (All-append (λ x. x < 4) (take at xs) (ys ++ drop (length ys) (drop at xs)) (All-take (λ x. x < 4) at xs small_xs) (All-append (λ x. x < 4) ys (drop (length ys) (drop at xs)) small_ys (All-drop (λ x. x < 4) (length ys) (drop at xs) (All-drop (λ x. x < 4) at xs small_xs))))
+
+-- a column's tile
+pub map_row_of_tile : (lcdc : ℕ) (vram : List ℕ) (start tile row : ℕ) → map_row lcdc vram start (8 * tile) row ≡ 8 * tile_of lcdc (get_or vram (start + 32 * (row / 8) + tile) 0) + row % 8
+unfolding map_row
+map_row_of_tile lcdc vram start tile row =
+    let same : 8 * tile / 8 ≡ tile = omega arith in
+    rw same
 
 -- columns of one tile are in one tile row
 map_colour-in_row : (lcdc : ℕ) (vram : List ℕ) (start column j row : ℕ) → column % 8 ≡ 0 → j < 8 → get_or (tile_row vram (map_row lcdc vram start column row)) j 0 ≡ map_colour lcdc vram start (column + j) row

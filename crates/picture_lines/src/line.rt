@@ -1,7 +1,7 @@
 ghost use Rattle.std.specs.Prelude.{◌≡◌, ℕ, ◌+◌, ◌*◌, ◌-◌, ◌/◌, ◌%◌, ◌<◌, ◌≤◌, length, slice_index, All, List, drop, [], ◌∷◌, if◌then◌else◌};
 ghost use Rattle.std.specs.List.{AllPass};
 ghost use lib.Lanes.{put_chunk};
-ghost use Rattle.picture_lines.specs.Pixel.{map_row as map_row_of, map_colour, background_colour, background_shade, object_colour, object_palette, covers_line, shade_at, drawn_row};
+ghost use Rattle.picture_lines.specs.Pixel.{tile_of, map_row as map_row_of, map_colour, background_colour, background_shade, object_colour, object_palette, covers_line, shade_at, drawn_row};
 ghost use Rattle.picture_lines.specs.Choice.{IsChoice};
 ghost use Rattle.picture_lines.specs.Bits.{shade_of};
 ghost use Rattle.picture_lines.specs.Layers.{IsBackground, IsLayered};
@@ -10,21 +10,38 @@ use crate::bits::has_bit;
 use crate::chosen::ChosenObjects;
 use crate::kernels::map_shades;
 use crate::object_entry::Object;
-use crate::plain::{map_start, shade_over, tile_number};
+use crate::plain::{map_start, shade_over};
 use crate::registers::LineRegisters;
 use crate::tiles::TileMemory;
 
 const WIDTH: usize = 176;
 
-// The tile row at a column and a row of a map.
-#[tactic(auto, unfolding(crate::specs::Pixel::map_row))]
-fn map_row(lcdc: u8, tiles: &TileMemory, start: usize, column: u8, row: u8) -> usize
-    requires { start ≤ 7168 }
-    ensures value { result ≡ map_row_of lcdc tiles.now start column row }
+// The palette by which each colour is its own shade.
+const OWN_SHADES: u8 = 0xe4;
+
+// What is added to the number of a tile, as a byte and then once more, to get the tile: without a
+// test of the number.
+#[tactic(auto, unfolding(crate::specs::Pixel::tile_of))]
+#[inline(always)]
+fn first_tile(lcdc: u8) -> u8
+    ensures value { (number : ℕ) → number < 256 → tile_of lcdc number ≡ (number + result) % 256 + result }
+    ensures small { result ≤ 128 }
+{
+    if has_bit(lcdc, 4) { 0 } else { 128 }
+}
+
+// The tile row of a tile of a map, at a row of the map.
+#[tactic(auto, using(crate::proofs::Composing::map_row_of_tile))]
+#[inline(always)]
+fn map_row(lcdc: u8, tiles: &TileMemory, start: usize, tile: usize, row: u8) -> usize
+    requires start_in { start ≤ 7168 }
+    requires tile_in { tile < 32 }
+    ensures value { result ≡ map_row_of lcdc tiles.now start (8 * tile) row }
     ensures small { result < 3072 }
 {
-    let at = start + 32 * (row as usize / 8) + column as usize / 8;
-    8 * tile_number(lcdc, tiles.byte(at)) + row as usize % 8
+    let number = tiles.byte(start + 32 * (row as usize / 8) + tile);
+    let first = first_tile(lcdc);
+    8 * number.wrapping_add(first) as usize + (8 * first as usize + row as usize % 8)
 }
 
 // Puts eight colours side by side.
@@ -56,12 +73,12 @@ fn put_map(
         ≡ map_colour lcdc tiles.old start ((first + (i - left)) % 256) row }
 {
     let mut at = left;
-    let mut column = first;
+    let mut tile = first as usize / 8;
     while at < 168 {
-        let index = map_row(lcdc, tiles, start, column, row);
+        let index = map_row(lcdc, tiles, start, tile, row);
         put_row(buffer, at, tiles.row(index));
         at += 8;
-        column = column.wrapping_add(8);
+        tile = (tile + 1) % 32;
     }
 }
 
@@ -91,6 +108,7 @@ struct Overlay {
 
 impl LineRegisters {
     // The colours of the background, column x at index x + 8.
+    #[inline(always)]
     fn background_colours(&self, tiles: &mut TileMemory) -> [u8; WIDTH]
         ensures tiles { tiles.new ≡ tiles.old }
         ensures small { All (λ colour. colour < 4) result }
@@ -146,7 +164,7 @@ impl LineRegisters {
             slice_index result (x + 8) ≡ background_shade self.now tiles.old x }
     {
         let mut colours = self.background_colours(tiles);
-        if has_bit(self.lcdc, 0) {
+        if has_bit(self.lcdc, 0) && self.bgp != OWN_SHADES {
             map_shades(self.bgp, &mut colours);
         }
         colours

@@ -19,7 +19,7 @@ fn row_colour(vram: &[u8], row: usize, column: u8) -> u8
 }
 
 #[tactic(auto, unfolding(crate::specs::Pixel::tile_of))]
-pub(crate) fn tile_number(lcdc: u8, number: u8) -> usize
+fn tile_number(lcdc: u8, number: u8) -> usize
     ensures value { result ≡ tile_of lcdc number }
     ensures small { result < 384 }
 {

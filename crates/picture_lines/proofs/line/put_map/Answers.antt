@@ -1,4 +1,4 @@
-use Rattle.std.proofs.Common.{◌≡◌, ◌≤◌, ◌+◌, ◌-◌, ◌%◌, length, ap, ◌∙◌, inl, inr, arith}
+use Rattle.std.proofs.Common.{◌≡◌, ◌≤◌, ◌+◌, ◌*◌, ◌-◌, ◌%◌, length, ap, ◌∙◌, inl, inr, arith}
 use lib.Lanes.{put_chunk}
 use Rattle.std.proofs.lemmas.Simd.{get_or-put_chunk_below}
 use Rattle.std.proofs.lemmas.Bool.{cases_lt}
@@ -17,7 +17,7 @@ loop-at-preserved c =
     let long : length colours ≡ 8 = length-tile_row a.tiles.now index in
     let room : o.at + 8 ≤ length o.buffer = omega arith in
     let same : c.row.new.self ≡ a.tiles.now = cc in
-    let column : map_row a.lcdc a.tiles.now a.start o.column a.row ≡ map_row a.lcdc a.tiles.now a.start ((a.first + (o.at - a.left)) % 256) a.row = ap (λ n. map_row a.lcdc a.tiles.now a.start n a.row) o.invariant.column in
+    let column : map_row a.lcdc a.tiles.now a.start (8 * o.tile) a.row ≡ map_row a.lcdc a.tiles.now a.start ((a.first + (o.at - a.left)) % 256) a.row = ap (λ n. map_row a.lcdc a.tiles.now a.start n a.row) o.invariant.column in
     let put : c.put_row.new.buffer ≡ put_chunk o.at o.buffer colours = cc in
     record {
       size = omega arith;

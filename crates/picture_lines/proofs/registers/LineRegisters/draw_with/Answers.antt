@@ -1,4 +1,4 @@
-use Rattle.std.proofs.Common.{◌≡◌, ◌∙◌, true, false, ap, sym, subst, List, arith}
+use Rattle.std.proofs.Common.{◌≡◌, ◌∙◌, true, false, ap, sym, subst, List}
 use Rattle.std.specs.List.{AllPass}
 use Rattle.picture_lines.specs.Bits.{has_bit}
 use Rattle.picture_lines.specs.Pixel.{pixel, shade_at, drawn_row, covers_line, selected_objects, objects_of}
