@@ -1,14 +1,21 @@
 //! Assertions whose proofs stand once, and not at each place as those of `assert!` and `assert_eq!` do.
+
+ghost use Rattle.std.specs.Prelude.{◌≡◌, true};
+
 use std::fmt::{Debug, Display};
 use std::process::Abort;
 
 /// Ends the test where the two differ.
-pub fn is_same<T: PartialEq + Debug>(rt: &impl Abort, found: &T, wanted: &T, what: &impl Display) {
+pub fn is_same<T: PartialEq + Debug>(rt: &impl Abort, found: &T, wanted: &T, what: &impl Display)
+    ensures { T.eq found.now wanted.now ≡ true }
+{
     assert_eq!(rt; found, wanted, "{what}");
 }
 
 /// Ends the test where it is false.
-pub fn is_true(rt: &impl Abort, found: bool, what: &impl Display) {
+pub fn is_true(rt: &impl Abort, found: bool, what: &impl Display)
+    ensures { found ≡ true }
+{
     assert!(rt; found, "{what}");
 }
 
