@@ -1,12 +1,13 @@
 //! Frames of the processor over the bus.
 
-ghost use Rattle.std.specs.Prelude.{◌≡◌, ◌<◌, ◌≤◌, true};
+ghost use Rattle.std.specs.Prelude.{◌≡◌, ◌<◌, ◌≤◌, ◌+◌, ◌-◌, ◌%◌, true, false};
 ghost use Rattle.picture_unit.specs.PictureJump.{IsSettled};
 ghost use Rattle.memory_map.specs.BusRules.{bus_rules};
 ghost use Rattle.machine.specs.Waiting.{Waits, within};
 ghost use Rattle.machine.specs.Machine.{frame_of, steps_until};
-ghost use Rattle.sm83_processor.specs.Plain.{IsPlain};
-ghost use Rattle.sm83_processor.specs.Steps.{passing};
+ghost use Rattle.memory_map.specs.Quiet.{IsCalm};
+ghost use Rattle.sm83_processor.specs.Plain.{IsPlain, IsUsual};
+ghost use Rattle.sm83_processor.specs.Steps.{passing, step_of};
 
 use memory_map::Bus;
 use sm83_processor::{IN_FRAME, Processor, What};
@@ -58,7 +59,7 @@ fn run_plain_steps(processor: &mut Processor<Bus>, passed: u32) -> u32
 {
     let mut passed = passed;
     while passed < FRAME {
-        let (now, is_plain) = run_plain_step(processor, passed);
+        let (now, is_plain) = run_calm_steps(processor, passed);
         passed = now;
         if !is_plain {
             return passed;
@@ -67,10 +68,11 @@ fn run_plain_steps(processor: &mut Processor<Bus>, passed: u32) -> u32
     passed
 }
 
-/// Makes a plain step. Says how many M-cycles of the frame have passed after it, and whether
-/// the next step is plain.
+/// Makes plain steps up to the first that writes to the memory, or that the bus or the frame may not
+/// know to be calm, and that one too. Says how many M-cycles of the frame have passed after it, and
+/// whether the next step is plain.
 #[inline(always)]
-fn run_plain_step(processor: &mut Processor<Bus>, passed: u32) -> (u32, bool)
+fn run_calm_steps(processor: &mut Processor<Bus>, passed: u32) -> (u32, bool)
     requires below { passed < 17556 }
     requires plain { IsPlain bus_rules processor.old }
     ensures run { steps_until bus_rules 17556 result.0 processor.new ≡ steps_until bus_rules 17556 passed processor.old }
@@ -78,17 +80,74 @@ fn run_plain_step(processor: &mut Processor<Bus>, passed: u32) -> (u32, bool)
     ensures few { result.0 < 17562 }
     ensures plain { result.1 ≡ true → IsPlain bus_rules processor.new }
 {
+    let calm = u32::from(processor.memory.calm()).min(FRAME - passed);
+    let end = passed + calm;
+    let mut left = calm as u8;
+    loop {
+        let (now, fewer, is_plain, is_calm) = run_plain_step(processor, left, end);
+        if !is_calm {
+            return (now, is_plain);
+        }
+        left = fewer;
+    }
+}
+
+/// Makes a plain step before which so many M-cycles are calm, up to `end`. Says how many M-cycles of
+/// the frame have passed after it, unless all is still calm; how many are left that are calm; whether
+/// the next step is plain; and whether all is still calm.
+#[inline(always)]
+fn run_plain_step(processor: &mut Processor<Bus>, left: u8, end: u32) -> (u32, u8, bool, bool)
+    requires plain { IsPlain bus_rules processor.old }
+    requires calm { IsCalm left processor.old.memory }
+    requires within { left ≤ end }
+    requires end { end ≤ 17556 }
+    ensures after { processor.new ≡ (step_of bus_rules processor.old).after }
+    ensures now { result.3 ≡ false → result.0 ≡ end - left + (step_of bus_rules processor.old).stepped.cycles }
+    ensures plain { result.2 ≡ true → IsPlain bus_rules processor.new }
+    ensures fewer { result.3 ≡ true → (step_of bus_rules processor.old).stepped.cycles < left }
+    ensures left { result.3 ≡ true → result.1 ≡ left - (step_of bus_rules processor.old).stepped.cycles }
+    ensures still_plain { result.3 ≡ true → IsPlain bus_rules processor.new }
+    ensures calm { result.3 ≡ true → IsCalm result.1 processor.new.memory }
+{
     let opcode = Bus::read(&processor.memory, processor.registers.pc);
     processor.registers.pc = processor.registers.pc.wrapping_add(1);
-    let (cycles, usual) = processor.run_opcode::<IN_FRAME>(opcode);
+    let (cycles, usual, is_memory_kept) = processor.run_opcode::<IN_FRAME>(opcode);
     if !usual {
         pass_apart(processor, cycles);
-        return (passed + u32::from(cycles), false);
+        return (time_behind(end, left, cycles), 0, false, false);
     }
-    if Bus::pass_few(&mut processor.memory, cycles) {
-        return (passed + u32::from(cycles), true);
+    if !is_memory_kept {
+        let is_plain = pass_usual(processor, cycles);
+        return (time_behind(end, left, cycles), 0, is_plain, false);
     }
-    (passed + u32::from(cycles), !processor.is_interrupted())
+    // What is left is taken before it is known whether it was enough: the host does both at once.
+    let fewer = left.wrapping_sub(cycles);
+    if cycles >= left {
+        let is_plain = pass_usual(processor, cycles);
+        return (time_beyond(end, fewer), 0, is_plain, false);
+    }
+    Bus::move_on(&mut processor.memory, cycles);
+    (0, fewer, true, true)
+}
+
+/// The M-cycles of the frame that have passed behind an instruction, where so many were left up to
+/// `end` before it.
+#[inline(always)]
+fn time_behind(end: u32, left: u8, cycles: u8) -> u32
+    requires within { left ≤ end }
+    requires end { end ≤ 17556 }
+    ensures { result ≡ end - left + cycles }
+{
+    end - u32::from(left) + u32::from(cycles)
+}
+
+/// The same, by what is left then, which is below 0.
+#[inline(always)]
+fn time_beyond(end: u32, fewer: u8) -> u32
+    requires { end ≤ 17556 }
+    ensures { result ≡ end + (256 - fewer) % 256 }
+{
+    end + u32::from(0u8.wrapping_sub(fewer))
 }
 
 #[inline(never)]
@@ -96,6 +155,20 @@ fn pass_apart(processor: &mut Processor<Bus>, cycles: u8)
     ensures { processor.new ≡ passing bus_rules cycles processor.old }
 {
     let _ = Bus::pass_few(&mut processor.memory, cycles);
+}
+
+/// Lets M-cycles pass behind an instruction after which the processor is in its usual state. Says
+/// whether the next step is plain.
+#[inline(never)]
+fn pass_usual(processor: &mut Processor<Bus>, cycles: u8) -> bool
+    requires { IsUsual processor.old.state }
+    ensures after { processor.new ≡ passing bus_rules cycles processor.old }
+    ensures plain { result ≡ true → IsPlain bus_rules processor.new }
+{
+    if Bus::pass_few(&mut processor.memory, cycles) {
+        return true;
+    }
+    !processor.is_interrupted()
 }
 
 /// Passes the waits that are sure to come in a frame of which `passed` M-cycles have passed; if

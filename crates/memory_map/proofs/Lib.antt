@@ -7,3 +7,5 @@ pub mod QuietTicks
 pub mod QuietCycles
 pub mod SameCartridge
 pub mod CopyLaws
+pub mod LateTimers
+pub mod LateBus

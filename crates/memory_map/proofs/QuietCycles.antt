@@ -1,80 +1,77 @@
 -- Quiet M-cycles of the bus at once.
-use Rattle.std.proofs.Common.{◌≡◌, ℕ, zero, suc, ◌+◌, ◌-◌, ◌*◌, ◌%◌, ◌<◌, ◌≤◌, Bool, true, false, leb, eqb, cond, min, refl, sym, ap, ◌∙◌, arith}
+use Rattle.std.proofs.Common.{◌≡◌, ℕ, zero, suc, ◌+◌, ◌-◌, ◌<◌, ◌≤◌, Bool, true, false, min, refl, sym, ap, subst, ◌∙◌, arith, inl, inr}
 use Rattle.std.specs.Prelude.{◌||◌}
 use Rattle.std.specs.Fn.{iterate}
+use Rattle.std.proofs.lemmas.Bool.{cases_lt}
 use Rattle.std.proofs.lemmas.Bool.Decides.{nat_tests}
 use Rattle.std.proofs.Math.Bool.{or-false}
+use Rattle.repeated_steps.proofs.Iterates.{iterate-add}
 use Rattle.timer_unit.specs.Timer as timer
-use Rattle.timer_unit.specs.TimerJump.{falls_in, falls_of_bit, grown, with_falls}
 use Rattle.timer_unit.specs.Serial as serial
 use Rattle.timer_unit.specs.declared.timer.TimerState.{TimerState}
-use Rattle.timer_unit.proofs.TimerJump as timer_jump
+use Rattle.timer_unit.proofs.Requested.{timer_request_added}
 use Rattle.timer_unit.proofs.SerialJump as serial_jump
 use Rattle.picture_unit.specs.Picture as picture
 use Rattle.picture_unit.specs.PictureJump as picture_jump
 use Rattle.picture_unit.specs.declared.state.PictureState.{PictureState}
-use Rattle.picture_unit.proofs.Quiet.{none_quiet, fewer_quiet, quiet_ticks}
+use Rattle.picture_unit.proofs.Quiet.{none_quiet_by, fewer_quiet, quiet_ticks}
 use Rattle.picture_unit.proofs.PictureLaws.{picture_ticks, pending}
 use Rattle.memory_map.specs.State.{BusState}
 use Rattle.memory_map.specs.Bus.{pending_interrupts}
 use Rattle.memory_map.specs.Ticks.{tick}
-use Rattle.memory_map.specs.Quiet.{AreQuiet}
+use Rattle.memory_map.specs.Quiet.{AreQuiet, AreQuietOn, IsCalm}
 use Rattle.memory_map.proofs.NextBusEvent.{ticks_apart}
 
-pub none_are_quiet : (copied : ℕ) (t : TimerState) (left : ℕ) (p : PictureState) → AreQuiet 0 copied t left p
-none_are_quiet copied t left p = record {
-  copy = λ pos. absurd (omega arith);
-  timer = λ pos. absurd (omega arith);
-  serial = λ pos. absurd (omega arith);
-  line = λ pos. absurd (omega arith);
-  picture = none_quiet p;
+pub none_are_quiet : (n copied : ℕ) (t : TimerState) (left : ℕ) (p : PictureState) → n ≡ 0 → AreQuiet n copied t left p
+none_are_quiet n copied t left p none = record {
+  copy = λ pos. absurd (omega (arith, none));
+  timer = λ pos. absurd (omega (arith, none));
+  serial = λ pos. absurd (omega (arith, none));
+  line = λ pos. absurd (omega (arith, none));
+  picture = none_quiet_by n p none;
 }
 
--- ---- the timer's signal
+-- ---- the timer requests nothing
 
-abbrev StaysStill : ℕ → Type 0
-StaysStill k = (c n q : ℕ) → c < 65536 → n ≤ q → falls_of_bit k c q ≡ 0 → (falls_of_bit k c n ≡ 0) × (falls_of_bit k ((c + 4 * n) % 65536) (q - n) ≡ 0)
+left_none : (p q : Bool) → (p || q) ≡ false → p ≡ false
+left_none false q e = refl
+left_none true q e = e
 
-nine : StaysStill 9
-nine c n q h le none = (omega arith, omega arith)
+right_none : (p q : Bool) → (p || q) ≡ false → q ≡ false
+right_none false q e = e
+right_none true q e = cc
 
-three : StaysStill 3
-three c n q h le none = (omega arith, omega arith)
+-- what is not requested in q M-cycles is not requested in the first n of them, nor in the others
+requested_apart : (q n : ℕ) (t : TimerState) → n ≤ q → (timer.ticks q t).requested ≡ false
+    → ((timer.ticks n t).requested ≡ false) × ((timer.ticks (q - n) (timer.ticks n t).timer).requested ≡ false)
+requested_apart q n t le none =
+    let s = timer.ticks n t in
+    let all : n + (q - n) ≡ q = omega (arith, le) in
+    let whole : (s.requested || (timer.ticks (q - n) s.timer).requested) ≡ false =
+    sym (ap (λ (x : timer.TimerAndRequest). x.requested) (timer_request_added s.requested (q - n) s.timer))
+    ∙ sym (ap (λ (x : timer.TimerAndRequest). x.requested) (iterate-add timer.tick n (q - n) (timer.unrequested t)))
+    ∙ ap (λ (k : ℕ). (timer.ticks k t).requested) all ∙ none in
+    (left_none s.requested (timer.ticks (q - n) s.timer).requested whole, right_none s.requested (timer.ticks (q - n) s.timer).requested whole)
 
-five : StaysStill 5
-five c n q h le none = (omega arith, omega arith)
+-- n M-cycles of a timer that requests nothing in them
+abbrev timer_with : TimerState → Bool → timer.TimerAndRequest
+timer_with t r = record { timer = t; requested = r }
 
-seven : StaysStill 7
-seven c n q h le none = (omega arith, omega arith)
+pub still_requested : (n : ℕ) (s : timer.TimerAndRequest) → (timer.ticks n s.timer).requested ≡ false
+    → (iterate timer.tick n s).requested ≡ s.requested
+still_requested n s none =
+    ap (λ (x : timer.TimerAndRequest). x.requested) (timer_request_added s.requested n s.timer)
+    ∙ ap (λ (r : Bool). s.requested || r) none ∙ or-false s.requested
 
-stays_still : (tac : ℕ) → StaysStill (timer.selected_bit tac)
-stays_still tac =
-    elim (eqb (tac % 4) 0) as (λ a. StaysStill (cond a 9 (cond (eqb (tac % 4) 1) 3 (cond (eqb (tac % 4) 2) 5 7)))) [
-      | true ↦ nine
-      | false ↦ elim (eqb (tac % 4) 1) as (λ a. StaysStill (cond a 3 (cond (eqb (tac % 4) 2) 5 7))) [
-        | true ↦ three
-        | false ↦ elim (eqb (tac % 4) 2) as (λ a. StaysStill (cond a 5 7)) [ true ↦ five | false ↦ seven ]
-      ]
-    ]
-
-no_falls : (tac c n q : ℕ) → c < 65536 → n ≤ q → falls_in tac c q ≡ 0 → (falls_in tac c n ≡ 0) × (falls_in tac ((c + 4 * n) % 65536) (q - n) ≡ 0)
-no_falls tac c n q h le none =
-    let k = timer.selected_bit tac in
-    elim (leb 4 tac) as (λ on. cond on (falls_of_bit k c q) 0 ≡ 0 → (cond on (falls_of_bit k c n) 0 ≡ 0) × (cond on (falls_of_bit k ((c + 4 * n) % 65536) (q - n)) 0 ≡ 0)) [
-      | true ↦ λ none. stays_still tac c n q h le none
-      | false ↦ λ _. (refl, refl)
-    ] none
-
-timer_grows : (n : ℕ) (t : timer.TimerAndRequest) → timer.IsLegalTimer t.timer → falls_in t.timer.tac t.timer.counter n ≡ 0 → iterate timer.tick n t ≡ grown n t
-timer_grows n t h none =
-    timer_jump.ticks_by_jump n t h ∙ ap (λ (f : ℕ). with_falls f (grown n t)) none ∙ timer_jump.with_falls-zero (grown n t) h.tima
+pub goes_on : (n : ℕ) (s : timer.TimerAndRequest) → (iterate timer.tick n s).timer ≡ (timer.ticks n s.timer).timer
+goes_on n s = ap (λ (x : timer.TimerAndRequest). x.timer) (timer_request_added s.requested n s.timer)
 
 -- ---- the other units
 
 serial_stays : (n : ℕ) (s : serial.SerialAndRequest) → s.serial.cycles_left ≡ 0 → iterate serial.tick n s ≡ s
 serial_stays n s none = serial_jump.ticks_by_jump n s ∙ grind (arith, nat_tests)
 
-abbrev further : ℕ → picture.PictureUnit → picture.PictureUnit
+abbrev pub further : ℕ → picture.PictureUnit → picture.PictureUnit
 further n s = record s { state = record s.state { m_cycle = s.state.m_cycle + n } }
 
 abbrev with_picture : picture.PictureUnit → Bool → Bool → picture.PictureAndRequests
@@ -93,40 +90,35 @@ picture_goes_on q n d le quiet =
 -- what n quiet M-cycles leave
 abbrev pub gone_on : ℕ → BusState → BusState
 gone_on n b = record b {
-  timer = record b.timer { timer = record b.timer.timer { counter = (b.timer.timer.counter + 4 * n) % 65536 } };
+  timer = iterate timer.tick n b.timer;
   picture = record b.picture { picture = further n b.picture.picture };
 }
 
 abbrev with_units : timer.TimerAndRequest → serial.SerialAndRequest → picture.PictureAndRequests → BusState → BusState
 with_units t s p b = record b { timer = t; serial = s; picture = p }
 
-pub quiet_pass : (q n : ℕ) (b : BusState) → n ≤ q → timer.IsLegalTimer b.timer.timer
-    → AreQuiet q b.control.dma_copied b.timer.timer b.serial.serial.cycles_left b.picture.picture.state → gone_on n b ≡ iterate tick n b
-quiet_pass q zero b le legal quiet =
-    let c : (b.timer.timer.counter + 4 * 0) % 65536 ≡ b.timer.timer.counter = omega (arith, legal.counter) in
+pub quiet_pass : (q n : ℕ) (b : BusState) → n ≤ q → AreQuietOn q b → gone_on n b ≡ iterate tick n b
+quiet_pass q zero b le quiet =
     let m : b.picture.picture.state.m_cycle + 0 ≡ b.picture.picture.state.m_cycle = omega arith in
-    rw (c, m) refl
-quiet_pass q (suc n) b le legal quiet =
-    let t = timer_grows (suc n) b.timer legal ((no_falls b.timer.timer.tac b.timer.timer.counter (suc n) q legal.counter le (quiet.timer (omega arith))).0) in
+    rw m refl
+quiet_pass q (suc n) b le quiet =
     let s = serial_stays (suc n) b.serial (quiet.serial (omega arith)) in
     let p = picture_goes_on q (suc n) b.picture le quiet.picture in
     sym (ticks_apart (suc n) b (quiet.copy (omega arith))
-    ∙ ap (λ (x : timer.TimerAndRequest). with_units x (iterate serial.tick (suc n) b.serial) (iterate picture.tick (suc n) b.picture) b) t
-    ∙ ap (λ (x : serial.SerialAndRequest). with_units (grown (suc n) b.timer) x (iterate picture.tick (suc n) b.picture) b) s
-    ∙ ap (λ (x : picture.PictureAndRequests). with_units (grown (suc n) b.timer) b.serial x b) p)
+    ∙ ap (λ (x : serial.SerialAndRequest). with_units (iterate timer.tick (suc n) b.timer) x (iterate picture.tick (suc n) b.picture) b) s
+    ∙ ap (λ (x : picture.PictureAndRequests). with_units (iterate timer.tick (suc n) b.timer) b.serial x b) p)
 
 -- what is quiet behind n quiet M-cycles
-pub quiet_after : (q n copied : ℕ) (t : TimerState) (left : ℕ) (p : PictureState) → n ≤ q → t.counter < 65536 → AreQuiet q copied t left p
-    → AreQuiet (q - n) copied (record t { counter = (t.counter + 4 * n) % 65536 }) left (record p { m_cycle = p.m_cycle + n })
-quiet_after q n copied t left p le h quiet = record {
+pub quiet_after : (q n : ℕ) (b : BusState) → n ≤ q → AreQuietOn q b → AreQuietOn (q - n) (gone_on n b)
+quiet_after q n b le quiet = record {
   copy = λ pos. quiet.copy (omega arith);
-  timer = λ pos. (no_falls t.tac t.counter n q h le (quiet.timer (omega arith))).1;
+  timer = λ pos. ap (λ (t : TimerState). (timer.ticks (q - n) t).requested) (goes_on n b.timer) ∙ (requested_apart q n b.timer.timer le (quiet.timer (omega arith))).1;
   serial = λ pos. quiet.serial (omega arith);
   line = λ pos. let lt = quiet.line (omega arith) in omega arith;
-  picture = fewer_quiet q n (q - n) p (omega arith) quiet.picture;
+  picture = fewer_quiet q n (q - n) b.picture.picture.state (omega arith) quiet.picture;
 }
 
--- as many as are quiet for the timer and for the picture unit
+-- fewer are quiet too
 fewer_picture : (q n : ℕ) (p : PictureState) → n ≤ q → picture_jump.AreQuiet q p → picture_jump.AreQuiet n p
 fewer_picture q n p le quiet = record {
   on = λ pos. quiet.on (omega arith);
@@ -134,17 +126,60 @@ fewer_picture q n p le quiet = record {
   settled = λ pos. quiet.settled (omega arith);
 }
 
-pub both_quiet : (n m q copied : ℕ) (t : TimerState) (left : ℕ) (p : PictureState) → n ≡ min m q → 160 ≤ copied → left ≡ 0 → t.counter < 65536
-    → falls_in t.tac t.counter m ≡ 0 → p.m_cycle + q < 114 → picture_jump.AreQuiet q p → AreQuiet n copied t left p
-both_quiet n m q copied t left p e copy none h still line quiet = record {
+pub fewer_are_quiet : (q n : ℕ) (b : BusState) → n ≤ q → AreQuietOn q b → AreQuietOn n b
+fewer_are_quiet q n b le quiet = record {
+  copy = λ pos. quiet.copy (omega arith);
+  timer = λ pos. (requested_apart q n b.timer.timer le (quiet.timer (omega arith))).0;
+  serial = λ pos. quiet.serial (omega arith);
+  line = λ pos. let lt = quiet.line (omega arith) in omega arith;
+  picture = fewer_picture q n b.picture.picture.state le quiet.picture;
+}
+
+-- those up to an M-cycle of the line, n quiet M-cycles on
+pub quiet_until_behind : (until n : ℕ) (b : BusState) → AreQuietOn (until - b.picture.picture.state.m_cycle) b
+    → AreQuietOn (until - (b.picture.picture.state.m_cycle + n)) (gone_on n b)
+quiet_until_behind until n b quiet =
+    let m = b.picture.picture.state.m_cycle in
+    elim (cases_lt until (m + n)) [
+      | inl lt ↦ none_are_quiet (until - (m + n)) (gone_on n b).control.dma_copied (gone_on n b).timer.timer (gone_on n b).serial.serial.cycles_left (gone_on n b).picture.picture.state (omega arith)
+      | inr le ↦ let same : until - (m + n) ≡ until - m - n = omega arith in rw same (quiet_after (until - m) n b (omega arith) quiet)
+    ]
+
+-- as many as are quiet for the timer and for the picture unit
+pub both_quiet : (n m q copied : ℕ) (t : TimerState) (left : ℕ) (p : PictureState) → n ≡ min m q → 160 ≤ copied → left ≡ 0
+    → (timer.ticks m t).requested ≡ false → p.m_cycle + q < 114 → picture_jump.AreQuiet q p → AreQuiet n copied t left p
+both_quiet n m q copied t left p e copy none still line quiet = record {
   copy = λ _. copy;
-  timer = λ _. (no_falls t.tac t.counter n m h (omega arith) still).0;
+  timer = λ _. (requested_apart m n t (omega arith) still).0;
   serial = λ _. none;
   line = λ _. omega arith;
   picture = fewer_picture q n p (omega arith) quiet;
 }
 
+abbrev pending_with : Bool → BusState → ℕ
+pending_with r b = pending_interrupts (record b { timer = record b.timer { requested = r } })
+
+-- quiet M-cycles request nothing
+pub pending_behind : (n : ℕ) (b : BusState) → AreQuietOn n b → pending_interrupts (gone_on n b) ≡ pending_interrupts b
+pending_behind zero b quiet = refl
+pending_behind (suc n) b quiet = ap (λ (r : Bool). pending_with r b) (still_requested (suc n) b.timer (quiet.timer (omega arith)))
+
 -- before each of n M-cycles, of which all but the last are quiet, IE and IF share what they share now
-pub pending_while_quiet : (n k : ℕ) (b : BusState) → k < n → timer.IsLegalTimer b.timer.timer
-    → AreQuiet (n - 1) b.control.dma_copied b.timer.timer b.serial.serial.cycles_left b.picture.picture.state → pending_interrupts (iterate tick k b) ≡ pending_interrupts b
-pending_while_quiet n k b below legal quiet = ap pending_interrupts (sym (quiet_pass (n - 1) k b (omega arith) legal quiet))
+pub pending_while_quiet : (n k : ℕ) (b : BusState) → k < n → AreQuietOn (n - 1) b → pending_interrupts (iterate tick k b) ≡ pending_interrupts b
+pending_while_quiet n k b below quiet =
+    ap pending_interrupts (sym (quiet_pass (n - 1) k b (omega arith) quiet)) ∙ pending_behind k b (fewer_are_quiet (n - 1) k b (omega arith) quiet)
+
+-- fewer are calm too
+pub fewer_are_calm : (n m : ℕ) (b : BusState) → m ≤ n → IsCalm n b → IsCalm m b
+fewer_are_calm n m b le calm = record {
+  quiet = fewer_are_quiet (n - 1) (m - 1) b (omega arith) calm.quiet;
+  none_pending = λ some. calm.none_pending (omega arith);
+}
+
+-- what is calm behind k of them
+pub calm_behind : (n k : ℕ) (b : BusState) → k < n → IsCalm n b → IsCalm (n - k) (iterate tick k b)
+calm_behind n k b below calm =
+    let left : n - k - 1 ≡ n - 1 - k = omega arith in record {
+      quiet = rw left (subst (AreQuietOn (n - 1 - k)) (quiet_pass (n - 1) k b (omega arith) calm.quiet) (quiet_after (n - 1) k b (omega arith) calm.quiet));
+      none_pending = λ some. pending_while_quiet n k b below calm.quiet ∙ calm.none_pending (omega arith);
+    }

@@ -5,7 +5,7 @@ use Rattle.std.specs.Fn.{iterate}
 use Rattle.repeated_steps.proofs.Iterates.{iterate-along}
 use Rattle.timer_unit.specs.Timer as timer
 use Rattle.timer_unit.specs.Serial as serial
-use Rattle.timer_unit.proofs.Requested.{timer_request_added, serial_request_added}
+use Rattle.timer_unit.proofs.Requested.{serial_request_added}
 use Rattle.timer_unit.specs.declared.timer.TimerState.{TimerState}
 use Rattle.timer_unit.specs.declared.serial.SerialState.{SerialState}
 use Rattle.picture_unit.specs.Picture as picture
@@ -13,7 +13,7 @@ use Rattle.picture_unit.proofs.PictureLaws.{picture_ticks}
 use Rattle.memory_map.specs.State.{BusState}
 use Rattle.memory_map.specs.Ticks.{tick_timer, tick_serial, tick_picture}
 
-timers_tick : (n : ℕ) (b : BusState) → record b { timer = iterate timer.tick n b.timer } ≡ iterate tick_timer n b
+pub timers_tick : (n : ℕ) (b : BusState) → record b { timer = iterate timer.tick n b.timer } ≡ iterate tick_timer n b
 timers_tick n b = iterate-along timer.tick tick_timer (λ t. record b { timer = t }) (λ t. refl) n b.timer
 
 serials_tick : (n : ℕ) (b : BusState) → record b { serial = iterate serial.tick n b.serial } ≡ iterate tick_serial n b
@@ -39,16 +39,6 @@ timer_requested false = refl
 pub serial_requested : (r : Bool) → not (nat_eq (serial.serial_request r) 0) ≡ r
 serial_requested true = refl
 serial_requested false = refl
-
-pub timer_passed : (n : ℕ) (b : BusState) (t : TimerState) (bits : ℕ) → t ≡ (timer.ticks n b.timer.timer).timer → bits ≡ timer.timer_request (timer.ticks n b.timer.timer).requested
-    → record b { timer = record { timer = t; requested = b.timer.requested || not (nat_eq bits 0) } } ≡ iterate tick_timer n b
-timer_passed n b t bits e f =
-    let run = timer.ticks n b.timer.timer in
-    let g : not (nat_eq bits 0) ≡ run.requested = ap (λ (k : ℕ). not (nat_eq k 0)) f ∙ timer_requested run.requested in
-    let whole : timer_with t (b.timer.requested || not (nat_eq bits 0)) ≡ iterate timer.tick n b.timer =
-    ap (λ (u : TimerState). timer_with u (b.timer.requested || not (nat_eq bits 0))) e ∙ ap (λ (q : Bool). timer_with run.timer (b.timer.requested || q)) g
-    ∙ sym (timer_request_added b.timer.requested n b.timer.timer) in
-    ap (λ (u : timer.TimerAndRequest). record b { timer = u }) whole ∙ timers_tick n b
 
 pub serial_passed : (n : ℕ) (b : BusState) (t : SerialState) (bits : ℕ) → t ≡ (serial.ticks n b.serial.serial).serial → bits ≡ serial.serial_request (serial.ticks n b.serial.serial).requested
     → record b { serial = record { serial = t; requested = b.serial.requested || not (nat_eq bits 0) } } ≡ iterate tick_serial n b

@@ -8,4 +8,5 @@ pub mod Stores
 pub mod Laws
 pub mod CopyLaws
 -- what only the code needs
+pub mod LateTimer
 pub mod Quiet

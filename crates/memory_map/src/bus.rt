@@ -5,13 +5,14 @@ mod registers;
 mod snapshot;
 
 use crate::control::Control;
+use crate::late_timer::LateTimer;
 use crate::place::Place;
 use bank_controllers::Banks;
 use cartridge::Cartridge;
 use picture_unit::Picture;
 use std::alloc::{AllocError, Global};
 use std::marker::Model;
-use timer_unit::{Serial, Timer};
+use timer_unit::Serial;
 
 /// All that the processor reaches by address, and the units in which time passes.
 ///
@@ -20,8 +21,7 @@ use timer_unit::{Serial, Timer};
 /// allocates all the memory that it needs, and no other call takes memory or refuses.
 #[derive(Drop)]
 pub struct Bus {
-    timer: Timer,
-    timer_requested: bool,
+    timer: LateTimer,
     serial: Serial,
     serial_requested: bool,
     picture: Picture,
@@ -32,21 +32,22 @@ pub struct Bus {
     hram: [u8; 127],
     sound: [u8; 48],
     control: Control,
-    // Where it is not 0, IE and IF share no bit, and one M-cycle fewer is quiet: in these nothing changes but the timer's counter
-    // and the M-cycle of the line. What may end that sets it to 0.
-    calm: u8,
-    // The same where they may share one: so many M-cycles are quiet.
-    quiet: u8,
+    // Before this M-cycle of the line IE and IF share no bit, and up to the one before it nothing changes but the M-cycle of the line
+    // and, late, the timer. What may end that sets it to 0.
+    calm_until: u8,
+    // The same where IE and IF may share a bit: up to this M-cycle nothing else changes.
+    quiet_until: u8,
 }
 
 impl Model for Bus {
     ghost use Rattle.memory_map.specs.State.{BusState};
+    ghost use Rattle.memory_map.specs.LateTimer.{up_to};
     ghost use Rattle.memory_map.specs.Quiet.{IsConsistent};
 
     ghost Value = { BusState };
 
     ghost view = { λ b. record {
-      timer = record { timer = b.timer; requested = b.timer_requested };
+      timer = up_to b.picture.state.m_cycle b.timer;
       serial = record { serial = b.serial; requested = b.serial_requested };
       picture = record { picture = b.picture; vblank = b.vblank_requested; stat = b.stat_requested };
       banks = b.banks;
@@ -56,8 +57,8 @@ impl Model for Bus {
       control = b.control;
     } };
 
-    ghost invariant = { λ b. IsConsistent b.calm b.quiet (record {
-      timer = record { timer = b.timer; requested = b.timer_requested };
+    ghost invariant = { λ b. IsConsistent b.calm_until b.quiet_until b.timer (record {
+      timer = up_to b.picture.state.m_cycle b.timer;
       serial = record { serial = b.serial; requested = b.serial_requested };
       picture = record { picture = b.picture; vblank = b.vblank_requested; stat = b.stat_requested };
       banks = b.banks;
@@ -106,8 +107,7 @@ impl Bus {
         let banks = Banks::new(alloc, cartridge)?;
         let wram = zeros(alloc, 8192)?;
         Ok(Bus {
-            timer: Timer::new(),
-            timer_requested: false,
+            timer: LateTimer::new(),
             serial: Serial::new(),
             serial_requested: false,
             picture,
@@ -118,8 +118,8 @@ impl Bus {
             hram: hram_at_power_on(),
             sound: sound_at_power_on(),
             control: Control::at_power_on(),
-            calm: 0,
-            quiet: 0,
+            calm_until: 0,
+            quiet_until: 0,
         })
     }
 
@@ -227,7 +227,7 @@ impl Bus {
         ensures { self.new ≡ buttons_set buttons self.old }
     {
         let select = self.control.p1_select;
-        self.calm = 0;
+        self.calm_until = 0;
         self.control.set_joypad(select, buttons);
     }
 
@@ -279,15 +279,15 @@ impl Bus {
     fn write_vram(&mut self, offset: u16, value: u8)
         ensures { self.new ≡ (if is_closed self.old (Place.Vram offset) then self.old else stored_at (Place.Vram offset) value self.old) }
     {
-        self.calm = 0;
-        self.quiet = 0;
+        self.calm_until = 0;
+        self.quiet_until = 0;
         self.picture.write_vram(offset, value);
     }
 
     fn write_ie(&mut self, value: u8)
         ensures { self.new ≡ stored_at Place.InterruptEnable value self.old }
     {
-        self.calm = 0;
+        self.calm_until = 0;
         self.control.ie = value;
     }
 
@@ -333,8 +333,8 @@ impl Bus {
         if self.control.dma_copied < 160 {
             return;
         }
-        self.calm = 0;
-        self.quiet = 0;
+        self.calm_until = 0;
+        self.quiet_until = 0;
         self.picture.write_oam(offset, value);
     }
 }

@@ -2,6 +2,7 @@
 use Rattle.std.proofs.Common.{◌≡◌, ℕ, zero, suc, ◌+◌, ◌-◌, ◌<◌, ◌≤◌, Bool, true, false, cond, refl, sym, ap, subst, ◌∙◌, arith, inl, inr}
 use Rattle.std.specs.Prelude.{not, ◌&&◌, ◌||◌, ◌==◌, Some, None}
 use Rattle.std.specs.Fn.{iterate}
+use Rattle.std.proofs.lemmas.Bool.{cases_lt}
 use Rattle.std.proofs.lemmas.Bool.Decides.{nat_tests}
 use Rattle.picture_lines.specs.Bits.{has_bit}
 use Rattle.picture_unit.specs.declared.state.PictureState.{PictureState}
@@ -226,6 +227,22 @@ fewer_quiet q n left p enough quiet =
       entry = λ pos. let lt : q < next_change p = quiet.entry (omega arith) in nearer_change p n left (omega arith);
       settled = λ pos. let lt : q < next_change p = quiet.entry (omega arith) in keeps_signal p n (omega arith) ∙ quiet.settled (omega arith);
     }
+
+-- none, whatever number says so
+pub none_quiet_by : (n : ℕ) (p : PictureState) → n ≡ 0 → AreQuiet n p
+none_quiet_by n p none = record { on = λ pos. absurd (omega arith); entry = λ pos. absurd (omega arith); settled = λ pos. absurd (omega arith) }
+
+pub within_line : (n m : ℕ) → m < 114 → (0 < n → m + n < 114) → m + n < 114
+within_line zero m legal some = omega arith
+within_line (suc n) m legal some = some (omega arith)
+
+-- those up to an M-cycle of the line, n M-cycles on
+pub quiet_until_behind : (until n : ℕ) (p : PictureState) → AreQuiet (until - p.m_cycle) p → AreQuiet (until - (p.m_cycle + n)) (record p { m_cycle = p.m_cycle + n })
+quiet_until_behind until n p quiet =
+    elim (cases_lt until (p.m_cycle + n)) [
+      | inl lt ↦ none_quiet_by (until - (p.m_cycle + n)) (record p { m_cycle = p.m_cycle + n }) (omega arith)
+      | inr le ↦ fewer_quiet (until - p.m_cycle) n (until - (p.m_cycle + n)) p (omega arith) quiet
+    ]
 
 pub quiet_in_line : (q n : ℕ) (p : PictureState) → n ≤ q → AreQuiet q p → p.m_cycle < 114 → p.m_cycle + n < 114
 quiet_in_line q zero p le quiet legal = omega arith

@@ -20,8 +20,9 @@ use std::marker::Model;
 #[derive(Drop)]
 pub struct Picture {
     state: PictureState,
-    // So many M-cycles are known to change nothing but the M-cycle. What may end that sets it to 0.
-    quiet: u8,
+    // Up to this M-cycle of the line nothing is known to change but the M-cycle. What may end that
+    // sets it to 0.
+    quiet_until: u8,
     tiles: TileMemory,
     oam: Vec<u8>,
     // The objects of the line that was drawn last.
@@ -36,6 +37,7 @@ pub struct Picture {
 }
 
 impl Model for Picture {
+    ghost use Rattle.std.specs.Prelude.{◌-◌};
     ghost use Rattle.picture_unit.specs.Picture.{PictureUnit, IsWhole};
     ghost use Rattle.picture_unit.specs.PictureJump.{AreQuiet};
     ghost use Rattle.picture_unit.specs.Keeping.{AreKept};
@@ -52,7 +54,7 @@ impl Model for Picture {
 
     ghost invariant = { λ p. record {
       whole : IsWhole p.state p.oam.items p.rows.items;
-      quiet : AreQuiet p.quiet p.state;
+      quiet : AreQuiet (p.quiet_until - p.state.m_cycle) p.state;
       kept : AreKept p.is_changed p.is_kept p.drawn_by p.tiles p.oam.items p.rows.items;
       objects : IsChoice p.objects p.oam.items;
     } };
@@ -79,7 +81,7 @@ impl Picture {
         let state = PictureState::at_power_on();
         Ok(Picture {
             state,
-            quiet: 0,
+            quiet_until: 0,
             tiles,
             oam,
             objects,
@@ -205,7 +207,7 @@ impl Picture {
             0xff41 => self.write_stat(value),
             0xff45 => self.write_lyc(value),
             _ => {
-                self.quiet = 0;
+                self.quiet_until = 0;
                 self.state.store_register(address, value);
                 false
             }
@@ -259,7 +261,7 @@ impl Picture {
         if !was_on && value >= 128 {
             return self.switch_on(value);
         }
-        self.quiet = 0;
+        self.quiet_until = 0;
         self.state.lcdc = value;
     }
 
@@ -267,7 +269,7 @@ impl Picture {
     fn switch_off(&mut self, lcdc: u8)
         ensures { self.new ≡ switched_off lcdc self.old }
     {
-        self.quiet = 0;
+        self.quiet_until = 0;
         self.state.lcdc = lcdc;
         self.state.ly = 0;
         self.state.m_cycle = 0;
@@ -282,7 +284,7 @@ impl Picture {
     fn switch_on(&mut self, lcdc: u8)
         ensures { self.new ≡ switched_on lcdc self.old }
     {
-        self.quiet = 0;
+        self.quiet_until = 0;
         self.state.lcdc = lcdc;
         self.state.ly = 0;
         self.state.m_cycle = 0;
@@ -295,7 +297,7 @@ impl Picture {
         ensures picture { self.new ≡ (taken (unrequested (stat_written value self.old))).picture }
         ensures stat { result ≡ (taken (unrequested (stat_written value self.old))).stat }
     {
-        self.quiet = 0;
+        self.quiet_until = 0;
         self.state.stat = value / 8 % 16 * 8;
         self.take_signal()
     }
@@ -305,7 +307,7 @@ impl Picture {
         ensures picture { self.new ≡ (taken (unrequested (lyc_written value self.old))).picture }
         ensures stat { result ≡ (taken (unrequested (lyc_written value self.old))).stat }
     {
-        self.quiet = 0;
+        self.quiet_until = 0;
         self.state.lyc = value;
         self.take_signal()
     }

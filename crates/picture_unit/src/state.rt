@@ -186,6 +186,7 @@ impl PictureState {
     pub(crate) fn change_at(&self) -> u8
         requires { self.now.m_cycle < 114 }
         ensures change { result ≡ self.now.m_cycle + next_change self.now }
+        ensures near { result ≤ 114 }
         ensures ahead { 0 < next_change self.now }
     {
         if self.m_cycle < 20 && self.ly < 144 {

@@ -7,3 +7,4 @@ pub mod Lowest
 pub mod Runs
 pub mod PlainSteps
 pub mod UsualStates
+pub mod KeptMemory

@@ -12,7 +12,8 @@ ghost use Rattle.opcode_table.specs.declared.instruction.Instr.{Instr};
 use crate::memory::Memory;
 use crate::processor::Processor;
 use crate::register_operations::{
-    address, condition_holds, finish_access, operate, operate_accumulator, shift,
+    address, condition_holds, finish_access, operate, operate_accumulator, set_flags,
+    set_flags_but_carry, shift,
 };
 use crate::register_pairs::{hl, set_hl, set_register16, set_stack_register16, stack_register16};
 use opcode_table::{
@@ -218,7 +219,8 @@ impl<M: Memory> Processor<M> {
     {
         self.move_past(1);
         let outcome = sm83_alu::increment(self.operand(operand), self.registers.flags);
-        self.set_outcome(operand, outcome);
+        set_flags_but_carry(&mut self.registers, outcome.flags);
+        self.set_operand(operand, outcome.value);
         by_operand(operand, 3, 1)
     }
 
@@ -230,7 +232,8 @@ impl<M: Memory> Processor<M> {
     {
         self.move_past(1);
         let outcome = sm83_alu::decrement(self.operand(operand), self.registers.flags);
-        self.set_outcome(operand, outcome);
+        set_flags_but_carry(&mut self.registers, outcome.flags);
+        self.set_operand(operand, outcome.value);
         by_operand(operand, 3, 1)
     }
 
@@ -338,7 +341,7 @@ impl<M: Memory> Processor<M> {
         self.move_past(2);
         let outcome = sm83_alu::add_offset(self.registers.sp, offset);
         self.registers.sp = outcome.value;
-        self.registers.flags = outcome.flags;
+        set_flags(&mut self.registers, outcome.flags);
         4
     }
 
@@ -362,7 +365,7 @@ impl<M: Memory> Processor<M> {
         self.move_past(2);
         let outcome = sm83_alu::add_offset(self.registers.sp, offset);
         set_hl(&mut self.registers, outcome.value);
-        self.registers.flags = outcome.flags;
+        set_flags(&mut self.registers, outcome.flags);
         3
     }
 
@@ -587,7 +590,8 @@ impl<M: Memory> Processor<M> {
     {
         self.move_past(2);
         let byte = self.operand(operand);
-        self.registers.flags = sm83_alu::test_bit(bit, byte, self.registers.flags);
+        let flags = sm83_alu::test_bit(bit, byte, self.registers.flags);
+        set_flags_but_carry(&mut self.registers, flags);
         by_operand(operand, 3, 2)
     }
 
@@ -613,6 +617,38 @@ impl<M: Memory> Processor<M> {
         let byte = sm83_alu::set_bit(bit, self.operand(operand));
         self.set_operand(operand, byte);
         by_operand(operand, 4, 2)
+    }
+
+    #[inline(never)]
+    pub(crate) fn run_shift_apart(&mut self, shift_by: Shift, operand: Operand8) -> u8
+        ensures after { self.new ≡ executed_behind M.rules (Instr.Shift shift_by operand) self.old }
+        ensures cycles { result ≡ cycles_with (Instr.Shift shift_by operand) self.old.registers.flags }
+    {
+        self.run_shift(shift_by, operand)
+    }
+
+    #[inline(never)]
+    pub(crate) fn run_test_bit_apart(&mut self, bit: u8, operand: Operand8) -> u8
+        ensures after { self.new ≡ executed_behind M.rules (Instr.TestBit bit operand) self.old }
+        ensures cycles { result ≡ cycles_with (Instr.TestBit bit operand) self.old.registers.flags }
+    {
+        self.run_test_bit(bit, operand)
+    }
+
+    #[inline(never)]
+    pub(crate) fn run_reset_bit_apart(&mut self, bit: u8, operand: Operand8) -> u8
+        ensures after { self.new ≡ executed_behind M.rules (Instr.ResetBit bit operand) self.old }
+        ensures cycles { result ≡ cycles_with (Instr.ResetBit bit operand) self.old.registers.flags }
+    {
+        self.run_reset_bit(bit, operand)
+    }
+
+    #[inline(never)]
+    pub(crate) fn run_set_bit_apart(&mut self, bit: u8, operand: Operand8) -> u8
+        ensures after { self.new ≡ executed_behind M.rules (Instr.SetBit bit operand) self.old }
+        ensures cycles { result ≡ cycles_with (Instr.SetBit bit operand) self.old.registers.flags }
+    {
+        self.run_set_bit(bit, operand)
     }
 
     /// an undefined opcode

@@ -6,6 +6,7 @@
 #![tactic(auto)]
 
 mod instructions;
+mod kept_memory;
 pub mod laws;
 mod lengths;
 pub mod memory;

@@ -38,22 +38,23 @@ pub const REPORTED: u8 = 3;
 
 impl<M: Memory> Processor<M> {
     /// Executes the instruction of this opcode, with PC just after the opcode. Answers its
-    /// M-cycles, and whether the next one may begin as plainly as this one did, unless an interrupt
-    /// comes. WAY names the caller: code is made separately for each, so that it can be inlined
-    /// into the caller's loop.
+    /// M-cycles, whether the next one may begin as plainly as this one did, unless an interrupt
+    /// comes, and whether it is sure to have left the memory as it was. WAY names the caller: code
+    /// is made separately for each, so that it can be inlined into the caller's loop.
     #[inline(always)]
-    pub fn run_opcode<const WAY: u8>(&mut self, opcode: u8) -> (u8, bool)
+    pub fn run_opcode<const WAY: u8>(&mut self, opcode: u8) -> (u8, bool, bool)
         ensures after { self.new ≡ executed_behind M.rules (instruction_at M.rules opcode self.old) self.old }
         ensures cycles { result.0 ≡ cycles_with (instruction_at M.rules opcode self.old) self.old.registers.flags }
         ensures usual { result.1 ≡ true → IsUsual self.old.state → IsUsual self.new.state }
+        ensures memory { result.2 ≡ true → self.new.memory ≡ self.old.memory }
     {
         let cycles = self.run_instruction::<WAY>(opcode);
         match opcode {
-            STOP | HALT | ENABLE_INTERRUPTS => (cycles, false),
+            STOP | HALT | ENABLE_INTERRUPTS => (cycles, false, false),
             0xd3 | 0xdb | 0xdd | 0xe3 | 0xe4 | 0xeb | 0xec | 0xed | 0xf4 | 0xfc | 0xfd => {
-                (cycles, false)
+                (cycles, false, false)
             }
-            _ => (cycles, true),
+            _ => (cycles, true, Self::keeps_memory(opcode, cycles)),
         }
     }
 
@@ -336,55 +337,320 @@ impl<M: Memory> Processor<M> {
         }
     }
 
-    /// Executes the instruction after an opcode CB, and answers its M-cycles.
+    /// Executes the instruction after an opcode CB, and answers its M-cycles. Each arm below names its
+    /// number and operand, so that two jumps lead to code in which both are fixed. An operand in memory
+    /// is apart, so that the others save no registers for its calls.
     #[inline(never)]
+    #[tactic(auto, unfolding(opcode_table::specs::Table::bit_instruction))]
     fn run_bit_opcode(&mut self, byte: u8) -> u8
         ensures after { self.new ≡ executed_behind M.rules (bit_instruction (byte / 64) (byte % 8) (byte / 8 % 8)) self.old }
         ensures cycles { result ≡ cycles_with (bit_instruction (byte / 64) (byte % 8) (byte / 8 % 8)) self.old.registers.flags }
     {
-        match byte % 8 {
-            0 => self.run_bit_operation(byte, Operand8::B),
-            1 => self.run_bit_operation(byte, Operand8::C),
-            2 => self.run_bit_operation(byte, Operand8::D),
-            3 => self.run_bit_operation(byte, Operand8::E),
-            4 => self.run_bit_operation(byte, Operand8::H),
-            5 => self.run_bit_operation(byte, Operand8::L),
-            6 => self.run_bit_operation(byte, Operand8::AtHl),
-            _ => self.run_bit_operation(byte, Operand8::A),
-        }
-    }
-
-    #[inline(always)]
-    #[tactic(auto, unfolding(opcode_table::specs::Table::bit_instruction))]
-    fn run_bit_operation(&mut self, byte: u8, operand: Operand8) -> u8
-        requires { operand ≡ operand8_of (byte % 8) }
-        ensures after { self.new ≡ executed_behind M.rules (bit_instruction (byte / 64) (byte % 8) (byte / 8 % 8)) self.old }
-        ensures cycles { result ≡ cycles_with (bit_instruction (byte / 64) (byte % 8) (byte / 8 % 8)) self.old.registers.flags }
-    {
-        let bit = byte / 8 % 8;
         match byte / 64 {
-            0 => self.run_shift_of_number(bit, operand),
-            1 => self.run_test_bit(bit, operand),
-            2 => self.run_reset_bit(bit, operand),
-            _ => self.run_set_bit(bit, operand),
+            0 => self.run_shift_opcode(byte % 64),
+            1 => self.run_test_bit_opcode(byte % 64),
+            2 => self.run_reset_bit_opcode(byte % 64),
+            _ => self.run_set_bit_opcode(byte % 64),
         }
     }
 
+    /// RLC r and the like, by the low six bits of the byte after CB.
     #[inline(always)]
-    fn run_shift_of_number(&mut self, number: u8, operand: Operand8) -> u8
-        requires { number < 8 }
-        ensures after { self.new ≡ executed_behind M.rules (Instr.Shift (shift_of number) operand) self.old }
-        ensures cycles { result ≡ cycles_with (Instr.Shift (shift_of number) operand) self.old.registers.flags }
+    fn run_shift_opcode(&mut self, number: u8) -> u8
+        requires { number < 64 }
+        ensures after { self.new ≡ executed_behind M.rules (Instr.Shift (shift_of (number / 8)) (operand8_of (number % 8))) self.old }
+        ensures cycles { result ≡ cycles_with (Instr.Shift (shift_of (number / 8)) (operand8_of (number % 8))) self.old.registers.flags }
     {
         match number {
-            0 => self.run_shift(Shift::RotateLeft, operand),
-            1 => self.run_shift(Shift::RotateRight, operand),
-            2 => self.run_shift(Shift::RotateLeftThrough, operand),
-            3 => self.run_shift(Shift::RotateRightThrough, operand),
-            4 => self.run_shift(Shift::ShiftLeftArithmetic, operand),
-            5 => self.run_shift(Shift::ShiftRightArithmetic, operand),
-            6 => self.run_shift(Shift::Swap, operand),
-            _ => self.run_shift(Shift::ShiftRightLogical, operand),
+            0x00 => self.run_shift(Shift::RotateLeft, Operand8::B),
+            0x01 => self.run_shift(Shift::RotateLeft, Operand8::C),
+            0x02 => self.run_shift(Shift::RotateLeft, Operand8::D),
+            0x03 => self.run_shift(Shift::RotateLeft, Operand8::E),
+            0x04 => self.run_shift(Shift::RotateLeft, Operand8::H),
+            0x05 => self.run_shift(Shift::RotateLeft, Operand8::L),
+            0x06 => self.run_shift_apart(Shift::RotateLeft, Operand8::AtHl),
+            0x07 => self.run_shift(Shift::RotateLeft, Operand8::A),
+            0x08 => self.run_shift(Shift::RotateRight, Operand8::B),
+            0x09 => self.run_shift(Shift::RotateRight, Operand8::C),
+            0x0a => self.run_shift(Shift::RotateRight, Operand8::D),
+            0x0b => self.run_shift(Shift::RotateRight, Operand8::E),
+            0x0c => self.run_shift(Shift::RotateRight, Operand8::H),
+            0x0d => self.run_shift(Shift::RotateRight, Operand8::L),
+            0x0e => self.run_shift_apart(Shift::RotateRight, Operand8::AtHl),
+            0x0f => self.run_shift(Shift::RotateRight, Operand8::A),
+            0x10 => self.run_shift(Shift::RotateLeftThrough, Operand8::B),
+            0x11 => self.run_shift(Shift::RotateLeftThrough, Operand8::C),
+            0x12 => self.run_shift(Shift::RotateLeftThrough, Operand8::D),
+            0x13 => self.run_shift(Shift::RotateLeftThrough, Operand8::E),
+            0x14 => self.run_shift(Shift::RotateLeftThrough, Operand8::H),
+            0x15 => self.run_shift(Shift::RotateLeftThrough, Operand8::L),
+            0x16 => self.run_shift_apart(Shift::RotateLeftThrough, Operand8::AtHl),
+            0x17 => self.run_shift(Shift::RotateLeftThrough, Operand8::A),
+            0x18 => self.run_shift(Shift::RotateRightThrough, Operand8::B),
+            0x19 => self.run_shift(Shift::RotateRightThrough, Operand8::C),
+            0x1a => self.run_shift(Shift::RotateRightThrough, Operand8::D),
+            0x1b => self.run_shift(Shift::RotateRightThrough, Operand8::E),
+            0x1c => self.run_shift(Shift::RotateRightThrough, Operand8::H),
+            0x1d => self.run_shift(Shift::RotateRightThrough, Operand8::L),
+            0x1e => self.run_shift_apart(Shift::RotateRightThrough, Operand8::AtHl),
+            0x1f => self.run_shift(Shift::RotateRightThrough, Operand8::A),
+            0x20 => self.run_shift(Shift::ShiftLeftArithmetic, Operand8::B),
+            0x21 => self.run_shift(Shift::ShiftLeftArithmetic, Operand8::C),
+            0x22 => self.run_shift(Shift::ShiftLeftArithmetic, Operand8::D),
+            0x23 => self.run_shift(Shift::ShiftLeftArithmetic, Operand8::E),
+            0x24 => self.run_shift(Shift::ShiftLeftArithmetic, Operand8::H),
+            0x25 => self.run_shift(Shift::ShiftLeftArithmetic, Operand8::L),
+            0x26 => self.run_shift_apart(Shift::ShiftLeftArithmetic, Operand8::AtHl),
+            0x27 => self.run_shift(Shift::ShiftLeftArithmetic, Operand8::A),
+            0x28 => self.run_shift(Shift::ShiftRightArithmetic, Operand8::B),
+            0x29 => self.run_shift(Shift::ShiftRightArithmetic, Operand8::C),
+            0x2a => self.run_shift(Shift::ShiftRightArithmetic, Operand8::D),
+            0x2b => self.run_shift(Shift::ShiftRightArithmetic, Operand8::E),
+            0x2c => self.run_shift(Shift::ShiftRightArithmetic, Operand8::H),
+            0x2d => self.run_shift(Shift::ShiftRightArithmetic, Operand8::L),
+            0x2e => self.run_shift_apart(Shift::ShiftRightArithmetic, Operand8::AtHl),
+            0x2f => self.run_shift(Shift::ShiftRightArithmetic, Operand8::A),
+            0x30 => self.run_shift(Shift::Swap, Operand8::B),
+            0x31 => self.run_shift(Shift::Swap, Operand8::C),
+            0x32 => self.run_shift(Shift::Swap, Operand8::D),
+            0x33 => self.run_shift(Shift::Swap, Operand8::E),
+            0x34 => self.run_shift(Shift::Swap, Operand8::H),
+            0x35 => self.run_shift(Shift::Swap, Operand8::L),
+            0x36 => self.run_shift_apart(Shift::Swap, Operand8::AtHl),
+            0x37 => self.run_shift(Shift::Swap, Operand8::A),
+            0x38 => self.run_shift(Shift::ShiftRightLogical, Operand8::B),
+            0x39 => self.run_shift(Shift::ShiftRightLogical, Operand8::C),
+            0x3a => self.run_shift(Shift::ShiftRightLogical, Operand8::D),
+            0x3b => self.run_shift(Shift::ShiftRightLogical, Operand8::E),
+            0x3c => self.run_shift(Shift::ShiftRightLogical, Operand8::H),
+            0x3d => self.run_shift(Shift::ShiftRightLogical, Operand8::L),
+            0x3e => self.run_shift_apart(Shift::ShiftRightLogical, Operand8::AtHl),
+            _ => self.run_shift(Shift::ShiftRightLogical, Operand8::A),
+        }
+    }
+
+    /// BIT n,r, by the low six bits of the byte after CB.
+    #[inline(always)]
+    fn run_test_bit_opcode(&mut self, number: u8) -> u8
+        requires { number < 64 }
+        ensures after { self.new ≡ executed_behind M.rules (Instr.TestBit (number / 8) (operand8_of (number % 8))) self.old }
+        ensures cycles { result ≡ cycles_with (Instr.TestBit (number / 8) (operand8_of (number % 8))) self.old.registers.flags }
+    {
+        match number {
+            0x00 => self.run_test_bit(0, Operand8::B),
+            0x01 => self.run_test_bit(0, Operand8::C),
+            0x02 => self.run_test_bit(0, Operand8::D),
+            0x03 => self.run_test_bit(0, Operand8::E),
+            0x04 => self.run_test_bit(0, Operand8::H),
+            0x05 => self.run_test_bit(0, Operand8::L),
+            0x06 => self.run_test_bit_apart(0, Operand8::AtHl),
+            0x07 => self.run_test_bit(0, Operand8::A),
+            0x08 => self.run_test_bit(1, Operand8::B),
+            0x09 => self.run_test_bit(1, Operand8::C),
+            0x0a => self.run_test_bit(1, Operand8::D),
+            0x0b => self.run_test_bit(1, Operand8::E),
+            0x0c => self.run_test_bit(1, Operand8::H),
+            0x0d => self.run_test_bit(1, Operand8::L),
+            0x0e => self.run_test_bit_apart(1, Operand8::AtHl),
+            0x0f => self.run_test_bit(1, Operand8::A),
+            0x10 => self.run_test_bit(2, Operand8::B),
+            0x11 => self.run_test_bit(2, Operand8::C),
+            0x12 => self.run_test_bit(2, Operand8::D),
+            0x13 => self.run_test_bit(2, Operand8::E),
+            0x14 => self.run_test_bit(2, Operand8::H),
+            0x15 => self.run_test_bit(2, Operand8::L),
+            0x16 => self.run_test_bit_apart(2, Operand8::AtHl),
+            0x17 => self.run_test_bit(2, Operand8::A),
+            0x18 => self.run_test_bit(3, Operand8::B),
+            0x19 => self.run_test_bit(3, Operand8::C),
+            0x1a => self.run_test_bit(3, Operand8::D),
+            0x1b => self.run_test_bit(3, Operand8::E),
+            0x1c => self.run_test_bit(3, Operand8::H),
+            0x1d => self.run_test_bit(3, Operand8::L),
+            0x1e => self.run_test_bit_apart(3, Operand8::AtHl),
+            0x1f => self.run_test_bit(3, Operand8::A),
+            0x20 => self.run_test_bit(4, Operand8::B),
+            0x21 => self.run_test_bit(4, Operand8::C),
+            0x22 => self.run_test_bit(4, Operand8::D),
+            0x23 => self.run_test_bit(4, Operand8::E),
+            0x24 => self.run_test_bit(4, Operand8::H),
+            0x25 => self.run_test_bit(4, Operand8::L),
+            0x26 => self.run_test_bit_apart(4, Operand8::AtHl),
+            0x27 => self.run_test_bit(4, Operand8::A),
+            0x28 => self.run_test_bit(5, Operand8::B),
+            0x29 => self.run_test_bit(5, Operand8::C),
+            0x2a => self.run_test_bit(5, Operand8::D),
+            0x2b => self.run_test_bit(5, Operand8::E),
+            0x2c => self.run_test_bit(5, Operand8::H),
+            0x2d => self.run_test_bit(5, Operand8::L),
+            0x2e => self.run_test_bit_apart(5, Operand8::AtHl),
+            0x2f => self.run_test_bit(5, Operand8::A),
+            0x30 => self.run_test_bit(6, Operand8::B),
+            0x31 => self.run_test_bit(6, Operand8::C),
+            0x32 => self.run_test_bit(6, Operand8::D),
+            0x33 => self.run_test_bit(6, Operand8::E),
+            0x34 => self.run_test_bit(6, Operand8::H),
+            0x35 => self.run_test_bit(6, Operand8::L),
+            0x36 => self.run_test_bit_apart(6, Operand8::AtHl),
+            0x37 => self.run_test_bit(6, Operand8::A),
+            0x38 => self.run_test_bit(7, Operand8::B),
+            0x39 => self.run_test_bit(7, Operand8::C),
+            0x3a => self.run_test_bit(7, Operand8::D),
+            0x3b => self.run_test_bit(7, Operand8::E),
+            0x3c => self.run_test_bit(7, Operand8::H),
+            0x3d => self.run_test_bit(7, Operand8::L),
+            0x3e => self.run_test_bit_apart(7, Operand8::AtHl),
+            _ => self.run_test_bit(7, Operand8::A),
+        }
+    }
+
+    /// RES n,r, by the low six bits of the byte after CB.
+    #[inline(always)]
+    fn run_reset_bit_opcode(&mut self, number: u8) -> u8
+        requires { number < 64 }
+        ensures after { self.new ≡ executed_behind M.rules (Instr.ResetBit (number / 8) (operand8_of (number % 8))) self.old }
+        ensures cycles { result ≡ cycles_with (Instr.ResetBit (number / 8) (operand8_of (number % 8))) self.old.registers.flags }
+    {
+        match number {
+            0x00 => self.run_reset_bit(0, Operand8::B),
+            0x01 => self.run_reset_bit(0, Operand8::C),
+            0x02 => self.run_reset_bit(0, Operand8::D),
+            0x03 => self.run_reset_bit(0, Operand8::E),
+            0x04 => self.run_reset_bit(0, Operand8::H),
+            0x05 => self.run_reset_bit(0, Operand8::L),
+            0x06 => self.run_reset_bit_apart(0, Operand8::AtHl),
+            0x07 => self.run_reset_bit(0, Operand8::A),
+            0x08 => self.run_reset_bit(1, Operand8::B),
+            0x09 => self.run_reset_bit(1, Operand8::C),
+            0x0a => self.run_reset_bit(1, Operand8::D),
+            0x0b => self.run_reset_bit(1, Operand8::E),
+            0x0c => self.run_reset_bit(1, Operand8::H),
+            0x0d => self.run_reset_bit(1, Operand8::L),
+            0x0e => self.run_reset_bit_apart(1, Operand8::AtHl),
+            0x0f => self.run_reset_bit(1, Operand8::A),
+            0x10 => self.run_reset_bit(2, Operand8::B),
+            0x11 => self.run_reset_bit(2, Operand8::C),
+            0x12 => self.run_reset_bit(2, Operand8::D),
+            0x13 => self.run_reset_bit(2, Operand8::E),
+            0x14 => self.run_reset_bit(2, Operand8::H),
+            0x15 => self.run_reset_bit(2, Operand8::L),
+            0x16 => self.run_reset_bit_apart(2, Operand8::AtHl),
+            0x17 => self.run_reset_bit(2, Operand8::A),
+            0x18 => self.run_reset_bit(3, Operand8::B),
+            0x19 => self.run_reset_bit(3, Operand8::C),
+            0x1a => self.run_reset_bit(3, Operand8::D),
+            0x1b => self.run_reset_bit(3, Operand8::E),
+            0x1c => self.run_reset_bit(3, Operand8::H),
+            0x1d => self.run_reset_bit(3, Operand8::L),
+            0x1e => self.run_reset_bit_apart(3, Operand8::AtHl),
+            0x1f => self.run_reset_bit(3, Operand8::A),
+            0x20 => self.run_reset_bit(4, Operand8::B),
+            0x21 => self.run_reset_bit(4, Operand8::C),
+            0x22 => self.run_reset_bit(4, Operand8::D),
+            0x23 => self.run_reset_bit(4, Operand8::E),
+            0x24 => self.run_reset_bit(4, Operand8::H),
+            0x25 => self.run_reset_bit(4, Operand8::L),
+            0x26 => self.run_reset_bit_apart(4, Operand8::AtHl),
+            0x27 => self.run_reset_bit(4, Operand8::A),
+            0x28 => self.run_reset_bit(5, Operand8::B),
+            0x29 => self.run_reset_bit(5, Operand8::C),
+            0x2a => self.run_reset_bit(5, Operand8::D),
+            0x2b => self.run_reset_bit(5, Operand8::E),
+            0x2c => self.run_reset_bit(5, Operand8::H),
+            0x2d => self.run_reset_bit(5, Operand8::L),
+            0x2e => self.run_reset_bit_apart(5, Operand8::AtHl),
+            0x2f => self.run_reset_bit(5, Operand8::A),
+            0x30 => self.run_reset_bit(6, Operand8::B),
+            0x31 => self.run_reset_bit(6, Operand8::C),
+            0x32 => self.run_reset_bit(6, Operand8::D),
+            0x33 => self.run_reset_bit(6, Operand8::E),
+            0x34 => self.run_reset_bit(6, Operand8::H),
+            0x35 => self.run_reset_bit(6, Operand8::L),
+            0x36 => self.run_reset_bit_apart(6, Operand8::AtHl),
+            0x37 => self.run_reset_bit(6, Operand8::A),
+            0x38 => self.run_reset_bit(7, Operand8::B),
+            0x39 => self.run_reset_bit(7, Operand8::C),
+            0x3a => self.run_reset_bit(7, Operand8::D),
+            0x3b => self.run_reset_bit(7, Operand8::E),
+            0x3c => self.run_reset_bit(7, Operand8::H),
+            0x3d => self.run_reset_bit(7, Operand8::L),
+            0x3e => self.run_reset_bit_apart(7, Operand8::AtHl),
+            _ => self.run_reset_bit(7, Operand8::A),
+        }
+    }
+
+    /// SET n,r, by the low six bits of the byte after CB.
+    #[inline(always)]
+    fn run_set_bit_opcode(&mut self, number: u8) -> u8
+        requires { number < 64 }
+        ensures after { self.new ≡ executed_behind M.rules (Instr.SetBit (number / 8) (operand8_of (number % 8))) self.old }
+        ensures cycles { result ≡ cycles_with (Instr.SetBit (number / 8) (operand8_of (number % 8))) self.old.registers.flags }
+    {
+        match number {
+            0x00 => self.run_set_bit(0, Operand8::B),
+            0x01 => self.run_set_bit(0, Operand8::C),
+            0x02 => self.run_set_bit(0, Operand8::D),
+            0x03 => self.run_set_bit(0, Operand8::E),
+            0x04 => self.run_set_bit(0, Operand8::H),
+            0x05 => self.run_set_bit(0, Operand8::L),
+            0x06 => self.run_set_bit_apart(0, Operand8::AtHl),
+            0x07 => self.run_set_bit(0, Operand8::A),
+            0x08 => self.run_set_bit(1, Operand8::B),
+            0x09 => self.run_set_bit(1, Operand8::C),
+            0x0a => self.run_set_bit(1, Operand8::D),
+            0x0b => self.run_set_bit(1, Operand8::E),
+            0x0c => self.run_set_bit(1, Operand8::H),
+            0x0d => self.run_set_bit(1, Operand8::L),
+            0x0e => self.run_set_bit_apart(1, Operand8::AtHl),
+            0x0f => self.run_set_bit(1, Operand8::A),
+            0x10 => self.run_set_bit(2, Operand8::B),
+            0x11 => self.run_set_bit(2, Operand8::C),
+            0x12 => self.run_set_bit(2, Operand8::D),
+            0x13 => self.run_set_bit(2, Operand8::E),
+            0x14 => self.run_set_bit(2, Operand8::H),
+            0x15 => self.run_set_bit(2, Operand8::L),
+            0x16 => self.run_set_bit_apart(2, Operand8::AtHl),
+            0x17 => self.run_set_bit(2, Operand8::A),
+            0x18 => self.run_set_bit(3, Operand8::B),
+            0x19 => self.run_set_bit(3, Operand8::C),
+            0x1a => self.run_set_bit(3, Operand8::D),
+            0x1b => self.run_set_bit(3, Operand8::E),
+            0x1c => self.run_set_bit(3, Operand8::H),
+            0x1d => self.run_set_bit(3, Operand8::L),
+            0x1e => self.run_set_bit_apart(3, Operand8::AtHl),
+            0x1f => self.run_set_bit(3, Operand8::A),
+            0x20 => self.run_set_bit(4, Operand8::B),
+            0x21 => self.run_set_bit(4, Operand8::C),
+            0x22 => self.run_set_bit(4, Operand8::D),
+            0x23 => self.run_set_bit(4, Operand8::E),
+            0x24 => self.run_set_bit(4, Operand8::H),
+            0x25 => self.run_set_bit(4, Operand8::L),
+            0x26 => self.run_set_bit_apart(4, Operand8::AtHl),
+            0x27 => self.run_set_bit(4, Operand8::A),
+            0x28 => self.run_set_bit(5, Operand8::B),
+            0x29 => self.run_set_bit(5, Operand8::C),
+            0x2a => self.run_set_bit(5, Operand8::D),
+            0x2b => self.run_set_bit(5, Operand8::E),
+            0x2c => self.run_set_bit(5, Operand8::H),
+            0x2d => self.run_set_bit(5, Operand8::L),
+            0x2e => self.run_set_bit_apart(5, Operand8::AtHl),
+            0x2f => self.run_set_bit(5, Operand8::A),
+            0x30 => self.run_set_bit(6, Operand8::B),
+            0x31 => self.run_set_bit(6, Operand8::C),
+            0x32 => self.run_set_bit(6, Operand8::D),
+            0x33 => self.run_set_bit(6, Operand8::E),
+            0x34 => self.run_set_bit(6, Operand8::H),
+            0x35 => self.run_set_bit(6, Operand8::L),
+            0x36 => self.run_set_bit_apart(6, Operand8::AtHl),
+            0x37 => self.run_set_bit(6, Operand8::A),
+            0x38 => self.run_set_bit(7, Operand8::B),
+            0x39 => self.run_set_bit(7, Operand8::C),
+            0x3a => self.run_set_bit(7, Operand8::D),
+            0x3b => self.run_set_bit(7, Operand8::E),
+            0x3c => self.run_set_bit(7, Operand8::H),
+            0x3d => self.run_set_bit(7, Operand8::L),
+            0x3e => self.run_set_bit_apart(7, Operand8::AtHl),
+            _ => self.run_set_bit(7, Operand8::A),
         }
     }
 }

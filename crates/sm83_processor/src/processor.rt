@@ -105,11 +105,7 @@ impl<M: Memory> Processor<M> {
     pub(crate) fn jump_by(&mut self, offset: u8)
         ensures { self.new ≡ jumped_relative offset self.old }
     {
-        let signed = if offset < 0x80 {
-            u16::from(offset)
-        } else {
-            0xff00 + u16::from(offset)
-        };
+        let signed = u16::from(offset.wrapping_add(0x80)).wrapping_sub(0x80);
         self.registers.pc = self.registers.pc.wrapping_add(signed);
     }
 

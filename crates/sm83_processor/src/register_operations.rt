@@ -30,6 +30,16 @@ pub(crate) fn set_flags(registers: &mut Registers, flags: Flags)
     registers.flags.carry = flags.carry;
 }
 
+/// Sets the flags but C, which stays as it is and is not stored.
+#[inline(always)]
+pub(crate) fn set_flags_but_carry(registers: &mut Registers, flags: Flags)
+    ensures { registers.new ≡ record registers.old { flags = record flags { carry = registers.old.flags.carry } } }
+{
+    registers.flags.zero = flags.zero;
+    registers.flags.subtract = flags.subtract;
+    registers.flags.half_carry = flags.half_carry;
+}
+
 #[inline(always)]
 fn set_result(registers: &mut Registers, outcome: Outcome)
     ensures { registers.new ≡ with_result outcome registers.old }
@@ -81,8 +91,8 @@ pub(crate) fn operate_accumulator(registers: &mut Registers, operation: Accumula
             set_result(registers, sm83_alu::decimal_adjust(a, flags))
         }
         AccumulatorOperation::Complement => set_result(registers, sm83_alu::complement(a, flags)),
-        AccumulatorOperation::SetCarry => registers.flags = sm83_alu::set_carry(flags),
-        AccumulatorOperation::FlipCarry => registers.flags = sm83_alu::flip_carry(flags),
+        AccumulatorOperation::SetCarry => set_flags(registers, sm83_alu::set_carry(flags)),
+        AccumulatorOperation::FlipCarry => set_flags(registers, sm83_alu::flip_carry(flags)),
     }
 }
 

@@ -178,7 +178,7 @@ impl<M: Memory> Processor<M> {
         ensures plain { result.1 ≡ true → IsPlain M.rules self.new }
     {
         self.registers.pc = self.registers.pc.wrapping_add(1);
-        let (cycles, usual) = self.run_opcode::<WAY>(opcode);
+        let (cycles, usual, _) = self.run_opcode::<WAY>(opcode);
         if !usual {
             self.memory.pass(cycles);
             return (cycles, false);

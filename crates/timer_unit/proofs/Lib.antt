@@ -3,3 +3,4 @@ pub mod SerialLaws
 pub mod TimerJump
 pub mod Requested
 pub mod Tables
+pub mod Overflow

@@ -1,4 +1,4 @@
-ghost use Rattle.std.specs.Prelude.{◌≡◌, ◌<◌, ◌+◌, ◌*◌, ◌^◌, ◌%◌, ◌/◌};
+ghost use Rattle.std.specs.Prelude.{◌≡◌, ◌<◌, ◌≤◌, ◌+◌, ◌*◌, ◌^◌, ◌%◌, ◌/◌, ℕ, false};
 
 use crate::requests::Requests;
 use std::marker::Model;
@@ -90,24 +90,35 @@ impl Timer {
         self.count_falls(falls)
     }
 
-    /// That many M-cycles pass of those that `quiet` answers: the counter grows, and nothing else is done.
-    #[inline]
-    pub fn count(&mut self, cycles: u8)
-        ensures counter { self.new ≡ record self.old { counter = (self.old.counter + 4 * cycles) % 65536 } }
-        ensures legal { IsLegalTimer self.old }
+    /// A number of M-cycles, at most 255, in which the interrupt is not requested: all of them while TAC stops the timer.
+    pub fn unrequested_for(&self) -> u8
+        ensures { (ticks result self.now).requested ≡ false }
     {
-        self.state.counter = self.state.counter.wrapping_add(4 * u16::from(cycles));
+        self.cycles_below_overflow().min(255) as u8
     }
 
-    /// A number of M-cycles, at most 255, in which the signal does not fall: all of them while TAC stops the timer.
-    pub fn quiet(&self) -> u8
-        ensures still { falls_in self.now.tac self.now.counter result ≡ 0 }
+    /// A number of M-cycles in which TIMA does not overflow.
+    fn cycles_below_overflow(&self) -> u32
+        ensures below { (n : ℕ) → n ≤ result → self.now.tima + falls_in self.now.tac self.now.counter n < 256 }
         ensures legal { IsLegalTimer self.now }
     {
         if self.state.tac < 4 {
-            255
-        } else {
-            (self.cycles_to_fall() - 1) as u8
+            return 255;
+        }
+        self.cycles_to_fall() - 1 + self.cycles_of_counts(255 - self.state.tima)
+    }
+
+    /// How many M-cycles so many counts take.
+    fn cycles_of_counts(&self, counts: u8) -> u32
+        ensures cycles { 4 * result ≡ 2 * 2 ^ selected_bit self.now.tac * counts }
+        ensures few { result < 65536 }
+    {
+        let counts = u32::from(counts);
+        match self.state.tac % 4 {
+            0 => 256 * counts,
+            1 => 4 * counts,
+            2 => 16 * counts,
+            _ => 64 * counts,
         }
     }
 
@@ -217,7 +228,9 @@ impl Timer {
 
     /// After how many M-cycles the selected bit falls next.
     fn cycles_to_fall(&self) -> u32
-        ensures { result ≡ due_of_bit (selected_bit self.now.tac) self.now.counter }
+        ensures cycles { result ≡ due_of_bit (selected_bit self.now.tac) self.now.counter }
+        ensures some { 1 ≤ result }
+        ensures few { result ≤ 256 }
     {
         let counter = u32::from(self.state.counter);
         let ahead = match self.state.tac % 4 {

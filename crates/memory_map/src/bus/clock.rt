@@ -1,9 +1,9 @@
-ghost use Rattle.std.specs.Prelude.{◌≡◌, ◌<◌, true, ℕ};
+ghost use Rattle.std.specs.Prelude.{◌≡◌, ◌<◌, ◌+◌, ◌-◌, true, ℕ};
 ghost use Rattle.memory_map.specs.Bus.{pending_interrupts};
 ghost use Rattle.std.specs.Fn.{iterate};
 ghost use Rattle.repeated_steps.specs.NextEvent.{IsNextEvent, earlier};
 ghost use Rattle.memory_map.specs.Ticks.{tick, tick_timer, tick_serial, tick_dma_and_picture, tick_picture, copied_byte, happens};
-ghost use Rattle.memory_map.specs.Quiet.{AreQuietOn};
+ghost use Rattle.memory_map.specs.Quiet.{AreQuietOn, IsCalm};
 
 use super::Bus;
 
@@ -27,31 +27,49 @@ impl Bus {
         ensures ticks { self.new ≡ iterate tick cycles self.old }
         ensures none_pending { result ≡ true → pending_interrupts self.new ≡ 0 }
     {
-        // What is left is stored before it is known whether it was enough: the host does both at once.
-        let calm = self.calm;
-        self.calm = calm.wrapping_sub(cycles);
-        if cycles >= calm {
-            self.calm = 0;
-            self.pass_asked(cycles);
-            return false;
+        if cycles < self.calm() {
+            self.move_on(cycles);
+            return true;
         }
-        self.timer.count(cycles);
-        self.picture.move_on(cycles);
-        true
+        self.pass_asked(cycles);
+        false
     }
 
-    /// The same, if IE and IF may share a bit, or not all M-cycles are quiet.
+    /// A number of M-cycles of which all but the last change nothing but the timer's counter, TIMA and the M-cycle of the line; where it
+    /// is not 0, IE and IF share no bit. None where not that much is known.
+    #[inline(always)]
+    pub fn calm(&self) -> u8
+        ensures { IsCalm result self.now }
+    {
+        self.calm_until.saturating_sub(self.picture.m_cycle())
+    }
+
+    /// Lets M-cycles pass that change nothing else, as `calm` tells: the fastest call for them. Condition: they are such.
+    #[inline(always)]
+    pub fn move_on(&mut self, cycles: u8)
+        requires { AreQuietOn cycles self.old }
+        ensures { self.new ≡ iterate tick cycles self.old }
+    {
+        self.picture.move_on(cycles);
+    }
+
+    /// The same as `pass_few`, if IE and IF may share a bit, or not all M-cycles are quiet.
     #[inline(never)]
     fn pass_asked(&mut self, cycles: u8)
         ensures { self.new ≡ iterate tick cycles self.old }
     {
-        self.calm = 0;
-        if cycles > self.quiet {
-            return self.pass_by_units(u32::from(cycles));
+        if cycles <= self.quiet() {
+            return self.move_on(cycles);
         }
-        self.quiet -= cycles;
-        self.timer.count(cycles);
-        self.picture.move_on(cycles);
+        self.pass_by_units(u32::from(cycles));
+    }
+
+    /// A number of quiet M-cycles, where IE and IF may share a bit.
+    #[inline(always)]
+    fn quiet(&self) -> u8
+        ensures { AreQuietOn result self.now }
+    {
+        self.quiet_until.saturating_sub(self.picture.m_cycle())
     }
 
     #[inline]
@@ -68,13 +86,14 @@ impl Bus {
     fn look_ahead(&mut self)
         ensures { self.new ≡ self.old }
     {
+        let now = self.picture.m_cycle();
         let quiet = self.quiet_cycles();
         if self.shared_by_flags() == 0 {
-            self.calm = quiet + 1;
-            self.quiet = 0;
+            self.calm_until = now + quiet + 1;
+            self.quiet_until = 0;
         } else {
-            self.calm = 0;
-            self.quiet = quiet;
+            self.calm_until = 0;
+            self.quiet_until = now + quiet;
         }
     }
 
@@ -90,16 +109,19 @@ impl Bus {
     }
 
     fn quiet_cycles(&self) -> u8
-        ensures few { result < 255 }
+        ensures line { self.now.picture.picture.state.m_cycle + result < 114 }
         ensures quiet { AreQuietOn result self.now }
     {
+        if self.timer.at != self.picture.m_cycle() {
+            return 0;
+        }
         if self.control.dma_copied < 160 {
             return 0;
         }
         if self.serial.state().cycles_left > 0 {
             return 0;
         }
-        self.timer.quiet().min(self.picture.quiet())
+        self.timer.timer.unrequested_for().min(self.picture.quiet())
     }
 
     /// For how many M-cycles IE and IF are sure to share no bit: before each of them they share
@@ -108,10 +130,7 @@ impl Bus {
     pub fn none_pending_for(&self) -> u8
         ensures { (k : ℕ) → k < result → pending_interrupts (iterate tick k self.now) ≡ 0 }
     {
-        let none_pending = self.calm;
-        // That the timer's state is legal, on which the quiet M-cycles rest, is known from this call.
-        let _ = self.timer.state();
-        none_pending
+        self.calm()
     }
 
     /// After how many M-cycles the next event comes: a byte of a copy, a fall of the timer's
@@ -124,7 +143,7 @@ impl Bus {
             Some(1)
         } else {
             earlier(
-                self.timer.due(),
+                self.timer.copy_at(self.picture.m_cycle()).due(),
                 earlier(self.serial.due(), self.picture.due()),
             )
         }
@@ -135,18 +154,17 @@ impl Bus {
         ensures ticks { self.new ≡ iterate tick_timer cycles self.old }
         ensures dma_page { self.old.control.dma < 256 }
     {
-        self.calm = 0;
-        self.quiet = 0;
-        let requests = self.timer.pass(cycles);
-        self.timer_requested |= requests.bits != 0;
+        self.calm_until = 0;
+        self.quiet_until = 0;
+        self.timer.pass(self.picture.m_cycle(), cycles);
     }
 
     #[inline]
     fn pass_serial(&mut self, cycles: u32)
         ensures { self.new ≡ iterate tick_serial cycles self.old }
     {
-        self.calm = 0;
-        self.quiet = 0;
+        self.calm_until = 0;
+        self.quiet_until = 0;
         let requests = self.serial.pass(cycles);
         self.serial_requested |= requests.bits != 0;
     }
@@ -180,9 +198,11 @@ impl Bus {
     fn pass_picture(&mut self, cycles: u32)
         ensures { self.new ≡ iterate tick_picture cycles self.old }
     {
-        self.calm = 0;
-        self.quiet = 0;
+        self.calm_until = 0;
+        self.quiet_until = 0;
+        let now = self.picture.m_cycle();
         let requests = self.picture.pass(cycles);
+        self.timer.settle(now, self.picture.m_cycle());
         self.vblank_requested |= requests.vblank;
         self.stat_requested |= requests.stat;
     }
@@ -197,8 +217,8 @@ impl Bus {
         let page = if page < 0xe0 { page } else { page - 0x20 };
         let source = 256 * u16::from(page) + u16::from(self.control.dma_copied);
         let byte = self.peek(source);
-        self.calm = 0;
-        self.quiet = 0;
+        self.calm_until = 0;
+        self.quiet_until = 0;
         self.picture.copy_to_oam(self.control.dma_copied, byte);
         self.control.dma_copied += 1;
     }

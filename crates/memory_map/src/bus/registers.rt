@@ -14,7 +14,7 @@ impl Bus {
     pub fn pending_interrupts(&self) -> u8
         ensures { result ≡ pending_interrupts self.now }
     {
-        if self.calm > 0 {
+        if self.calm_until > self.picture.m_cycle() {
             return 0;
         }
         self.control.ie & self.interrupt_flag()
@@ -24,11 +24,11 @@ impl Bus {
     pub fn acknowledge(&mut self, bit: u8)
         ensures { self.new ≡ acknowledged bit self.old }
     {
-        self.calm = 0;
+        self.calm_until = 0;
         match bit {
             0 => self.vblank_requested = false,
             1 => self.stat_requested = false,
-            2 => self.timer_requested = false,
+            2 => self.timer.set_requested(self.picture.m_cycle(), false),
             3 => self.serial_requested = false,
             4 => self.control.joypad = false,
             _ => {}
@@ -41,7 +41,7 @@ impl Bus {
     {
         u8::from(self.vblank_requested)
             + 2 * u8::from(self.stat_requested)
-            + 4 * u8::from(self.timer_requested)
+            + 4 * u8::from(self.timer.requested)
             + 8 * u8::from(self.serial_requested)
             + 16 * u8::from(self.control.joypad)
     }
@@ -50,10 +50,11 @@ impl Bus {
     pub(super) fn set_interrupt_flag(&mut self, value: u8)
         ensures { self.new ≡ with_interrupt_flag value self.old }
     {
-        self.calm = 0;
+        self.calm_until = 0;
         self.vblank_requested = value / 1 % 2 == 1;
         self.stat_requested = value / 2 % 2 == 1;
-        self.timer_requested = value / 4 % 2 == 1;
+        self.timer
+            .set_requested(self.picture.m_cycle(), value / 4 % 2 == 1);
         self.serial_requested = value / 8 % 2 == 1;
         self.control.joypad = value / 16 % 2 == 1;
     }
@@ -66,10 +67,10 @@ impl Bus {
             0xff00 => self.control.p1(),
             0xff01 => self.serial.sb(),
             0xff02 => self.serial.sc(),
-            0xff04 => self.timer.div(),
-            0xff05 => self.timer.tima(),
-            0xff06 => self.timer.tma(),
-            0xff07 => self.timer.tac(),
+            0xff04 => self.timer.copy_at(self.picture.m_cycle()).div(),
+            0xff05 => self.timer.copy_at(self.picture.m_cycle()).tima(),
+            0xff06 => self.timer.copy_at(self.picture.m_cycle()).tma(),
+            0xff07 => self.timer.copy_at(self.picture.m_cycle()).tac(),
             0xff0f => 0xe0 + self.interrupt_flag() % 32,
             0xff46 => self.control.dma,
             _ => self.picture.read_register(address),
@@ -84,18 +85,18 @@ impl Bus {
             0xff00 => self.write_p1(value),
             0xff01 => self.serial.write_sb(value),
             0xff02 => {
-                self.calm = 0;
-                self.quiet = 0;
+                self.calm_until = 0;
+                self.quiet_until = 0;
                 self.serial.write_sc(value);
             }
             0xff04 => self.write_div(),
-            0xff05 => self.timer.write_tima(value),
-            0xff06 => self.timer.write_tma(value),
+            0xff05 => self.write_tima(value),
+            0xff06 => self.write_tma(value),
             0xff07 => self.write_tac(value),
             0xff0f => self.set_interrupt_flag(value),
             0xff46 => {
-                self.calm = 0;
-                self.quiet = 0;
+                self.calm_until = 0;
+                self.quiet_until = 0;
                 self.control.dma = value;
                 self.control.dma_copied = 0;
             }
@@ -106,7 +107,7 @@ impl Bus {
     fn write_p1(&mut self, value: u8)
         ensures { self.new ≡ record self.old { control = joypad_set (select_bits value) self.old.control.buttons self.old.control } }
     {
-        self.calm = 0;
+        self.calm_until = 0;
         let buttons = self.control.buttons;
         self.control.set_joypad(select_bits(value), buttons);
     }
@@ -114,26 +115,42 @@ impl Bus {
     fn write_div(&mut self)
         ensures { self.new ≡ record self.old { timer = with_counter_and_tac 0 self.old.timer.timer.tac self.old.timer } }
     {
-        self.calm = 0;
-        self.quiet = 0;
-        let requests = self.timer.write_div();
-        self.timer_requested |= requests.bits != 0;
+        self.calm_until = 0;
+        self.quiet_until = 0;
+        self.timer.write_div(self.picture.m_cycle());
     }
 
     fn write_tac(&mut self, value: u8)
         ensures { self.new ≡ record self.old { timer = with_counter_and_tac self.old.timer.timer.counter (value % 8) self.old.timer } }
     {
-        self.calm = 0;
-        self.quiet = 0;
-        let requests = self.timer.write_tac(value);
-        self.timer_requested |= requests.bits != 0;
+        self.calm_until = 0;
+        self.quiet_until = 0;
+        self.timer.write_tac(self.picture.m_cycle(), value);
+    }
+
+    fn write_tima(&mut self, value: u8)
+        ensures { self.new ≡ record self.old { timer = record self.old.timer { timer = record self.old.timer.timer { tima = value } } } }
+    {
+        self.calm_until = 0;
+        self.quiet_until = 0;
+        self.timer.write_tima(self.picture.m_cycle(), value);
+    }
+
+    fn write_tma(&mut self, value: u8)
+        ensures { self.new ≡ record self.old { timer = record self.old.timer { timer = record self.old.timer.timer { tma = value } } } }
+    {
+        self.calm_until = 0;
+        self.quiet_until = 0;
+        self.timer.write_tma(self.picture.m_cycle(), value);
     }
 
     fn write_picture(&mut self, address: u16, value: u8)
         ensures { self.new ≡ record self.old { picture = picture_register_written address value self.old.picture } }
     {
-        self.calm = 0;
-        self.quiet = 0;
+        self.calm_until = 0;
+        self.quiet_until = 0;
+        let now = self.picture.m_cycle();
         self.stat_requested |= self.picture.write_register(address, value);
+        self.timer.settle(now, self.picture.m_cycle());
     }
 }

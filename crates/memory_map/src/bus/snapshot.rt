@@ -20,7 +20,7 @@ impl Bus {
             interrupt_flag: self.interrupt_flag(),
             buttons: self.control.buttons,
             p1_select: self.control.p1_select,
-            timer: self.timer.state(),
+            timer: self.timer.copy_at(self.picture.m_cycle()).state(),
             serial: self.serial.state(),
             dma: self.control.dma,
             dma_copied: self.control.dma_copied,
@@ -34,11 +34,11 @@ impl Bus {
         requires { AreLegalFor self.old.banks state.now }
         ensures { self.new ≡ restored state.now self.old }
     {
-        self.calm = 0;
-        self.quiet = 0;
-        self.timer.restore(&state.timer);
+        self.calm_until = 0;
+        self.quiet_until = 0;
         self.serial.restore(&state.serial);
         self.picture.restore(&state.picture);
+        self.timer.restore(self.picture.m_cycle(), &state.timer);
         self.banks.restore(&state.banks);
         self.control.ie = state.ie;
         self.control.buttons = state.buttons;
@@ -73,14 +73,14 @@ impl Bus {
     {
         match region {
             Region::Vram => {
-                self.calm = 0;
-                self.quiet = 0;
+                self.calm_until = 0;
+                self.quiet_until = 0;
                 self.picture.fill(PictureRegion::Vram, bytes);
             }
             Region::Wram => self.wram.as_mut_slice().copy_from_slice(bytes),
             Region::Oam => {
-                self.calm = 0;
-                self.quiet = 0;
+                self.calm_until = 0;
+                self.quiet_until = 0;
                 self.picture.fill(PictureRegion::Oam, bytes);
             }
             Region::Hram => self.hram.copy_from_slice(bytes),

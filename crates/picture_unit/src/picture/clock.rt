@@ -19,12 +19,12 @@ impl Picture {
         ensures vblank { result.vblank ≡ (ticks cycles self.old).vblank }
         ensures stat { result.stat ≡ (ticks cycles self.old).stat }
     {
-        if cycles > u32::from(self.quiet) {
+        let quiet = self.quiet_until.saturating_sub(self.state.m_cycle);
+        if cycles > u32::from(quiet) {
             return self.pass_by_entries(cycles);
         }
-        let cycles = cycles as u8;
-        self.state.m_cycle += cycles;
-        self.quiet -= cycles;
+        let few = cycles as u8;
+        self.state.m_cycle += few;
         PictureRequests {
             vblank: false,
             stat: false,
@@ -38,7 +38,6 @@ impl Picture {
         requires { 0 < cycles → self.old.state.m_cycle + cycles < 114 }
         ensures { self.new ≡ record self.old { state = record self.old.state { m_cycle = self.old.state.m_cycle + cycles } } }
     {
-        self.quiet = 0;
         self.state.m_cycle += cycles;
     }
 
@@ -49,7 +48,16 @@ impl Picture {
         ensures quiet { AreQuiet result self.now.state }
         ensures line { self.now.state.m_cycle + result < 114 }
     {
-        self.quiet
+        self.quiet_until.saturating_sub(self.state.m_cycle)
+    }
+
+    /// The M-cycle of the line, 0 to 113.
+    #[inline(always)]
+    pub fn m_cycle(&self) -> u8
+        ensures now { result ≡ self.now.state.m_cycle }
+        ensures few { result < 114 }
+    {
+        self.state.m_cycle
     }
 
     /// The same as `pass`, M-cycle by M-cycle: what `pass` is compared with.
@@ -146,6 +154,7 @@ impl Picture {
         requires some { 0 < cycles }
         requires change { change ≡ next_change self.old.state }
         requires ahead { 0 < change }
+        requires near { change < 115 }
         ensures on { is_on self.new.state ≡ true }
         ensures fewer { result.1 < cycles }
         ensures ticks { iterate tick result.1 (with_requests result.0 self.new)
@@ -154,13 +163,13 @@ impl Picture {
         if cycles < u32::from(change) {
             let quiet = change - 1 - cycles as u8;
             let requests = self.skip(cycles, requests);
-            self.quiet = quiet;
+            self.quiet_until = self.state.m_cycle + quiet;
             return (requests, 0);
         }
         let requests = self.skip(u32::from(change) - 1, requests);
         let requests = self.run_cycle(requests);
         let next = self.state.change_at();
-        self.quiet = next - 1 - self.state.m_cycle;
+        self.quiet_until = next - 1;
         (requests, cycles - u32::from(change))
     }
 
@@ -175,7 +184,7 @@ impl Picture {
         if cycles == 0 {
             return requests;
         }
-        self.quiet = 0;
+        self.quiet_until = 0;
         self.state.m_cycle += cycles as u8;
         let stat = self.take_signal();
         PictureRequests {
@@ -202,7 +211,7 @@ impl Picture {
         requires { is_on self.old.state ≡ true }
         ensures { with_requests result self.new ≡ tick (with_requests requests self.old) }
     {
-        self.quiet = 0;
+        self.quiet_until = 0;
         self.state.advance();
         let vblank = self.state.begins_vblank();
         self.draw_when_due();

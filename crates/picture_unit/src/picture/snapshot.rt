@@ -21,7 +21,7 @@ impl Picture {
         requires { IsLegalPicture state.now }
         ensures { self.new ≡ record self.old { state = state.now } }
     {
-        self.quiet = 0;
+        self.quiet_until = 0;
         self.is_changed = true;
         self.state = *state;
         self.tiles.mark_stale();

@@ -1,47 +1,116 @@
-use Rattle.machine.proofs.PlainFrames.{plainly_on, plainly_on_whole}
+use Rattle.std.proofs.Common.{◌≡◌, ◌<◌, ◌+◌, ◌-◌, ◌%◌, refl, sym, ap, subst, ◌∙◌, arith}
+use Rattle.std.specs.Fn.{iterate}
+use Rattle.memory_map.specs.BusRules.{bus_rules}
+use Rattle.memory_map.specs.Bus.{pending_interrupts}
+use Rattle.memory_map.specs.Ticks.{tick}
+use Rattle.memory_map.specs.Quiet.{AreQuietOn, IsCalm}
+use Rattle.memory_map.proofs.QuietCycles.{fewer_are_quiet, calm_behind}
+use Rattle.sm83_processor.proofs.PlainSteps.{plainly_after, plainly_cycles}
+use Rattle.sm83_processor.proofs.StepCycles.{step-bounds}
+use Rattle.machine.proofs.PlainFrames.{uninterrupted}
 use Rattle.machine.proofs.frame.run_plain_step.Goals as goal
 
-pub returns-then-not-usual-clause-run : goal.returns-then-not-usual-clause-run
-returns-then-not-usual-clause-run c =
+pub returns-then-not-usual-clause-after : goal.returns-then-not-usual-clause-after
+returns-then-not-usual-clause-after c =
+    let p = c.args.processor.now in
     let run = c.run_opcode-cycles in
-    (plainly_on_whole c.args.passed c.read-opcode.result run.result.0 c.from.result c.args.processor.now run.new.self c.pass_apart.new.processor c.requires.below c.requires.plain c.read-opcode.ensures run.ensures.after run.ensures.cycles c.pass_apart.ensures c.from.ensures).run
+    let q = run.new.self in
+    c.pass_apart.ensures ∙ plainly_after bus_rules c.read-opcode.result run.result.0 p q (iterate tick run.result.0 q.memory) c.requires.plain c.read-opcode.ensures run.ensures.after run.ensures.cycles refl
 
-pub returns-then-not-usual-clause-more : goal.returns-then-not-usual-clause-more
-returns-then-not-usual-clause-more c =
+pub returns-then-not-usual-clause-now : goal.returns-then-not-usual-clause-now
+returns-then-not-usual-clause-now c =
     let run = c.run_opcode-cycles in
-    (plainly_on_whole c.args.passed c.read-opcode.result run.result.0 c.from.result c.args.processor.now run.new.self c.pass_apart.new.processor c.requires.below c.requires.plain c.read-opcode.ensures run.ensures.after run.ensures.cycles c.pass_apart.ensures c.from.ensures).more
+    let took = plainly_cycles bus_rules c.read-opcode.result run.result.0 c.args.processor.now c.requires.plain c.read-opcode.ensures run.ensures.cycles in
+    λ _. omega (arith, c.time_behind.ensures, took)
 
-pub returns-then-not-usual-clause-few : goal.returns-then-not-usual-clause-few
-returns-then-not-usual-clause-few c =
+pub returns-then-not-is_memory_kept-clause-after : goal.returns-then-not-is_memory_kept-clause-after
+returns-then-not-is_memory_kept-clause-after c =
+    let p = c.args.processor.now in
     let run = c.run_opcode-cycles in
-    (plainly_on_whole c.args.passed c.read-opcode.result run.result.0 c.from.result c.args.processor.now run.new.self c.pass_apart.new.processor c.requires.below c.requires.plain c.read-opcode.ensures run.ensures.after run.ensures.cycles c.pass_apart.ensures c.from.ensures).few
+    let q = run.new.self in
+    c.pass_usual-is_plain.ensures.after ∙ plainly_after bus_rules c.read-opcode.result run.result.0 p q (iterate tick run.result.0 q.memory) c.requires.plain c.read-opcode.ensures run.ensures.after run.ensures.cycles refl
 
-pub returns-then-pass_few-clause-run : goal.returns-then-pass_few-clause-run
-returns-then-pass_few-clause-run c =
+pub returns-then-not-is_memory_kept-clause-now : goal.returns-then-not-is_memory_kept-clause-now
+returns-then-not-is_memory_kept-clause-now c =
     let run = c.run_opcode-cycles in
-    (plainly_on c.args.passed c.read-opcode.result run.result.0 c.from-then-pass_few.result c.args.processor.now run.new.self c.pass_few.new.self c.requires.below c.requires.plain c.read-opcode.ensures run.ensures.after run.ensures.cycles c.pass_few.ensures.ticks c.from-then-pass_few.ensures).run
+    let took = plainly_cycles bus_rules c.read-opcode.result run.result.0 c.args.processor.now c.requires.plain c.read-opcode.ensures run.ensures.cycles in
+    λ _. omega (arith, c.time_behind-then-not-is_memory_kept.ensures, took)
 
-pub returns-then-pass_few-clause-more : goal.returns-then-pass_few-clause-more
-returns-then-pass_few-clause-more c =
+pub returns-then-cycles-left-clause-after : goal.returns-then-cycles-left-clause-after
+returns-then-cycles-left-clause-after c =
+    let p = c.args.processor.now in
     let run = c.run_opcode-cycles in
-    (plainly_on c.args.passed c.read-opcode.result run.result.0 c.from-then-pass_few.result c.args.processor.now run.new.self c.pass_few.new.self c.requires.below c.requires.plain c.read-opcode.ensures run.ensures.after run.ensures.cycles c.pass_few.ensures.ticks c.from-then-pass_few.ensures).more
+    let q = run.new.self in
+    c.pass_usual-is_plain-then-cycles-left.ensures.after ∙ plainly_after bus_rules c.read-opcode.result run.result.0 p q (iterate tick run.result.0 q.memory) c.requires.plain c.read-opcode.ensures run.ensures.after run.ensures.cycles refl
 
-pub returns-then-pass_few-clause-few : goal.returns-then-pass_few-clause-few
-returns-then-pass_few-clause-few c =
+pub returns-then-cycles-left-clause-now : goal.returns-then-cycles-left-clause-now
+returns-then-cycles-left-clause-now c =
     let run = c.run_opcode-cycles in
-    (plainly_on c.args.passed c.read-opcode.result run.result.0 c.from-then-pass_few.result c.args.processor.now run.new.self c.pass_few.new.self c.requires.below c.requires.plain c.read-opcode.ensures run.ensures.after run.ensures.cycles c.pass_few.ensures.ticks c.from-then-pass_few.ensures).few
+    let took = plainly_cycles bus_rules c.read-opcode.result run.result.0 c.args.processor.now c.requires.plain c.read-opcode.ensures run.ensures.cycles in
+    let bounds = step-bounds bus_rules c.args.processor.now in
+    λ _. omega (arith, c.time_beyond.ensures, took, bounds.few, c.if-cycles-left.true, c.requires.within)
 
-pub returns-clause-run : goal.returns-clause-run
-returns-clause-run c =
+pub move_on-requires : goal.move_on-requires
+move_on-requires c =
+    let p = c.args.processor.now in
     let run = c.run_opcode-cycles in
-    (plainly_on c.args.passed c.read-opcode.result run.result.0 c.from-2.result c.args.processor.now run.new.self c.pass_few.new.self c.requires.below c.requires.plain c.read-opcode.ensures run.ensures.after run.ensures.cycles c.pass_few.ensures.ticks c.from-2.ensures).run
+    let q = run.new.self in
+    let few : run.result.0 < c.args.left = omega (arith, c.if-cycles-left.false) in
+    let kept : q.memory ≡ p.memory = run.ensures.memory c.if-not-is_memory_kept.false in
+    subst (AreQuietOn run.result.0) (sym kept) (fewer_are_quiet (c.args.left - 1) run.result.0 p.memory (omega (arith, few)) c.requires.calm.quiet)
 
-pub returns-clause-more : goal.returns-clause-more
-returns-clause-more c =
+pub returns-clause-after : goal.returns-clause-after
+returns-clause-after c =
+    let p = c.args.processor.now in
     let run = c.run_opcode-cycles in
-    (plainly_on c.args.passed c.read-opcode.result run.result.0 c.from-2.result c.args.processor.now run.new.self c.pass_few.new.self c.requires.below c.requires.plain c.read-opcode.ensures run.ensures.after run.ensures.cycles c.pass_few.ensures.ticks c.from-2.ensures).more
+    let q = run.new.self in
+    plainly_after bus_rules c.read-opcode.result run.result.0 p q c.move_on.new.self c.requires.plain c.read-opcode.ensures run.ensures.after run.ensures.cycles c.move_on.ensures
 
-pub returns-clause-few : goal.returns-clause-few
-returns-clause-few c =
+pub returns-clause-plain : goal.returns-clause-plain
+returns-clause-plain c =
+    let p = c.args.processor.now in
     let run = c.run_opcode-cycles in
-    (plainly_on c.args.passed c.read-opcode.result run.result.0 c.from-2.result c.args.processor.now run.new.self c.pass_few.new.self c.requires.below c.requires.plain c.read-opcode.ensures run.ensures.after run.ensures.cycles c.pass_few.ensures.ticks c.from-2.ensures).few
+    let q = run.new.self in
+    let few : run.result.0 < c.args.left = omega (arith, c.if-cycles-left.false) in
+    let kept : q.memory ≡ p.memory = run.ensures.memory c.if-not-is_memory_kept.false in
+    let calm = subst (IsCalm (c.args.left - run.result.0)) (sym (c.move_on.ensures ∙ ap (iterate tick run.result.0) kept)) (calm_behind c.args.left run.result.0 p.memory few c.requires.calm) in
+    λ _. record {
+      usual = run.ensures.usual c.if-not-usual.false c.requires.plain.usual;
+      uninterrupted = uninterrupted run.new.self.state.ime (pending_interrupts c.move_on.new.self) (calm.none_pending (omega (arith, few)));
+    }
+
+pub returns-clause-still_plain : goal.returns-clause-still_plain
+returns-clause-still_plain c =
+    let p = c.args.processor.now in
+    let run = c.run_opcode-cycles in
+    let q = run.new.self in
+    let few : run.result.0 < c.args.left = omega (arith, c.if-cycles-left.false) in
+    let kept : q.memory ≡ p.memory = run.ensures.memory c.if-not-is_memory_kept.false in
+    let calm = subst (IsCalm (c.args.left - run.result.0)) (sym (c.move_on.ensures ∙ ap (iterate tick run.result.0) kept)) (calm_behind c.args.left run.result.0 p.memory few c.requires.calm) in
+    λ _. record {
+      usual = run.ensures.usual c.if-not-usual.false c.requires.plain.usual;
+      uninterrupted = uninterrupted run.new.self.state.ime (pending_interrupts c.move_on.new.self) (calm.none_pending (omega (arith, few)));
+    }
+
+pub returns-clause-fewer : goal.returns-clause-fewer
+returns-clause-fewer c =
+    let run = c.run_opcode-cycles in
+    let took = plainly_cycles bus_rules c.read-opcode.result run.result.0 c.args.processor.now c.requires.plain c.read-opcode.ensures run.ensures.cycles in
+    λ _. omega (arith, took, c.if-cycles-left.false)
+
+pub returns-clause-left : goal.returns-clause-left
+returns-clause-left c =
+    let run = c.run_opcode-cycles in
+    let took = plainly_cycles bus_rules c.read-opcode.result run.result.0 c.args.processor.now c.requires.plain c.read-opcode.ensures run.ensures.cycles in
+    λ _. omega (arith, took, c.if-cycles-left.false)
+
+pub returns-clause-calm : goal.returns-clause-calm
+returns-clause-calm c =
+    let p = c.args.processor.now in
+    let run = c.run_opcode-cycles in
+    let q = run.new.self in
+    let few : run.result.0 < c.args.left = omega (arith, c.if-cycles-left.false) in
+    let kept : q.memory ≡ p.memory = run.ensures.memory c.if-not-is_memory_kept.false in
+    let calm = subst (IsCalm (c.args.left - run.result.0)) (sym (c.move_on.ensures ∙ ap (iterate tick run.result.0) kept)) (calm_behind c.args.left run.result.0 p.memory few c.requires.calm) in
+    let same : (c.args.left + (256 - run.result.0)) % 256 ≡ c.args.left - run.result.0 = omega (arith, few) in
+    λ _. rw same calm

@@ -2,7 +2,7 @@ use Rattle.std.proofs.Common.{◌≡◌, ◌<◌, refl, arith, rules}
 use Rattle.std.specs.Prelude.{All, replicate}
 use Rattle.std.proofs.lemmas.List.Elements.{All-replicate, same_from_all_zip}
 use Rattle.picture_lines.proofs.Backgrounds.{zeros-small}
-use Rattle.picture_unit.proofs.Quiet.{none_quiet}
+use Rattle.picture_unit.proofs.Quiet.{none_quiet_by}
 use Rattle.picture_unit.proofs.Kept.{none_kept}
 use Rattle.picture_unit.specs.Picture.{IsLegalPicture, picture_at_power_on, state_at_power_on, blank_rows}
 use Rattle.picture_unit.proofs.picture.Picture.new.Goals as goal
@@ -21,7 +21,7 @@ invariant_of-result c =
         row_count = omega (arith, c.in_ok-rows.rows.ok.0, c.in_ok-rows.ensures.len);
         shades = rw blank (All-replicate (λ row. All (λ shade. shade < 4) row) 144 (replicate 160 0) (zeros-small 160));
       };
-      quiet = none_quiet _;
+      quiet = none_quiet_by _ _ (omega arith);
       kept = none_kept _ _ _ _ _;
       objects = c.none-objects.ensures _;
     }

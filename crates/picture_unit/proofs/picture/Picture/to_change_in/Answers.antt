@@ -10,9 +10,10 @@ use Rattle.picture_unit.proofs.picture.Picture.to_change_in.Goals as goal
 pub invariant_of-self : goal.invariant_of-self
 invariant_of-self c =
     let before : c.args.change - 1 - c.args.cycles + c.args.cycles < next_change c.args.self.now.state = omega (arith, c.requires.change, c.from.ensures, c.if-cycles-from.true) in
+    let same : c.self.inside.state.m_cycle + (c.args.change - 1 - c.args.cycles) - c.self.inside.state.m_cycle ≡ c.args.change - 1 - c.args.cycles = omega arith in
     record {
       whole = c.self.invariant.whole;
-      quiet = quiet_when_skipped c.self.inside.state c.args.cycles (c.args.change - 1 - c.args.cycles) _ _ (ap (λ (s : PictureUnit). s.state) c.self.view_is) c.requires.on c.requires.some c.skip-requests.ensures before;
+      quiet = rw same (quiet_when_skipped c.self.inside.state c.args.cycles (c.args.change - 1 - c.args.cycles) _ _ (ap (λ (s : PictureUnit). s.state) c.self.view_is) c.requires.on c.requires.some c.skip-requests.ensures before);
       kept = c.self.invariant.kept;
       objects = c.self.invariant.objects;
     }

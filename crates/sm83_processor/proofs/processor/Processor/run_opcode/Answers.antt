@@ -6,15 +6,3 @@ use Rattle.sm83_processor.proofs.processor.Processor.run_opcode.Goals as goal
 pub returns-in_default-clause-usual : goal.returns-in_default-clause-usual
 returns-in_default-clause-usual g c = λ _ usual.
     usual_behind g.M.Memory.rules c.args.opcode c.args.self.now c.run_instruction-cycles.new.self (omega arith) (grind (arith, nat_tests)) c.run_instruction-cycles.ensures.after usual
-
-pub returns-in_default-2-clause-usual : goal.returns-in_default-2-clause-usual
-returns-in_default-2-clause-usual g c = λ _ usual.
-    usual_behind g.M.Memory.rules c.args.opcode c.args.self.now c.run_instruction-cycles.new.self (omega arith) (grind (arith, nat_tests)) c.run_instruction-cycles.ensures.after usual
-
-pub returns-in_default-3-clause-usual : goal.returns-in_default-3-clause-usual
-returns-in_default-3-clause-usual g c = λ _ usual.
-    usual_behind g.M.Memory.rules c.args.opcode c.args.self.now c.run_instruction-cycles.new.self (omega arith) (grind (arith, nat_tests)) c.run_instruction-cycles.ensures.after usual
-
-pub returns-in_default-4-clause-usual : goal.returns-in_default-4-clause-usual
-returns-in_default-4-clause-usual g c = λ _ usual.
-    usual_behind g.M.Memory.rules c.args.opcode c.args.self.now c.run_instruction-cycles.new.self (omega arith) (grind (arith, nat_tests)) c.run_instruction-cycles.ensures.after usual

@@ -10,4 +10,4 @@ pub returns-else-self-lt4 : goal.returns-else-self-lt4
 returns-else-self-lt4 c =
     rw (← c.self.view_is)
     (is_due (unrequested c.self.inside.state) c.cycles_to_fall.result c.self.invariant c.if-self-lt4.false
-    (rw (c.cycles_to_fall.ensures, ← c.self.view_is) refl))
+    (rw (c.cycles_to_fall.ensures.cycles, ← c.self.view_is) refl))

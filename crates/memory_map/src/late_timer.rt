@@ -1,0 +1,129 @@
+//! The timer, which is given its M-cycles late.
+
+ghost use Rattle.std.specs.Prelude.{◌≡◌, ◌%◌};
+ghost use Rattle.timer_unit.specs.Timer.{with_counter_and_tac, IsLegalTimer};
+ghost use Rattle.memory_map.specs.LateTimer.{up_to, settled_at, running};
+
+use timer_unit::{Timer, TimerState};
+
+/// The timer as it was at an M-cycle of the line, and whether it had requested its interrupt by then. The M-cycles that have passed
+/// since are counted by the picture unit alone.
+#[derive(Drop)]
+pub(crate) struct LateTimer {
+    pub(crate) timer: Timer,
+    pub(crate) requested: bool,
+    pub(crate) at: u8,
+}
+
+impl LateTimer {
+    /// The timer at power-on, at the first M-cycle of the line.
+    pub(crate) fn new() -> Self
+        ensures { result ≡ record { timer = timer_at_power_on; requested = false; at = 0 } }
+    {
+        LateTimer {
+            timer: Timer::new(),
+            requested: false,
+            at: 0,
+        }
+    }
+
+    /// Gives the timer the M-cycles up to this one of the line, which from now on is counted as `at`.
+    #[inline]
+    pub(crate) fn settle(&mut self, now: u8, at: u8)
+        ensures { self.new ≡ settled_at at (up_to now self.old) }
+    {
+        if self.at == now {
+            self.at = at;
+            return;
+        }
+        self.pass_all(at, u32::from(now.saturating_sub(self.at)));
+    }
+
+    /// Gives the timer the M-cycles up to this one of the line, and as many more.
+    #[inline]
+    pub(crate) fn pass(&mut self, now: u8, cycles: u32)
+        ensures { self.new ≡ settled_at now (iterate tick cycles (up_to now self.old)) }
+    {
+        let late = u32::from(now.saturating_sub(self.at));
+        if cycles > 0xffff_0000 {
+            self.settle(now, now);
+            return self.pass_all(now, cycles);
+        }
+        self.pass_all(now, late + cycles);
+    }
+
+    #[inline]
+    fn pass_all(&mut self, now: u8, cycles: u32)
+        ensures { self.new ≡ settled_at now (iterate tick cycles (running self.old)) }
+    {
+        let requests = self.timer.pass(cycles);
+        self.requested |= requests.bits != 0;
+        self.at = now;
+    }
+
+    /// The timer as it is at this M-cycle of the line.
+    #[inline(never)]
+    pub(crate) fn copy_at(&self, now: u8) -> Timer
+        ensures { result ≡ (up_to now self.now).timer }
+    {
+        let mut timer = Timer::new();
+        timer.restore(&self.timer.state());
+        let _ = timer.pass(u32::from(now.saturating_sub(self.at)));
+        timer
+    }
+
+    /// Requests the interrupt or withdraws the request, at this M-cycle of the line.
+    pub(crate) fn set_requested(&mut self, now: u8, requested: bool)
+        ensures { self.new ≡ settled_at now (record (up_to now self.old) { requested = requested }) }
+    {
+        self.settle(now, now);
+        self.requested = requested;
+    }
+
+    /// The timer becomes this one, at this M-cycle of the line. Condition: the state is legal.
+    pub(crate) fn restore(&mut self, now: u8, state: &TimerState)
+        requires { IsLegalTimer state.now }
+        ensures { self.new ≡ record { timer = state.now; requested = self.old.requested; at = now } }
+    {
+        self.timer.restore(state);
+        self.at = now;
+    }
+
+    /// A write to DIV at this M-cycle of the line.
+    pub(crate) fn write_div(&mut self, now: u8)
+        ensures { self.new ≡ settled_at now (with_counter_and_tac 0 (up_to now self.old).timer.tac (up_to now self.old)) }
+    {
+        self.settle(now, now);
+        let requests = self.timer.write_div();
+        self.requested |= requests.bits != 0;
+    }
+
+    /// A write to TIMA at this M-cycle of the line.
+    pub(crate) fn write_tima(&mut self, now: u8, value: u8)
+        ensures { self.new ≡ settled_at now (record (up_to now self.old) { timer = record (up_to now self.old).timer { tima = value } }) }
+    {
+        self.settle(now, now);
+        self.timer.write_tima(value);
+    }
+
+    /// A write to TMA at this M-cycle of the line.
+    pub(crate) fn write_tma(&mut self, now: u8, value: u8)
+        ensures { self.new ≡ settled_at now (record (up_to now self.old) { timer = record (up_to now self.old).timer { tma = value } }) }
+    {
+        self.settle(now, now);
+        self.timer.write_tma(value);
+    }
+
+    /// A write to TAC at this M-cycle of the line.
+    pub(crate) fn write_tac(&mut self, now: u8, value: u8)
+        ensures { self.new ≡ settled_at now (with_counter_and_tac (up_to now self.old).timer.counter (value % 8) (up_to now self.old)) }
+    {
+        self.settle(now, now);
+        let requests = self.timer.write_tac(value);
+        self.requested |= requests.bits != 0;
+    }
+}
+
+ghost use Rattle.std.specs.Prelude.{false};
+ghost use Rattle.std.specs.Fn.{iterate};
+ghost use Rattle.timer_unit.specs.Timer.{timer_at_power_on, tick};
