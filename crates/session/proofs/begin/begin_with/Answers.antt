@@ -1,11 +1,16 @@
-use Rattle.std.proofs.Common.{◌≡◌, ◌<◌, ◌^◌, ◌++◌, [], List, ℕ, length, take, drop, refl, sym, ap, ◌∙◌, subst, arith}
+use Rattle.std.proofs.Common.{◌≡◌, ◌++◌, List, ℕ, length, take, drop, refl, sym, ap, ◌∙◌, subst, arith}
 use Rattle.std.proofs.lemmas.List.{take-append-le, take_all}
 use Rattle.sha2.specs.Sha256.{sha256}
 use Rattle.snapshot.specs.Encoding.{encoded}
 use Rattle.sector_device.specs.Runs.{HoldsSince}
-use Rattle.sector_log.specs.Calls.{HasOldOrNewContent, HasBegun}
-use Rattle.sector_log.specs.Words.{device_under, device_of as device_of_store, entries_of}
-use Rattle.session.specs.Words.{device_of}
+use Rattle.cartridge.specs.Header.{ram_length_of}
+use Rattle.snapshot.specs.Encoding.{snapshot_length}
+use Rattle.sector_log.specs.Calls.{HasOldOrNewContent, HasBegun, IsBeginCause, faults_after as log_faults_after}
+use Rattle.sector_log.specs.Words.{device_under, device_of as device_of_store, entries_of, found_generation}
+use Rattle.sector_log.specs.declared.fault.LogFault.{LogFault}
+use Rattle.sector_log.specs.declared.fault.LogFault.TheVariants.{Memory as LogMemory, Device as LogDevice, TooSmall as LogTooSmall, Worn as LogWorn, LogFull, Broken as LogBroken}
+use Rattle.session.specs.Beginning.{session_fault, IsBeginRefusal}
+use Rattle.session.specs.Calls.{faults_after}
 use Rattle.session.proofs.Beginnings.{machine_of_rom, begun_rests, begun_of, images_of}
 use Rattle.session.proofs.begin.begin_with.Goals as goal
 
@@ -39,3 +44,38 @@ pub returns-in-Err-clause-images : goal.returns-in-Err-clause-images
 returns-in-Err-clause-images g c = λ honest.
     let written = filled c.deref.result.now c.encode.new.out (encoded c.args.machine) (drop (length c.encode.new.out) c.args.room.encoded.items) c.args.room.encoded.len c.deref.ensures.value (omega arith) c.encode.ensures.encoded in
     images_of c.args.count c.digest.ensures written (c.in-Err.ensures.images honest)
+
+-- what a refusal of the log says, said of a session
+refusal : (why : LogFault) (blob_length count last : ℕ) → IsBeginCause why blob_length count last → IsBeginRefusal (session_fault why) blob_length count last
+refusal (LogTooSmall needed) blob_length count last cause = cause
+refusal LogWorn blob_length count last cause = cause
+refusal LogDevice blob_length count last cause = cause
+refusal LogMemory blob_length count last cause = cause
+refusal LogFull blob_length count last cause = cause
+refusal LogBroken blob_length count last cause = cause
+
+same_faults : (why : LogFault) (faults : ℕ) → log_faults_after why faults ≡ faults_after (session_fault why) faults
+same_faults (LogTooSmall needed) faults = refl
+same_faults LogWorn faults = refl
+same_faults LogDevice faults = refl
+same_faults LogMemory faults = refl
+same_faults LogFull faults = refl
+same_faults LogBroken faults = refl
+
+pub returns-in-Err-clause-cause : goal.returns-in-Err-clause-cause
+returns-in-Err-clause-cause g c =
+    let count = length (g.D.SectorDevice.disk (device_under c.args.opened)).sectors in
+    let last = found_generation c.args.opened in
+    let size : length c.deref.result.now ≡ snapshot_length (ram_length_of c.args.cartridge.now) = omega arith in
+    subst (λ fault. IsBeginRefusal fault (snapshot_length (ram_length_of c.args.cartridge.now)) count last) (sym c.fault_of.ensures)
+    (refusal c.in-Err.refused.why (snapshot_length (ram_length_of c.args.cartridge.now)) count last
+    (subst (λ n. IsBeginCause c.in-Err.refused.why n count last) size c.in-Err.ensures.cause))
+
+pub returns-in-Err-clause-answered : goal.returns-in-Err-clause-answered
+returns-in-Err-clause-answered g c = record {
+  count = c.in-Err.ensures.answered.count;
+  honest = c.in-Err.ensures.answered.honest;
+  faults_ok = c.in-Err.ensures.answered.faults_ok;
+  faults = c.in-Err.ensures.answered.faults ∙ same_faults c.in-Err.refused.why (g.D.SectorDevice.disk (device_under c.args.opened)).faults
+      ∙ ap (λ fault. faults_after fault (g.D.SectorDevice.disk (device_under c.args.opened)).faults) (sym c.fault_of.ensures);
+}
