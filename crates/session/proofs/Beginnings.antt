@@ -1,10 +1,10 @@
 -- The steps of beginning a generation.
-use Rattle.std.proofs.Common.{◌≡◌, ◌⊎◌, inl, inr, ⊎_elim, ℕ, ◌+◌, ◌-◌, ◌<◌, ◌≤◌, ◌^◌, List, [], ◌∷◌, length, Bool, true, false, Option, Some, None, Result, Ok, Err, refl, sym, ap, ◌∙◌, subst, arith}
+use Rattle.std.proofs.Common.{◌≡◌, ◌⊎◌, inl, inr, ⊎_elim, ℕ, ◌+◌, ◌<◌, ◌^◌, List, [], Some, Result, Ok, Err, refl, sym, ap, ◌∙◌, subst, arith}
 use Rattle.std.specs.Prelude.{IfOk, IfErr}
 use Rattle.std.proofs.lemmas.List.{length-replicate}
 use Rattle.sha2.specs.Sha256.{sha256}
 use Rattle.cartridge.specs.Header.{has_rumble, ram_length_of}
-use Rattle.bank_controllers.specs.CartridgeState.{cartridge_at_power_on, IsSameCartridge}
+use Rattle.bank_controllers.specs.CartridgeState.{cartridge_at_power_on}
 use Rattle.machine.specs.Machine.{MachineState, start, after}
 use Rattle.machine.specs.declared.input.Input.{Input}
 use Rattle.machine.proofs.KeptByInputs.{by_inputs}
@@ -12,20 +12,20 @@ use Rattle.snapshot.specs.Encoding.{encoded}
 use Rattle.machine.specs.Legal.{IsLegalMachine}
 use Rattle.snapshot.specs.Legal.{IsMachineOf}
 use Rattle.snapshot.specs.Table.{kind_of_image}
-use Rattle.sector_device.specs.DiskState.{DiskState, Settled, Throughout}
+use Rattle.sector_device.specs.DiskState.{DiskState}
 use Rattle.sector_device.specs.Runs.{HoldsSince}
 use Rattle.sector_device.proofs.Runs.{throughout_then, remembers_then, holds_since}
 use Rattle.sector_log.specs.Calls.{HasLooked, HasBegun, HasOldOrNewContent}
-use Rattle.sector_log.specs.Content.{content, generation_in, new_generation}
+use Rattle.sector_log.specs.Content.{content, new_generation}
 use Rattle.sector_log.specs.Found.{log_of}
 use Rattle.sector_log.specs.declared.StoredEntry.{StoredEntry}
 use Rattle.sector_log.specs.declared.fault.LogFault.{LogFault}
 use Rattle.sector_log.specs.declared.fault.LogFault.TheVariants.{Memory as LogMemory, Device as LogDevice}
 use Rattle.session.specs.Beginning.{session_fault}
 use Rattle.session.specs.declared.error.SessionError.TheVariants.{Memory, Device, Worn}
-use Rattle.session.specs.Calls.{IsAtRest, HasContentOf, HasOldContentOrNewGame, StandsAsBefore}
+use Rattle.session.specs.Calls.{IsAtRest, HasOldContentOrNewGame, StandsAsBefore}
 use Rattle.session.specs.Resting.{IsOfItsRom, Rests}
-use Rattle.session.specs.Stands.{Position, stands, further}
+use Rattle.session.specs.Stands.{stands, further}
 use Rattle.session.proofs.StandsLaws.{after_none, new_stands}
 use Rattle.session.proofs.Writes.{since_weaker}
 

@@ -1,6 +1,6 @@
 -- From what was found of a device to its content.
-use Rattle.std.proofs.Common.{◌≡◌, ◌≢◌, ◌⊎◌, inl, inr, ⊎_elim, ℕ, ◌+◌, ◌-◌, ◌<◌, ◌≤◌, ◌^◌, List, [], length, Bool, true, false, if◌then◌else◌, nat_lt, nat_le, Option, Some, None, refl, sym, ap, ◌∙◌, subst, arith}
-use Rattle.std.proofs.lemmas.Bool.{cases_Bool, ltb-true}
+use Rattle.std.proofs.Common.{◌≡◌, inl, inr, ⊎_elim, ℕ, ◌+◌, ◌-◌, ◌<◌, ◌≤◌, ◌^◌, List, length, Bool, true, false, if◌then◌else◌, nat_lt, nat_le, Option, Some, None, refl, sym, ap, ◌∙◌, subst, arith}
+use Rattle.std.proofs.lemmas.Bool.{cases_Bool}
 use Rattle.std.proofs.lemmas.Bool.Decides.{nat_tests}
 use Rattle.std.proofs.lemmas.Slice.Eq.{bytes_eq-Decides}
 use Rattle.sha2.specs.Sha256.{sha256}
@@ -8,12 +8,12 @@ use Rattle.cartridge.specs.Header.{ram_length_of}
 use Rattle.machine.specs.Machine.{MachineState, after}
 use Rattle.snapshot.specs.Encoding.{encoded, snapshot_length}
 use Rattle.snapshot.specs.Reading.{machine_in}
-use Rattle.snapshot.specs.Legal.{IsMachineOf, IsLegalSnapshot, IsRefusal}
-use Rattle.snapshot.specs.declared.error.SnapError.TheVariants.{SnapLength, Memory as NoMemory}
+use Rattle.snapshot.specs.Legal.{IsLegalSnapshot, IsRefusal}
+use Rattle.snapshot.specs.declared.error.SnapError.TheVariants.{SnapLength}
 use Rattle.snapshot.proofs.Machines.{machine_back, encoded_legal}
 use Rattle.sector_device.specs.DiskState.{IsSized}
 use Rattle.sector_log.specs.Content.{ImageContent, Body, content, need}
-use Rattle.sector_log.specs.Found.{Seen, seen_in, found_in, found_by, log_of, log_in, blob_in, blob_by}
+use Rattle.sector_log.specs.Found.{Seen, seen_in, found_in, found_by, log_of, blob_in, blob_by}
 use Rattle.sector_log.specs.Inputs.{inputs, counted, first_wrong}
 use Rattle.sector_log.specs.declared.StoredEntry.{StoredEntry}
 use Rattle.sector_log.specs.declared.found.Header.{Header}
@@ -22,15 +22,15 @@ use Rattle.sector_log.specs.declared.found.Found.TheVariants.{Nothing, Intact, D
 use Rattle.sector_log.specs.declared.found.Part.TheVariants.{Length, Count as TooMany}
 use Rattle.sector_log.proofs.FoundLaws.{found_length, found_fits}
 use Rattle.session.specs.Inputs.{logged}
-use Rattle.session.specs.Stands.{Position, is_snapshot, stands, position_in}
+use Rattle.session.specs.Stands.{is_snapshot, stands}
 use Rattle.session.specs.Resting.{IsOfItsRom}
 use Rattle.session.specs.Beginning.{IsBeginRefusal}
-use Rattle.session.specs.Found.{IsShort, IsWhole, IsResumeCause}
-use Rattle.session.specs.Recovery.{IsHeaderCause, IsRebuildCause, IsRebuildRefusal, IsTooLong, IsRecoveryCause, IsRecovered, IsRebuilt}
+use Rattle.session.specs.Found.{IsShort, IsResumeCause}
+use Rattle.session.specs.Recovery.{IsHeaderCause, IsRebuildCause, IsRecoveryCause, IsRecovered}
 use Rattle.session.specs.declared.error.Damage.TheVariants.{Count, Snapshot, Entry}
 use Rattle.session.specs.declared.error.SessionError.{SessionError}
 use Rattle.session.specs.declared.error.SessionError.TheVariants.{Memory, Device, NoSession, TooSmall, OtherCartridge, Damaged, Worn, Broken, SaveFirst, CountFull, Output}
-use Rattle.session.proofs.StandsLaws.{Soundness, sound_by, stands_sound, encoded_is_snapshot}
+use Rattle.session.proofs.StandsLaws.{sound_by, stands_sound, encoded_is_snapshot}
 use Rattle.session.proofs.Beginnings.{own_after, rom_after, own_of_machine}
 
 -- ---- what was found

@@ -1,19 +1,13 @@
 -- The steps of recovery.
-use Rattle.std.proofs.Common.{◌≡◌, ◌≢◌, ◌⊎◌, inl, inr, ⊎_elim, ℕ, ◌+◌, ◌-◌, ◌<◌, ◌≤◌, ◌^◌, List, [], length, Bool, true, false, if◌then◌else◌, nat_lt, nat_le, Option, Some, None, refl, sym, ap, ◌∙◌, subst, arith}
-use Rattle.std.proofs.lemmas.Bool.{cases_Bool, cases_lt, lt-ltb, ltb-true}
-use Rattle.std.proofs.lemmas.Bool.Decides.{nat_tests}
-use Rattle.sha2.specs.Sha256.{sha256}
-use Rattle.machine.specs.Machine.{MachineState, after}
+use Rattle.std.proofs.Common.{◌≡◌, ℕ, List, length, None, subst}
+use Rattle.machine.specs.Machine.{MachineState}
 use Rattle.snapshot.specs.Encoding.{encoded}
-use Rattle.snapshot.specs.Legal.{IsMachineOf, IsLegalSnapshot, IsRefusal}
-use Rattle.snapshot.specs.declared.error.SnapError.{SnapError}
-use Rattle.snapshot.proofs.Machines.{encoded_legal, machine_back}
-use Rattle.sector_log.specs.Inputs.{inputs, counted, first_wrong, AreInputs}
+use Rattle.snapshot.specs.Legal.{IsMachineOf, IsLegalSnapshot}
+use Rattle.snapshot.proofs.Machines.{encoded_legal}
+use Rattle.sector_log.specs.Inputs.{inputs, counted, first_wrong}
 use Rattle.sector_log.specs.declared.StoredEntry.{StoredEntry}
-use Rattle.sector_log.specs.declared.found.Header.{Header}
 use Rattle.sector_log.proofs.FoundLaws.{counts_inputs}
 use Rattle.sector_log.proofs.Wrong.{none_wrong}
-use Rattle.session.specs.Inputs.{logged}
 use Rattle.session.specs.Recovery.{IsLogCause, IsRebuildCause}
 use Rattle.session.specs.declared.error.Damage.TheVariants.{Count, Snapshot, Entry}
 use Rattle.session.specs.declared.error.SessionError.{SessionError}

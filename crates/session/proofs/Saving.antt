@@ -1,5 +1,5 @@
 -- The steps of an input and of a save.
-use Rattle.std.proofs.Common.{◌≡◌, ◌&&◌, ◌⊎◌, inl, inr, ⊎_elim, ℕ, ◌+◌, ◌-◌, ◌<◌, ◌≤◌, ◌^◌, List, [], ◌∷◌, ◌++◌, length, take, Bool, true, false, Option, Some, None, Result, Ok, Err, refl, sym, ap, ◌∙◌, subst, arith, length-append}
+use Rattle.std.proofs.Common.{◌≡◌, ◌&&◌, inl, ⊎_elim, ℕ, ◌+◌, ◌<◌, ◌^◌, List, [], ◌∷◌, ◌++◌, length, take, Bool, true, false, Option, Some, None, refl, sym, ap, ◌∙◌, subst, arith, length-append}
 use Rattle.std.specs.List.{list_all}
 use Rattle.std.proofs.lemmas.Bool.{and_parts}
 use Rattle.std.proofs.lemmas.List.{take_all, take-map, length-map, length-take-le}
@@ -10,14 +10,13 @@ use Rattle.machine.specs.declared.input.Input.{Input}
 use Rattle.machine.proofs.KeptByInputs.{by_inputs}
 use Rattle.cartridge.specs.Header.{has_rumble, ram_length_of}
 use Rattle.snapshot.specs.Encoding.{encoded}
-use Rattle.machine.specs.Legal.{IsLegalMachine}
 use Rattle.snapshot.specs.Legal.{IsMachineOf}
 use Rattle.snapshot.specs.Table.{kind_of_image}
-use Rattle.sector_device.specs.DiskState.{DiskState, Settled}
+use Rattle.sector_device.specs.DiskState.{DiskState}
 use Rattle.sector_device.specs.Runs.{HoldsSince}
 use Rattle.sector_device.proofs.Runs.{holds_since}
-use Rattle.sector_log.specs.Calls.{Adds, HasBegun, IsAppended, HoldsPrefix}
-use Rattle.sector_log.specs.Content.{content, generation_in, new_generation}
+use Rattle.sector_log.specs.Calls.{IsAppended, HoldsPrefix}
+use Rattle.sector_log.specs.Content.{content, new_generation}
 use Rattle.sector_log.specs.Found.{log_of}
 use Rattle.sector_log.specs.Inputs.{is_input, grown}
 use Rattle.sector_log.specs.declared.Entry.{Entry}
@@ -28,7 +27,7 @@ use Rattle.session.specs.Resting.{IsOfItsRom, Rests}
 use Rattle.session.specs.Stands.{Position, stands, further, StandsWithin}
 use Rattle.session.specs.Writing.{HoldsWritten, IsWritten}
 use Rattle.session.proofs.StandsLaws.{after_append, after_none, after_one, logged_append, more_stands}
-use Rattle.session.proofs.Beginnings.{begun_stands, begun_rests, machine_of_rom}
+use Rattle.session.proofs.Beginnings.{begun_stands, begun_rests}
 use Rattle.session.proofs.Writes.{since_weaker}
 
 -- ---- where some inputs lead

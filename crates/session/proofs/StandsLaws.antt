@@ -1,9 +1,9 @@
 -- What contents stand for.
-use Rattle.std.proofs.Common.{◌≡◌, ◌&&◌, ◌==◌, inl, inr, ℕ, ◌+◌, ◌<◌, ◌≤◌, ◌^◌, List, [], ◌∷◌, ◌++◌, length, map, Bool, true, false, if◌then◌else◌, nat_lt, Option, Some, None, refl, sym, ap, ◌∙◌, subst, arith, length-append}
+use Rattle.std.proofs.Common.{◌≡◌, ◌&&◌, inl, inr, ℕ, ◌+◌, ◌<◌, ◌^◌, List, [], ◌∷◌, ◌++◌, length, true, if◌then◌else◌, Option, Some, None, refl, sym, ap, ◌∙◌, arith, length-append}
 use Rattle.std.specs.Prelude.{is_none}
 use Rattle.std.specs.List.{All, list_all}
 use Rattle.std.specs.Str.{bytes_eq}
-use Rattle.std.proofs.lemmas.Bool.{cases_Bool, and_parts, ltb-true, lt-ltb, eqb-true, eq-eqb}
+use Rattle.std.proofs.lemmas.Bool.{cases_Bool, and_parts, ltb-true, lt-ltb, eq-eqb}
 use Rattle.std.proofs.lemmas.Slice.Eq.{bytes_eq-Decides}
 use Rattle.std.proofs.lemmas.List.{map-append, length-map}
 use Rattle.std.proofs.lemmas.List.Sums.{fold-append}
@@ -18,16 +18,14 @@ use Rattle.snapshot.specs.Reading.{machine_in}
 use Rattle.snapshot.specs.Legal.{IsMachineOf, IsLegalSnapshot}
 use Rattle.snapshot.specs.declared.field.SnapshotField.{SnapshotField}
 use Rattle.snapshot.proofs.Machines.{machine_back, encoded_legal}
-use Rattle.sector_log.specs.Calls.{Adds}
-use Rattle.sector_log.specs.Content.{ImageContent, Body, content, new_generation}
+use Rattle.sector_log.specs.Content.{Body}
 use Rattle.sector_log.specs.Inputs.{inputs, counted, first_wrong, AreInputs}
 use Rattle.sector_log.specs.declared.Entry.{Entry}
-use Rattle.sector_log.specs.declared.StoredEntry.{StoredEntry}
 use Rattle.sector_log.specs.declared.found.Header.{Header}
 use Rattle.sector_log.proofs.FoundLaws.{counts_inputs}
 use Rattle.sector_log.proofs.Wrong.{none_wrong}
 use Rattle.session.specs.Inputs.{input_of, inputs_of, logged}
-use Rattle.session.specs.Stands.{Position, is_snapshot, is_sound, position_in, stands, further}
+use Rattle.session.specs.Stands.{Position, is_snapshot, is_sound, position_in, stands}
 use Rattle.session.specs.Laws.{MoreInputsStandFurther, ASnapshotStandsForItsMachine}
 
 -- ---- machines after inputs

@@ -1,18 +1,16 @@
 -- The steps of writing what is pending.
-use Rattle.std.proofs.Common.{◌≡◌, ◌⊎◌, inl, inr, ⊎_elim, ℕ, ◌+◌, ◌-◌, ◌<◌, ◌≤◌, ◌^◌, List, [], ◌∷◌, length, Bool, true, false, Option, Some, None, refl, sym, ap, ◌∙◌, subst, arith}
+use Rattle.std.proofs.Common.{◌≡◌, inl, inr, ⊎_elim, ℕ, List, [], ◌∷◌, Bool, true, false, Some, sym, ap, ◌∙◌, subst}
 use Rattle.std.specs.List.{list_all}
 use Rattle.std.proofs.lemmas.Bool.{and_parts}
-use Rattle.sector_device.specs.DiskState.{DiskState, Throughout}
+use Rattle.sector_device.specs.DiskState.{DiskState}
 use Rattle.sector_device.specs.Runs.{HoldsSince}
 use Rattle.sector_device.proofs.Runs.{throughout_weaker}
-use Rattle.sector_log.specs.Calls.{HoldsPrefix, HasOldOrNewContent, HasBegun, IsAppended, IsAppendCause, IsReplaceCause}
-use Rattle.sector_log.specs.Content.{content, need, new_generation}
+use Rattle.sector_log.specs.Calls.{HoldsPrefix, HasOldOrNewContent, HasBegun, IsAppended}
+use Rattle.sector_log.specs.Content.{content, new_generation}
 use Rattle.sector_log.specs.Found.{log_of}
 use Rattle.sector_log.specs.Inputs.{is_input, all_input, grown}
 use Rattle.sector_log.specs.declared.Entry.{Entry}
 use Rattle.sector_log.specs.declared.StoredEntry.{StoredEntry}
-use Rattle.sector_log.specs.declared.fault.LogFault.{LogFault}
-use Rattle.sector_log.specs.declared.fault.LogFault.TheVariants.{Memory, Device, TooSmall, Worn, LogFull, Broken}
 use Rattle.session.specs.Writing.{HoldsWritten, IsWritten}
 
 pub inputs_listed : (entries : List Entry) → list_all is_input entries ≡ true → all_input entries

@@ -1,5 +1,5 @@
 -- What the calls of a session leave on a device, by what its images hold and stand for.
-use Rattle.std.specs.Prelude.{◌≡◌, ◌⊎◌, ◌==◌, ◌≤◌, ◌<◌, ◌+◌, ◌-◌, ◌^◌, ℕ, List, [], length, Bool, true, false, if◌then◌else◌, Option, Some, Result, Ok, Err}
+use Rattle.std.specs.Prelude.{◌≡◌, ◌⊎◌, ◌==◌, ◌<◌, ◌+◌, ◌-◌, ◌^◌, ℕ, List, length, Bool, true, false, if◌then◌else◌, Some, Result, Ok, Err}
 use Rattle.sha2.specs.Sha256.{sha256}
 use Rattle.machine.specs.Machine.{MachineState, start}
 use Rattle.snapshot.specs.Encoding.{encoded}
@@ -12,7 +12,7 @@ use Rattle.sector_log.specs.declared.Entry.{Entry}
 use Rattle.session.specs.declared.error.SessionError.{SessionError}
 use Rattle.session.specs.declared.error.SessionError.TheVariants.{Memory, Device, NoSession, TooSmall, OtherCartridge, Damaged, Worn, Broken, SaveFirst, CountFull, Output}
 use Rattle.session.specs.Inputs.{inputs_of}
-use Rattle.session.specs.Stands.{Position, stands, further}
+use Rattle.session.specs.Stands.{stands, further}
 
 -- ---- at rest
 

@@ -1,7 +1,6 @@
 -- Why a game is not taken up: the first reason that holds of what is found.
 use Rattle.std.specs.Prelude.{◌≡◌, ◌≢◌, ◌≤◌, ◌<◌, ◌+◌, ◌-◌, ◌^◌, ℕ, List, Option, Some, None, ⊤}
 use Rattle.sha2.specs.Sha256.{sha256}
-use Rattle.snapshot.specs.declared.error.SnapError.{SnapError}
 use Rattle.snapshot.specs.declared.error.SnapError.TheVariants.{Memory as NoMemory}
 use Rattle.snapshot.specs.Legal.{IsLegalSnapshot, IsRefusal}
 use Rattle.sector_log.specs.Content.{ImageContent, Body, need}

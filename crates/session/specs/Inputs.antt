@@ -1,5 +1,5 @@
 -- The entry of an input, and the input of an entry.
-use Rattle.std.specs.Prelude.{◌==◌, ◌+◌, ℕ, List, map, take, drop, if◌then◌else◌}
+use Rattle.std.specs.Prelude.{◌==◌, List, map, take, drop, if◌then◌else◌}
 use Rattle.std.specs.Int.{w32, from_le_bytes}
 use Rattle.machine.specs.declared.input.Input.{Input}
 use Rattle.machine.specs.declared.input.Input.TheVariants.{Frame, Seconds}

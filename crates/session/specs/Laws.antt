@@ -1,8 +1,7 @@
 -- Laws of what images stand for, which public functions state.
-use Rattle.std.specs.Prelude.{◌≡◌, ◌<◌, ◌+◌, ◌^◌, ℕ, List, [], length, Option, Some}
+use Rattle.std.specs.Prelude.{◌≡◌, ◌<◌, ◌+◌, ◌^◌, ℕ, List, length, Option, Some}
 use Rattle.sha2.specs.Sha256.{sha256}
 use Rattle.machine.specs.Machine.{MachineState}
-use Rattle.machine.specs.declared.input.Input.{Input}
 use Rattle.machine.specs.declared.input.Input.TheVariants.{Frame, Seconds}
 use Rattle.snapshot.specs.Encoding.{encoded}
 use Rattle.snapshot.specs.Legal.{IsMachineOf}

@@ -1,10 +1,9 @@
 -- The steps of recovery, over what was found of any device; a reader needs none of this.
-use Rattle.std.specs.Prelude.{◌≡◌, ◌≢◌, ◌⊎◌, ◌≤◌, ◌<◌, ◌+◌, ◌-◌, ◌^◌, ℕ, List, length, Option, Some, None, ⊤}
+use Rattle.std.specs.Prelude.{◌≡◌, ◌≢◌, ◌⊎◌, ◌<◌, ◌+◌, ◌-◌, ◌^◌, ℕ, List, length, Some, None, ⊤}
 use Rattle.sha2.specs.Sha256.{sha256}
 use Rattle.machine.specs.Machine.{MachineState, after}
 use Rattle.snapshot.specs.Encoding.{encoded}
 use Rattle.snapshot.specs.Legal.{IsMachineOf, IsLegalSnapshot, IsRefusal}
-use Rattle.snapshot.specs.declared.error.SnapError.{SnapError}
 use Rattle.snapshot.specs.declared.error.SnapError.TheVariants.{SnapLength, Memory as NoMemory}
 use Rattle.sector_log.specs.Inputs.{inputs, first_wrong}
 use Rattle.sector_log.specs.Found.{Seen}
@@ -14,10 +13,9 @@ use Rattle.sector_log.specs.declared.found.Found.{Found}
 use Rattle.sector_log.specs.declared.found.Found.TheVariants.{Nothing, Intact, Damaged as DamagedLog}
 use Rattle.sector_log.specs.declared.found.Part.TheVariants.{Length, Count as TooMany}
 use Rattle.session.specs.Inputs.{logged}
-use Rattle.session.specs.declared.error.Damage.{Damage}
 use Rattle.session.specs.declared.error.Damage.TheVariants.{Count, Snapshot, Entry}
 use Rattle.session.specs.declared.error.SessionError.{SessionError}
-use Rattle.session.specs.declared.error.SessionError.TheVariants.{Memory, Device, NoSession, TooSmall, OtherCartridge, Damaged, Worn, Broken, SaveFirst, CountFull, Output}
+use Rattle.session.specs.declared.error.SessionError.TheVariants.{Memory, NoSession, TooSmall, OtherCartridge, Damaged, Worn}
 
 -- what was found is whole, of this digest, and can be counted
 pub record IsHeader (found : Found) (digest : List ℕ) (header : Header) : Type 0 where

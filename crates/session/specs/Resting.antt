@@ -1,16 +1,14 @@
 -- What a session knows of its device and of its machine; a reader needs none of this.
-use Rattle.std.specs.Prelude.{◌≡◌, ◌+◌, ◌<◌, ◌^◌, ℕ, List, length, Bool, false, Option, Some}
+use Rattle.std.specs.Prelude.{◌≡◌, ℕ, List, length, Bool, false}
 use Rattle.std.proofs.Props.{props}
 use Rattle.cartridge.specs.Header.{has_rumble, ram_length_of}
 use Rattle.machine.specs.Machine.{MachineState}
 use Rattle.snapshot.specs.Table.{kind_of_image}
-use Rattle.sector_device.specs.DiskState.{DiskState, Settled}
+use Rattle.sector_device.specs.DiskState.{DiskState}
 use Rattle.sector_log.specs.Content.{content}
 use Rattle.sector_log.specs.Found.{log_of}
 use Rattle.sector_log.specs.declared.Entry.{Entry}
 use Rattle.sector_log.specs.declared.StoredEntry.{StoredEntry}
-use Rattle.session.specs.Inputs.{inputs_of}
-use Rattle.session.specs.Stands.{Position, stands, further}
 use Rattle.session.specs.Calls.{IsAtRest}
 
 -- kind, motor and length of RAM are those that its ROM asks for

@@ -1,5 +1,5 @@
 -- What an image stands for: a count of inputs, and the machine after them.
-use Rattle.std.specs.Prelude.{◌≡◌, ◌==◌, ◌&&◌, ◌≤◌, ◌+◌, ◌^◌, ℕ, List, [], length, take, Bool, if◌then◌else◌, nat_lt, Option, Some, None, is_none}
+use Rattle.std.specs.Prelude.{◌≡◌, ◌==◌, ◌&&◌, ◌≤◌, ◌+◌, ◌^◌, ℕ, List, length, take, Bool, if◌then◌else◌, nat_lt, Option, Some, None, is_none}
 use Rattle.std.specs.List.{list_all}
 use Rattle.std.specs.Str.{bytes_eq}
 use Rattle.sha2.specs.Sha256.{sha256}
@@ -11,7 +11,6 @@ use Rattle.snapshot.specs.Table.{is_legal, table_of}
 use Rattle.snapshot.specs.Reading.{machine_in}
 use Rattle.sector_log.specs.Content.{ImageContent, Body, content}
 use Rattle.sector_log.specs.Inputs.{inputs, counted, first_wrong}
-use Rattle.sector_log.specs.declared.StoredEntry.{StoredEntry}
 use Rattle.sector_log.specs.declared.found.Header.{Header}
 use Rattle.session.specs.Inputs.{logged}
 

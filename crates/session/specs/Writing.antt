@@ -1,8 +1,8 @@
 -- What a save writes to a store; a reader needs none of this.
-use Rattle.std.specs.Prelude.{◌≡◌, ◌⊎◌, ◌+◌, ℕ, List, [], Bool, true, false, Option, Some}
+use Rattle.std.specs.Prelude.{◌≡◌, ◌⊎◌, ℕ, List, [], Bool, true, false, Some}
 use Rattle.sector_device.specs.DiskState.{DiskState}
 use Rattle.sector_log.specs.Calls.{HoldsPrefix, HasBegun, IsAppended}
-use Rattle.sector_log.specs.Content.{content, generation_in, new_generation}
+use Rattle.sector_log.specs.Content.{content, new_generation}
 use Rattle.sector_log.specs.Found.{log_of}
 use Rattle.sector_log.specs.Inputs.{grown}
 use Rattle.sector_log.specs.declared.Entry.{Entry}

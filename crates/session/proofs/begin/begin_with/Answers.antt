@@ -1,10 +1,9 @@
 use Rattle.std.proofs.Common.{◌≡◌, ◌++◌, List, ℕ, length, take, drop, refl, sym, ap, ◌∙◌, subst, arith}
 use Rattle.std.proofs.lemmas.List.{take-append-le, take_all}
 use Rattle.sha2.specs.Sha256.{sha256}
-use Rattle.snapshot.specs.Encoding.{encoded}
-use Rattle.sector_device.specs.Runs.{HoldsSince}
 use Rattle.cartridge.specs.Header.{ram_length_of}
-use Rattle.snapshot.specs.Encoding.{snapshot_length}
+use Rattle.snapshot.specs.Encoding.{encoded, snapshot_length}
+use Rattle.sector_device.specs.Runs.{HoldsSince}
 use Rattle.sector_log.specs.Calls.{HasOldOrNewContent, HasBegun, IsBeginCause, faults_after as log_faults_after}
 use Rattle.sector_log.specs.Words.{device_under, device_of as device_of_store, entries_of, found_generation}
 use Rattle.sector_log.specs.declared.fault.LogFault.{LogFault}

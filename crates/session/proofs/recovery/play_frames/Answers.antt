@@ -1,4 +1,4 @@
-use Rattle.std.proofs.Common.{◌≡◌, ◌+◌, ◌-◌, replicate, ap, sym, ◌∙◌, arith}
+use Rattle.std.proofs.Common.{◌≡◌, ◌+◌, ◌-◌, replicate, ap, ◌∙◌, arith}
 use Rattle.machine.specs.Machine.{MachineState, after}
 use Rattle.machine.specs.declared.input.Input.TheVariants.{Frame}
 use Rattle.session.proofs.Replaying.{frames_left, no_frames}

@@ -1,4 +1,4 @@
-use Rattle.std.proofs.Common.{◌≡◌, ◌⊎◌, ⊎_elim, inl, inr, ◌≤◌, [], List, ℕ, length, Option, Some, None, Result, Ok, Err, ◌<◌, refl, sym, ap, ◌∙◌, subst, arith}
+use Rattle.std.proofs.Common.{◌≡◌, ⊎_elim, inl, inr, ◌≤◌, [], ℕ, Some, None, Result, Ok, Err, ◌<◌, refl, sym, ap, ◌∙◌, subst}
 use Rattle.sha2.specs.Sha256.{sha256}
 use Rattle.machine.specs.Machine.{MachineState}
 use Rattle.snapshot.specs.Encoding.{encoded, snapshot_length}
@@ -9,7 +9,6 @@ use Rattle.sector_log.specs.Content.{content, generation_in, need}
 use Rattle.sector_log.specs.Words.{device_under, found_generation, seen}
 use Rattle.session.specs.Calls.{IsAtRest, StandsAsBefore}
 use Rattle.session.specs.Found.{IsResumeCause}
-use Rattle.session.specs.Stands.{Position}
 use Rattle.session.specs.Words.{device_of, machine_of, left_by}
 use Rattle.session.proofs.Beginnings.{if_ok, if_ok_both, if_err, begun_at_rest, resume_images, looked_resume}
 use Rattle.session.proofs.Finding.{cause_found, recovered_stands, recovered_machine, recovered_fits, begin_cause}
