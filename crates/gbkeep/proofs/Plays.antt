@@ -9,7 +9,7 @@ use Rattle.sector_device.specs.Runs.{HoldsSince}
 use Rattle.session.specs.declared.error.SessionError.{SessionError}
 use Rattle.session.proofs.Beginnings.{since_now}
 use Rattle.session.proofs.Writes.{since_weaker}
-use Rattle.playing.specs.Played.{PlayImage, HasReached, IsNotTakenUp, HasStopped}
+use Rattle.playing.specs.Played.{PlayImage, HasPlayed, HasReached, IsNotTakenUp, HasStopped}
 use Rattle.playing.specs.Report.{inputs_of_moves, report_of}
 use Rattle.script.specs.Script.{moves_from, moves_of}
 use Rattle.script.specs.declared.moves.Move.{Move}
@@ -17,13 +17,21 @@ use Rattle.command_line.specs.declared.Request.{Request}
 use Rattle.gbkeep.specs.declared.error.PlayError.{PlayError}
 use Rattle.gbkeep.specs.declared.error.PlayError.TheVariants.{Cart, Script, Session, Picture}
 use Rattle.gbkeep.specs.declared.error.PlayRefused.{PlayRefused}
-use Rattle.gbkeep.specs.Playing.{HasReported, IsLastMachine, IsPlayable, IsPlayCause, moves_in, moves_read}
+use Rattle.gbkeep.specs.Playing.{HasReported, IsLastMachine, IsPlayable, IsPlayCause, inputs_of_script, moves_in, moves_read}
 use Rattle.gbkeep.specs.Program.{IsRefused, fault_of_play}
 use Rattle.gbkeep.specs.Request.{HasAddress, HasScript, IsCutShort, IsGameRefused, IsOutputRefused, IsReported, OfAScript}
 
 -- no call of the device
 pub nothing_played : (rom : List ℕ) (now : DiskState) (given : List Input) → ((image : List (List ℕ)) → now.since now.moment image → now.image image) → HoldsSince now now (PlayImage rom now given)
 nothing_played rom now given only = since_weaker (since_now now only) (λ image stood. inl (record { before = image; stood = stood; is = refl }))
+
+-- what a play saved of a script's moves
+pub played_of_script : (cart rom script : List ℕ) (moves : List Move) (start now : DiskState)
+    → cart ≡ rom → moves_of script ≡ Ok moves
+    → (start.honest → HasPlayed cart start now (inputs_of_moves moves)) → start.honest → HasPlayed rom start now (inputs_of_script script)
+played_of_script cart rom script moves start now same read played = λ honest.
+    subst (λ (m : List Move). HasPlayed rom start now (inputs_of_moves m)) (sym (ap moves_read read))
+    (subst (λ (r : List ℕ). HasPlayed r start now (inputs_of_moves moves)) same (played honest))
 
 -- the report of a play that came to its end, and the machine behind it
 pub reported : (cart rom script : List ℕ) (moves : List Move) (start : DiskState) (all : ℕ) (machine : MachineState) (old new : Option (List ℕ))

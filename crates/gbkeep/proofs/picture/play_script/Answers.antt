@@ -1,12 +1,17 @@
 use Rattle.gbkeep.specs.Playing.{inputs_of_script}
 use Rattle.std.proofs.Common.{◌∙◌, ap, sym, Ok}
-use Rattle.session.specs.Words.{acknowledged_of, machine_of}
-use Rattle.gbkeep.proofs.Plays.{nothing_played, reported, last_machine}
+use Rattle.session.specs.Words.{acknowledged_of, device_of, machine_of}
+use Rattle.gbkeep.proofs.Plays.{nothing_played, played_of_script, reported, last_machine}
 use Rattle.gbkeep.proofs.picture.play_script.Goals as goal
 
 pub returns-in-Err-clause-images : goal.returns-in-Err-clause-images
 returns-in-Err-clause-images g c =
     λ honest. nothing_played c.args.rom.items (g.D.SectorDevice.disk c.args.device) (inputs_of_script c.args.script.now) (g.met.D.SectorDevice.only_now c.args.device)
+
+pub returns-in-Ok-play-clause-played : goal.returns-in-Ok-play-clause-played
+returns-in-Ok-play-clause-played g c =
+    played_of_script _ _ _ c.deref.result.now (g.D.SectorDevice.disk c.args.device) (g.D.SectorDevice.disk (device_of c.in-Ok-play.session)) c.in-Ok.ensures.image
+    (c.in-Ok-read_script.ensures.moves ∙ ap Ok (sym c.deref.ensures.value)) c.in-Ok-play.ensures.played
 
 pub returns-in-Ok-play-clause-report : goal.returns-in-Ok-play-clause-report
 returns-in-Ok-play-clause-report g c =

@@ -1,0 +1,9 @@
+use Rattle.std.proofs.Common.{subst, sym}
+use Rattle.playing.specs.Played.{HasPlayed}
+use Rattle.gbkeep.specs.Playing.{inputs_of_script}
+use Rattle.gbkeep.proofs.picture.play_to_picture.Goals as goal
+
+pub returns-in-Ok-clause-played : goal.returns-in-Ok-clause-played
+returns-in-Ok-clause-played g c = λ honest.
+    subst (λ (d : g.row.D.Denot). HasPlayed c.args.rom.items (g.D.SectorDevice.disk c.args.device) (g.D.SectorDevice.disk d) (inputs_of_script c.args.script.now))
+    (sym c.into_device.ensures.device) (c.in-Ok.ensures.played honest)
