@@ -250,6 +250,14 @@ impl Machine {
         self.processor.memory.fill(region, bytes);
     }
 
+    /// Draws the lines of the picture that were only noted when they were due. No value changes:
+    /// the rows are then read quickly, where otherwise each is drawn pixel by pixel at each look.
+    pub fn draw_late(&mut self)
+        ensures { self.new ≡ self.old }
+    {
+        self.processor.memory.draw_late();
+    }
+
     /// Sets the shades of a row of the picture. Condition: the row is below 144, and each shade is
     /// at most 3.
     pub fn set_row(&mut self, y: usize, row: &[u8; 160])

@@ -84,7 +84,7 @@ fn enabling(machine: &Machine) -> (bool, bool) {
 
 fn is_blank(machine: &Machine) -> bool {
     for y in 0..144 {
-        if machine.picture().row(y) != [0; 160].as_slice() {
+        if machine.picture().row(y) != [0; 160] {
             return false;
         }
     }

@@ -41,3 +41,11 @@ flat_map-split f (row ∷ rows) zero h = refl
 flat_map-split f (row ∷ rows) (suc i) h =
     let h' : i < length rows = omega arith
     in rw suc-add (ap (λ l. f row ++ l) (flat_map-split f rows i h') ∙ sym (append_assoc (f row) (flat_map f (take i rows)) (f (get_or rows i []) ++ flat_map f (drop (i + 1) rows))))
+
+-- one row more
+pub flat_map-more : (f : List ℕ → List ℕ) (rows : List (List ℕ)) (i : ℕ) → i < length rows → flat_map f (take (i + 1) rows) ≡ flat_map f (take i rows) ++ f (get_or rows i [])
+flat_map-more f [] i h = absurd (omega arith)
+flat_map-more f (row ∷ rows) zero h = append-nil (f row)
+flat_map-more f (row ∷ rows) (suc i) h =
+    let h' : i < length rows = omega arith
+    in rw suc-add (ap (λ l. f row ++ l) (flat_map-more f rows i h') ∙ sym (append_assoc (f row) (flat_map f (take i rows)) (f (get_or rows i []))))

@@ -7,4 +7,4 @@ pub mod SignalLaws
 pub mod WindowLaws
 -- what only the code needs
 pub mod PictureJump
-pub mod Keeping
+pub mod LateRows

@@ -6,6 +6,7 @@ mod laws;
 mod pgm;
 mod picture;
 mod region;
+mod rows;
 mod state;
 
 pub use exact_text::OutputFailed;

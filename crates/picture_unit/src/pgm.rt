@@ -1,9 +1,12 @@
 ghost use Rattle.std.specs.Prelude.{◌≡◌, ◌<◌, ◌%◌, ◌==◌, if◌then◌else◌, length, All, OnOk, OnErr};
 ghost use Rattle.std.specs.Io.KnownBytes.{Appends};
 ghost use Rattle.exact_text.specs.Written.{AppendsProperPrefix};
+ghost use Rattle.picture_unit.specs.LateRows.{rows_of, AreRight};
 ghost use Rattle.picture_unit.specs.Pgm.{row_text, picture_text};
 
+use crate::rows::Rows;
 use exact_text::{OutputFailed, write_whole};
+use picture_lines::TileMemory;
 use std::io::Write;
 
 const HEADER: &[u8; 13] = b"P2\n160 144\n3\n";
@@ -29,18 +32,26 @@ fn row_bytes(row: &[u8; 160]) -> [u8; 320]
 }
 
 /// Writes rows of shades as plain PGM.
-pub(crate) fn write_rows<W: Write>(rows: &[[u8; 160]], out: &mut W) -> Result<(), OutputFailed>
-    requires { All (λ row. All (λ shade. shade < 4) row) rows.now }
+pub(crate) fn write_rows<W: Write>(
+    rows: &Rows,
+    tiles: &TileMemory,
+    oam: &[u8],
+    out: &mut W,
+) -> Result<(), OutputFailed>
+    requires oam { length oam.now ≡ 160 }
+    requires right { AreRight rows.now }
+    requires shades { All (λ row. All (λ shade. shade < 4) row) (rows_of rows.now tiles.now oam.now) }
     ensures ok { OnOk result
-        (Appends (W.contents out.old) (W.contents out.new) (picture_text rows.now)) }
+        (Appends (W.contents out.old) (W.contents out.new) (picture_text (rows_of rows.now tiles.now oam.now))) }
     ensures err { OnErr result
-        (AppendsProperPrefix (W.contents out.old) (W.contents out.new) (picture_text rows.now)) }
+        (AppendsProperPrefix (W.contents out.old) (W.contents out.new) (picture_text (rows_of rows.now tiles.now oam.now))) }
 {
     if let Err(fault) = write_whole(out, HEADER) {
         return Err(fault);
     }
-    for row in rows {
-        let text = row_bytes(row);
+    for y in 0..144 {
+        let row = rows.row(y, tiles, oam);
+        let text = row_bytes(&row);
         if let Err(fault) = write_whole(out, &text) {
             return Err(fault);
         }

@@ -1,12 +1,13 @@
-ghost use Rattle.std.specs.Prelude.{◌≡◌, length, false, not, ◌&&◌, IfOk, OnOk, OnErr, replicate};
+ghost use Rattle.std.specs.Prelude.{◌≡◌, false, not, ◌&&◌, IfOk, OnOk, OnErr};
 
 mod clock;
 mod snapshot;
 
 use crate::pgm::write_rows;
+use crate::rows::Rows;
 use crate::state::PictureState;
 use exact_text::OutputFailed;
-use picture_lines::{ChosenObjects, LineRegisters, TileMemory};
+use picture_lines::TileMemory;
 use std::alloc::{AllocError, Global};
 use std::io::Write;
 use std::marker::Model;
@@ -25,23 +26,14 @@ pub struct Picture {
     quiet_until: u8,
     tiles: TileMemory,
     oam: Vec<u8>,
-    // The objects of the line that was drawn last.
-    objects: ChosenObjects,
-    rows: Vec<[u8; 160]>,
-    // Whether VRAM, OAM or a row has changed since a line was drawn: no row is then known to be what
-    // its line would be drawn as.
-    is_changed: bool,
-    // The rows of which that is known, and what they were drawn by.
-    is_kept: [bool; 144],
-    drawn_by: [LineRegisters; 144],
+    rows: Rows,
 }
 
 impl Model for Picture {
     ghost use Rattle.std.specs.Prelude.{◌-◌};
     ghost use Rattle.picture_unit.specs.Picture.{PictureUnit, IsWhole};
     ghost use Rattle.picture_unit.specs.PictureJump.{AreQuiet};
-    ghost use Rattle.picture_unit.specs.Keeping.{AreKept};
-    ghost use Rattle.picture_lines.specs.Choice.{IsChoice};
+    ghost use Rattle.picture_unit.specs.LateRows.{rows_of, AreRight};
 
     ghost Value = { PictureUnit };
 
@@ -49,14 +41,13 @@ impl Model for Picture {
       state = p.state;
       vram = p.tiles;
       oam = p.oam.items;
-      rows = p.rows.items;
+      rows = rows_of p.rows p.tiles p.oam.items;
     } };
 
     ghost invariant = { λ p. record {
-      whole : IsWhole p.state p.oam.items p.rows.items;
+      whole : IsWhole p.state p.oam.items (rows_of p.rows p.tiles p.oam.items);
       quiet : AreQuiet (p.quiet_until - p.state.m_cycle) p.state;
-      kept : AreKept p.is_changed p.is_kept p.drawn_by p.tiles p.oam.items p.rows.items;
-      objects : IsChoice p.objects p.oam.items;
+      rows : AreRight p.rows;
     } };
 }
 
@@ -76,19 +67,13 @@ impl Picture {
     {
         let tiles = TileMemory::new(alloc)?;
         let oam = Vec::from_elem(alloc, 0u8, 160)?;
-        let rows = Vec::from_elem(alloc, [0u8; 160], 144)?;
-        let objects = ChosenObjects::none();
-        let state = PictureState::at_power_on();
+        let rows = Rows::new(alloc)?;
         Ok(Picture {
-            state,
+            state: PictureState::at_power_on(),
             quiet_until: 0,
             tiles,
             oam,
-            objects,
             rows,
-            is_changed: true,
-            is_kept: [false; 144],
-            drawn_by: [state.line_registers(); 144],
         })
     }
 
@@ -131,7 +116,7 @@ impl Picture {
         if self.tiles.byte(offset as usize) == value {
             return;
         }
-        self.is_changed = true;
+        self.rows.settle(&self.tiles, &self.oam);
         self.tiles.write(offset as usize, value);
     }
 
@@ -181,8 +166,7 @@ impl Picture {
         if self.oam[offset as usize] == value {
             return;
         }
-        self.objects.forget();
-        self.is_changed = true;
+        self.rows.settle(&self.tiles, &self.oam);
         self.oam[offset as usize] = value;
     }
 
@@ -223,7 +207,7 @@ impl Picture {
         ensures err { OnErr result (AppendsProperPrefix
             (W.contents out.old) (W.contents out.new) (picture_text self.now.rows)) }
     {
-        write_rows(&self.rows, out)
+        write_rows(&self.rows, &self.tiles, &self.oam, out)
     }
 
     #[tactic(auto, unfolding(crate::specs::Stores::is_vram_closed))]
@@ -276,8 +260,7 @@ impl Picture {
         self.state.window_counter = 0;
         self.state.seen = false;
         self.state.signal = false;
-        self.is_changed = true;
-        blank(&mut self.rows);
+        self.rows.blank();
     }
 
     #[tactic(auto, unfolding(crate::specs::Registers::switched_on))]
@@ -323,14 +306,5 @@ impl Picture {
         let rises = signal && !self.state.signal;
         self.state.signal = signal;
         rises
-    }
-}
-
-// Sets all shades to 0.
-fn blank(rows: &mut [[u8; 160]])
-    ensures { rows.new ≡ replicate (length rows.old) (replicate 160 0) }
-{
-    for row in rows.iter_mut() {
-        *row = [0; 160];
     }
 }

@@ -1,7 +1,6 @@
 -- The steps of decoding: what is known of the machine at power-on, of the machine that is made, and of a refusal.
-use Rattle.std.proofs.Common.{◌≡◌, ℕ, ◌+◌, ◌-◌, ◌<◌, ◌≤◌, Bool, true, false, List, length, replicate, get_or, Option, Some, refl, sym, ap, subst, ◌∙◌, arith}
+use Rattle.std.proofs.Common.{◌≡◌, ℕ, ◌<◌, Bool, true, false, List, length, replicate, get_or, Some, refl, sym, ap, subst, ◌∙◌}
 use Rattle.std.specs.Prelude.{slice_range}
-use Rattle.std.specs.List.{All}
 use Rattle.std.proofs.lemmas.List.{length-replicate}
 use Rattle.std.proofs.lemmas.List.Elements.{All-contains}
 use Rattle.cartridge.specs.Header.{controller_of, has_rumble, ram_length_of}
@@ -19,7 +18,7 @@ use Rattle.snapshot.specs.Table.{bytes, is_legal, ram_rule, kind_of_image, table
 use Rattle.snapshot.specs.Reading.{registers_in, with_stores, machine_in}
 use Rattle.snapshot.specs.Legal.{IsMachineOf, IsLegalSnapshot, IsRefusal}
 use Rattle.snapshot.proofs.Legality.{ram_in, registers_legal}
-use Rattle.snapshot.proofs.Machines.{fields_of, ram_long, ram_legal, machine_legal, machine_back, encoded_again, encoded_legal}
+use Rattle.snapshot.proofs.Machines.{fields_of, ram_long, ram_legal, machine_legal, encoded_legal}
 use Rattle.snapshot.proofs.Offsets.{kind_is}
 
 zeros_long : (image : List ℕ) → (let zeros : List ℕ = replicate (ram_length_of image) 0 in length zeros) ≡ ram_length_of image

@@ -1,14 +1,13 @@
 -- The registers of a snapshot, and the snapshot of registers.
-use Rattle.std.proofs.Common.{◌≡◌, ℕ, suc, ◌+◌, ◌*◌, ◌/◌, ◌%◌, ◌<◌, ◌≤◌, Bool, true, false, eqb, cond, List, [], ◌∷◌, ◌++◌, length, take, length-take, get_or, get_or-take, refl, sym, ap, subst, ◌∙◌, eq-eqb, arith}
+use Rattle.std.proofs.Common.{◌≡◌, ℕ, ◌<◌, ◌≤◌, List, ◌++◌, length, take, length-take, get_or, get_or-take, refl, sym, ◌∙◌, arith}
 use Rattle.std.specs.Prelude.{bit_and, map}
 use Rattle.std.specs.List.{range_with_len}
 use Rattle.std.proofs.lemmas.List.FromFn.{fill_by_all}
-use Rattle.sm83_alu.specs.Flags.{digit_of}
 use Rattle.cartridge.specs.declared.controller.Controller.{Controller}
 use Rattle.sm83_processor.specs.declared.processor.ProcessorState.{ProcessorState}
 use Rattle.machine.specs.declared.machine_without_memory.MachineWithoutMemory.{MachineWithoutMemory}
-use Rattle.snapshot.specs.Encoding.{fixed_fields, kind_byte, processor_byte, picture_byte}
-use Rattle.snapshot.specs.Reading.{has, processor_of, registers_in}
+use Rattle.snapshot.specs.Encoding.{fixed_fields, kind_byte, processor_byte}
+use Rattle.snapshot.specs.Reading.{processor_of, registers_in}
 use Rattle.snapshot.proofs.Bytes.{word_back, low_back, high_back, digit_test, test_digit, six_back, six_again, two_back, two_again, flags_back, flags_again}
 
 pub state_back : (s : ProcessorState) → processor_of (processor_byte s) ≡ s

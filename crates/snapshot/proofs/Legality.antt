@@ -1,5 +1,5 @@
 -- The table of fields: what its rules say of the registers of bytes, and that the snapshot of legal registers keeps them.
-use Rattle.std.proofs.Common.{◌≡◌, ℕ, zero, suc, ◌+◌, ◌-◌, ◌*◌, ◌/◌, ◌%◌, ◌<◌, ◌≤◌, Bool, true, false, eqb, leb, nat_le, cond, List, [], ◌∷◌, ◌++◌, length, take, get_or, refl, sym, ap, subst, ◌∙◌, eq-eqb, lit<, arith}
+use Rattle.std.proofs.Common.{◌≡◌, ℕ, zero, suc, ◌+◌, ◌<◌, ◌≤◌, Bool, true, false, eqb, nat_le, cond, List, ◌++◌, length, get_or, refl, sym, ap, ◌∙◌, eq-eqb, lit<, arith}
 use Rattle.std.specs.Prelude.{bit_and, slice_range, slice_index, ◌&&◌, ◌==◌}
 use Rattle.std.specs.List.{All, list_all}
 use Rattle.std.proofs.lemmas.Bool.{eqb-true, leb-true, le-leb, and_parts}
@@ -11,7 +11,6 @@ use Rattle.bank_controllers.specs.CartridgeState.{CartridgeState}
 use Rattle.sm83_processor.specs.declared.processor.ProcessorState.{ProcessorState}
 use Rattle.machine.specs.declared.machine_without_memory.MachineWithoutMemory.{MachineWithoutMemory}
 use Rattle.machine.specs.MachineStores.{AreLegalFor}
-use Rattle.snapshot.specs.declared.field.SnapshotField.{SnapshotField}
 use Rattle.snapshot.specs.declared.field.Rule.TheVariants.{Any, Magic}
 use Rattle.snapshot.specs.Encoding.{fixed_fields, kind_byte, processor_byte, picture_byte}
 use Rattle.snapshot.specs.Table.{byte, bytes, is_legal, ram_rule, table}

@@ -1,11 +1,10 @@
 -- A machine and its snapshot: each gives the other.
-use Rattle.std.proofs.Common.{◌≡◌, ℕ, ◌+◌, ◌-◌, ◌*◌, ◌/◌, ◌%◌, ◌<◌, ◌≤◌, Bool, true, false, eqb, nat_lt, List, [], ◌∷◌, ◌++◌, length, take, drop, replicate, get_or, get_or-take, get_or-drop, refl, sym, ap, subst, ◌∙◌, inl, inr, lit≤, arith}
-use Rattle.std.specs.Prelude.{slice_range, slice_index, ◌==◌}
+use Rattle.std.proofs.Common.{◌≡◌, ℕ, ◌+◌, ◌-◌, ◌*◌, ◌%◌, ◌<◌, Bool, true, nat_lt, List, [], ◌∷◌, ◌++◌, length, take, drop, replicate, get_or, get_or-take, get_or-drop, refl, sym, ap, subst, ◌∙◌, inl, inr, lit≤, arith}
+use Rattle.std.specs.Prelude.{slice_range, ◌==◌}
 use Rattle.std.specs.List.{All, list_all}
 use Rattle.std.proofs.lemmas.Bool.{cases_lt, eqb-true, ltb-true, lt-ltb, and_parts}
 use Rattle.std.proofs.lemmas.List.{get_or_past, take_all, length-take}
 use Rattle.std.proofs.lemmas.List.Elements.{All-nil, All-cons, All-head, All-tail}
-use Rattle.sm83_alu.specs.Flags.{digit_of}
 use Rattle.cartridge.specs.Header.{has_rumble, ram_length_of}
 use Rattle.cartridge.specs.declared.controller.Controller.{Controller}
 use Rattle.cartridge.specs.declared.controller.Controller.TheVariants.{Plain, Mbc1, Mbc2, Mbc3, Mbc3Clock, Mbc5}
@@ -16,9 +15,9 @@ use Rattle.machine.specs.declared.machine_without_memory.MachineWithoutMemory.{M
 use Rattle.machine.specs.Machine.{MachineState}
 use Rattle.machine.specs.MachineStores.{without_memory, AreLegalFor}
 use Rattle.snapshot.specs.Encoding.{fixed_fields, unused, picture_bytes, stores_bytes, encoded, snapshot_length}
-use Rattle.snapshot.specs.Table.{bytes, is_legal, ram_rule, table, kind_of_image, table_of}
+use Rattle.snapshot.specs.Table.{bytes, is_legal, ram_rule, kind_of_image, table_of}
 use Rattle.snapshot.specs.Reading.{registers_in, rows_in, machine_in}
-use Rattle.machine.specs.Legal.{IsRow, IsLegalMachine}
+use Rattle.machine.specs.Legal.{IsLegalMachine}
 use Rattle.snapshot.specs.Legal.{IsMachineOf, IsLegalSnapshot}
 use Rattle.snapshot.proofs.Bytes.{bit_back, digit_small, numbers_at}
 use Rattle.snapshot.proofs.Parts.{AreParts, parts_of, parts_length, parts_join, part_length}

@@ -1,5 +1,5 @@
 -- The table comes by offset.
-use Rattle.std.proofs.Common.{◌≡◌, ℕ, zero, suc, ◌+◌, ◌<◌, ◌≤◌, Bool, true, false, nat_le, List, [], ◌∷◌, length, get_or, Option, Some, refl, ap, lit≤, arith}
+use Rattle.std.proofs.Common.{◌≡◌, ℕ, zero, suc, ◌<◌, ◌≤◌, Bool, true, nat_le, List, [], ◌∷◌, length, get_or, Option, Some, refl, ap, lit≤, arith}
 use Rattle.std.specs.Option.{unwrap_or}
 use Rattle.std.specs.List.{Contains}
 use Rattle.std.proofs.lemmas.List.Elements.{All-contains, All-from_recursion}

@@ -1,5 +1,5 @@
 -- Which machines are of an image, which snapshots are legal, and the first fault of a snapshot that is not.
-use Rattle.std.specs.Prelude.{◌≡◌, ℕ, ◌≤◌, Bool, true, false, List, length}
+use Rattle.std.specs.Prelude.{◌≡◌, ℕ, ◌≤◌, true, false, List, length}
 use Rattle.std.specs.List.{All, Contains}
 use Rattle.cartridge.specs.Header.{has_rumble, ram_length_of}
 use Rattle.machine.specs.Machine.{MachineState}

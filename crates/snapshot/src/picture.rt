@@ -8,9 +8,8 @@ ghost use Rattle.snapshot.specs.Reading.{shade_in, row_in};
 use picture_unit::Picture;
 
 /// A byte of four shades, from column 4 times `place` on.
-fn byte_of_four(row: &[u8], place: usize) -> u8
+fn byte_of_four(row: &[u8; 160], place: usize) -> u8
     requires place { place < 40 }
-    requires columns { length row.now ≡ 160 }
     requires shades { All (λ shade. shade < 4) row.now }
     ensures { result ≡ byte_of_four row.now place }
 {
@@ -23,8 +22,12 @@ pub(crate) fn write_picture(picture: &Picture, out: &mut [u8])
     ensures bytes { out.new ≡ picture_bytes picture.now.rows }
     ensures rows { (y : ℕ) → y < 144 → IsRow (slice_index_or picture.now.rows y []) }
 {
+    let mut row = [0; 160];
     for k in 0..out.len() {
-        out[k] = byte_of_four(picture.row(k / 40), k % 40);
+        if k % 40 == 0 {
+            row = picture.row(k / 40);
+        }
+        out[k] = byte_of_four(&row, k % 40);
     }
 }
 

@@ -94,9 +94,7 @@ fn copy(alloc: Global, picture: &Picture) -> Result<Picture, Fail> {
     other.fill(PictureRegion::Vram, picture.region(PictureRegion::Vram));
     other.fill(PictureRegion::Oam, picture.region(PictureRegion::Oam));
     for y in 0..144 {
-        let mut row = [0; 160];
-        row.copy_from_slice(picture.row(y));
-        other.set_row(y, &row);
+        other.set_row(y, &picture.row(y));
     }
     Ok(other)
 }
@@ -128,11 +126,7 @@ fn due(picture: &Picture) -> Option<u32> {
 }
 
 fn row_of(picture: &Picture, y: usize) -> [u8; 160] {
-    let mut row = [9; 160];
-    if y < 144 {
-        row.copy_from_slice(picture.row(y));
-    }
-    row
+    if y < 144 { picture.row(y) } else { [9; 160] }
 }
 
 fn window_counter(picture: &Picture) -> u8 {

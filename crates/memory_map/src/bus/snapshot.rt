@@ -96,6 +96,14 @@ impl Bus {
         &self.picture
     }
 
+    /// Draws the lines of the picture that were only noted when they were due. No value changes:
+    /// the rows are then read quickly.
+    pub fn draw_late(&mut self)
+        ensures { self.new ≡ self.old }
+    {
+        self.picture.draw_late();
+    }
+
     /// Sets the shades of a row of the picture. Condition: the row is below 144, and each shade is
     /// at most 3.
     pub fn set_row(&mut self, y: usize, row: &[u8; 160])

@@ -1,14 +1,11 @@
-ghost use Rattle.std.specs.Prelude.{◌≡◌, ◌<◌, ◌+◌, true, false, All, length, slice_set, slice_index_or, replicate, if◌then◌else◌};
+ghost use Rattle.std.specs.Prelude.{◌≡◌, ◌<◌, ◌+◌, true};
 ghost use Rattle.std.specs.Fn.{iterate};
 ghost use Rattle.repeated_steps.specs.NextEvent.{IsNextEvent};
 ghost use Rattle.picture_unit.specs.Picture.{unrequested, is_on, tick, ticks, is_entry, line_drawn, drawn};
-ghost use Rattle.picture_lines.specs.Choice.{IsChoice};
-ghost use Rattle.picture_lines.specs.Pixel.{drawn_row};
 ghost use Rattle.picture_unit.specs.PictureJump.{next_change, skipped, with_requests, AreQuiet};
 
 use super::Picture;
 use crate::state::PictureRequests;
-use picture_lines::{ChosenObjects, LineRegisters, TileMemory};
 
 impl Picture {
     /// Lets this many M-cycles pass: lines are entered and drawn, and interrupts are requested.
@@ -232,7 +229,7 @@ impl Picture {
         }
     }
 
-    // Draws the current line. Apart, so that an entry without a line saves no registers for it.
+    // Notes the current line as due. Apart, so that an entry without a line saves no registers for it.
     #[inline(never)]
     #[tactic(auto, unfolding(crate::specs::Picture::line_drawn, crate::specs::Picture::line_registers, crate::specs::Picture::window_counter_after, crate::specs::Picture::is_on, crate::specs::Picture::mode, crate::specs::Picture::stat_signal, crate::specs::PictureJump::next_entry, crate::specs::PictureJump::next_change))]
     fn draw_line(&mut self)
@@ -240,76 +237,9 @@ impl Picture {
         ensures { self.new ≡ line_drawn self.old }
     {
         let registers = self.state.line_registers();
-        self.draw_row(&registers);
+        self.rows.note(&registers);
         if registers.is_window_drawn() {
             self.state.window_counter = self.state.window_counter.wrapping_add(1);
         }
     }
-
-    // Draws a row, unless it is kept since it was drawn by the same registers.
-    fn draw_row(&mut self, registers: &LineRegisters)
-        requires { registers.now.ly < 144 }
-        ensures { self.new ≡ record self.old {
-          rows = slice_set self.old.rows registers.now.ly (drawn_row registers.now self.old.vram self.old.oam);
-        } }
-    {
-        forget_when(self.is_changed, &mut self.is_kept);
-        self.is_changed = false;
-        if is_drawn_by(&self.is_kept, &self.drawn_by, registers) {
-            return;
-        }
-        let y = registers.ly as usize;
-        draw_anew(
-            registers,
-            &mut self.tiles,
-            &self.oam,
-            &mut self.objects,
-            &mut self.rows[y],
-        );
-        self.is_kept[y] = true;
-        self.drawn_by[y] = *registers;
-    }
-}
-
-// Draws a row. Apart, so that a row that is kept costs no more than the comparison.
-#[inline(never)]
-fn draw_anew(
-    registers: &LineRegisters,
-    tiles: &mut TileMemory,
-    oam: &[u8],
-    objects: &mut ChosenObjects,
-    row: &mut [u8; 160],
-)
-    requires line_in { registers.now.ly < 144 }
-    requires oam { length oam.now ≡ 160 }
-    requires objects { IsChoice objects.old oam.now }
-    ensures objects { IsChoice objects.new oam.now }
-    ensures tiles { tiles.new ≡ tiles.old }
-    ensures row { row.new ≡ drawn_row registers.now tiles.old oam.now }
-    ensures shades { All (λ shade. shade < 4) row.new }
-{
-    registers.draw_with(tiles, oam, objects, row);
-}
-
-// Keeps no row where something has changed.
-fn forget_when(is_changed: bool, is_kept: &mut [bool; 144])
-    ensures { is_kept.new ≡ (if is_changed then replicate 144 false else is_kept.old) }
-{
-    if is_changed {
-        *is_kept = [false; 144];
-    }
-}
-
-// Whether the row of a line is kept, and was drawn by these registers.
-fn is_drawn_by(
-    is_kept: &[bool; 144],
-    drawn_by: &[LineRegisters; 144],
-    registers: &LineRegisters,
-) -> bool
-    requires { registers.now.ly < 144 }
-    ensures kept { result ≡ true → slice_index_or is_kept.now registers.now.ly false ≡ true }
-    ensures same { result ≡ true → slice_index_or drawn_by.now registers.now.ly registers.now ≡ registers.now }
-{
-    let by = drawn_by[registers.ly as usize];
-    is_kept[registers.ly as usize] && by == *registers
 }

@@ -22,7 +22,6 @@ impl Picture {
         ensures { self.new ≡ record self.old { state = state.now } }
     {
         self.quiet_until = 0;
-        self.is_changed = true;
         self.state = *state;
         self.tiles.mark_stale();
     }
@@ -45,8 +44,7 @@ impl Picture {
         requires { length bytes.now ≡ region_length region }
         ensures { self.new ≡ region_filled self.old region bytes.now }
     {
-        self.objects.forget();
-        self.is_changed = true;
+        self.rows.settle(&self.tiles, &self.oam);
         match region {
             PictureRegion::Vram => self.tiles.fill(bytes),
             PictureRegion::Oam => self.oam.copy_from_slice(bytes),
@@ -54,13 +52,23 @@ impl Picture {
     }
 
     /// The 160 shades of a row, 0 to 3, the leftmost first. Condition: the row is below 144.
-    pub fn row(&self, y: usize) -> &[u8]
+    ///
+    /// A row that is not drawn yet is drawn pixel by pixel, at each call: `draw_late` before is
+    /// quicker.
+    pub fn row(&self, y: usize) -> [u8; 160]
         requires { y < 144 }
-        ensures row { slice_get self.now.rows y ≡ Some result.now }
-        ensures columns { length result.now ≡ 160 }
-        ensures shades { All (λ shade. shade < 4) result.now }
+        ensures row { slice_get self.now.rows y ≡ Some result }
+        ensures shades { All (λ shade. shade < 4) result }
     {
-        &self.rows[y]
+        self.rows.row(y, &self.tiles, &self.oam)
+    }
+
+    /// Draws the lines that were only noted when they were due. No value changes: the rows are then
+    /// read and written quickly.
+    pub fn draw_late(&mut self)
+        ensures { self.new ≡ self.old }
+    {
+        self.rows.draw(&mut self.tiles, &self.oam);
     }
 
     /// Sets the shades of a row. Condition: the row is below 144, and each shade is at most 3.
@@ -69,7 +77,6 @@ impl Picture {
         requires shades { All (λ shade. shade < 4) row.now }
         ensures { self.new ≡ record self.old { rows = slice_set self.old.rows y row.now } }
     {
-        self.is_changed = true;
-        self.rows[y] = *row;
+        self.rows.set(y, row);
     }
 }

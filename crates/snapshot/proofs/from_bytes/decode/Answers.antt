@@ -1,4 +1,4 @@
-use Rattle.std.proofs.Common.{◌≡◌, ◌<◌, ℕ, List, ap, sym, subst, ◌∙◌, arith}
+use Rattle.std.proofs.Common.{ap, sym, subst, ◌∙◌, arith}
 use Rattle.machine.specs.Machine.{MachineState}
 use Rattle.snapshot.specs.Encoding.{encoded}
 use Rattle.snapshot.specs.Reading.{machine_in}

@@ -1,9 +1,9 @@
-use Rattle.std.proofs.Common.{◌≡◌, ◌≤◌, ℕ, true, List, sym, subst, ◌∙◌, arith}
+use Rattle.std.proofs.Common.{◌≡◌, ◌≤◌, true, List, sym, subst, ◌∙◌, arith}
 use Rattle.std.specs.List.{All}
 use Rattle.snapshot.specs.declared.field.SnapshotField.{SnapshotField}
-use Rattle.snapshot.specs.Table.{is_legal, table_of}
+use Rattle.snapshot.specs.Table.{is_legal}
 use Rattle.snapshot.specs.Ascending.{IsAscending}
-use Rattle.snapshot.specs.Legal.{IsFirstIllegal, HasLength}
+use Rattle.snapshot.specs.Legal.{IsFirstIllegal}
 use Rattle.snapshot.proofs.Offsets.{table_ascends, table_is, ram_small}
 use Rattle.snapshot.proofs.from_bytes.fault.Goals as goal
 

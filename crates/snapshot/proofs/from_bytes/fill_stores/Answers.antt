@@ -1,4 +1,4 @@
-use Rattle.std.proofs.Common.{◌≡◌, refl}
+use Rattle.std.proofs.Common.{refl}
 use Rattle.snapshot.proofs.from_bytes.fill_stores.Goals as goal
 
 pub set_rows-requires-clause-rows : goal.set_rows-requires-clause-rows

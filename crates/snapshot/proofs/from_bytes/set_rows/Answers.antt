@@ -1,4 +1,4 @@
-use Rattle.std.proofs.Common.{◌≡◌, ◌<◌, ℕ, List, ap, sym, ◌∙◌, arith}
+use Rattle.std.proofs.Common.{ℕ, List, ap, ◌∙◌, arith}
 use Rattle.snapshot.specs.Reading.{with_rows}
 use Rattle.snapshot.proofs.Pictures.{row_is_row, rows_all}
 use Rattle.snapshot.proofs.from_bytes.set_rows.Goals as goal

@@ -1,4 +1,4 @@
-use Rattle.std.proofs.Common.{◌≡◌, refl}
+use Rattle.std.proofs.Common.{refl}
 use Rattle.snapshot.proofs.registers.fixed_fields.Goals as goal
 
 pub returns : goal.returns

@@ -1,4 +1,4 @@
-use Rattle.std.proofs.Common.{◌≡◌, ◌<◌, ℕ, arith, sym, ◌∙◌}
+use Rattle.std.proofs.Common.{sym, ◌∙◌}
 use Rattle.snapshot.proofs.Search.{first_of, legal_more}
 use Rattle.snapshot.proofs.table.first_illegal.Goals as goal
 

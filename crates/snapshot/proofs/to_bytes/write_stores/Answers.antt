@@ -1,4 +1,4 @@
-use Rattle.std.proofs.Common.{◌≡◌, ◌<◌, ℕ, List, [], length, get_or, ap, subst}
+use Rattle.std.proofs.Common.{◌≡◌, ◌<◌, ℕ, List, [], length, get_or, subst}
 use Rattle.picture_unit.specs.Picture.{PictureUnit}
 use Rattle.bank_controllers.specs.CartridgeState.{IsLegalRam}
 use Rattle.machine.specs.Legal.{IsRow}

@@ -9,6 +9,5 @@ invariant_of-self c =
     record {
       whole = search (rules, within);
       quiet = quiet_until_behind c.self.inside.quiet_until c.args.cycles c.self.inside.state c.self.invariant.quiet;
-      kept = c.self.invariant.kept;
-      objects = c.self.invariant.objects;
+      rows = c.self.invariant.rows;
     }

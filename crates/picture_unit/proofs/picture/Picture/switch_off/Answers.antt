@@ -1,23 +1,19 @@
-use Rattle.std.proofs.Common.{◌≡◌, ◌<◌, ◌++◌, take, drop, length, refl, arith, ◌∙◌}
+use Rattle.std.proofs.Common.{◌≡◌, ◌<◌, ℕ, List, length, ap, arith, ◌∙◌}
 use Rattle.std.specs.Prelude.{All, replicate}
-use Rattle.std.proofs.lemmas.List.{length-replicate, take-append-le, take_all}
+use Rattle.std.proofs.lemmas.List.{length-replicate}
 use Rattle.std.proofs.lemmas.List.Elements.{All-replicate}
 use Rattle.picture_lines.proofs.Backgrounds.{zeros-small}
+use Rattle.picture_unit.specs.Picture.{blank_rows}
+use Rattle.picture_unit.specs.LateRows.{rows_of}
 use Rattle.picture_unit.proofs.Quiet.{none_quiet}
-use Rattle.picture_unit.proofs.Kept.{none_kept}
 use Rattle.picture_unit.proofs.picture.Picture.switch_off.Goals as goal
 
 pub invariant_of-self : goal.invariant_of-self
+unfolding blank_rows
 invariant_of-self c =
     let before = c.self.invariant.whole in
-    let items = c.self.inside.rows.items in
-    let n = c.self.inside.rows.len in
-    let new = c.blank.new.rows in
-    let blank : new ≡ replicate 144 (replicate 160 0) = rw (c.blank.ensures, c.deref_mut.ensures.value, before.row_count) refl in
-    let size : length new ≡ 144 = rw (blank, length-replicate) refl in
-    let len : n ≡ 144 = omega (arith, c.self.inside.rows.ok.0, before.row_count) in
-    let whole : take n (new ++ drop (length new) items) ≡ replicate 144 (replicate 160 0) =
-    take-append-le n new (drop (length new) items) (omega arith) ∙ (take_all n new (omega arith) ∙ blank) in
+    let row : List ℕ = replicate 160 0 in
+    let blank : rows_of c.blank.new.self c.self.inside.tiles c.self.inside.oam.items ≡ blank_rows = c.blank.ensures.rows c.self.inside.tiles c.self.inside.oam.items in
     record {
       whole = record {
         legal = record {
@@ -36,10 +32,9 @@ invariant_of-self c =
           window_counter = omega arith;
         };
         oam_size = before.oam_size;
-        row_count = rw (whole, length-replicate) refl;
-        shades = rw whole (All-replicate (λ row. All (λ shade. shade < 4) row) 144 (replicate 160 0) (zeros-small 160));
+        row_count = ap length blank ∙ length-replicate 144 row;
+        shades = rw blank (All-replicate (λ row. All (λ shade. shade < 4) row) 144 (replicate 160 0) (zeros-small 160));
       };
       quiet = none_quiet _;
-      kept = none_kept _ _ _ _ _;
-      objects = c.self.invariant.objects;
+      rows = c.blank.ensures.right;
     }

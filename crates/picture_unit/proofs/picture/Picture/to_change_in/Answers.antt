@@ -14,8 +14,7 @@ invariant_of-self c =
     record {
       whole = c.self.invariant.whole;
       quiet = rw same (quiet_when_skipped c.self.inside.state c.args.cycles (c.args.change - 1 - c.args.cycles) _ _ (ap (λ (s : PictureUnit). s.state) c.self.view_is) c.requires.on c.requires.some c.skip-requests.ensures before);
-      kept = c.self.invariant.kept;
-      objects = c.self.invariant.objects;
+      rows = c.self.invariant.rows;
     }
 
 pub returns-then-cycles-from-clause-on : goal.returns-then-cycles-from-clause-on
@@ -40,8 +39,7 @@ invariant_of-self-2 c =
       quiet =
           quiet_before_change c.self-2.inside.state 1 (c.change_at-next.result - 1 - c.self-2.inside.state.m_cycle) (with_requests c.skip-requests-2.result c.skip-requests-2.new.self) _
           (ap (λ (s : PictureUnit). s.state) c.self-2.view_is) on (omega arith) c.run_cycle-requests.ensures (omega (arith, c.change_at-next.ensures.change, c.change_at-next.ensures.ahead));
-      kept = c.self-2.invariant.kept;
-      objects = c.self-2.invariant.objects;
+      rows = c.self-2.invariant.rows;
     }
 
 pub returns-clause-on : goal.returns-clause-on

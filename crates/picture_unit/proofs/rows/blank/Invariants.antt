@@ -1,6 +1,6 @@
 use Rattle.std.proofs.Common.{◌≡◌, length, take}
 use Rattle.std.specs.Prelude.{replicate}
-use Rattle.picture_unit.proofs.picture.blank.Given as goal
+use Rattle.picture_unit.proofs.rows.blank.Given as goal
 
 abbrev pub invariant-loop-row : goal.invariant-loop-row
 invariant-loop-row l = record {

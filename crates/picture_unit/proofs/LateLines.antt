@@ -1,0 +1,148 @@
+-- What it means for the rows that a line is noted, drawn, set or forgotten.
+use Rattle.std.proofs.Common.{◌≡◌, ℕ, ◌<◌, Bool, true, false, cond, List, [], ◌∷◌, length, get_or, set, refl, sym, ap, ◌∙◌, arith, zero, suc}
+use Rattle.std.specs.Prelude.{All, replicate, if◌then◌else◌}
+use Rattle.picture_lines.specs.Pixel.{drawn_row}
+use Rattle.picture_lines.specs.declared.registers.LineRegisters.{LineRegisters}
+use Rattle.std.proofs.lemmas.List.{length-set}
+use Rattle.std.proofs.lemmas.List.Elements.{All-set}
+use Rattle.picture_unit.specs.declared.rows.LateLines.{LateLines}
+use Rattle.picture_unit.specs.declared.rows.Rows.{Rows}
+use Rattle.picture_unit.specs.declared.state.PictureState.{PictureState}
+use Rattle.picture_unit.specs.Picture.{IsWhole}
+use Rattle.picture_unit.specs.LateRows.{shown, with_late, rows_of, AreLines, AreRight}
+
+pub length-shown : (are_late : List Bool) (drawn_by : List LineRegisters) (vram oam : List ℕ) (rows : List (List ℕ)) → length (shown are_late drawn_by vram oam rows) ≡ length rows
+unfolding shown
+length-shown [] drawn_by vram oam rows = refl
+length-shown (is_late ∷ are_late) [] vram oam rows = refl
+length-shown (is_late ∷ are_late) (by ∷ drawn_by) vram oam [] = refl
+length-shown (is_late ∷ are_late) (by ∷ drawn_by) vram oam (row ∷ rows) = ap suc (length-shown are_late drawn_by vram oam rows)
+
+pub shown-none : (n : ℕ) (drawn_by : List LineRegisters) (vram oam : List ℕ) (rows : List (List ℕ)) → shown (replicate n false) drawn_by vram oam rows ≡ rows
+unfolding shown
+shown-none zero drawn_by vram oam rows = refl
+shown-none (suc n) [] vram oam rows = refl
+shown-none (suc n) (by ∷ drawn_by) vram oam [] = refl
+shown-none (suc n) (by ∷ drawn_by) vram oam (row ∷ rows) = ap (λ (l : List (List ℕ)). row ∷ l) (shown-none n drawn_by vram oam rows)
+
+-- a late line is drawn
+pub shown-drawn : (are_late : List Bool) (drawn_by : List LineRegisters) (vram oam : List ℕ) (rows : List (List ℕ)) (y : ℕ) (r : LineRegisters) (row : List ℕ) →
+    get_or are_late y false ≡ true → y < length drawn_by → row ≡ drawn_row (get_or drawn_by y r) vram oam →
+    shown (set are_late y false) drawn_by vram oam (set rows y row) ≡ shown are_late drawn_by vram oam rows
+unfolding shown
+shown-drawn [] drawn_by vram oam rows y r row late within is = absurd (let e : false ≡ true = late in cc)
+shown-drawn (is_late ∷ are_late) [] vram oam rows y r row late within is = absurd (omega arith)
+shown-drawn (is_late ∷ are_late) (by ∷ drawn_by) vram oam [] zero r row late within is = refl
+shown-drawn (is_late ∷ are_late) (by ∷ drawn_by) vram oam [] (suc y) r row late within is = refl
+shown-drawn (is_late ∷ are_late) (by ∷ drawn_by) vram oam (first ∷ rows) zero r row late within is =
+    ap (λ (l : List ℕ). l ∷ shown are_late drawn_by vram oam rows) (is ∙ ap (λ b. cond b (drawn_row by vram oam) first) (sym late))
+shown-drawn (is_late ∷ are_late) (by ∷ drawn_by) vram oam (first ∷ rows) (suc y) r row late within is =
+    ap (λ (l : List (List ℕ)). (if is_late then drawn_row by vram oam else first) ∷ l) (shown-drawn are_late drawn_by vram oam rows y r row late (omega arith) is)
+
+-- a row of a line that is late, and of one that is not
+pub shown-late : (are_late : List Bool) (drawn_by : List LineRegisters) (vram oam : List ℕ) (rows : List (List ℕ)) (y : ℕ) (r : LineRegisters) →
+    get_or are_late y false ≡ true → y < length drawn_by → y < length rows →
+    get_or (shown are_late drawn_by vram oam rows) y [] ≡ drawn_row (get_or drawn_by y r) vram oam
+unfolding shown
+shown-late [] drawn_by vram oam rows y r late within in_rows = absurd (let e : false ≡ true = late in cc)
+shown-late (is_late ∷ are_late) [] vram oam rows y r late within in_rows = absurd (omega arith)
+shown-late (is_late ∷ are_late) (by ∷ drawn_by) vram oam [] y r late within in_rows = absurd (omega arith)
+shown-late (is_late ∷ are_late) (by ∷ drawn_by) vram oam (first ∷ rows) zero r late within in_rows = ap (λ b. cond b (drawn_row by vram oam) first) late
+shown-late (is_late ∷ are_late) (by ∷ drawn_by) vram oam (first ∷ rows) (suc y) r late within in_rows = shown-late are_late drawn_by vram oam rows y r late (omega arith) (omega arith)
+
+pub shown-other : (are_late : List Bool) (drawn_by : List LineRegisters) (vram oam : List ℕ) (rows : List (List ℕ)) (y : ℕ) →
+    get_or are_late y false ≡ false → get_or (shown are_late drawn_by vram oam rows) y [] ≡ get_or rows y []
+unfolding shown
+shown-other [] drawn_by vram oam rows y late = refl
+shown-other (is_late ∷ are_late) [] vram oam rows y late = refl
+shown-other (is_late ∷ are_late) (by ∷ drawn_by) vram oam [] y late = refl
+shown-other (is_late ∷ are_late) (by ∷ drawn_by) vram oam (first ∷ rows) zero late = ap (λ b. cond b (drawn_row by vram oam) first) late
+shown-other (is_late ∷ are_late) (by ∷ drawn_by) vram oam (first ∷ rows) (suc y) late = shown-other are_late drawn_by vram oam rows y late
+
+module _ (vram oam vram' oam' : List ℕ) where
+  -- a line is noted: it is no longer among those that were noted earlier
+  pub shown-noted : (late : List Bool) (by : List LineRegisters) (late' : List Bool) (by' : List LineRegisters) (rows : List (List ℕ)) (y : ℕ) (r : LineRegisters) →
+      y < length late → y < length by → y < length late' → y < length by' →
+      shown (set late y true) (set by y r) vram oam (shown (set late' y false) by' vram' oam' rows)
+      ≡ set (shown late by vram oam (shown late' by' vram' oam' rows)) y (drawn_row r vram oam)
+  unfolding shown
+  shown-noted [] by late' by' rows y r a b c d = absurd (omega arith)
+  shown-noted (l ∷ ls) [] late' by' rows y r a b c d = absurd (omega arith)
+  shown-noted (l ∷ ls) (s ∷ ss) [] by' rows y r a b c d = absurd (omega arith)
+  shown-noted (l ∷ ls) (s ∷ ss) (l' ∷ ls') [] rows y r a b c d = absurd (omega arith)
+  shown-noted (l ∷ ls) (s ∷ ss) (l' ∷ ls') (s' ∷ ss') [] zero r a b c d = refl
+  shown-noted (l ∷ ls) (s ∷ ss) (l' ∷ ls') (s' ∷ ss') [] (suc y) r a b c d = refl
+  shown-noted (l ∷ ls) (s ∷ ss) (l' ∷ ls') (s' ∷ ss') (row ∷ rows) zero r a b c d = refl
+  shown-noted (l ∷ ls) (s ∷ ss) (l' ∷ ls') (s' ∷ ss') (row ∷ rows) (suc y) r a b c d =
+      ap (λ (x : List (List ℕ)). (if l then drawn_row s vram oam else (if l' then drawn_row s' vram' oam' else row)) ∷ x)
+      (shown-noted ls ss ls' ss' rows y r (omega arith) (omega arith) (omega arith) (omega arith))
+
+  -- a row is set: its line is no longer late
+  pub shown-set : (late : List Bool) (by : List LineRegisters) (late' : List Bool) (by' : List LineRegisters) (rows : List (List ℕ)) (y : ℕ) (row : List ℕ) →
+      y < length late → y < length by → y < length late' → y < length by' →
+      shown (set late y false) by vram oam (shown (set late' y false) by' vram' oam' (set rows y row))
+      ≡ set (shown late by vram oam (shown late' by' vram' oam' rows)) y row
+  unfolding shown
+  shown-set [] by late' by' rows y r a b c d = absurd (omega arith)
+  shown-set (l ∷ ls) [] late' by' rows y r a b c d = absurd (omega arith)
+  shown-set (l ∷ ls) (s ∷ ss) [] by' rows y r a b c d = absurd (omega arith)
+  shown-set (l ∷ ls) (s ∷ ss) (l' ∷ ls') [] rows y r a b c d = absurd (omega arith)
+  shown-set (l ∷ ls) (s ∷ ss) (l' ∷ ls') (s' ∷ ss') [] zero r a b c d = refl
+  shown-set (l ∷ ls) (s ∷ ss) (l' ∷ ls') (s' ∷ ss') [] (suc y) r a b c d = refl
+  shown-set (l ∷ ls) (s ∷ ss) (l' ∷ ls') (s' ∷ ss') (row ∷ rows) zero r a b c d = refl
+  shown-set (l ∷ ls) (s ∷ ss) (l' ∷ ls') (s' ∷ ss') (row ∷ rows) (suc y) r a b c d =
+      ap (λ (x : List (List ℕ)). (if l then drawn_row s vram oam else (if l' then drawn_row s' vram' oam' else row)) ∷ x)
+      (shown-set ls ss ls' ss' rows y r (omega arith) (omega arith) (omega arith) (omega arith))
+
+pub cleared : (n y : ℕ) → set (replicate n false) y false ≡ replicate n false
+cleared zero y = refl
+cleared (suc n) zero = refl
+cleared (suc n) (suc y) = ap (λ (l : List Bool). false ∷ l) (cleared n y)
+
+-- flags of which none is set
+pub all-false : (are_late : List Bool) → ((y : ℕ) → y < length are_late → get_or are_late y false ≡ false) → are_late ≡ replicate (length are_late) false
+all-false [] none = refl
+all-false (is_late ∷ are_late) none =
+    ap (λ (b : Bool). b ∷ are_late) (none 0 (omega arith))
+    ∙ ap (λ (l : List Bool). false ∷ l) (all-false are_late (λ y h. none (suc y) (omega arith)))
+
+module _ (lines : LateLines) (at : ℕ) where
+  pub lines-noted : (by : LineRegisters) → by.ly < 144 → AreLines lines → AreLines (record { are_late = set lines.are_late at true; drawn_by = set lines.drawn_by at by; has_some = true })
+  lines-noted by within right = record {
+    visible = All-set (λ (r : LineRegisters). r.ly < 144) lines.drawn_by at by within right.visible;
+    none = λ none. absurd (let e : true ≡ false = none in cc);
+  }
+
+  pub lines-cleared : AreLines lines → AreLines (record lines { are_late = set lines.are_late at false })
+  lines-cleared right = record {
+    visible = right.visible;
+    none = λ none. ap (λ (l : List Bool). set l at false) (right.none none) ∙ cleared 144 at;
+  }
+
+pub false_behind : (are_late : List Bool) (n : ℕ) → length are_late ≡ n → ((y : ℕ) → y < n → get_or are_late y false ≡ false) → are_late ≡ replicate n false
+false_behind are_late n size none =
+    all-false are_late (λ y h. none y (omega arith)) ∙ ap (λ (m : ℕ). replicate m false) size
+
+-- the rows where no line is late
+pub shown_as_is : (lines : LateLines) (vram oam : List ℕ) (rows : List (List ℕ)) → lines.are_late ≡ replicate 144 false → with_late lines vram oam rows ≡ rows
+shown_as_is lines vram oam rows none =
+    ap (λ (l : List Bool). shown l lines.drawn_by vram oam rows) none ∙ shown-none 144 lines.drawn_by vram oam rows
+
+pub shown_blank : (late earlier : LateLines) (vram oam vram' oam' : List ℕ) (rows : List (List ℕ)) → late.are_late ≡ replicate 144 false → earlier.are_late ≡ replicate 144 false →
+    with_late late vram oam (with_late earlier vram' oam' rows) ≡ rows
+shown_blank late earlier vram oam vram' oam' rows none none' =
+    shown_as_is late vram oam (with_late earlier vram' oam' rows) none ∙ shown_as_is earlier vram' oam' rows none'
+
+-- a row of shades is set
+pub whole_set : (p : PictureState) (oam : List ℕ) (rows : List (List ℕ)) (y : ℕ) (row : List ℕ) → All (λ shade. shade < 4) row → IsWhole p oam rows → IsWhole p oam (set rows y row)
+whole_set p oam rows y row small whole = record {
+  legal = whole.legal;
+  oam_size = whole.oam_size;
+  row_count = length-set rows y row ∙ whole.row_count;
+  shades = All-set (λ (r : List ℕ). All (λ shade. shade < 4) r) rows y row small whole.shades;
+}
+
+pub rows_count : (r : Rows) (vram oam : List ℕ) → AreRight r → length (rows_of r vram oam) ≡ 144
+rows_count r vram oam right =
+    length-shown r.late.are_late r.late.drawn_by vram oam (with_late r.earlier r.earlier_tiles r.earlier_oam.items r.drawn.items)
+    ∙ (length-shown r.earlier.are_late r.earlier.drawn_by r.earlier_tiles r.earlier_oam.items r.drawn.items ∙ right.row_count)

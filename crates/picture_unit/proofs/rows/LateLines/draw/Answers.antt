@@ -1,0 +1,68 @@
+use Rattle.std.proofs.Common.{◌≡◌, ℕ, List, Bool, false, get_or, set, sym, ap, subst, ◌∙◌, arith, inl, inr}
+use Rattle.std.specs.Prelude.{replicate}
+use Rattle.std.proofs.lemmas.List.{get_or-set_same, get_or-set_other, length-set}
+use Rattle.std.proofs.lemmas.Bool.{cases_eq}
+use Rattle.picture_unit.specs.LateRows.{shown}
+use Rattle.picture_unit.proofs.LateLines.{shown-none, shown-drawn, false_behind}
+use Rattle.picture_unit.proofs.rows.LateLines.draw.Goals as goal
+use Rattle.picture_unit.proofs.rows.LateLines.draw.Goals.{then-self-y, else-self-y}
+
+pub returns-then-not-self-clause-rows : goal.returns-then-not-self-clause-rows
+returns-then-not-self-clause-rows c =
+    let lines = c.args.self.now in
+    let none : lines.has_some ≡ false = cc in
+    sym (ap (λ (l : List Bool). shown l lines.drawn_by c.args.tiles.now c.args.oam.now c.args.rows.now) (c.requires.lines.none none) ∙ shown-none 144 lines.drawn_by c.args.tiles.now c.args.oam.now c.args.rows.now)
+
+pub loop-y-preserved : goal.loop-y-preserved
+loop-y-preserved c =
+    let before = c.loop-y.invariant in
+    let lines = c.args.self.now in
+    let late = c.loop-y.self.are_late in
+    let y = c.loop-y.y in
+    elim c.if-self-y.branch [
+      | then-self-y w ↦ rw (w.self-is, w.tiles-is, w.rows-is, w.objects-is) (record {
+        tiles = w.draw_with.ensures.tiles ∙ before.tiles;
+        objects = w.draw_with.ensures.chosen;
+        row_count = length-set c.loop-y.rows y w.draw_with.new.row ∙ before.row_count;
+        late_count = length-set late y false ∙ before.late_count;
+        drawn_by = before.drawn_by;
+        none = λ j h. elim (cases_eq j y) [
+          | inl here ↦ subst (λ (n : ℕ). get_or (set late y false) n false ≡ false) (sym here) (get_or-set_same late y false false (omega arith))
+          | inr other ↦ get_or-set_other late y j false false other ∙ before.none j (omega arith)
+        ];
+        rows =
+            shown-drawn late lines.drawn_by c.args.tiles.now c.args.oam.now c.loop-y.rows y _ w.draw_with.new.row w.if-self-y.true (omega (arith, c.loop-y-test.true))
+            (rw (before.drawn_by, before.tiles) at w.draw_with.ensures.row)
+            ∙ before.rows;
+      })
+      | else-self-y w ↦ rw (w.self-is, w.tiles-is, w.rows-is, w.objects-is) (record {
+        tiles = before.tiles;
+        objects = before.objects;
+        row_count = before.row_count;
+        late_count = before.late_count;
+        drawn_by = before.drawn_by;
+        none = λ j h. elim (cases_eq j y) [
+          | inl here ↦ subst (λ (n : ℕ). get_or late n false ≡ false) (sym here) w.if-self-y.false
+          | inr other ↦ before.none j (omega arith)
+        ];
+        rows = before.rows;
+      })
+    ]
+
+pub returns-clause-none : goal.returns-clause-none
+returns-clause-none c =
+    false_behind c.loop-y.self.are_late 144 c.loop-y.invariant.late_count (λ y h. c.loop-y.invariant.none y (omega arith))
+
+pub returns-clause-lines : goal.returns-clause-lines
+returns-clause-lines c =
+    record {
+      visible = rw c.loop-y.invariant.drawn_by c.requires.lines.visible;
+      none = λ _. false_behind c.loop-y.self.are_late 144 c.loop-y.invariant.late_count (λ y h. c.loop-y.invariant.none y (omega arith));
+    }
+
+pub returns-clause-rows : goal.returns-clause-rows
+returns-clause-rows c =
+    let lines = c.args.self.now in
+    let none : c.loop-y.self.are_late ≡ replicate 144 false = false_behind c.loop-y.self.are_late 144 c.loop-y.invariant.late_count (λ y h. c.loop-y.invariant.none y (omega arith)) in
+    sym (ap (λ (l : List Bool). shown l lines.drawn_by c.args.tiles.now c.args.oam.now c.loop-y.rows) none ∙ shown-none 144 lines.drawn_by c.args.tiles.now c.args.oam.now c.loop-y.rows)
+    ∙ c.loop-y.invariant.rows

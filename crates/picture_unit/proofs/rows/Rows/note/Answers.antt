@@ -1,0 +1,20 @@
+use Rattle.std.proofs.Common.{arith}
+use Rattle.picture_unit.proofs.LateLines.{lines-noted, lines-cleared, shown-noted}
+use Rattle.picture_unit.proofs.rows.Rows.note.Goals as goal
+
+pub returns-clause-right : goal.returns-clause-right
+returns-clause-right c =
+    let r = c.args.self.now in
+    let y = c.args.registers.now.ly in
+    record {
+      late = lines-noted r.late y c.args.registers.now c.requires.line_in c.requires.right.late;
+      earlier = lines-cleared r.earlier y c.requires.right.earlier;
+      oam_size = c.requires.right.oam_size;
+      row_count = c.requires.right.row_count;
+    }
+
+pub returns-clause-rows : goal.returns-clause-rows
+returns-clause-rows c = λ vram oam.
+    let r = c.args.self.now in
+    shown-noted vram oam r.earlier_tiles r.earlier_oam.items r.late.are_late r.late.drawn_by r.earlier.are_late r.earlier.drawn_by r.drawn.items c.args.registers.now.ly c.args.registers.now
+    (omega arith) (omega arith) (omega arith) (omega arith)

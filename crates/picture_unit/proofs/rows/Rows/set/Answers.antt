@@ -1,0 +1,20 @@
+use Rattle.std.proofs.Common.{arith, ◌∙◌}
+use Rattle.std.proofs.lemmas.List.{length-set}
+use Rattle.picture_unit.proofs.LateLines.{lines-cleared, shown-set}
+use Rattle.picture_unit.proofs.rows.Rows.set.Goals as goal
+
+pub returns-clause-right : goal.returns-clause-right
+returns-clause-right c =
+    let r = c.args.self.now in
+    record {
+      late = lines-cleared r.late c.args.y c.requires.right.late;
+      earlier = lines-cleared r.earlier c.args.y c.requires.right.earlier;
+      oam_size = c.requires.right.oam_size;
+      row_count = length-set r.drawn.items c.args.y c.args.row.now ∙ c.requires.right.row_count;
+    }
+
+pub returns-clause-rows : goal.returns-clause-rows
+returns-clause-rows c = λ vram oam.
+    let r = c.args.self.now in
+    shown-set vram oam r.earlier_tiles r.earlier_oam.items r.late.are_late r.late.drawn_by r.earlier.are_late r.earlier.drawn_by r.drawn.items c.args.y c.args.row.now
+    (omega arith) (omega arith) (omega arith) (omega arith)

@@ -1,0 +1,31 @@
+-- The rows of shades while lines that are due to be drawn are only noted.
+use Rattle.std.specs.Prelude.{◌≡◌, ℕ, ◌<◌, List, [], ◌∷◌, length, All, Bool, false, replicate, if◌then◌else◌}
+use Rattle.picture_lines.specs.Pixel.{drawn_row}
+use Rattle.picture_lines.specs.declared.registers.LineRegisters.{LineRegisters}
+use Rattle.picture_unit.specs.declared.rows.LateLines.{LateLines}
+use Rattle.picture_unit.specs.declared.rows.Rows.{Rows}
+
+-- the rows once the late lines are drawn
+unfoldable pub shown : (are_late : List Bool) (drawn_by : List LineRegisters) (vram oam : List ℕ) → List (List ℕ) → List (List ℕ)
+shown [] drawn_by vram oam rows = rows
+shown (is_late ∷ are_late) [] vram oam rows = rows
+shown (is_late ∷ are_late) (by ∷ drawn_by) vram oam [] = []
+shown (is_late ∷ are_late) (by ∷ drawn_by) vram oam (row ∷ rows) =
+    (if is_late then drawn_row by vram oam else row) ∷ shown are_late drawn_by vram oam rows
+
+abbrev pub with_late : LateLines → (vram oam : List ℕ) → List (List ℕ) → List (List ℕ)
+with_late lines vram oam rows = shown lines.are_late lines.drawn_by vram oam rows
+
+-- the rows, of lines that were noted earlier, by the VRAM and OAM of then, and over these of lines noted since
+abbrev pub rows_of : Rows → (vram oam : List ℕ) → List (List ℕ)
+rows_of r vram oam = with_late r.late vram oam (with_late r.earlier r.earlier_tiles r.earlier_oam.items r.drawn.items)
+
+pub record AreLines (lines : LateLines) : Type 0 where
+  pub visible : All (λ by. by.ly < 144) lines.drawn_by
+  pub none : lines.has_some ≡ false → lines.are_late ≡ replicate 144 false
+
+pub record AreRight (r : Rows) : Type 0 where
+  pub late : AreLines r.late
+  pub earlier : AreLines r.earlier
+  pub oam_size : length r.earlier_oam.items ≡ 160
+  pub row_count : length r.drawn.items ≡ 144
