@@ -27,6 +27,7 @@ fn run(machine: &mut Machine) {
     for _frame in 0..FRAMES {
         machine.frame(0);
     }
+    machine.draw_late();
 }
 
 /// Writes the snapshot again and again. Answers whether there was room for it.

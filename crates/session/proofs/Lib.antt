@@ -5,3 +5,4 @@ pub mod Writes
 pub mod Beginnings
 pub mod Finding
 pub mod Saving
+pub mod SameSession

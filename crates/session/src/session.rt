@@ -126,6 +126,14 @@ impl<D: SectorDevice> Session<D> {
         self.store.device()
     }
 
+    /// Draws the lines of the machine's picture that were only noted when they were due. No value
+    /// changes: the rows are then read and written quickly.
+    pub fn draw_late(&mut self)
+        ensures { self.new ≡ self.old }
+    {
+        self.machine.draw_late();
+    }
+
     /// Gives the machine one input, which is not saved yet. It makes no device call.
     ///
     /// Refusals, in this order, none of which changes anything: `Broken`; `SaveFirst` at 3,200

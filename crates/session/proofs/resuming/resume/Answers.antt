@@ -20,6 +20,16 @@ begin_with-requires-clause-rom g c = (recovered_machine c.args.cartridge.now (fo
 pub begin_with-requires-clause-own : goal.begin_with-requires-clause-own
 begin_with-requires-clause-own g c = (recovered_machine c.args.cartridge.now (found_generation c.in-Ok-open_log.opened) c.in-Ok-recovered.count (seen c.in-Ok-open_log.opened) c.in-Ok-recovered.machine c.in-Ok-recovered.ensures.ok).1
 
+pub returns-in-Ok-recovered-clause-begun : goal.returns-in-Ok-recovered-clause-begun
+returns-in-Ok-recovered-clause-begun g c =
+    if_ok c.begin_with.result c.begin_with.ensures.begun
+    (λ s begun. (
+      begun.1,
+      begun.2,
+      ap (λ (m : MachineState). m.processor.memory.banks.rom) begun.3
+          ∙ (recovered_machine c.args.cartridge.now (found_generation c.in-Ok-open_log.opened) c.in-Ok-recovered.count (seen c.in-Ok-open_log.opened) c.in-Ok-recovered.machine c.in-Ok-recovered.ensures.ok).0,
+    ))
+
 pub returns-in-Ok-recovered-clause-stands : goal.returns-in-Ok-recovered-clause-stands
 returns-in-Ok-recovered-clause-stands g c =
     if_ok c.begin_with.result c.begin_with.ensures.begun
