@@ -73,6 +73,7 @@ fn obey_picture<D: SectorDevice, W: Write>(
         (W.contents out.old) (W.contents out.new) (Order.Picture ∷ []) why) }
     ensures same { session.new ≡ session.old }
 {
+    session.draw_late();
     match draw(session, out) {
         Ok(()) => Ok(()),
         Err(_) => Err(SessionError::Output),
