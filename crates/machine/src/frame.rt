@@ -68,9 +68,8 @@ fn run_plain_steps(processor: &mut Processor<Bus>, passed: u32) -> u32
     passed
 }
 
-/// Makes plain steps up to the first that writes to the memory, or that the bus or the frame may not
-/// know to be calm, and that one too. Says how many M-cycles of the frame have passed after it, and
-/// whether the next step is plain.
+/// Makes plain steps up to the first that the bus or the frame may not know to be calm, and that one
+/// too. Says how many M-cycles of the frame have passed after it, and whether the next step is plain.
 #[inline(always)]
 fn run_calm_steps(processor: &mut Processor<Bus>, passed: u32) -> (u32, bool)
     requires below { passed < 17556 }
@@ -116,7 +115,8 @@ fn run_plain_step(processor: &mut Processor<Bus>, left: u8, end: u32) -> (u32, u
         pass_apart(processor, cycles);
         return (time_behind(end, left, cycles), 0, false, false);
     }
-    if !is_memory_kept {
+    let is_calm = stays_calm(&processor.memory, is_memory_kept, left);
+    if !is_calm {
         let is_plain = pass_usual(processor, cycles);
         return (time_behind(end, left, cycles), 0, is_plain, false);
     }
@@ -128,6 +128,19 @@ fn run_plain_step(processor: &mut Processor<Bus>, left: u8, end: u32) -> (u32, u
     }
     Bus::move_on(&mut processor.memory, cycles);
     (0, fewer, true, true)
+}
+
+/// Whether so many M-cycles are known to be calm behind an instruction, as they were before it: surely
+/// if it kept the memory, else if the bus says so.
+#[inline(always)]
+fn stays_calm(memory: &Bus, is_kept: bool, left: u8) -> bool
+    requires kept { is_kept ≡ true → IsCalm left memory.now }
+    ensures { result ≡ true → IsCalm left memory.now }
+{
+    if is_kept {
+        return true;
+    }
+    left <= memory.calm()
 }
 
 /// The M-cycles of the frame that have passed behind an instruction, where so many were left up to

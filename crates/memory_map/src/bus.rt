@@ -138,7 +138,10 @@ impl Bus {
             return self.banks.read(address);
         }
         if address >= 0xc000 && address < 0xe000 {
-            return self.wram[usize::from(address - 0xc000)];
+            return self.wram[usize::from(address) - 0xc000];
+        }
+        if address >= 0xff80 && address < 0xffff {
+            return self.hram[usize::from(address) - 0xff80];
         }
         self.read_place(address)
     }
@@ -204,8 +207,25 @@ impl Bus {
     }
 
     /// Writes to an address. A write to a closed place is ignored.
-    #[tactic(auto, unfolding(crate::specs::Bus::written, picture_unit::specs::Stores::vram_written))]
+    #[inline]
+    #[tactic(auto, unfolding(crate::specs::Bus::written))]
     pub fn write(&mut self, address: u16, value: u8)
+        ensures { self.new ≡ written address value self.old }
+    {
+        if address >= 0xc000 && address < 0xe000 {
+            self.wram[usize::from(address) - 0xc000] = value;
+            return;
+        }
+        if address >= 0xff80 && address < 0xffff {
+            self.hram[usize::from(address) - 0xff80] = value;
+            return;
+        }
+        self.write_place(address, value);
+    }
+
+    #[inline(never)]
+    #[tactic(auto, unfolding(crate::specs::Bus::written, picture_unit::specs::Stores::vram_written))]
+    fn write_place(&mut self, address: u16, value: u8)
         ensures { self.new ≡ written address value self.old }
     {
         match Place::of(address) {
@@ -279,8 +299,6 @@ impl Bus {
     fn write_vram(&mut self, offset: u16, value: u8)
         ensures { self.new ≡ (if is_closed self.old (Place.Vram offset) then self.old else stored_at (Place.Vram offset) value self.old) }
     {
-        self.calm_until = 0;
-        self.quiet_until = 0;
         self.picture.write_vram(offset, value);
     }
 
@@ -333,8 +351,6 @@ impl Bus {
         if self.control.dma_copied < 160 {
             return;
         }
-        self.calm_until = 0;
-        self.quiet_until = 0;
         self.picture.write_oam(offset, value);
     }
 }

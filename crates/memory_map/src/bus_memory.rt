@@ -13,11 +13,13 @@ impl Memory for Bus {
         Bus::read(self, address)
     }
 
+    #[inline]
     fn write(&mut self, address: u16, value: u8) {
         Bus::write(self, address, value);
     }
 
-    #[inline]
+    // Apart, so that a loop of steps keeps nothing in a register for it.
+    #[inline(never)]
     fn pending_interrupts(&self) -> u8 {
         Bus::pending_interrupts(self)
     }

@@ -23,18 +23,18 @@ returns-then-not-usual-clause-now c =
     let took = plainly_cycles bus_rules c.read-opcode.result run.result.0 c.args.processor.now c.requires.plain c.read-opcode.ensures run.ensures.cycles in
     λ _. omega (arith, c.time_behind.ensures, took)
 
-pub returns-then-not-is_memory_kept-clause-after : goal.returns-then-not-is_memory_kept-clause-after
-returns-then-not-is_memory_kept-clause-after c =
+pub returns-then-not-is_calm-clause-after : goal.returns-then-not-is_calm-clause-after
+returns-then-not-is_calm-clause-after c =
     let p = c.args.processor.now in
     let run = c.run_opcode-cycles in
     let q = run.new.self in
     c.pass_usual-is_plain.ensures.after ∙ plainly_after bus_rules c.read-opcode.result run.result.0 p q (iterate tick run.result.0 q.memory) c.requires.plain c.read-opcode.ensures run.ensures.after run.ensures.cycles refl
 
-pub returns-then-not-is_memory_kept-clause-now : goal.returns-then-not-is_memory_kept-clause-now
-returns-then-not-is_memory_kept-clause-now c =
+pub returns-then-not-is_calm-clause-now : goal.returns-then-not-is_calm-clause-now
+returns-then-not-is_calm-clause-now c =
     let run = c.run_opcode-cycles in
     let took = plainly_cycles bus_rules c.read-opcode.result run.result.0 c.args.processor.now c.requires.plain c.read-opcode.ensures run.ensures.cycles in
-    λ _. omega (arith, c.time_behind-then-not-is_memory_kept.ensures, took)
+    λ _. omega (arith, c.time_behind-then-not-is_calm.ensures, took)
 
 pub returns-then-cycles-left-clause-after : goal.returns-then-cycles-left-clause-after
 returns-then-cycles-left-clause-after c =
@@ -50,14 +50,17 @@ returns-then-cycles-left-clause-now c =
     let bounds = step-bounds bus_rules c.args.processor.now in
     λ _. omega (arith, c.time_beyond.ensures, took, bounds.few, c.if-cycles-left.true, c.requires.within)
 
+pub stays_calm-is_calm-requires : goal.stays_calm-is_calm-requires
+stays_calm-is_calm-requires c = record { kept = λ kept. subst (IsCalm c.args.left) (sym (c.run_opcode-cycles.ensures.memory kept)) c.requires.calm }
+
 pub move_on-requires : goal.move_on-requires
 move_on-requires c =
     let p = c.args.processor.now in
     let run = c.run_opcode-cycles in
     let q = run.new.self in
     let few : run.result.0 < c.args.left = omega (arith, c.if-cycles-left.false) in
-    let kept : q.memory ≡ p.memory = run.ensures.memory c.if-not-is_memory_kept.false in
-    subst (AreQuietOn run.result.0) (sym kept) (fewer_are_quiet (c.args.left - 1) run.result.0 p.memory (omega (arith, few)) c.requires.calm.quiet)
+    let still = c.stays_calm-is_calm.ensures c.if-not-is_calm.false in
+    fewer_are_quiet (c.args.left - 1) run.result.0 q.memory (omega (arith, few)) still.quiet
 
 pub returns-clause-after : goal.returns-clause-after
 returns-clause-after c =
@@ -72,8 +75,8 @@ returns-clause-plain c =
     let run = c.run_opcode-cycles in
     let q = run.new.self in
     let few : run.result.0 < c.args.left = omega (arith, c.if-cycles-left.false) in
-    let kept : q.memory ≡ p.memory = run.ensures.memory c.if-not-is_memory_kept.false in
-    let calm = subst (IsCalm (c.args.left - run.result.0)) (sym (c.move_on.ensures ∙ ap (iterate tick run.result.0) kept)) (calm_behind c.args.left run.result.0 p.memory few c.requires.calm) in
+    let still = c.stays_calm-is_calm.ensures c.if-not-is_calm.false in
+    let calm = subst (IsCalm (c.args.left - run.result.0)) (sym c.move_on.ensures) (calm_behind c.args.left run.result.0 q.memory few still) in
     λ _. record {
       usual = run.ensures.usual c.if-not-usual.false c.requires.plain.usual;
       uninterrupted = uninterrupted run.new.self.state.ime (pending_interrupts c.move_on.new.self) (calm.none_pending (omega (arith, few)));
@@ -85,8 +88,8 @@ returns-clause-still_plain c =
     let run = c.run_opcode-cycles in
     let q = run.new.self in
     let few : run.result.0 < c.args.left = omega (arith, c.if-cycles-left.false) in
-    let kept : q.memory ≡ p.memory = run.ensures.memory c.if-not-is_memory_kept.false in
-    let calm = subst (IsCalm (c.args.left - run.result.0)) (sym (c.move_on.ensures ∙ ap (iterate tick run.result.0) kept)) (calm_behind c.args.left run.result.0 p.memory few c.requires.calm) in
+    let still = c.stays_calm-is_calm.ensures c.if-not-is_calm.false in
+    let calm = subst (IsCalm (c.args.left - run.result.0)) (sym c.move_on.ensures) (calm_behind c.args.left run.result.0 q.memory few still) in
     λ _. record {
       usual = run.ensures.usual c.if-not-usual.false c.requires.plain.usual;
       uninterrupted = uninterrupted run.new.self.state.ime (pending_interrupts c.move_on.new.self) (calm.none_pending (omega (arith, few)));
@@ -110,7 +113,7 @@ returns-clause-calm c =
     let run = c.run_opcode-cycles in
     let q = run.new.self in
     let few : run.result.0 < c.args.left = omega (arith, c.if-cycles-left.false) in
-    let kept : q.memory ≡ p.memory = run.ensures.memory c.if-not-is_memory_kept.false in
-    let calm = subst (IsCalm (c.args.left - run.result.0)) (sym (c.move_on.ensures ∙ ap (iterate tick run.result.0) kept)) (calm_behind c.args.left run.result.0 p.memory few c.requires.calm) in
+    let still = c.stays_calm-is_calm.ensures c.if-not-is_calm.false in
+    let calm = subst (IsCalm (c.args.left - run.result.0)) (sym c.move_on.ensures) (calm_behind c.args.left run.result.0 q.memory few still) in
     let same : (c.args.left + (256 - run.result.0)) % 256 ≡ c.args.left - run.result.0 = omega (arith, few) in
     λ _. rw same calm
