@@ -8,9 +8,10 @@ Kinds: raw (random bytes with a valid header), prog (random programs), proglong 
 (headers and lengths that are to be refused, among others), list, trace (random programs and bytes: new, play of a short
 script of frames and seconds, trace of 1,024 steps, line by line; 200 of them at most), frames (programs that draw, by registers,
 tiles and objects that change within frames, by buttons and the clock; after each of some scripts of frames, buttons and seconds the whole
-picture of `frame`). The status is 1 where anything differs."""
+picture of `frame`), features (the same over longer scripts, then `trace`, on programs of feature_roms.py, which use every unusual feature of the
+machine again and again). The status is 1 where anything differs."""
 import os, random, shutil, subprocess, sys, tempfile, time
-import reference as ref
+import feature_roms, reference as ref
 
 GB = os.path.abspath(sys.argv[1]) if len(sys.argv) > 1 else ''
 ROOM = tempfile.mkdtemp(prefix='compare-')
@@ -947,8 +948,8 @@ def differing(want, out):
     return '%d pixels, the first at line %d column %d: want %s got %s' % (len(places), places[0] // 160, places[0] % 160, a[places[0]], b[places[0]])
 
 
-def compare_frames(kind, seed, rom, rnd):
-    """A new game, and the whole picture after each of some scripts."""
+def compare_frames(kind, seed, rom, rnd, longest=5):
+    """A new game, and the whole picture after each of some scripts, whose lines have fewer than `longest` frames. Answers whether all agreed."""
     with open(TMP, 'wb') as f: f.write(rom)
     stats['roms'] += 1
     save, script, picture = ROOM + '/save', ROOM + '/script', ROOM + '/picture'
@@ -960,7 +961,7 @@ def compare_frames(kind, seed, rom, rnd):
     got = gb('new', TMP, save, str(sectors))
     if got != (0, b'begun 0\n', b''):
         report(kind, seed, 'new: %r' % (got,))
-        return
+        return False
     for _ in range(rnd.randrange(1, 4)):
         lines, before = [], inputs
         if inputs == 0:     # until VRAM is full
@@ -974,7 +975,7 @@ def compare_frames(kind, seed, rom, rnd):
                 inputs += 1
                 lines.append('seconds %d' % n)
             else:
-                buttons, n = rnd.choice([0, 0x01, 0x80, 0x0F, 0xF0, 0xFF, rnd.randrange(256)]), rnd.randrange(1, 5)
+                buttons, n = rnd.choice([0, 0x01, 0x80, 0x0F, 0xF0, 0xFF, rnd.randrange(256)]), rnd.randrange(1, longest)
                 for _ in range(n): m.frame(buttons)
                 inputs += n
                 lines.append('frames %02X %d' % (buttons, n))
@@ -982,12 +983,12 @@ def compare_frames(kind, seed, rom, rnd):
         got = gb('play', TMP, save, script)
         if got != (0, b'resumed %d\nsaved %d\n' % (before, inputs), b''):
             report(kind, seed, 'play of %r: %r' % (lines, got))
-            return
+            return False
         if os.path.exists(picture): os.remove(picture)
         got = gb('frame', TMP, save, picture)
         if got != (0, b'resumed %d\n' % inputs, b''):
             report(kind, seed, 'frame: %r' % (got,))
-            return
+            return False
         with open(picture) as f: out = f.read()
         want = m.picture()
         stats['bytes'] += len(want)
@@ -995,7 +996,8 @@ def compare_frames(kind, seed, rom, rnd):
         cov['%d shades' % shades] = cov.get('%d shades' % shades, 0) + 1
         if out != want:
             report(kind, seed, 'picture behind %d inputs, last %r: %s' % (inputs, lines, differing(want, out)))
-            return
+            return False
+    return True
 
 
 def run(kind, first, seconds, most):
@@ -1020,6 +1022,9 @@ def run(kind, first, seconds, most):
             compare_trace(kind, seed, prog_rom(rnd) if rnd.random() < 0.8 else raw_rom(rnd), rnd)
         elif kind == 'frames':
             compare_frames(kind, seed, draw_rom(rnd) if rnd.random() < 0.85 else prog_rom(rnd), rnd)
+        elif kind == 'features':
+            rom = feature_roms.Rom(seed % len(feature_roms.CARTRIDGES), '-%d' % seed).build()
+            if compare_frames(kind, seed, rom, rnd, 30): compare_trace(kind, seed, rom, rnd)
         elif kind == 'refuse':
             compare_texts(kind, seed, refuse_rom(rnd), rnd)
         elif kind == 'list':
@@ -1041,7 +1046,7 @@ def run(kind, first, seconds, most):
 def main(words):
     if len(words) == 1:
         first = int(time.time())
-        for kind in ('raw', 'prog', 'proglong', 'refuse', 'list', 'trace', 'frames'):
+        for kind in ('raw', 'prog', 'proglong', 'refuse', 'list', 'trace', 'frames', 'features'):
             run(kind, first, float(words[0]), 10**9)
     elif len(words) == 3 and words[2] == 'show':
         run(words[0], int(words[1]), 1e9, 1)
