@@ -14,13 +14,14 @@ use Rattle.timer_unit.proofs.SerialJump as serial_jump
 use Rattle.picture_unit.specs.Picture as picture
 use Rattle.picture_unit.specs.PictureJump as picture_jump
 use Rattle.picture_unit.specs.declared.state.PictureState.{PictureState}
-use Rattle.picture_unit.proofs.Quiet.{none_quiet_by, fewer_quiet, quiet_ticks}
+use Rattle.picture_unit.proofs.Quiet.{none_quiet_by, fewer_quiet, quiet_ticks, stands_still}
 use Rattle.picture_unit.proofs.PictureLaws.{picture_ticks, pending}
 use Rattle.memory_map.specs.State.{BusState}
 use Rattle.memory_map.specs.Bus.{pending_interrupts}
-use Rattle.memory_map.specs.Ticks.{tick}
+use Rattle.memory_map.specs.Ticks.{tick, tick_timer}
 use Rattle.memory_map.specs.Quiet.{AreQuiet, AreQuietOn, IsCalm}
 use Rattle.memory_map.proofs.NextBusEvent.{ticks_apart}
+use Rattle.memory_map.proofs.UnitRuns.{timers_tick}
 
 pub none_are_quiet : (n copied : ℕ) (t : TimerState) (left : ℕ) (p : PictureState) → n ≡ 0 → AreQuiet n copied t left p
 none_are_quiet n copied t left p none = record {
@@ -107,6 +108,15 @@ quiet_pass q (suc n) b le quiet =
     sym (ticks_apart (suc n) b (quiet.copy (omega arith))
     ∙ ap (λ (x : serial.SerialAndRequest). with_units (iterate timer.tick (suc n) b.timer) x (iterate picture.tick (suc n) b.picture) b) s
     ∙ ap (λ (x : picture.PictureAndRequests). with_units (iterate timer.tick (suc n) b.timer) b.serial x b) p)
+
+-- where the LCD is off and neither a copy nor a transfer runs, the timer alone goes on
+pub timer_alone : (n : ℕ) (b : BusState) → 160 ≤ b.control.dma_copied → b.serial.serial.cycles_left ≡ 0 → picture.is_on b.picture.picture.state ≡ false
+    → iterate tick_timer n b ≡ iterate tick n b
+timer_alone n b copy left off =
+    sym (ticks_apart n b copy
+    ∙ ap (λ (x : serial.SerialAndRequest). with_units (iterate timer.tick n b.timer) x (iterate picture.tick n b.picture) b) (serial_stays n b.serial left)
+    ∙ ap (λ (x : picture.PictureAndRequests). with_units (iterate timer.tick n b.timer) b.serial x b) (stands_still n b.picture off)
+    ∙ timers_tick n b)
 
 -- what is quiet behind n quiet M-cycles
 pub quiet_after : (q n : ℕ) (b : BusState) → n ≤ q → AreQuietOn q b → AreQuietOn (q - n) (gone_on n b)

@@ -18,8 +18,7 @@ impl Memory for Bus {
         Bus::write(self, address, value);
     }
 
-    // Apart, so that a loop of steps keeps nothing in a register for it.
-    #[inline(never)]
+    #[inline]
     fn pending_interrupts(&self) -> u8 {
         Bus::pending_interrupts(self)
     }

@@ -54,7 +54,7 @@ impl Model for Picture {
 impl Picture {
     ghost use Rattle.std.specs.Io.KnownBytes.{Appends};
     ghost use Rattle.exact_text.specs.Written.{AppendsProperPrefix};
-    ghost use Rattle.picture_unit.specs.Picture.{unrequested, stat_signal, taken, picture_at_power_on};
+    ghost use Rattle.picture_unit.specs.Picture.{unrequested, is_on, stat_signal, taken, picture_at_power_on};
     ghost use Rattle.picture_unit.specs.Registers.{register_value, register_written, lcdc_written, stat_written, lyc_written, switched_off, switched_on};
     ghost use Rattle.picture_unit.specs.Stores.{is_vram_closed, is_oam_closed, byte_read, vram_written, oam_written, oam_copied};
     ghost use Rattle.picture_unit.specs.Pgm.{picture_text};
@@ -168,6 +168,14 @@ impl Picture {
         }
         self.rows.settle(&self.tiles, &self.oam);
         self.oam[offset as usize] = value;
+    }
+
+    /// Whether LCDC bit 7 is set: the LCD is on.
+    #[inline]
+    pub fn is_on(&self) -> bool
+        ensures { result ≡ is_on self.now.state }
+    {
+        self.state.is_on()
     }
 
     /// What a register reads: FF40 LCDC, FF41 STAT, FF42 SCY, FF43 SCX, FF44 LY, FF45 LYC, FF47

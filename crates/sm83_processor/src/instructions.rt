@@ -271,8 +271,8 @@ impl<M: Memory> Processor<M> {
         by_operand(to, 2, by_operand(from, 2, 1))
     }
 
-    /// HALT
-    #[inline]
+    /// HALT. Apart, so that a loop of steps keeps nothing in a register for IE and IF.
+    #[inline(never)]
     pub(crate) fn run_halt(&mut self) -> u8
         ensures after { self.new ≡ executed_behind M.rules Instr.Halt self.old }
         ensures cycles { result ≡ cycles_with Instr.Halt self.old.registers.flags }

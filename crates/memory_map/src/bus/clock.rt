@@ -1,6 +1,7 @@
-ghost use Rattle.std.specs.Prelude.{◌≡◌, ◌<◌, ◌+◌, ◌-◌, true, ℕ};
+ghost use Rattle.std.specs.Prelude.{◌≡◌, ◌<◌, ◌≤◌, ◌+◌, ◌-◌, true, false, ℕ};
 ghost use Rattle.memory_map.specs.Bus.{pending_interrupts};
 ghost use Rattle.std.specs.Fn.{iterate};
+ghost use Rattle.picture_unit.specs.Picture.{is_on};
 ghost use Rattle.repeated_steps.specs.NextEvent.{IsNextEvent, earlier};
 ghost use Rattle.memory_map.specs.Ticks.{tick, tick_timer, tick_serial, tick_dma_and_picture, tick_picture, copied_byte, happens};
 ghost use Rattle.memory_map.specs.Quiet.{AreQuietOn, IsCalm};
@@ -61,7 +62,22 @@ impl Bus {
         if cycles <= self.quiet() {
             return self.move_on(cycles);
         }
+        if self.timer_runs_alone() {
+            return self.pass_timer(u32::from(cycles));
+        }
         self.pass_by_units(u32::from(cycles));
+    }
+
+    /// Whether no M-cycle changes anything but the timer: the LCD is off, and neither a copy nor a transfer runs.
+    #[inline]
+    fn timer_runs_alone(&self) -> bool
+        ensures copy { result ≡ true → 160 ≤ self.now.control.dma_copied }
+        ensures serial { result ≡ true → self.now.serial.serial.cycles_left ≡ 0 }
+        ensures picture { result ≡ true → is_on self.now.picture.picture.state ≡ false }
+    {
+        !self.picture.is_on()
+            && self.control.dma_copied >= 160
+            && self.serial.state().cycles_left == 0
     }
 
     /// A number of quiet M-cycles, where IE and IF may share a bit.

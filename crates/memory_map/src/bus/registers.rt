@@ -11,6 +11,7 @@ use crate::control::select_bits;
 impl Bus {
     /// The bits that IE and IF share, of the low five: VBlank 0, STAT 1, timer 2, serial 3, joypad
     /// 4.
+    #[inline]
     pub fn pending_interrupts(&self) -> u8
         ensures { result ≡ pending_interrupts self.now }
     {
