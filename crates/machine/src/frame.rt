@@ -10,7 +10,7 @@ ghost use Rattle.sm83_processor.specs.Plain.{IsPlain, IsUsual};
 ghost use Rattle.sm83_processor.specs.Steps.{passing, step_of};
 
 use memory_map::Bus;
-use sm83_processor::{IN_FRAME, Processor, What};
+use sm83_processor::{IN_FRAME, IN_LOWER_ROM, IN_UPPER_ROM, Processor, What};
 
 /// The M-cycles of a frame.
 const FRAME: u32 = 17_556;
@@ -59,7 +59,7 @@ fn run_plain_steps(processor: &mut Processor<Bus>, passed: u32) -> u32
 {
     let mut passed = passed;
     while passed < FRAME {
-        let (now, is_plain) = run_calm_steps(processor, passed);
+        let (now, is_plain) = run_plain_steps_here(processor, passed);
         passed = now;
         if !is_plain {
             return passed;
@@ -68,10 +68,72 @@ fn run_plain_steps(processor: &mut Processor<Bus>, passed: u32) -> u32
     passed
 }
 
-/// Makes plain steps up to the first that the bus or the frame may not know to be calm, and that one
-/// too. Says how many M-cycles of the frame have passed after it, and whether the next step is plain.
+/// Makes plain steps while PC stays in the lower half of ROM, in the upper half, or above both. Says how
+/// many M-cycles of the frame have passed after them, and whether the next step is known to be plain.
 #[inline(always)]
-fn run_calm_steps(processor: &mut Processor<Bus>, passed: u32) -> (u32, bool)
+fn run_plain_steps_here(processor: &mut Processor<Bus>, passed: u32) -> (u32, bool)
+    requires below { passed < 17556 }
+    requires plain { IsPlain bus_rules processor.old }
+    ensures run { steps_until bus_rules 17556 result.0 processor.new ≡ steps_until bus_rules 17556 passed processor.old }
+    ensures more { passed < result.0 }
+    ensures few { result.0 < 17562 }
+    ensures plain { result.1 ≡ true → IsPlain bus_rules processor.new }
+{
+    if is_there::<IN_LOWER_ROM>(processor.registers.pc) {
+        run_plain_steps_by::<IN_LOWER_ROM>(processor, passed)
+    } else if is_there::<IN_UPPER_ROM>(processor.registers.pc) {
+        run_plain_steps_by::<IN_UPPER_ROM>(processor, passed)
+    } else {
+        run_plain_steps_by::<IN_FRAME>(processor, passed)
+    }
+}
+
+/// Whether PC is where the loop of this WAY runs: where all bytes of an instruction lie in the lower
+/// half of ROM, in the upper half, or above both. A loop that runs only there need not ask it for each byte.
+#[inline(always)]
+fn is_there<const WAY: u8>(pc: u16) -> bool {
+    if WAY == IN_LOWER_ROM {
+        pc < 0x3ffe
+    } else if WAY == IN_UPPER_ROM {
+        pc >= 0x4000 && pc < 0x7ffe
+    } else {
+        pc >= 0x8000
+    }
+}
+
+/// Makes plain steps while PC is where the loop of this WAY runs, one step if it is elsewhere. Each WAY
+/// has a function of its own: in one with all loops the compiler would keep addresses in registers that
+/// each loop needs.
+#[inline(never)]
+fn run_plain_steps_by<const WAY: u8>(processor: &mut Processor<Bus>, passed: u32) -> (u32, bool)
+    requires below { passed < 17556 }
+    requires plain { IsPlain bus_rules processor.old }
+    ensures run { steps_until bus_rules 17556 result.0 processor.new ≡ steps_until bus_rules 17556 passed processor.old }
+    ensures more { passed < result.0 }
+    ensures few { result.0 < 17562 }
+    ensures plain { result.1 ≡ true → IsPlain bus_rules processor.new }
+{
+    if !is_there::<WAY>(processor.registers.pc) {
+        return (step_and_wait(processor, passed), false);
+    }
+    let mut passed = passed;
+    loop {
+        let (now, is_plain) = run_calm_steps::<WAY>(processor, passed);
+        if !is_plain {
+            return (now, false);
+        }
+        if now >= FRAME || !is_there::<WAY>(processor.registers.pc) {
+            return (now, true);
+        }
+        passed = now;
+    }
+}
+
+/// Makes plain steps up to the first that the bus or the frame may not know to be calm, and that one
+/// too, or up to one behind which PC is elsewhere. Says how many M-cycles of the frame have passed after
+/// it, and whether the next step is plain.
+#[inline(always)]
+fn run_calm_steps<const WAY: u8>(processor: &mut Processor<Bus>, passed: u32) -> (u32, bool)
     requires below { passed < 17556 }
     requires plain { IsPlain bus_rules processor.old }
     ensures run { steps_until bus_rules 17556 result.0 processor.new ≡ steps_until bus_rules 17556 passed processor.old }
@@ -81,13 +143,16 @@ fn run_calm_steps(processor: &mut Processor<Bus>, passed: u32) -> (u32, bool)
 {
     let calm = u32::from(processor.memory.calm()).min(FRAME - passed);
     let end = passed + calm;
-    let mut left = calm as u8;
+    let mut left = calm;
     loop {
-        let (now, fewer, is_plain, is_calm) = run_plain_step(processor, left, end);
+        let (now, fewer, is_plain, is_calm) = run_plain_step::<WAY>(processor, left, end);
         if !is_calm {
             return (now, is_plain);
         }
         left = fewer;
+        if !is_there::<WAY>(processor.registers.pc) {
+            return (end - left, true);
+        }
     }
 }
 
@@ -95,7 +160,11 @@ fn run_calm_steps(processor: &mut Processor<Bus>, passed: u32) -> (u32, bool)
 /// the frame have passed after it, unless all is still calm; how many are left that are calm; whether
 /// the next step is plain; and whether all is still calm.
 #[inline(always)]
-fn run_plain_step(processor: &mut Processor<Bus>, left: u8, end: u32) -> (u32, u8, bool, bool)
+fn run_plain_step<const WAY: u8>(
+    processor: &mut Processor<Bus>,
+    left: u32,
+    end: u32,
+) -> (u32, u32, bool, bool)
     requires plain { IsPlain bus_rules processor.old }
     requires calm { IsCalm left processor.old.memory }
     requires within { left ≤ end }
@@ -109,8 +178,7 @@ fn run_plain_step(processor: &mut Processor<Bus>, left: u8, end: u32) -> (u32, u
     ensures calm { result.3 ≡ true → IsCalm result.1 processor.new.memory }
 {
     let opcode = Bus::read(&processor.memory, processor.registers.pc);
-    processor.registers.pc = processor.registers.pc.wrapping_add(1);
-    let (cycles, usual, is_memory_kept) = processor.run_opcode::<IN_FRAME>(opcode);
+    let (cycles, usual, is_memory_kept) = processor.run_opcode::<WAY>(opcode);
     if !usual {
         pass_apart(processor, cycles);
         return (time_behind(end, left, cycles), 0, false, false);
@@ -121,8 +189,9 @@ fn run_plain_step(processor: &mut Processor<Bus>, left: u8, end: u32) -> (u32, u
         return (time_behind(end, left, cycles), 0, is_plain, false);
     }
     // What is left is taken before it is known whether it was enough: the host does both at once.
-    let fewer = left.wrapping_sub(cycles);
-    if cycles >= left {
+    let taken = u32::from(cycles);
+    let fewer = left.wrapping_sub(taken);
+    if taken >= left {
         let is_plain = pass_usual(processor, cycles);
         return (time_beyond(end, fewer), 0, is_plain, false);
     }
@@ -133,34 +202,33 @@ fn run_plain_step(processor: &mut Processor<Bus>, left: u8, end: u32) -> (u32, u
 /// Whether so many M-cycles are known to be calm behind an instruction, as they were before it: surely
 /// if it kept the memory, else if the bus says so.
 #[inline(always)]
-fn stays_calm(memory: &Bus, is_kept: bool, left: u8) -> bool
+fn stays_calm(memory: &Bus, is_kept: bool, left: u32) -> bool
     requires kept { is_kept ≡ true → IsCalm left memory.now }
     ensures { result ≡ true → IsCalm left memory.now }
 {
     if is_kept {
         return true;
     }
-    left <= memory.calm()
+    left <= u32::from(memory.calm())
 }
 
 /// The M-cycles of the frame that have passed behind an instruction, where so many were left up to
 /// `end` before it.
 #[inline(always)]
-fn time_behind(end: u32, left: u8, cycles: u8) -> u32
+fn time_behind(end: u32, left: u32, cycles: u8) -> u32
     requires within { left ≤ end }
     requires end { end ≤ 17556 }
     ensures { result ≡ end - left + cycles }
 {
-    end - u32::from(left) + u32::from(cycles)
+    end - left + u32::from(cycles)
 }
 
 /// The same, by what is left then, which is below 0.
 #[inline(always)]
-fn time_beyond(end: u32, fewer: u8) -> u32
-    requires { end ≤ 17556 }
-    ensures { result ≡ end + (256 - fewer) % 256 }
+fn time_beyond(end: u32, fewer: u32) -> u32
+    ensures { result ≡ (end + (4294967296 - fewer)) % 4294967296 }
 {
-    end + u32::from(0u8.wrapping_sub(fewer))
+    end.wrapping_sub(fewer)
 }
 
 #[inline(never)]

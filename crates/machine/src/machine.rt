@@ -149,6 +149,7 @@ impl Machine {
         ensures { self.new ≡ record self.old { processor = after_steps bus_rules count self.old.processor } }
     {
         self.processor.run_steps(count);
+        self.processor.memory.catch_up();
     }
 
     /// Plays a frame with these buttons: Right, Left, Up, Down, A, B, Select, Start as bits 0 to 7,
@@ -158,6 +159,7 @@ impl Machine {
     {
         self.processor.memory.set_buttons(buttons);
         self.overrun = run_frame(&mut self.processor, self.overrun);
+        self.processor.memory.catch_up();
     }
 
     /// Gives the machine one input.

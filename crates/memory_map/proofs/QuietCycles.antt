@@ -12,10 +12,12 @@ use Rattle.timer_unit.specs.declared.timer.TimerState.{TimerState}
 use Rattle.timer_unit.proofs.Requested.{timer_request_added}
 use Rattle.timer_unit.proofs.SerialJump as serial_jump
 use Rattle.picture_unit.specs.Picture as picture
-use Rattle.picture_unit.specs.PictureJump as picture_jump
+use Rattle.picture_unit.specs.LatePicture as late_picture
 use Rattle.picture_unit.specs.declared.state.PictureState.{PictureState}
-use Rattle.picture_unit.proofs.Quiet.{none_quiet_by, fewer_quiet, quiet_ticks, stands_still}
-use Rattle.picture_unit.proofs.PictureLaws.{picture_ticks, pending}
+use Rattle.picture_unit.proofs.Quiet.{stands_still}
+use Rattle.picture_unit.proofs.LatePicture.{none_quiet, fewer_quiet, rest_quiet, no_vblank, no_stat, quiet_position}
+use Rattle.picture_unit.proofs.PictureLaws.{picture_ticks}
+use Rattle.picture_unit.specs.Laws.{frame_cycle}
 use Rattle.memory_map.specs.State.{BusState}
 use Rattle.memory_map.specs.Bus.{pending_interrupts}
 use Rattle.memory_map.specs.Ticks.{tick, tick_timer}
@@ -28,8 +30,7 @@ none_are_quiet n copied t left p none = record {
   copy = λ pos. absurd (omega (arith, none));
   timer = λ pos. absurd (omega (arith, none));
   serial = λ pos. absurd (omega (arith, none));
-  line = λ pos. absurd (omega (arith, none));
-  picture = none_quiet_by n p none;
+  picture = none_quiet n p none;
 }
 
 -- ---- the timer requests nothing
@@ -73,16 +74,17 @@ serial_stays : (n : ℕ) (s : serial.SerialAndRequest) → s.serial.cycles_left 
 serial_stays n s none = serial_jump.ticks_by_jump n s ∙ grind (arith, nat_tests)
 
 abbrev pub further : ℕ → picture.PictureUnit → picture.PictureUnit
-further n s = record s { state = record s.state { m_cycle = s.state.m_cycle + n } }
+further n s = (picture.ticks n s).picture
 
 abbrev with_picture : picture.PictureUnit → Bool → Bool → picture.PictureAndRequests
 with_picture s v l = record { picture = s; vblank = v; stat = l }
 
-picture_goes_on : (q n : ℕ) (d : picture.PictureAndRequests) → n ≤ q → picture_jump.AreQuiet q d.picture.state → iterate picture.tick n d ≡ record d { picture = further n d.picture }
-unfolding picture.unrequested
+picture_goes_on : (q n : ℕ) (d : picture.PictureAndRequests) → n ≤ q → late_picture.AreQuiet q d.picture.state → iterate picture.tick n d ≡ record d { picture = further n d.picture }
 picture_goes_on q n d le quiet =
+    let few = fewer_quiet q n d.picture le quiet in
     picture_ticks d.vblank d.stat n d.picture
-    ∙ ap (pending d.vblank d.stat) (sym (quiet_ticks q n d.picture le quiet))
+    ∙ ap (λ (v : Bool). with_picture (further n d.picture) (d.vblank || v) (d.stat || (picture.ticks n d.picture).stat)) (no_vblank n d.picture few)
+    ∙ ap (λ (l : Bool). with_picture (further n d.picture) (d.vblank || false) (d.stat || l)) (no_stat n d.picture few)
     ∙ ap (λ (v : Bool). with_picture (further n d.picture) v (d.stat || false)) (or-false d.vblank)
     ∙ ap (λ (l : Bool). with_picture (further n d.picture) d.vblank l) (or-false d.stat)
 
@@ -99,9 +101,8 @@ abbrev with_units : timer.TimerAndRequest → serial.SerialAndRequest → pictur
 with_units t s p b = record b { timer = t; serial = s; picture = p }
 
 pub quiet_pass : (q n : ℕ) (b : BusState) → n ≤ q → AreQuietOn q b → gone_on n b ≡ iterate tick n b
-quiet_pass q zero b le quiet =
-    let m : b.picture.picture.state.m_cycle + 0 ≡ b.picture.picture.state.m_cycle = omega arith in
-    rw m refl
+unfolding picture.unrequested
+quiet_pass q zero b le quiet = refl
 quiet_pass q (suc n) b le quiet =
     let s = serial_stays (suc n) b.serial (quiet.serial (omega arith)) in
     let p = picture_goes_on q (suc n) b.picture le quiet.picture in
@@ -124,46 +125,38 @@ quiet_after q n b le quiet = record {
   copy = λ pos. quiet.copy (omega arith);
   timer = λ pos. ap (λ (t : TimerState). (timer.ticks (q - n) t).requested) (goes_on n b.timer) ∙ (requested_apart q n b.timer.timer le (quiet.timer (omega arith))).1;
   serial = λ pos. quiet.serial (omega arith);
-  line = λ pos. let lt = quiet.line (omega arith) in omega arith;
-  picture = fewer_quiet q n (q - n) b.picture.picture.state (omega arith) quiet.picture;
+  picture = rest_quiet q n b.picture.picture le quiet.picture;
 }
 
 -- fewer are quiet too
-fewer_picture : (q n : ℕ) (p : PictureState) → n ≤ q → picture_jump.AreQuiet q p → picture_jump.AreQuiet n p
-fewer_picture q n p le quiet = record {
-  on = λ pos. quiet.on (omega arith);
-  entry = λ pos. let lt = quiet.entry (omega arith) in omega arith;
-  settled = λ pos. quiet.settled (omega arith);
-}
-
 pub fewer_are_quiet : (q n : ℕ) (b : BusState) → n ≤ q → AreQuietOn q b → AreQuietOn n b
 fewer_are_quiet q n b le quiet = record {
   copy = λ pos. quiet.copy (omega arith);
   timer = λ pos. (requested_apart q n b.timer.timer le (quiet.timer (omega arith))).0;
   serial = λ pos. quiet.serial (omega arith);
-  line = λ pos. let lt = quiet.line (omega arith) in omega arith;
-  picture = fewer_picture q n b.picture.picture.state le quiet.picture;
+  picture = fewer_quiet q n b.picture.picture le quiet.picture;
 }
 
--- those up to an M-cycle of the line, n quiet M-cycles on
-pub quiet_until_behind : (until n : ℕ) (b : BusState) → AreQuietOn (until - b.picture.picture.state.m_cycle) b
-    → AreQuietOn (until - (b.picture.picture.state.m_cycle + n)) (gone_on n b)
-quiet_until_behind until n b quiet =
-    let m = b.picture.picture.state.m_cycle in
+-- those up to an M-cycle of the frame, n quiet M-cycles on
+pub quiet_until_behind : (until n : ℕ) (b : BusState) → AreQuietOn n b → AreQuietOn (until - frame_cycle b.picture.picture.state) b
+    → AreQuietOn (until - frame_cycle (gone_on n b).picture.picture.state) (gone_on n b)
+quiet_until_behind until n b passed quiet =
+    let m = frame_cycle b.picture.picture.state in
+    let at = quiet_position n b.picture.picture passed.picture in
+    let left = until - frame_cycle (gone_on n b).picture.picture.state in
     elim (cases_lt until (m + n)) [
-      | inl lt ↦ none_are_quiet (until - (m + n)) (gone_on n b).control.dma_copied (gone_on n b).timer.timer (gone_on n b).serial.serial.cycles_left (gone_on n b).picture.picture.state (omega arith)
-      | inr le ↦ let same : until - (m + n) ≡ until - m - n = omega arith in rw same (quiet_after (until - m) n b (omega arith) quiet)
+      | inl lt ↦ none_are_quiet left (gone_on n b).control.dma_copied (gone_on n b).timer.timer (gone_on n b).serial.serial.cycles_left (gone_on n b).picture.picture.state (omega (arith, lt, at))
+      | inr le ↦ let same : left ≡ until - m - n = omega (arith, at) in rw same (quiet_after (until - m) n b (omega (arith, le)) quiet)
     ]
 
 -- as many as are quiet for the timer and for the picture unit
-pub both_quiet : (n m q copied : ℕ) (t : TimerState) (left : ℕ) (p : PictureState) → n ≡ min m q → 160 ≤ copied → left ≡ 0
-    → (timer.ticks m t).requested ≡ false → p.m_cycle + q < 114 → picture_jump.AreQuiet q p → AreQuiet n copied t left p
-both_quiet n m q copied t left p e copy none still line quiet = record {
+pub both_quiet : (n m q copied : ℕ) (t : TimerState) (left : ℕ) (s : picture.PictureUnit) → n ≡ min m q → 160 ≤ copied → left ≡ 0
+    → (timer.ticks m t).requested ≡ false → late_picture.AreQuiet q s.state → AreQuiet n copied t left s.state
+both_quiet n m q copied t left s e copy none still quiet = record {
   copy = λ _. copy;
   timer = λ _. (requested_apart m n t (omega arith) still).0;
   serial = λ _. none;
-  line = λ _. omega arith;
-  picture = fewer_picture q n p (omega arith) quiet;
+  picture = fewer_quiet q n s (omega arith) quiet;
 }
 
 abbrev pending_with : Bool → BusState → ℕ

@@ -32,22 +32,23 @@ pub struct Bus {
     hram: [u8; 127],
     sound: [u8; 48],
     control: Control,
-    // Before this M-cycle of the line IE and IF share no bit, and up to the one before it nothing changes but the M-cycle of the line
-    // and, late, the timer. What may end that sets it to 0.
-    calm_until: u8,
-    // The same where IE and IF may share a bit: up to this M-cycle nothing else changes.
-    quiet_until: u8,
+    // Before this M-cycle of the frame IE and IF share no bit, and up to the one before it nothing is requested and no byte copied:
+    // the picture unit, which counts, and the timer are given them late. What may end that sets it to 0.
+    calm_until: u16,
+    // The same where IE and IF may share a bit: up to this M-cycle nothing is requested and no byte copied.
+    quiet_until: u16,
 }
 
 impl Model for Bus {
     ghost use Rattle.memory_map.specs.State.{BusState};
     ghost use Rattle.memory_map.specs.LateTimer.{up_to};
     ghost use Rattle.memory_map.specs.Quiet.{IsConsistent};
+    ghost use Rattle.picture_unit.specs.Laws.{frame_cycle};
 
     ghost Value = { BusState };
 
     ghost view = { λ b. record {
-      timer = up_to b.picture.state.m_cycle b.timer;
+      timer = up_to (frame_cycle b.picture.state) b.timer;
       serial = record { serial = b.serial; requested = b.serial_requested };
       picture = record { picture = b.picture; vblank = b.vblank_requested; stat = b.stat_requested };
       banks = b.banks;
@@ -58,7 +59,7 @@ impl Model for Bus {
     } };
 
     ghost invariant = { λ b. IsConsistent b.calm_until b.quiet_until b.timer (record {
-      timer = up_to b.picture.state.m_cycle b.timer;
+      timer = up_to (frame_cycle b.picture.state) b.timer;
       serial = record { serial = b.serial; requested = b.serial_requested };
       picture = record { picture = b.picture; vblank = b.vblank_requested; stat = b.stat_requested };
       banks = b.banks;
@@ -307,6 +308,7 @@ impl Bus {
     {
         self.calm_until = 0;
         self.control.ie = value;
+        self.find_calm();
     }
 
     fn write_wram(&mut self, offset: u16, value: u8)

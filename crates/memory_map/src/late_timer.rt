@@ -6,17 +6,17 @@ ghost use Rattle.memory_map.specs.LateTimer.{up_to, settled_at, running};
 
 use timer_unit::{Timer, TimerState};
 
-/// The timer as it was at an M-cycle of the line, and whether it had requested its interrupt by then. The M-cycles that have passed
+/// The timer as it was at an M-cycle of the frame, and whether it had requested its interrupt by then. The M-cycles that have passed
 /// since are counted by the picture unit alone.
 #[derive(Drop)]
 pub(crate) struct LateTimer {
     pub(crate) timer: Timer,
     pub(crate) requested: bool,
-    pub(crate) at: u8,
+    pub(crate) at: u16,
 }
 
 impl LateTimer {
-    /// The timer at power-on, at the first M-cycle of the line.
+    /// The timer at power-on, at the first M-cycle of the frame.
     pub(crate) fn new() -> Self
         ensures { result ≡ record { timer = timer_at_power_on; requested = false; at = 0 } }
     {
@@ -27,9 +27,9 @@ impl LateTimer {
         }
     }
 
-    /// Gives the timer the M-cycles up to this one of the line, which from now on is counted as `at`.
+    /// Gives the timer the M-cycles up to this one of the frame, which from now on is counted as `at`.
     #[inline]
-    pub(crate) fn settle(&mut self, now: u8, at: u8)
+    pub(crate) fn settle(&mut self, now: u16, at: u16)
         ensures { self.new ≡ settled_at at (up_to now self.old) }
     {
         if self.at == now {
@@ -39,9 +39,9 @@ impl LateTimer {
         self.pass_all(at, u32::from(now.saturating_sub(self.at)));
     }
 
-    /// Gives the timer the M-cycles up to this one of the line, and as many more.
+    /// Gives the timer the M-cycles up to this one of the frame, and as many more.
     #[inline]
-    pub(crate) fn pass(&mut self, now: u8, cycles: u32)
+    pub(crate) fn pass(&mut self, now: u16, cycles: u32)
         ensures { self.new ≡ settled_at now (iterate tick cycles (up_to now self.old)) }
     {
         let late = u32::from(now.saturating_sub(self.at));
@@ -53,7 +53,7 @@ impl LateTimer {
     }
 
     #[inline]
-    fn pass_all(&mut self, now: u8, cycles: u32)
+    fn pass_all(&mut self, now: u16, cycles: u32)
         ensures { self.new ≡ settled_at now (iterate tick cycles (running self.old)) }
     {
         let requests = self.timer.pass(cycles);
@@ -61,9 +61,9 @@ impl LateTimer {
         self.at = now;
     }
 
-    /// The timer as it is at this M-cycle of the line.
+    /// The timer as it is at this M-cycle of the frame.
     #[inline(never)]
-    pub(crate) fn copy_at(&self, now: u8) -> Timer
+    pub(crate) fn copy_at(&self, now: u16) -> Timer
         ensures { result ≡ (up_to now self.now).timer }
     {
         let mut timer = Timer::new();
@@ -72,16 +72,16 @@ impl LateTimer {
         timer
     }
 
-    /// Requests the interrupt or withdraws the request, at this M-cycle of the line.
-    pub(crate) fn set_requested(&mut self, now: u8, requested: bool)
+    /// Requests the interrupt or withdraws the request, at this M-cycle of the frame.
+    pub(crate) fn set_requested(&mut self, now: u16, requested: bool)
         ensures { self.new ≡ settled_at now (record (up_to now self.old) { requested = requested }) }
     {
         self.settle(now, now);
         self.requested = requested;
     }
 
-    /// The timer becomes this one, at this M-cycle of the line. Condition: the state is legal.
-    pub(crate) fn restore(&mut self, now: u8, state: &TimerState)
+    /// The timer becomes this one, at this M-cycle of the frame. Condition: the state is legal.
+    pub(crate) fn restore(&mut self, now: u16, state: &TimerState)
         requires { IsLegalTimer state.now }
         ensures { self.new ≡ record { timer = state.now; requested = self.old.requested; at = now } }
     {
@@ -89,8 +89,8 @@ impl LateTimer {
         self.at = now;
     }
 
-    /// A write to DIV at this M-cycle of the line.
-    pub(crate) fn write_div(&mut self, now: u8)
+    /// A write to DIV at this M-cycle of the frame.
+    pub(crate) fn write_div(&mut self, now: u16)
         ensures { self.new ≡ settled_at now (with_counter_and_tac 0 (up_to now self.old).timer.tac (up_to now self.old)) }
     {
         self.settle(now, now);
@@ -98,24 +98,24 @@ impl LateTimer {
         self.requested |= requests.bits != 0;
     }
 
-    /// A write to TIMA at this M-cycle of the line.
-    pub(crate) fn write_tima(&mut self, now: u8, value: u8)
+    /// A write to TIMA at this M-cycle of the frame.
+    pub(crate) fn write_tima(&mut self, now: u16, value: u8)
         ensures { self.new ≡ settled_at now (record (up_to now self.old) { timer = record (up_to now self.old).timer { tima = value } }) }
     {
         self.settle(now, now);
         self.timer.write_tima(value);
     }
 
-    /// A write to TMA at this M-cycle of the line.
-    pub(crate) fn write_tma(&mut self, now: u8, value: u8)
+    /// A write to TMA at this M-cycle of the frame.
+    pub(crate) fn write_tma(&mut self, now: u16, value: u8)
         ensures { self.new ≡ settled_at now (record (up_to now self.old) { timer = record (up_to now self.old).timer { tma = value } }) }
     {
         self.settle(now, now);
         self.timer.write_tma(value);
     }
 
-    /// A write to TAC at this M-cycle of the line.
-    pub(crate) fn write_tac(&mut self, now: u8, value: u8)
+    /// A write to TAC at this M-cycle of the frame.
+    pub(crate) fn write_tac(&mut self, now: u16, value: u8)
         ensures { self.new ≡ settled_at now (with_counter_and_tac (up_to now self.old).timer.counter (value % 8) (up_to now self.old)) }
     {
         self.settle(now, now);

@@ -4,5 +4,6 @@ pub mod PictureLaws
 pub mod Settled
 pub mod Kept
 pub mod LateLines
+pub mod LatePicture
 pub mod SignalLaws
 pub mod WindowLaws

@@ -53,39 +53,39 @@ drawn_line-pixels s within = record {
 }
 
 -- the M-cycle of the frame
-frame_cycle-drawn : (s : PictureUnit) → frame_cycle (drawn s).state ≡ frame_cycle s.state
+pub frame_cycle-drawn : (s : PictureUnit) → frame_cycle (drawn s).state ≡ frame_cycle s.state
 unfolding drawn line_drawn
 frame_cycle-drawn s = grind (arith, nat_tests)
 
-frame_cycle-entered : (p : PictureState) → frame_cycle (entered p) ≡ frame_cycle p
+pub frame_cycle-entered : (p : PictureState) → frame_cycle (entered p) ≡ frame_cycle p
 unfolding entered
 frame_cycle-entered p = grind (arith, nat_tests)
 
-frame_cycle-advanced : (p : PictureState) → p.ly < 154 → p.m_cycle < 114 → frame_cycle (advanced p) ≡ (frame_cycle p + 1) % 17556
+pub frame_cycle-advanced : (p : PictureState) → p.ly < 154 → p.m_cycle < 114 → frame_cycle (advanced p) ≡ (frame_cycle p + 1) % 17556
 unfolding advanced
 frame_cycle-advanced p ly m_cycle = grind (arith, nat_tests)
 
-ly-drawn : (s : PictureUnit) → (drawn s).state.ly ≡ s.state.ly
+pub ly-drawn : (s : PictureUnit) → (drawn s).state.ly ≡ s.state.ly
 unfolding drawn line_drawn
 ly-drawn s = grind (arith, nat_tests)
 
-m_cycle-drawn : (s : PictureUnit) → (drawn s).state.m_cycle ≡ s.state.m_cycle
+pub m_cycle-drawn : (s : PictureUnit) → (drawn s).state.m_cycle ≡ s.state.m_cycle
 unfolding drawn line_drawn
 m_cycle-drawn s = grind (arith, nat_tests)
 
-ly-entered : (p : PictureState) → (entered p).ly ≡ p.ly
+pub ly-entered : (p : PictureState) → (entered p).ly ≡ p.ly
 unfolding entered
 ly-entered p = grind (arith, nat_tests)
 
-m_cycle-entered : (p : PictureState) → (entered p).m_cycle ≡ p.m_cycle
+pub m_cycle-entered : (p : PictureState) → (entered p).m_cycle ≡ p.m_cycle
 unfolding entered
 m_cycle-entered p = grind (arith, nat_tests)
 
-ly-advanced : (p : PictureState) → p.ly < 154 → (advanced p).ly < 154
+pub ly-advanced : (p : PictureState) → p.ly < 154 → (advanced p).ly < 154
 unfolding advanced
 ly-advanced p ly = grind (arith, nat_tests)
 
-m_cycle-advanced : (p : PictureState) → p.m_cycle < 114 → (advanced p).m_cycle < 114
+pub m_cycle-advanced : (p : PictureState) → p.m_cycle < 114 → (advanced p).m_cycle < 114
 unfolding advanced
 m_cycle-advanced p m_cycle = grind (arith, nat_tests)
 
@@ -94,7 +94,7 @@ module _ (d : PictureAndRequests) (on : is_on d.picture.state ≡ true) where
   unfolding tick
   run = ap (λ b. cond b (taken (moved d)) d) on
 
-  frame_cycle-tick : d.picture.state.ly < 154 → d.picture.state.m_cycle < 114 → frame_cycle (tick d).picture.state ≡ (frame_cycle d.picture.state + 1) % 17556
+  pub frame_cycle-tick : d.picture.state.ly < 154 → d.picture.state.m_cycle < 114 → frame_cycle (tick d).picture.state ≡ (frame_cycle d.picture.state + 1) % 17556
   unfolding taken moved
   frame_cycle-tick ly m_cycle =
       ap (λ (e : PictureAndRequests). frame_cycle e.picture.state) run
@@ -102,14 +102,14 @@ module _ (d : PictureAndRequests) (on : is_on d.picture.state ≡ true) where
       ∙ frame_cycle-entered (advanced d.picture.state)
       ∙ frame_cycle-advanced d.picture.state ly m_cycle
 
-  ly-tick : (tick d).picture.state.ly ≡ (advanced d.picture.state).ly
+  pub ly-tick : (tick d).picture.state.ly ≡ (advanced d.picture.state).ly
   unfolding taken moved
   ly-tick =
       ap (λ (e : PictureAndRequests). e.picture.state.ly) run
       ∙ ly-drawn (record d.picture { state = entered (advanced d.picture.state) })
       ∙ ly-entered (advanced d.picture.state)
 
-  m_cycle-tick : (tick d).picture.state.m_cycle ≡ (advanced d.picture.state).m_cycle
+  pub m_cycle-tick : (tick d).picture.state.m_cycle ≡ (advanced d.picture.state).m_cycle
   unfolding taken moved
   m_cycle-tick =
       ap (λ (e : PictureAndRequests). e.picture.state.m_cycle) run

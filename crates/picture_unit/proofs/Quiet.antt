@@ -1,14 +1,13 @@
 -- M-cycles before the next change: no line begins, and the mode stays or makes no STAT signal.
-use Rattle.std.proofs.Common.{◌≡◌, ℕ, zero, suc, ◌+◌, ◌-◌, ◌<◌, ◌≤◌, Bool, true, false, cond, refl, sym, ap, subst, ◌∙◌, arith, inl, inr}
+use Rattle.std.proofs.Common.{◌≡◌, ℕ, zero, suc, ◌+◌, ◌-◌, ◌/◌, ◌%◌, ◌<◌, ◌≤◌, Bool, true, false, cond, refl, sym, ap, subst, ◌∙◌, arith, inl, inr}
 use Rattle.std.specs.Prelude.{not, ◌&&◌, ◌||◌, ◌==◌, Some, None}
 use Rattle.std.specs.Fn.{iterate}
-use Rattle.std.proofs.lemmas.Bool.{cases_lt}
 use Rattle.std.proofs.lemmas.Bool.Decides.{nat_tests}
 use Rattle.picture_lines.specs.Bits.{has_bit}
 use Rattle.picture_unit.specs.declared.state.PictureState.{PictureState}
 use Rattle.picture_unit.specs.Picture.{PictureUnit, PictureAndRequests, unrequested, ticks, is_on, mode, stat_signal, is_source, advanced, entered, draws, drawn, begins_vblank, line_drawn, moved, taken, tick, is_entry}
-use Rattle.picture_unit.specs.PictureJump.{next_entry, next_change, later, skipped, IsSettled, AreQuiet}
-use Rattle.picture_unit.proofs.Settled.{ticks_settle, bool_cases}
+use Rattle.picture_unit.specs.PictureJump.{next_entry, next_change, later, skipped}
+use Rattle.picture_unit.proofs.Settled.{bool_cases}
 use Rattle.repeated_steps.specs.NextEvent.{IsNextEvent}
 use Rattle.repeated_steps.proofs.Iterates.{iterate-add}
 
@@ -45,12 +44,20 @@ quiet_tick d on h =
 
 -- the STAT signal stays
 
--- without a source there is none
-no_signal : (p : PictureState) → p.stat ≡ 0 → stat_signal p ≡ false
-unfolding stat_signal is_source has_bit is_on
-no_signal p e = rw e (and_false (is_on p))
+bit_clear : (n k : ℕ) → (n / k % 2) ≡ 0 → (n / k % 2 == 1) ≡ false
+bit_clear n k e = grind (arith, nat_tests, e)
 
-before_entry : (p : PictureState) (n : ℕ) → (p.stat == 0) ≡ false → n < next_change p → n < next_entry p
+-- where no mode is enabled it is that of the line
+pub by_line : (p : PictureState) → p.stat % 64 ≡ 0 → stat_signal p ≡ (is_on p && (has_bit p.stat 6 && p.ly == p.lyc))
+unfolding stat_signal is_source has_bit is_on
+by_line p e =
+    let a : (p.stat / 8 % 2 == 1) ≡ false = bit_clear p.stat 8 (omega (arith, e)) in
+    let b : (p.stat / 16 % 2 == 1) ≡ false = bit_clear p.stat 16 (omega (arith, e)) in
+    let c : (p.stat / 32 % 2 == 1) ≡ false = bit_clear p.stat 32 (omega (arith, e)) in
+    let line = p.stat / 64 % 2 == 1 && p.ly == p.lyc in
+    rw (a, b, c) (ap (λ (x : Bool). is_on p && x) (or_false (line || false || false) ∙ or_false (line || false) ∙ or_false line))
+
+before_entry : (p : PictureState) (n : ℕ) → (p.stat % 64 == 0) ≡ false → n < next_change p → n < next_entry p
 unfolding next_change
 before_entry p n e h = grind (arith, nat_tests, e)
 
@@ -61,10 +68,10 @@ stays_in_mode p n h = grind (arith, nat_tests)
 keeps_signal : (p : PictureState) (n : ℕ) → n < next_change p → stat_signal (record p { m_cycle = p.m_cycle + n }) ≡ stat_signal p
 unfolding stat_signal is_on
 keeps_signal p n h =
-    elim (bool_cases (p.stat == 0)) [
+    elim (bool_cases (p.stat % 64 == 0)) [
       | inl none ↦
-          let e : p.stat ≡ 0 = grind (arith, nat_tests, none) in
-          no_signal (record p { m_cycle = p.m_cycle + n }) e ∙ sym (no_signal p e)
+          let e : p.stat % 64 ≡ 0 = grind (arith, nat_tests, none) in
+          by_line (record p { m_cycle = p.m_cycle + n }) e ∙ sym (by_line p e)
       | inr some ↦ ap (λ (m : ℕ). is_on p && is_source p.stat m (p.ly == p.lyc)) (stays_in_mode p n (before_entry p n some h))
     ]
 
@@ -201,13 +208,9 @@ pub ticks_when_off : (n : ℕ) (p : PictureState) (s : PictureUnit) → p ≡ s.
 unfolding unrequested
 ticks_when_off n p s same off = stands_still n (unrequested s) (ap is_on (sym same) ∙ off)
 
--- M-cycles that are known to be quiet: only the M-cycle grows
+-- M-cycles before the next change request nothing, once the signal was taken as it is
 
-nearer_change : (p : PictureState) (n left : ℕ) → left + n < next_change p → left < next_change (record p { m_cycle = p.m_cycle + n })
-unfolding next_entry next_change
-nearer_change p n left h = grind (arith, nat_tests)
-
-before_line_end : (p : PictureState) (n : ℕ) → p.m_cycle < 114 → n < next_change p → p.m_cycle + n < 114
+pub before_line_end : (p : PictureState) (n : ℕ) → p.m_cycle < 114 → n < next_change p → p.m_cycle + n < 114
 unfolding next_entry next_change
 before_line_end p n legal h = grind (arith, nat_tests)
 
@@ -215,70 +218,17 @@ no_rise : (b : Bool) → (b && not b) ≡ false
 no_rise true = refl
 no_rise false = refl
 
--- none of them are
-pub none_quiet : (p : PictureState) → AreQuiet 0 p
-none_quiet p = record { on = λ pos. absurd (omega arith); entry = λ pos. absurd (omega arith); settled = λ pos. absurd (omega arith) }
-
-pub fewer_quiet : (q n left : ℕ) (p : PictureState) → left + n ≤ q → AreQuiet q p → AreQuiet left (record p { m_cycle = p.m_cycle + n })
-unfolding is_on
-fewer_quiet q n left p enough quiet =
-    record {
-      on = λ pos. quiet.on (omega arith);
-      entry = λ pos. let lt : q < next_change p = quiet.entry (omega arith) in nearer_change p n left (omega arith);
-      settled = λ pos. let lt : q < next_change p = quiet.entry (omega arith) in keeps_signal p n (omega arith) ∙ quiet.settled (omega arith);
-    }
-
--- none, whatever number says so
-pub none_quiet_by : (n : ℕ) (p : PictureState) → n ≡ 0 → AreQuiet n p
-none_quiet_by n p none = record { on = λ pos. absurd (omega arith); entry = λ pos. absurd (omega arith); settled = λ pos. absurd (omega arith) }
-
-pub within_line : (n m : ℕ) → m < 114 → (0 < n → m + n < 114) → m + n < 114
-within_line zero m legal some = omega arith
-within_line (suc n) m legal some = some (omega arith)
-
--- those up to an M-cycle of the line, n M-cycles on
-pub quiet_until_behind : (until n : ℕ) (p : PictureState) → AreQuiet (until - p.m_cycle) p → AreQuiet (until - (p.m_cycle + n)) (record p { m_cycle = p.m_cycle + n })
-quiet_until_behind until n p quiet =
-    elim (cases_lt until (p.m_cycle + n)) [
-      | inl lt ↦ none_quiet_by (until - (p.m_cycle + n)) (record p { m_cycle = p.m_cycle + n }) (omega arith)
-      | inr le ↦ fewer_quiet (until - p.m_cycle) n (until - (p.m_cycle + n)) p (omega arith) quiet
-    ]
-
-pub quiet_in_line : (q n : ℕ) (p : PictureState) → n ≤ q → AreQuiet q p → p.m_cycle < 114 → p.m_cycle + n < 114
-quiet_in_line q zero p le quiet legal = omega arith
-quiet_in_line q (suc n) p le quiet legal =
-    let lt : q < next_change p = quiet.entry (omega arith) in
-    before_line_end p (suc n) legal (omega arith)
-
-pub quiet_ticks : (q n : ℕ) (s : PictureUnit) → n ≤ q → AreQuiet q s.state →
+quiet_ticks : (n : ℕ) (s : PictureUnit) → is_on s.state ≡ true → n < next_change s.state → stat_signal s.state ≡ s.state.signal →
     unrequested (record s { state = record s.state { m_cycle = s.state.m_cycle + n } }) ≡ ticks n s
 unfolding unrequested skipped later taken
-quiet_ticks q zero s le quiet = let e : s.state.m_cycle + 0 ≡ s.state.m_cycle = omega arith in rw e refl
-quiet_ticks q (suc n) s le quiet =
-    let lt : q < next_change s.state = quiet.entry (omega arith) in
-    let lt' : suc n < next_change s.state = omega arith in
-    let same : stat_signal (record s.state { m_cycle = s.state.m_cycle + suc n }) ≡ s.state.signal = keeps_signal s.state (suc n) lt' ∙ quiet.settled (omega arith) in
-    sym (skips (suc n) (unrequested s) (quiet.on (omega arith)) lt' ∙ rw (same, no_rise s.state.signal) refl)
+quiet_ticks zero s on lt settled = let e : s.state.m_cycle + 0 ≡ s.state.m_cycle = omega arith in rw e refl
+quiet_ticks (suc n) s on lt settled =
+    let same : stat_signal (record s.state { m_cycle = s.state.m_cycle + suc n }) ≡ s.state.signal = keeps_signal s.state (suc n) lt ∙ settled in
+    sym (skips (suc n) (unrequested s) on lt ∙ rw (same, no_rise s.state.signal) refl)
 
--- after some M-cycles those before the next change are quiet
-pub quiet_before_change : (p : PictureState) (n q : ℕ) (d e : PictureAndRequests) → p ≡ e.picture.state → is_on e.picture.state ≡ true → 0 < n → e ≡ iterate tick n d → q < next_change p → AreQuiet q p
-quiet_before_change p n q d e same on some ran before =
-    let settled : IsSettled e = subst IsSettled (sym ran) (ticks_settle n d some) in
-    record {
-      on = λ pos. ap is_on same ∙ on;
-      entry = λ pos. before;
-      settled = λ pos. ap stat_signal same ∙ settled on ∙ ap (λ (p : PictureState). p.signal) (sym same);
-    }
-
--- n M-cycles on, the change is n M-cycles nearer
-nearer_skipped : (n q : ℕ) (d : PictureAndRequests) → q + n < next_change d.picture.state → q < next_change (skipped n d).picture.state
-unfolding skipped later taken next_entry next_change
-nearer_skipped zero q d h = omega arith
-nearer_skipped (suc n) q d h = nearer_change d.picture.state (suc n) q h
-
-pub quiet_when_skipped : (p : PictureState) (n q : ℕ) (d e : PictureAndRequests) → p ≡ e.picture.state → is_on d.picture.state ≡ true → 0 < n → e ≡ skipped n d → q + n < next_change d.picture.state → AreQuiet q p
-quiet_when_skipped p n q d e same on some skip before =
-    let on' : is_on e.picture.state ≡ true = stays_on_skipped n d e on skip in
-    let ran : e ≡ iterate tick n d = skip ∙ sym (skips n d on (omega arith)) in
-    let state : p ≡ (skipped n d).picture.state = same ∙ ap (λ (x : PictureAndRequests). x.picture.state) skip in
-    quiet_before_change p n q d e same on' some ran (subst (λ (p : PictureState). q < next_change p) (sym state) (nearer_skipped n q d before))
+pub requests_none : (n : ℕ) (s : PictureUnit) → is_on s.state ≡ true → n < next_change s.state → stat_signal s.state ≡ s.state.signal →
+    ((ticks n s).vblank ≡ false) × ((ticks n s).stat ≡ false)
+unfolding unrequested
+requests_none n s on lt settled =
+    let e = sym (quiet_ticks n s on lt settled) in
+    (ap (λ (d : PictureAndRequests). d.vblank) e, ap (λ (d : PictureAndRequests). d.stat) e)

@@ -8,3 +8,4 @@ pub mod WindowLaws
 -- what only the code needs
 pub mod PictureJump
 pub mod LateRows
+pub mod LatePicture

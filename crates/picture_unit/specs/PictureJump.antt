@@ -1,5 +1,5 @@
 -- The picture unit between two entries, an entry being that to a line, to mode 3 or to mode 0.
-use Rattle.std.specs.Prelude.{◌≡◌, ℕ, zero, suc, ◌+◌, ◌-◌, ◌<◌, true, ◌&&◌, ◌||◌, ◌==◌, nat_le, nat_lt, if◌then◌else◌}
+use Rattle.std.specs.Prelude.{◌≡◌, ℕ, zero, suc, ◌+◌, ◌-◌, ◌%◌, true, ◌&&◌, ◌||◌, ◌==◌, nat_le, nat_lt, if◌then◌else◌}
 use Rattle.picture_unit.specs.declared.state.PictureState.{PictureState}
 use Rattle.picture_unit.specs.declared.state.PictureRequests.{PictureRequests}
 use Rattle.picture_unit.specs.Picture.{PictureUnit, PictureAndRequests, is_on, stat_signal, taken}
@@ -12,9 +12,9 @@ next_entry p =
     else 63 - p.m_cycle
 
 -- How many M-cycles the next one is away that may change more than the M-cycle of the line. From mode 3 on that
--- is the next line's first while no STAT source is enabled: the line is drawn, and there is no signal.
+-- is the next line's first while STAT enables no mode: the line is drawn, and the signal stays as it is.
 unfoldable pub next_change : PictureState → ℕ
-next_change p = if p.stat == 0 && nat_le 20 p.m_cycle then 114 - p.m_cycle else next_entry p
+next_change p = if p.stat % 64 == 0 && nat_le 20 p.m_cycle then 114 - p.m_cycle else next_entry p
 
 unfoldable pub later : ℕ → PictureAndRequests → PictureAndRequests
 later n d = record d {
@@ -33,10 +33,3 @@ with_requests requests s = record { picture = s; vblank = requests.vblank; stat 
 -- The STAT signal was taken as it is now, so that it does not rise before the next change.
 abbrev pub IsSettled : PictureAndRequests → Type 0
 IsSettled d = is_on d.picture.state ≡ true → stat_signal d.picture.state ≡ d.picture.state.signal
-
--- In the next n M-cycles, if any, no line or mode 3 is entered, nor mode 0 while a STAT source is enabled, and the
--- STAT signal does not rise.
-pub record AreQuiet (n : ℕ) (p : PictureState) : Type 0 where
-  pub on : 0 < n → is_on p ≡ true
-  pub entry : 0 < n → n < next_change p
-  pub settled : 0 < n → stat_signal p ≡ p.signal

@@ -5,6 +5,7 @@
 mod laws;
 mod pgm;
 mod picture;
+mod prompt_picture;
 mod region;
 mod rows;
 mod state;

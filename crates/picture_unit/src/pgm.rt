@@ -1,12 +1,10 @@
 ghost use Rattle.std.specs.Prelude.{◌≡◌, ◌<◌, ◌%◌, ◌==◌, if◌then◌else◌, length, All, OnOk, OnErr};
 ghost use Rattle.std.specs.Io.KnownBytes.{Appends};
 ghost use Rattle.exact_text.specs.Written.{AppendsProperPrefix};
-ghost use Rattle.picture_unit.specs.LateRows.{rows_of, AreRight};
 ghost use Rattle.picture_unit.specs.Pgm.{row_text, picture_text};
 
-use crate::rows::Rows;
+use crate::picture::Picture;
 use exact_text::{OutputFailed, write_whole};
-use picture_lines::TileMemory;
 use std::io::Write;
 
 const HEADER: &[u8; 13] = b"P2\n160 144\n3\n";
@@ -31,26 +29,18 @@ fn row_bytes(row: &[u8; 160]) -> [u8; 320]
     text
 }
 
-/// Writes rows of shades as plain PGM.
-pub(crate) fn write_rows<W: Write>(
-    rows: &Rows,
-    tiles: &TileMemory,
-    oam: &[u8],
-    out: &mut W,
-) -> Result<(), OutputFailed>
-    requires oam { length oam.now ≡ 160 }
-    requires right { AreRight rows.now }
-    requires shades { All (λ row. All (λ shade. shade < 4) row) (rows_of rows.now tiles.now oam.now) }
+/// Writes the rows of a picture as plain PGM.
+pub(crate) fn write_rows<W: Write>(picture: &Picture, out: &mut W) -> Result<(), OutputFailed>
     ensures ok { OnOk result
-        (Appends (W.contents out.old) (W.contents out.new) (picture_text (rows_of rows.now tiles.now oam.now))) }
+        (Appends (W.contents out.old) (W.contents out.new) (picture_text picture.now.rows)) }
     ensures err { OnErr result
-        (AppendsProperPrefix (W.contents out.old) (W.contents out.new) (picture_text (rows_of rows.now tiles.now oam.now))) }
+        (AppendsProperPrefix (W.contents out.old) (W.contents out.new) (picture_text picture.now.rows)) }
 {
     if let Err(fault) = write_whole(out, HEADER) {
         return Err(fault);
     }
-    for y in 0..144 {
-        let row = rows.row(y, tiles, oam);
+    for y in 0..picture.row_count() {
+        let row = picture.row(y);
         let text = row_bytes(&row);
         if let Err(fault) = write_whole(out, &text) {
             return Err(fault);

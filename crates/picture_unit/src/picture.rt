@@ -1,13 +1,12 @@
-ghost use Rattle.std.specs.Prelude.{◌≡◌, false, not, ◌&&◌, IfOk, OnOk, OnErr};
+ghost use Rattle.std.specs.Prelude.{◌≡◌, false, IfOk, OnOk, OnErr};
 
 mod clock;
 mod snapshot;
 
 use crate::pgm::write_rows;
-use crate::rows::Rows;
+use crate::prompt_picture::PromptPicture;
 use crate::state::PictureState;
 use exact_text::OutputFailed;
-use picture_lines::TileMemory;
 use std::alloc::{AllocError, Global};
 use std::io::Write;
 use std::marker::Model;
@@ -20,42 +19,31 @@ use std::marker::Model;
 /// per frame. `new` allocates all the memory that it needs, and no other call takes memory.
 #[derive(Drop)]
 pub struct Picture {
-    state: PictureState,
-    // Up to this M-cycle of the line nothing is known to change but the M-cycle. What may end that
-    // sets it to 0.
-    quiet_until: u8,
-    tiles: TileMemory,
-    oam: Vec<u8>,
-    rows: Rows,
+    // The picture unit as it was when it was last given its M-cycles.
+    prompt: PromptPicture,
+    // The M-cycle of the frame. Those since then are quiet: they requested nothing, and the frame did not end.
+    frame_cycle: u16,
+    // Those up to this one are known to be quiet too.
+    quiet_until: u16,
 }
 
 impl Model for Picture {
-    ghost use Rattle.std.specs.Prelude.{◌-◌};
-    ghost use Rattle.picture_unit.specs.Picture.{PictureUnit, IsWhole};
-    ghost use Rattle.picture_unit.specs.PictureJump.{AreQuiet};
-    ghost use Rattle.picture_unit.specs.LateRows.{rows_of, AreRight};
+    ghost use Rattle.picture_unit.specs.Picture.{PictureUnit};
+    ghost use Rattle.picture_unit.specs.LatePicture.{up_to, IsLate};
 
     ghost Value = { PictureUnit };
 
-    ghost view = { λ p. record {
-      state = p.state;
-      vram = p.tiles;
-      oam = p.oam.items;
-      rows = rows_of p.rows p.tiles p.oam.items;
-    } };
+    ghost view = { λ p. up_to p.frame_cycle p.prompt };
 
-    ghost invariant = { λ p. record {
-      whole : IsWhole p.state p.oam.items (rows_of p.rows p.tiles p.oam.items);
-      quiet : AreQuiet (p.quiet_until - p.state.m_cycle) p.state;
-      rows : AreRight p.rows;
-    } };
+    ghost invariant = { λ p. IsLate p.frame_cycle p.quiet_until p.prompt };
 }
 
 impl Picture {
     ghost use Rattle.std.specs.Io.KnownBytes.{Appends};
     ghost use Rattle.exact_text.specs.Written.{AppendsProperPrefix};
-    ghost use Rattle.picture_unit.specs.Picture.{unrequested, is_on, stat_signal, taken, picture_at_power_on};
-    ghost use Rattle.picture_unit.specs.Registers.{register_value, register_written, lcdc_written, stat_written, lyc_written, switched_off, switched_on};
+    ghost use Rattle.picture_unit.specs.Picture.{unrequested, is_on, picture_at_power_on, IsLegalPicture};
+    ghost use Rattle.picture_unit.specs.PictureJump.{next_entry};
+    ghost use Rattle.picture_unit.specs.Registers.{register_value, register_written};
     ghost use Rattle.picture_unit.specs.Stores.{is_vram_closed, is_oam_closed, byte_read, vram_written, oam_written, oam_copied};
     ghost use Rattle.picture_unit.specs.Pgm.{picture_text};
 
@@ -65,15 +53,12 @@ impl Picture {
     pub fn new(alloc: Global) -> Result<Picture, AllocError>
         ensures { IfOk result (λ p. p ≡ picture_at_power_on) }
     {
-        let tiles = TileMemory::new(alloc)?;
-        let oam = Vec::from_elem(alloc, 0u8, 160)?;
-        let rows = Rows::new(alloc)?;
+        let prompt = PromptPicture::new(alloc)?;
+        let frame_cycle = prompt.frame_cycle();
         Ok(Picture {
-            state: PictureState::at_power_on(),
+            prompt,
+            frame_cycle,
             quiet_until: 0,
-            tiles,
-            oam,
-            rows,
         })
     }
 
@@ -83,41 +68,27 @@ impl Picture {
     pub fn read_vram(&self, offset: u16) -> u8
         ensures { result ≡ byte_read (is_vram_closed self.now.state) self.now.vram offset }
     {
-        if self.is_vram_closed() {
+        if self.registers_now().is_vram_closed() {
             return 0xff;
         }
         self.peek_vram(offset)
     }
 
     /// A byte of VRAM, in every mode.
-    #[tactic(auto, unfolding(crate::specs::Stores::byte_read))]
     pub fn peek_vram(&self, offset: u16) -> u8
         ensures { result ≡ byte_read false self.now.vram offset }
     {
-        let bytes = self.tiles.bytes();
-        if offset as usize >= bytes.len() {
-            return 0;
-        }
-        bytes[offset as usize]
+        self.prompt.peek_vram(offset)
     }
 
     /// Writes a byte of VRAM, by its offset from 8000. The write is ignored in mode 3, and beyond
     /// VRAM.
-    #[tactic(auto, unfolding(crate::specs::Stores::vram_written))]
     pub fn write_vram(&mut self, offset: u16, value: u8)
         ensures { self.new ≡ vram_written offset value self.old }
     {
-        if self.is_vram_closed() {
-            return;
-        }
-        if offset as usize >= self.tiles.bytes().len() {
-            return;
-        }
-        if self.tiles.byte(offset as usize) == value {
-            return;
-        }
-        self.rows.settle(&self.tiles, &self.oam);
-        self.tiles.write(offset as usize, value);
+        self.prompt.pass_to(self.frame_cycle);
+        self.prompt.write_vram(offset, value);
+        self.frame_cycle = self.prompt.frame_cycle();
     }
 
     /// A byte of OAM, by its offset from FE00. Modes 2 and 3 close OAM: it reads FF. Beyond OAM it
@@ -126,48 +97,39 @@ impl Picture {
     pub fn read_oam(&self, offset: u8) -> u8
         ensures { result ≡ byte_read (is_oam_closed self.now.state) self.now.oam offset }
     {
-        if self.is_oam_closed() {
+        if self.registers_now().is_oam_closed() {
             return 0xff;
         }
         self.peek_oam(offset)
     }
 
     /// A byte of OAM, in every mode.
-    #[tactic(auto, unfolding(crate::specs::Stores::byte_read))]
     pub fn peek_oam(&self, offset: u8) -> u8
         ensures { result ≡ byte_read false self.now.oam offset }
     {
-        if offset as usize >= self.oam.len() {
-            return 0;
-        }
-        self.oam[offset as usize]
+        self.prompt.peek_oam(offset)
     }
 
     /// Writes a byte of OAM, by its offset from FE00. The write is ignored in modes 2 and 3, and
     /// beyond OAM.
-    #[tactic(auto, unfolding(crate::specs::Stores::oam_written, crate::specs::Stores::oam_copied))]
     pub fn write_oam(&mut self, offset: u8, value: u8)
         ensures { self.new ≡ oam_written offset value self.old }
     {
-        if self.is_oam_closed() {
-            return;
-        }
-        self.copy_to_oam(offset, value);
+        self.prompt.pass_to(self.frame_cycle);
+        self.prompt.write_oam(offset, value);
+        self.frame_cycle = self.prompt.frame_cycle();
     }
 
     /// Writes a byte of OAM in every mode, as the object DMA does. Beyond OAM the write is ignored.
-    #[tactic(auto, unfolding(crate::specs::Stores::oam_copied))]
     pub fn copy_to_oam(&mut self, offset: u8, value: u8)
         ensures { self.new ≡ oam_copied offset value self.old }
     {
-        if offset as usize >= self.oam.len() {
+        if self.prompt.peek_oam(offset) == value {
             return;
         }
-        if self.oam[offset as usize] == value {
-            return;
-        }
-        self.rows.settle(&self.tiles, &self.oam);
-        self.oam[offset as usize] = value;
+        self.prompt.pass_to(self.frame_cycle);
+        self.prompt.copy_to_oam(offset, value);
+        self.frame_cycle = self.prompt.frame_cycle();
     }
 
     /// Whether LCDC bit 7 is set: the LCD is on.
@@ -175,7 +137,7 @@ impl Picture {
     pub fn is_on(&self) -> bool
         ensures { result ≡ is_on self.now.state }
     {
-        self.state.is_on()
+        self.prompt.is_on()
     }
 
     /// What a register reads: FF40 LCDC, FF41 STAT, FF42 SCY, FF43 SCX, FF44 LY, FF45 LYC, FF47
@@ -183,27 +145,21 @@ impl Picture {
     pub fn read_register(&self, address: u16) -> u8
         ensures { result ≡ register_value self.now.state address }
     {
-        self.state.register(address)
+        self.registers_now().register(address)
     }
 
     /// Writes a register, and answers whether that requests the STAT interrupt. LY and every other
     /// address ignore it.
-    #[tactic(auto, unfolding(crate::specs::Registers::register_written, crate::specs::Picture::unrequested))]
     pub fn write_register(&mut self, address: u16, value: u8) -> bool
         ensures picture { self.new
             ≡ (register_written address value (unrequested self.old)).picture }
         ensures stat { result ≡ (register_written address value (unrequested self.old)).stat }
     {
-        match address {
-            0xff40 => self.write_lcdc(value),
-            0xff41 => self.write_stat(value),
-            0xff45 => self.write_lyc(value),
-            _ => {
-                self.quiet_until = 0;
-                self.state.store_register(address, value);
-                false
-            }
-        }
+        self.prompt.pass_to(self.frame_cycle);
+        let requested = self.prompt.write_register(address, value);
+        self.frame_cycle = self.prompt.frame_cycle();
+        self.quiet_until = 0;
+        requested
     }
 
     /// Writes the picture as plain PGM: `P2`, `160 144`, `3`, then each row as five lines of 32
@@ -215,104 +171,22 @@ impl Picture {
         ensures err { OnErr result (AppendsProperPrefix
             (W.contents out.old) (W.contents out.new) (picture_text self.now.rows)) }
     {
-        write_rows(&self.rows, &self.tiles, &self.oam, out)
+        write_rows(self, out)
     }
 
-    #[tactic(auto, unfolding(crate::specs::Stores::is_vram_closed))]
-    fn is_vram_closed(&self) -> bool
-        ensures { result ≡ is_vram_closed self.now.state }
+    /// The registers, LY and the M-cycle of the line as they are now; what no register shows is as it was.
+    #[inline]
+    fn registers_now(&self) -> PictureState
+        ensures legal { IsLegalPicture result }
+        ensures legal_now { IsLegalPicture self.now.state }
+        ensures on { is_on result ≡ is_on self.now.state }
+        ensures vram { is_vram_closed result ≡ is_vram_closed self.now.state }
+        ensures oam { is_oam_closed result ≡ is_oam_closed self.now.state }
+        ensures registers { (address : ℕ) → register_value result address ≡ register_value self.now.state address }
+        ensures entry { next_entry result ≡ next_entry self.now.state }
     {
-        self.state.mode() == 3
-    }
-
-    #[tactic(auto, unfolding(crate::specs::Stores::is_oam_closed))]
-    fn is_oam_closed(&self) -> bool
-        ensures { result ≡ is_oam_closed self.now.state }
-    {
-        let mode = self.state.mode();
-        mode == 2 || mode == 3
-    }
-
-    #[tactic(auto, unfolding(crate::specs::Picture::unrequested, crate::specs::Picture::taken))]
-    fn write_lcdc(&mut self, value: u8) -> bool
-        ensures picture { self.new ≡ (taken (unrequested (lcdc_written value self.old))).picture }
-        ensures stat { result ≡ (taken (unrequested (lcdc_written value self.old))).stat }
-    {
-        self.store_lcdc(value);
-        self.take_signal()
-    }
-
-    #[tactic(auto, unfolding(crate::specs::Registers::lcdc_written))]
-    fn store_lcdc(&mut self, value: u8)
-        ensures { self.new ≡ lcdc_written value self.old }
-    {
-        let was_on = self.state.is_on();
-        if was_on && value < 128 {
-            return self.switch_off(value);
-        }
-        if !was_on && value >= 128 {
-            return self.switch_on(value);
-        }
-        self.quiet_until = 0;
-        self.state.lcdc = value;
-    }
-
-    #[tactic(auto, unfolding(crate::specs::Registers::switched_off, crate::specs::Picture::blank_rows))]
-    fn switch_off(&mut self, lcdc: u8)
-        ensures { self.new ≡ switched_off lcdc self.old }
-    {
-        self.quiet_until = 0;
-        self.state.lcdc = lcdc;
-        self.state.ly = 0;
-        self.state.m_cycle = 0;
-        self.state.window_counter = 0;
-        self.state.seen = false;
-        self.state.signal = false;
-        self.rows.blank();
-    }
-
-    #[tactic(auto, unfolding(crate::specs::Registers::switched_on))]
-    fn switch_on(&mut self, lcdc: u8)
-        ensures { self.new ≡ switched_on lcdc self.old }
-    {
-        self.quiet_until = 0;
-        self.state.lcdc = lcdc;
-        self.state.ly = 0;
-        self.state.m_cycle = 0;
-        self.state.window_counter = 0;
-        self.state.seen = self.state.wy == 0;
-    }
-
-    #[tactic(auto, unfolding(crate::specs::Picture::unrequested, crate::specs::Picture::taken, crate::specs::Registers::stat_written))]
-    fn write_stat(&mut self, value: u8) -> bool
-        ensures picture { self.new ≡ (taken (unrequested (stat_written value self.old))).picture }
-        ensures stat { result ≡ (taken (unrequested (stat_written value self.old))).stat }
-    {
-        self.quiet_until = 0;
-        self.state.stat = value / 8 % 16 * 8;
-        self.take_signal()
-    }
-
-    #[tactic(auto, unfolding(crate::specs::Picture::unrequested, crate::specs::Picture::taken, crate::specs::Registers::lyc_written))]
-    fn write_lyc(&mut self, value: u8) -> bool
-        ensures picture { self.new ≡ (taken (unrequested (lyc_written value self.old))).picture }
-        ensures stat { result ≡ (taken (unrequested (lyc_written value self.old))).stat }
-    {
-        self.quiet_until = 0;
-        self.state.lyc = value;
-        self.take_signal()
-    }
-
-    // Takes the STAT signal. Answers whether it rises.
-    fn take_signal(&mut self) -> bool
-        ensures rises { result ≡ (stat_signal self.old.state && not self.old.state.signal) }
-        ensures taken { self.new ≡ record self.old {
-          state = record self.old.state { signal = stat_signal self.old.state };
-        } }
-    {
-        let signal = self.state.stat_signal();
-        let rises = signal && !self.state.signal;
-        self.state.signal = signal;
-        rises
+        self.prompt.state().at(self.frame_cycle)
     }
 }
+
+ghost use Rattle.std.specs.Prelude.{ℕ};

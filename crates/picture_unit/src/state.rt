@@ -1,4 +1,4 @@
-ghost use Rattle.std.specs.Prelude.{◌≡◌, ◌+◌, ◌<◌, ◌≤◌};
+ghost use Rattle.std.specs.Prelude.{◌≡◌, ◌+◌, ◌%◌, ◌<◌, ◌≤◌, true, Some, None, if◌then◌else◌};
 
 use picture_lines::LineRegisters;
 
@@ -51,7 +51,10 @@ pub struct PictureRequests {
 }
 
 impl PictureState {
-    ghost use Rattle.picture_unit.specs.Picture.{IsLegalPicture, is_on, mode, stat_signal, advanced, entered, begins_vblank, draws, line_registers, state_at_power_on};
+    ghost use Rattle.picture_unit.specs.Picture.{IsLegalPicture, is_on, mode, stat_signal, advanced, entered, begins_vblank, draws, drawn, line_registers, state_at_power_on};
+    ghost use Rattle.picture_unit.specs.Stores.{is_vram_closed, is_oam_closed};
+    ghost use Rattle.picture_unit.specs.Laws.{frame_cycle};
+    ghost use Rattle.picture_unit.specs.LatePicture.{bare, state_after, at_cycle, line_drawn_next, rise, AreQuiet};
     ghost use Rattle.picture_unit.specs.PictureJump.{next_entry, next_change};
     ghost use Rattle.picture_unit.specs.Registers.{stat_value, register_value, register_stored};
 
@@ -163,6 +166,134 @@ impl PictureState {
         self.m_cycle == 20 && self.ly < 144
     }
 
+    /// Whether mode 3 closes VRAM.
+    #[tactic(auto, unfolding(crate::specs::Stores::is_vram_closed))]
+    pub(crate) fn is_vram_closed(&self) -> bool
+        ensures { result ≡ is_vram_closed self.now }
+    {
+        self.mode() == 3
+    }
+
+    /// Whether mode 2 or 3 closes OAM.
+    #[tactic(auto, unfolding(crate::specs::Stores::is_oam_closed))]
+    pub(crate) fn is_oam_closed(&self) -> bool
+        ensures { result ≡ is_oam_closed self.now }
+    {
+        let mode = self.mode();
+        mode == 2 || mode == 3
+    }
+
+    /// The M-cycle of the frame.
+    pub(crate) fn frame_cycle(&self) -> u16
+        ensures { result ≡ frame_cycle self.now }
+    {
+        114 * u16::from(self.ly) + u16::from(self.m_cycle)
+    }
+
+    /// The same at another M-cycle of the frame.
+    pub(crate) fn at(&self, now: u16) -> PictureState
+        requires { now < 17556 }
+        ensures { result ≡ at_cycle now self.now }
+    {
+        let mut state = *self;
+        state.ly = (now / 114) as u8;
+        state.m_cycle = (now % 114) as u8;
+        state
+    }
+
+    /// One M-cycle. Answers what the line is drawn by, if it is drawn in it.
+    #[tactic(auto, unfolding(crate::specs::Picture::tick, crate::specs::Picture::taken, crate::specs::Picture::moved, crate::specs::Picture::drawn, crate::specs::Picture::line_drawn, crate::specs::Picture::window_counter_after, crate::specs::Picture::unrequested, crate::specs::LatePicture::line_drawn_next))]
+    pub(crate) fn tick(&mut self) -> Option<LineRegisters>
+        requires { IsLegalPicture self.old }
+        ensures state { self.new ≡ state_after 1 self.old }
+        ensures legal { IsLegalPicture self.new }
+        ensures line { result ≡ line_drawn_next self.old }
+    {
+        if !self.is_on() {
+            return None;
+        }
+        self.advance();
+        let line = self.line_due();
+        self.signal = self.stat_signal();
+        line
+    }
+
+    /// The same so many M-cycles on.
+    pub(crate) fn after(&self, cycles: u16) -> PictureState
+        requires { IsLegalPicture self.now }
+        ensures state { result ≡ state_after cycles self.now }
+        ensures legal { IsLegalPicture result }
+    {
+        let mut state = *self;
+        for _cycle in 0..cycles {
+            let _ = state.tick();
+        }
+        state
+    }
+
+    /// Counts the row of the window if the line is drawn in this M-cycle, and answers what by.
+    #[tactic(auto, unfolding(crate::specs::Picture::drawn, crate::specs::Picture::line_drawn, crate::specs::Picture::window_counter_after))]
+    fn line_due(&mut self) -> Option<LineRegisters>
+        requires { IsLegalPicture self.old }
+        ensures state { self.new ≡ (drawn (bare self.old)).state }
+        ensures legal { IsLegalPicture self.new }
+        ensures line { result ≡ (if draws self.old then Some (line_registers self.old) else None) }
+    {
+        if !self.draws() {
+            return None;
+        }
+        let by = self.line_registers();
+        if by.is_window_drawn() {
+            self.window_counter = self.window_counter.wrapping_add(1);
+        }
+        Some(by)
+    }
+
+    /// A number of M-cycles in which nothing is requested and the frame does not end: where STAT enables no mode, up to line LYC, if
+    /// it enables that, to VBlank or to the end of the frame; else up to the next entry.
+    pub(crate) fn quiet(&self) -> u16
+        requires { IsLegalPicture self.now }
+        ensures quiet { AreQuiet result self.now }
+        ensures frame { frame_cycle self.now + result < 17556 }
+    {
+        if !self.is_on() || self.stat_signal() != self.signal {
+            return 0;
+        }
+        if self.stat % 64 == 0 {
+            return self.quiet_for_lines();
+        }
+        u16::from(self.next_entry() - 1)
+    }
+
+    // The same where no mode is enabled.
+    fn quiet_for_lines(&self) -> u16
+        requires legal { IsLegalPicture self.now }
+        requires on { is_on self.now ≡ true }
+        requires settled { stat_signal self.now ≡ self.now.signal }
+        requires no_mode { self.now.stat % 64 ≡ 0 }
+        ensures quiet { AreQuiet result self.now }
+        ensures frame { frame_cycle self.now + result < 17556 }
+    {
+        let now = self.frame_cycle();
+        let rise = self.rise();
+        let end = if self.ly < 144 { 16_415 } else { 17_555 };
+        if rise <= now || rise > end {
+            return end - now;
+        }
+        rise - 1 - now
+    }
+
+    // The M-cycle of the frame in which line LYC is entered, if STAT enables that source.
+    fn rise(&self) -> u16
+        ensures { result ≡ rise self.now }
+    {
+        if self.stat == 0 {
+            0
+        } else {
+            114 * u16::from(self.lyc)
+        }
+    }
+
     /// How many M-cycles away the next line, mode 3 or mode 0 is.
     #[tactic(auto, unfolding(crate::specs::PictureJump::next_entry))]
     pub(crate) fn next_entry(&self) -> u8
@@ -180,7 +311,7 @@ impl PictureState {
     }
 
     /// The M-cycle of the line that may next change more than the M-cycle, 114 for the next line's
-    /// first: that of the next entry, but mode 0 is passed over while STAT enables no source.
+    /// first: that of the next entry, but mode 0 is passed over while STAT enables no mode.
     #[inline(always)]
     #[tactic(auto, unfolding(crate::specs::PictureJump::next_change, crate::specs::PictureJump::next_entry))]
     pub(crate) fn change_at(&self) -> u8
@@ -191,7 +322,7 @@ impl PictureState {
     {
         if self.m_cycle < 20 && self.ly < 144 {
             20
-        } else if self.m_cycle < 63 && self.ly < 144 && self.stat != 0 {
+        } else if self.m_cycle < 63 && self.ly < 144 && self.stat % 64 != 0 {
             63
         } else {
             114

@@ -1,5 +1,5 @@
 -- Which instructions leave the memory as it is.
-use Rattle.std.proofs.Common.{◌≡◌, ◌∙◌, ℕ, ◌<◌, Bool, true, false, refl, sym}
+use Rattle.std.proofs.Common.{◌≡◌, ◌∙◌, ℕ, ◌<◌, Bool, true, false, refl, sym, ap}
 use Rattle.std.specs.Prelude.{◌==◌, ◌||◌, if◌then◌else◌}
 use Rattle.std.proofs.lemmas.Bool.{agree_below, agree_below_at}
 use Rattle.opcode_table.specs.Table.{loads_and_steps, jumps_and_stack, bit_instruction, instruction_of}
@@ -12,7 +12,7 @@ use Rattle.sm83_alu.specs.declared.register_file.Flags.{Flags}
 use Rattle.sm83_processor.specs.Rules.{Rules}
 use Rattle.sm83_processor.specs.RegisterOperations.{condition_holds}
 use Rattle.sm83_processor.specs.Execution.{executed, with_operand, with_flags, jumped_relative, returned, at_pc}
-use Rattle.sm83_processor.specs.Opcodes.{executed_behind, past, cycles_with}
+use Rattle.sm83_processor.specs.Opcodes.{taken, instruction_at, executed_behind, past, low_at, high_at, cycles_with}
 use Rattle.sm83_processor.specs.Plain.{KeepsMemory}
 use Rattle.sm83_processor.specs.declared.processor.Processor.{Processor}
 
@@ -168,3 +168,10 @@ keeps_memory_prefixed {M} r o cycles prefix two =
     let short : KeepsMemory r 0xCB cycles =
     λ b c s took. kept_behind r (instruction_of 0xCB b c) s (prefixed s.registers.flags b c (sym took ∙ two)) in
     rw prefix short
+
+-- the memory behind an instruction of such an opcode
+pub memory_behind : {M : Type 0} (r : Rules M) (o cycles : ℕ) (p q : Processor M) → KeepsMemory r o cycles
+    → q ≡ executed_behind r (instruction_at r o (taken p)) (taken p) → cycles ≡ cycles_with (instruction_at r o (taken p)) p.registers.flags
+    → q.memory ≡ p.memory
+memory_behind {M} r o cycles p q keeps after took =
+    ap (λ (s : Processor M). s.memory) after ∙ keeps (low_at r (taken p)) (high_at r (taken p)) (taken p) took

@@ -3,7 +3,7 @@ use Rattle.std.proofs.Common.{◌≡◌, ◌∙◌, ℕ, Bool, false, cond, List
 use Rattle.std.specs.Prelude.{◌&&◌, ◌==◌, ◌%◌, if◌then◌else◌}
 use Rattle.sm83_processor.specs.Rules.{Rules}
 use Rattle.sm83_processor.specs.Steps.{Step, step_of, step_unstopped, dispatched_or_ran, dispatched, ran, waited, passing, settled, byte_at, second_address, decoded_at}
-use Rattle.sm83_processor.specs.Opcodes.{opened, instruction_at, executed_behind, cycles_with}
+use Rattle.sm83_processor.specs.Opcodes.{taken, opened, instruction_at, executed_behind, cycles_with}
 use Rattle.sm83_processor.specs.RegisterOperations.{next_address}
 use Rattle.sm83_processor.specs.Plain.{IsPlain}
 use Rattle.sm83_processor.specs.declared.processor.Processor.{Processor}
@@ -31,38 +31,34 @@ plain_step r p plain =
 abbrev opcode_at : {M : Type 0} → Rules M → Processor M → ℕ
 opcode_at r p = byte_at r p.registers.pc p
 
--- PC one on is the opcode taken
-abbrev pub one_on : {M : Type 0} → Processor M → Processor M
-one_on p = record p { registers = record p.registers { pc = next_address p.registers.pc } }
-
 abbrev taking : {M : Type 0} → Processor M → Bool → Bool → Processor M
 taking p before after = record p {
   registers = record p.registers { pc = if before then p.registers.pc else next_address p.registers.pc };
   state = record p.state { halt_bug = after };
 }
 
-opens : {M : Type 0} (p : Processor M) → p.state.halt_bug ≡ false → one_on p ≡ opened p
+opens : {M : Type 0} (p : Processor M) → p.state.halt_bug ≡ false → taken p ≡ opened p
 opens p e = ap (λ (b : Bool). taking p false b) e ∙ sym (ap (λ (b : Bool). taking p b false) e)
 
 -- what is known of an instruction that ran by its opcode, and of the M-cycles that passed behind it
 pub plainly_after : {M : Type 0} (r : Rules M) (opcode cycles : ℕ) (p q : Processor M) (memory : M) → IsPlain r p → opcode ≡ opcode_at r p
-    → q ≡ executed_behind r (instruction_at r opcode (one_on p)) (one_on p) → cycles ≡ cycles_with (instruction_at r opcode (one_on p)) p.registers.flags
+    → q ≡ executed_behind r (instruction_at r opcode (taken p)) (taken p) → cycles ≡ cycles_with (instruction_at r opcode (taken p)) p.registers.flags
     → memory ≡ r.passed q.memory cycles → record q { memory = memory } ≡ (step_of r p).after
 plainly_after {M} r opcode cycles p q memory plain e f g h =
     let i = instruction_at r (opcode_at r p) (opened p) in
     let same = opens p plain.usual.halt_bug in
     ap (λ (m : M). record q { memory = m }) h
     ∙ ap (passing r cycles) f
-    ∙ ap (λ (n : ℕ). passing r n (executed_behind r (instruction_at r opcode (one_on p)) (one_on p))) g
-    ∙ ap (λ (o : ℕ). passing r (cycles_with (instruction_at r o (one_on p)) p.registers.flags) (executed_behind r (instruction_at r o (one_on p)) (one_on p))) e
+    ∙ ap (λ (n : ℕ). passing r n (executed_behind r (instruction_at r opcode (taken p)) (taken p))) g
+    ∙ ap (λ (o : ℕ). passing r (cycles_with (instruction_at r o (taken p)) p.registers.flags) (executed_behind r (instruction_at r o (taken p)) (taken p))) e
     ∙ ap (λ (s : Processor M). passing r (cycles_with (instruction_at r (opcode_at r p) s) p.registers.flags) (executed_behind r (instruction_at r (opcode_at r p) s) s)) same
     ∙ ap (λ (b : Bool). passing r (cycles_with i p.registers.flags) (settled b i (executed_behind r i (opened p)))) (sym plain.usual.ime_pending)
     ∙ sym (ap (λ (s : Step M). s.after) (plain_step r p plain))
 
 pub plainly_cycles : {M : Type 0} (r : Rules M) (opcode cycles : ℕ) (p : Processor M) → IsPlain r p → opcode ≡ opcode_at r p
-    → cycles ≡ cycles_with (instruction_at r opcode (one_on p)) p.registers.flags → cycles ≡ (step_of r p).stepped.cycles
+    → cycles ≡ cycles_with (instruction_at r opcode (taken p)) p.registers.flags → cycles ≡ (step_of r p).stepped.cycles
 plainly_cycles {M} r opcode cycles p plain e g =
-    g ∙ ap (λ (o : ℕ). cycles_with (instruction_at r o (one_on p)) p.registers.flags) e
+    g ∙ ap (λ (o : ℕ). cycles_with (instruction_at r o (taken p)) p.registers.flags) e
     ∙ ap (λ (s : Processor M). cycles_with (instruction_at r (opcode_at r p) s) p.registers.flags) (opens p plain.usual.halt_bug)
     ∙ sym (ap (λ (s : Step M). s.stepped.cycles) (plain_step r p plain))
 

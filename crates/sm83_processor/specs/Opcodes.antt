@@ -2,7 +2,7 @@
 use Rattle.std.specs.Prelude.{ℕ, ◌+◌, ◌-◌, ◌%◌, false, if◌then◌else◌}
 use Rattle.sm83_processor.specs.Rules.{Rules}
 use Rattle.sm83_processor.specs.RegisterOperations.{next_address, is_taken}
-use Rattle.sm83_processor.specs.Execution.{executed}
+use Rattle.sm83_processor.specs.Execution.{executed, at_pc}
 use Rattle.sm83_processor.specs.Steps.{byte_at, second_address}
 use Rattle.sm83_processor.specs.declared.processor.Processor.{Processor}
 use Rattle.sm83_alu.specs.declared.register_file.Flags.{Flags}
@@ -10,7 +10,11 @@ use Rattle.opcode_table.specs.declared.instruction.Instr.{Instr}
 use Rattle.opcode_table.specs.Table.{instruction_of}
 use Rattle.opcode_table.specs.Timing.{length_of, cycles_of, cycles_taken_of}
 
--- the opcode is taken: PC is at the byte behind it
+-- the opcode at PC is taken: PC is at the byte behind it
+abbrev pub taken : {M : Type 0} → Processor M → Processor M
+taken s = at_pc (next_address s.registers.pc) s
+
+-- the same where `halt_bug` may hold, which ends
 abbrev pub opened : {M : Type 0} → Processor M → Processor M
 opened s = record s { registers = record s.registers { pc = second_address s }; state = record s.state { halt_bug = false } }
 

@@ -2,7 +2,7 @@
 //! by the others.
 
 ghost use Rattle.std.specs.Prelude.{◌≡◌, ◌%◌, ◌/◌, true};
-ghost use Rattle.sm83_processor.specs.Opcodes.{opened, instruction_at, executed_behind, cycles_with};
+ghost use Rattle.sm83_processor.specs.Opcodes.{taken, opened, instruction_at, executed_behind, cycles_with};
 ghost use Rattle.sm83_processor.specs.Plain.{IsUsual};
 ghost use Rattle.opcode_table.specs.Table.{bit_instruction};
 
@@ -28,6 +28,12 @@ pub(crate) const APART: u8 = 0;
 /// As the parameter `WAY` of a call: plain steps in a frame.
 pub const IN_FRAME: u8 = 1;
 
+/// As the parameter `WAY` of a call: plain steps in a frame, in the lower half of ROM.
+pub const IN_LOWER_ROM: u8 = 4;
+
+/// As the parameter `WAY` of a call: plain steps in a frame, in the upper half of ROM.
+pub const IN_UPPER_ROM: u8 = 5;
+
 /// As the parameter `WAY` of a call: plain steps that are counted.
 pub(crate) const COUNTED: u8 = 2;
 
@@ -35,14 +41,14 @@ pub(crate) const COUNTED: u8 = 2;
 pub const REPORTED: u8 = 3;
 
 impl<M: Memory> Processor<M> {
-    /// Executes the instruction of this opcode, with PC just after the opcode. Answers its
+    /// Executes the instruction of this opcode, with PC still at the opcode. Answers its
     /// M-cycles, whether the next one may begin as plainly as this one did, unless an interrupt
     /// comes, and whether it is sure to have left the memory as it was. WAY names the caller: code
     /// is made separately for each, so that it can be inlined into the caller's loop.
     #[inline(always)]
     pub fn run_opcode<const WAY: u8>(&mut self, opcode: u8) -> (u8, bool, bool)
-        ensures after { self.new ≡ executed_behind M.rules (instruction_at M.rules opcode self.old) self.old }
-        ensures cycles { result.0 ≡ cycles_with (instruction_at M.rules opcode self.old) self.old.registers.flags }
+        ensures after { self.new ≡ executed_behind M.rules (instruction_at M.rules opcode (taken self.old)) (taken self.old) }
+        ensures cycles { result.0 ≡ cycles_with (instruction_at M.rules opcode (taken self.old)) self.old.registers.flags }
         ensures usual { result.1 ≡ true → IsUsual self.old.state → IsUsual self.new.state }
         ensures memory { result.2 ≡ true → self.new.memory ≡ self.old.memory }
     {
@@ -62,18 +68,28 @@ impl<M: Memory> Processor<M> {
         ensures after { self.new ≡ executed_behind M.rules (instruction_at M.rules opcode (opened self.old)) (opened self.old) }
         ensures cycles { result ≡ cycles_with (instruction_at M.rules opcode (opened self.old)) self.old.registers.flags }
     {
-        self.registers.pc = self.second();
-        self.state.halt_bug = false;
+        self.open();
         self.run_opcode::<APART>(opcode).0
     }
 
-    /// Executes the instruction of this opcode, with PC just after the opcode, and answers its
+    /// Ends `halt_bug`, with PC where the byte behind it is the one to come.
+    #[inline(always)]
+    fn open(&mut self)
+        ensures { taken self.new ≡ opened self.old }
+    {
+        if self.state.halt_bug {
+            self.registers.pc = self.registers.pc.wrapping_sub(1);
+            self.state.halt_bug = false;
+        }
+    }
+
+    /// Executes the instruction of this opcode, with PC still at the opcode, and answers its
     /// M-cycles. One match on all opcodes makes one jump.
     #[inline(always)]
     #[tactic(auto, unfolding(opcode_table::specs::Table::instruction_of, opcode_table::specs::Table::loads_and_steps, opcode_table::specs::Table::jumps_and_stack))]
     fn run_instruction<const WAY: u8>(&mut self, opcode: u8) -> u8
-        ensures after { self.new ≡ executed_behind M.rules (instruction_at M.rules opcode self.old) self.old }
-        ensures cycles { result ≡ cycles_with (instruction_at M.rules opcode self.old) self.old.registers.flags }
+        ensures after { self.new ≡ executed_behind M.rules (instruction_at M.rules opcode (taken self.old)) (taken self.old) }
+        ensures cycles { result ≡ cycles_with (instruction_at M.rules opcode (taken self.old)) self.old.registers.flags }
     {
         match opcode {
             0x00 => self.run_nop(),
@@ -279,7 +295,7 @@ impl<M: Memory> Processor<M> {
             0xc8 => self.run_return_if(Condition::Zero),
             0xc9 => self.run_return(),
             0xca => self.run_jump_if(Condition::Zero, self.word()),
-            0xcb => self.run_bit_opcode(self.low()),
+            0xcb => self.run_prefixed::<WAY>(self.low()),
             0xcc => self.run_call_if(Condition::Zero, self.word()),
             0xcd => self.run_call(self.word()),
             0xce => self.run_operate_byte(Operation::AddCarry, self.low()),
@@ -335,13 +351,35 @@ impl<M: Memory> Processor<M> {
         }
     }
 
-    /// Executes the instruction after an opcode CB, and answers its M-cycles. One match on all bytes
-    /// makes one jump to code in which the number and the operand are fixed. An operand in memory is
-    /// apart, so that the others save no registers for its calls.
+    /// Executes the instruction of an opcode CB and this byte, and answers its M-cycles. In a frame
+    /// it is in line, since a call costs as much as most of these instructions.
+    #[inline(always)]
+    fn run_prefixed<const WAY: u8>(&mut self, byte: u8) -> u8
+        ensures after { self.new ≡ executed_behind M.rules (bit_instruction (byte / 64) (byte % 8) (byte / 8 % 8)) (taken self.old) }
+        ensures cycles { result ≡ cycles_with (bit_instruction (byte / 64) (byte % 8) (byte / 8 % 8)) self.old.registers.flags }
+    {
+        if WAY == IN_FRAME || WAY == IN_LOWER_ROM || WAY == IN_UPPER_ROM {
+            self.run_bit_opcode::<WAY>(byte)
+        } else {
+            self.run_bit_opcode_apart(byte)
+        }
+    }
+
     #[inline(never)]
+    fn run_bit_opcode_apart(&mut self, byte: u8) -> u8
+        ensures after { self.new ≡ executed_behind M.rules (bit_instruction (byte / 64) (byte % 8) (byte / 8 % 8)) (taken self.old) }
+        ensures cycles { result ≡ cycles_with (bit_instruction (byte / 64) (byte % 8) (byte / 8 % 8)) self.old.registers.flags }
+    {
+        self.run_bit_opcode::<APART>(byte)
+    }
+
+    /// Executes the instruction of an opcode CB and this byte, and answers its M-cycles. One match on
+    /// all bytes makes one jump to code in which the number and the operand are fixed. An operand in
+    /// memory is apart, so that the others save no registers for its calls.
+    #[inline(always)]
     #[tactic(auto, unfolding(opcode_table::specs::Table::bit_instruction))]
-    fn run_bit_opcode(&mut self, byte: u8) -> u8
-        ensures after { self.new ≡ executed_behind M.rules (bit_instruction (byte / 64) (byte % 8) (byte / 8 % 8)) self.old }
+    fn run_bit_opcode<const WAY: u8>(&mut self, byte: u8) -> u8
+        ensures after { self.new ≡ executed_behind M.rules (bit_instruction (byte / 64) (byte % 8) (byte / 8 % 8)) (taken self.old) }
         ensures cycles { result ≡ cycles_with (bit_instruction (byte / 64) (byte % 8) (byte / 8 % 8)) self.old.registers.flags }
     {
         match byte {

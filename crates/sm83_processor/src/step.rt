@@ -177,7 +177,6 @@ impl<M: Memory> Processor<M> {
         ensures cycles { result.0 ≡ (step_of M.rules self.old).stepped.cycles }
         ensures plain { result.1 ≡ true → IsPlain M.rules self.new }
     {
-        self.registers.pc = self.registers.pc.wrapping_add(1);
         let (cycles, usual, _) = self.run_opcode::<WAY>(opcode);
         if !usual {
             self.memory.pass(cycles);

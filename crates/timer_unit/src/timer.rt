@@ -90,11 +90,11 @@ impl Timer {
         self.count_falls(falls)
     }
 
-    /// A number of M-cycles, at most 255, in which the interrupt is not requested: all of them while TAC stops the timer.
-    pub fn unrequested_for(&self) -> u8
+    /// A number of M-cycles, at most 65,535, in which the interrupt is not requested: all of them while TAC stops the timer.
+    pub fn unrequested_for(&self) -> u16
         ensures { (ticks result self.now).requested ≡ false }
     {
-        self.cycles_below_overflow().min(255) as u8
+        self.cycles_below_overflow().min(65_535) as u16
     }
 
     /// A number of M-cycles in which TIMA does not overflow.
@@ -103,7 +103,7 @@ impl Timer {
         ensures legal { IsLegalTimer self.now }
     {
         if self.state.tac < 4 {
-            return 255;
+            return 65_535;
         }
         self.cycles_to_fall() - 1 + self.cycles_of_counts(255 - self.state.tima)
     }

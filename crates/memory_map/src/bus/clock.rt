@@ -2,6 +2,7 @@ ghost use Rattle.std.specs.Prelude.{◌≡◌, ◌<◌, ◌≤◌, ◌+◌, ◌-
 ghost use Rattle.memory_map.specs.Bus.{pending_interrupts};
 ghost use Rattle.std.specs.Fn.{iterate};
 ghost use Rattle.picture_unit.specs.Picture.{is_on};
+ghost use Rattle.picture_unit.specs.Laws.{frame_cycle};
 ghost use Rattle.repeated_steps.specs.NextEvent.{IsNextEvent, earlier};
 ghost use Rattle.memory_map.specs.Ticks.{tick, tick_timer, tick_serial, tick_dma_and_picture, tick_picture, copied_byte, happens};
 ghost use Rattle.memory_map.specs.Quiet.{AreQuietOn, IsCalm};
@@ -28,7 +29,7 @@ impl Bus {
         ensures ticks { self.new ≡ iterate tick cycles self.old }
         ensures none_pending { result ≡ true → pending_interrupts self.new ≡ 0 }
     {
-        if cycles < self.calm() {
+        if u16::from(cycles) < self.calm() {
             self.move_on(cycles);
             return true;
         }
@@ -36,16 +37,16 @@ impl Bus {
         false
     }
 
-    /// A number of M-cycles of which all but the last change nothing but the timer's counter, TIMA and the M-cycle of the line; where it
-    /// is not 0, IE and IF share no bit. None where not that much is known.
+    /// A number of M-cycles of which all but the last request nothing and copy no byte; where it is not 0, IE and IF share no bit.
+    /// None where not that much is known.
     #[inline(always)]
-    pub fn calm(&self) -> u8
+    pub fn calm(&self) -> u16
         ensures { IsCalm result self.now }
     {
-        self.calm_until.saturating_sub(self.picture.m_cycle())
+        self.calm_until.saturating_sub(self.picture.frame_cycle())
     }
 
-    /// Lets M-cycles pass that change nothing else, as `calm` tells: the fastest call for them. Condition: they are such.
+    /// Lets M-cycles pass that request nothing and copy no byte, as `calm` tells: the fastest call for them. Condition: they are such.
     #[inline(always)]
     pub fn move_on(&mut self, cycles: u8)
         requires { AreQuietOn cycles self.old }
@@ -59,7 +60,7 @@ impl Bus {
     fn pass_asked(&mut self, cycles: u8)
         ensures { self.new ≡ iterate tick cycles self.old }
     {
-        if cycles <= self.quiet() {
+        if u16::from(cycles) <= self.quiet() {
             return self.move_on(cycles);
         }
         if self.timer_runs_alone() {
@@ -82,10 +83,10 @@ impl Bus {
 
     /// A number of quiet M-cycles, where IE and IF may share a bit.
     #[inline(always)]
-    fn quiet(&self) -> u8
+    fn quiet(&self) -> u16
         ensures { AreQuietOn result self.now }
     {
-        self.quiet_until.saturating_sub(self.picture.m_cycle())
+        self.quiet_until.saturating_sub(self.picture.frame_cycle())
     }
 
     #[inline]
@@ -102,7 +103,7 @@ impl Bus {
     fn look_ahead(&mut self)
         ensures { self.new ≡ self.old }
     {
-        let now = self.picture.m_cycle();
+        let now = self.picture.frame_cycle();
         let quiet = self.quiet_cycles();
         if self.shared_by_flags() == 0 {
             self.calm_until = now + quiet + 1;
@@ -110,6 +111,16 @@ impl Bus {
         } else {
             self.calm_until = 0;
             self.quiet_until = now + quiet;
+        }
+    }
+
+    /// Counts the M-cycles that are known to be quiet as calm, if IE and IF share no bit any more.
+    pub(super) fn find_calm(&mut self)
+        ensures { self.new ≡ self.old }
+    {
+        if self.shared_by_flags() == 0 {
+            self.calm_until = self.quiet_until.saturating_add(1);
+            self.quiet_until = 0;
         }
     }
 
@@ -124,11 +135,11 @@ impl Bus {
         self.control.ie & self.interrupt_flag()
     }
 
-    fn quiet_cycles(&self) -> u8
-        ensures line { self.now.picture.picture.state.m_cycle + result < 114 }
+    fn quiet_cycles(&self) -> u16
+        ensures frame { frame_cycle self.now.picture.picture.state + result < 17556 }
         ensures quiet { AreQuietOn result self.now }
     {
-        if self.timer.at != self.picture.m_cycle() {
+        if self.timer.at != self.picture.frame_cycle() {
             return 0;
         }
         if self.control.dma_copied < 160 {
@@ -143,7 +154,7 @@ impl Bus {
     /// For how many M-cycles IE and IF are sure to share no bit: before each of them they share
     /// none.
     #[inline]
-    pub fn none_pending_for(&self) -> u8
+    pub fn none_pending_for(&self) -> u16
         ensures { (k : ℕ) → k < result → pending_interrupts (iterate tick k self.now) ≡ 0 }
     {
         self.calm()
@@ -159,7 +170,7 @@ impl Bus {
             Some(1)
         } else {
             earlier(
-                self.timer.copy_at(self.picture.m_cycle()).due(),
+                self.timer.copy_at(self.picture.frame_cycle()).due(),
                 earlier(self.serial.due(), self.picture.due()),
             )
         }
@@ -172,7 +183,7 @@ impl Bus {
     {
         self.calm_until = 0;
         self.quiet_until = 0;
-        self.timer.pass(self.picture.m_cycle(), cycles);
+        self.timer.pass(self.picture.frame_cycle(), cycles);
     }
 
     #[inline]
@@ -216,9 +227,9 @@ impl Bus {
     {
         self.calm_until = 0;
         self.quiet_until = 0;
-        let now = self.picture.m_cycle();
+        let now = self.picture.frame_cycle();
         let requests = self.picture.pass(cycles);
-        self.timer.settle(now, self.picture.m_cycle());
+        self.timer.settle(now, self.picture.frame_cycle());
         self.vblank_requested |= requests.vblank;
         self.stat_requested |= requests.stat;
     }

@@ -15,7 +15,7 @@ impl Bus {
     pub fn pending_interrupts(&self) -> u8
         ensures { result ≡ pending_interrupts self.now }
     {
-        if self.calm_until > self.picture.m_cycle() {
+        if self.calm_until > self.picture.frame_cycle() {
             return 0;
         }
         self.control.ie & self.interrupt_flag()
@@ -25,11 +25,18 @@ impl Bus {
     pub fn acknowledge(&mut self, bit: u8)
         ensures { self.new ≡ acknowledged bit self.old }
     {
+        self.withdraw(bit);
+        self.find_calm();
+    }
+
+    fn withdraw(&mut self, bit: u8)
+        ensures { self.new ≡ acknowledged bit self.old }
+    {
         self.calm_until = 0;
         match bit {
             0 => self.vblank_requested = false,
             1 => self.stat_requested = false,
-            2 => self.timer.set_requested(self.picture.m_cycle(), false),
+            2 => self.timer.set_requested(self.picture.frame_cycle(), false),
             3 => self.serial_requested = false,
             4 => self.control.joypad = false,
             _ => {}
@@ -55,9 +62,10 @@ impl Bus {
         self.vblank_requested = value / 1 % 2 == 1;
         self.stat_requested = value / 2 % 2 == 1;
         self.timer
-            .set_requested(self.picture.m_cycle(), value / 4 % 2 == 1);
+            .set_requested(self.picture.frame_cycle(), value / 4 % 2 == 1);
         self.serial_requested = value / 8 % 2 == 1;
         self.control.joypad = value / 16 % 2 == 1;
+        self.find_calm();
     }
 
     #[tactic(auto, unfolding(crate::specs::Bus::register_value))]
@@ -68,10 +76,10 @@ impl Bus {
             0xff00 => self.control.p1(),
             0xff01 => self.serial.sb(),
             0xff02 => self.serial.sc(),
-            0xff04 => self.timer.copy_at(self.picture.m_cycle()).div(),
-            0xff05 => self.timer.copy_at(self.picture.m_cycle()).tima(),
-            0xff06 => self.timer.copy_at(self.picture.m_cycle()).tma(),
-            0xff07 => self.timer.copy_at(self.picture.m_cycle()).tac(),
+            0xff04 => self.timer.copy_at(self.picture.frame_cycle()).div(),
+            0xff05 => self.timer.copy_at(self.picture.frame_cycle()).tima(),
+            0xff06 => self.timer.copy_at(self.picture.frame_cycle()).tma(),
+            0xff07 => self.timer.copy_at(self.picture.frame_cycle()).tac(),
             0xff0f => 0xe0 + self.interrupt_flag() % 32,
             0xff46 => self.control.dma,
             _ => self.picture.read_register(address),
@@ -118,7 +126,7 @@ impl Bus {
     {
         self.calm_until = 0;
         self.quiet_until = 0;
-        self.timer.write_div(self.picture.m_cycle());
+        self.timer.write_div(self.picture.frame_cycle());
     }
 
     fn write_tac(&mut self, value: u8)
@@ -126,7 +134,7 @@ impl Bus {
     {
         self.calm_until = 0;
         self.quiet_until = 0;
-        self.timer.write_tac(self.picture.m_cycle(), value);
+        self.timer.write_tac(self.picture.frame_cycle(), value);
     }
 
     fn write_tima(&mut self, value: u8)
@@ -134,7 +142,7 @@ impl Bus {
     {
         self.calm_until = 0;
         self.quiet_until = 0;
-        self.timer.write_tima(self.picture.m_cycle(), value);
+        self.timer.write_tima(self.picture.frame_cycle(), value);
     }
 
     fn write_tma(&mut self, value: u8)
@@ -142,7 +150,7 @@ impl Bus {
     {
         self.calm_until = 0;
         self.quiet_until = 0;
-        self.timer.write_tma(self.picture.m_cycle(), value);
+        self.timer.write_tma(self.picture.frame_cycle(), value);
     }
 
     fn write_picture(&mut self, address: u16, value: u8)
@@ -150,8 +158,8 @@ impl Bus {
     {
         self.calm_until = 0;
         self.quiet_until = 0;
-        let now = self.picture.m_cycle();
+        let now = self.picture.frame_cycle();
         self.stat_requested |= self.picture.write_register(address, value);
-        self.timer.settle(now, self.picture.m_cycle());
+        self.timer.settle(now, self.picture.frame_cycle());
     }
 }

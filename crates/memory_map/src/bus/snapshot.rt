@@ -20,7 +20,7 @@ impl Bus {
             interrupt_flag: self.interrupt_flag(),
             buttons: self.control.buttons,
             p1_select: self.control.p1_select,
-            timer: self.timer.copy_at(self.picture.m_cycle()).state(),
+            timer: self.timer.copy_at(self.picture.frame_cycle()).state(),
             serial: self.serial.state(),
             dma: self.control.dma,
             dma_copied: self.control.dma_copied,
@@ -38,7 +38,7 @@ impl Bus {
         self.quiet_until = 0;
         self.serial.restore(&state.serial);
         self.picture.restore(&state.picture);
-        self.timer.restore(self.picture.m_cycle(), &state.timer);
+        self.timer.restore(self.picture.frame_cycle(), &state.timer);
         self.banks.restore(&state.banks);
         self.control.ie = state.ie;
         self.control.buttons = state.buttons;
@@ -96,8 +96,16 @@ impl Bus {
         &self.picture
     }
 
-    /// Draws the lines of the picture that were only noted when they were due. No value changes:
-    /// the rows are then read quickly.
+    /// Gives the picture unit the M-cycles that it is late. No value changes: what is asked of it is
+    /// then answered quickly.
+    pub fn catch_up(&mut self)
+        ensures { self.new ≡ self.old }
+    {
+        self.picture.catch_up();
+    }
+
+    /// Catches up, and draws the lines of the picture that were only noted when they were due. No
+    /// value changes: the rows are then read quickly.
     pub fn draw_late(&mut self)
         ensures { self.new ≡ self.old }
     {

@@ -13,7 +13,8 @@ impl Picture {
         ensures legal { IsLegalPicture result }
         ensures rows { length self.now.rows ≡ 144 }
     {
-        self.state
+        let late = self.frame_cycle - self.prompt.frame_cycle();
+        self.prompt.state().after(late)
     }
 
     /// Sets the registers and counters. Condition: they are legal.
@@ -21,54 +22,72 @@ impl Picture {
         requires { IsLegalPicture state.now }
         ensures { self.new ≡ record self.old { state = state.now } }
     {
+        self.prompt.pass_to(self.frame_cycle);
+        self.prompt.restore(state);
+        self.frame_cycle = self.prompt.frame_cycle();
         self.quiet_until = 0;
-        self.state = *state;
-        self.tiles.mark_stale();
     }
 
     /// The bytes of VRAM or OAM.
-    #[tactic(auto, unfolding(crate::specs::Stores::region_of, crate::specs::Stores::region_length))]
+    #[tactic(auto, unfolding(crate::specs::Stores::region_of))]
     pub fn region(&self, region: PictureRegion) -> &[u8]
         ensures bytes { result.now ≡ region_of self.now region }
         ensures whole { length result.now ≡ region_length region }
     {
-        match region {
-            PictureRegion::Vram => self.tiles.bytes(),
-            PictureRegion::Oam => &self.oam,
-        }
+        self.prompt.region(region)
     }
 
     /// Sets all bytes of VRAM or OAM. Condition: there are as many as the region has.
-    #[tactic(auto, unfolding(crate::specs::Stores::region_filled, crate::specs::Stores::region_length))]
     pub fn fill(&mut self, region: PictureRegion, bytes: &[u8])
         requires { length bytes.now ≡ region_length region }
         ensures { self.new ≡ region_filled self.old region bytes.now }
     {
-        self.rows.settle(&self.tiles, &self.oam);
-        match region {
-            PictureRegion::Vram => self.tiles.fill(bytes),
-            PictureRegion::Oam => self.oam.copy_from_slice(bytes),
-        }
+        self.prompt.pass_to(self.frame_cycle);
+        self.prompt.fill(region, bytes);
+        self.frame_cycle = self.prompt.frame_cycle();
+        self.quiet_until = 0;
     }
 
     /// The 160 shades of a row, 0 to 3, the leftmost first. Condition: the row is below 144.
     ///
-    /// A row that is not drawn yet is drawn pixel by pixel, at each call: `draw_late` before is
-    /// quicker.
+    /// A row that is not drawn yet is drawn pixel by pixel, at each call, and for M-cycles that the
+    /// picture unit is late all lines are counted: `draw_late` before is quicker.
     pub fn row(&self, y: usize) -> [u8; 160]
         requires { y < 144 }
         ensures row { slice_get self.now.rows y ≡ Some result }
         ensures shades { All (λ shade. shade < 4) result }
     {
-        self.rows.row(y, &self.tiles, &self.oam)
+        let late = self.frame_cycle - self.prompt.frame_cycle();
+        self.prompt.row_after(late, y)
     }
 
-    /// Draws the lines that were only noted when they were due. No value changes: the rows are then
-    /// read and written quickly.
+    /// How many rows the picture has: 144.
+    pub(crate) fn row_count(&self) -> usize
+        ensures count { result ≡ length self.now.rows }
+        ensures all { result ≡ 144 }
+    {
+        self.prompt.row_count()
+    }
+
+    /// Gives the picture unit the M-cycles that it is late. No value changes: what is asked for
+    /// without `draw_late` is then answered quickly.
+    pub fn catch_up(&mut self)
+        ensures { self.new ≡ self.old }
+    {
+        self.prompt.pass_to(self.frame_cycle);
+        self.frame_cycle = self.prompt.frame_cycle();
+        self.quiet_until = self.frame_cycle + self.prompt.quiet();
+    }
+
+    /// Catches up, and draws the lines that were only noted when they were due. No value changes:
+    /// the rows are then read and written quickly.
     pub fn draw_late(&mut self)
         ensures { self.new ≡ self.old }
     {
-        self.rows.draw(&mut self.tiles, &self.oam);
+        self.prompt.pass_to(self.frame_cycle);
+        self.prompt.draw_late();
+        self.frame_cycle = self.prompt.frame_cycle();
+        self.quiet_until = self.frame_cycle + self.prompt.quiet();
     }
 
     /// Sets the shades of a row. Condition: the row is below 144, and each shade is at most 3.
@@ -77,6 +96,9 @@ impl Picture {
         requires shades { All (λ shade. shade < 4) row.now }
         ensures { self.new ≡ record self.old { rows = slice_set self.old.rows y row.now } }
     {
-        self.rows.set(y, row);
+        self.prompt.pass_to(self.frame_cycle);
+        self.prompt.set_row(y, row);
+        self.frame_cycle = self.prompt.frame_cycle();
+        self.quiet_until = 0;
     }
 }

@@ -8,7 +8,7 @@ use Rattle.machine.proofs.Waiting.{stepped_on}
 use Rattle.machine.proofs.frame.run_calm_steps.Goals as goal
 
 pub loop-passed-init : goal.loop-passed-init
-loop-passed-init c =
+loop-passed-init g c =
     let left = c.min-calm.result in
     let end = c.args.passed + left in
     let same : end - left ≡ c.args.passed = omega arith in record {
@@ -22,7 +22,7 @@ loop-passed-init c =
     }
 
 pub returns-then-not-is_calm-clause-run : goal.returns-then-not-is_calm-clause-run
-returns-then-not-is_calm-clause-run c =
+returns-then-not-is_calm-clause-run g c =
     let step = c.run_plain_step-now in
     let known = c.loop-passed.invariant in
     ap (λ (n : ℕ). steps_until bus_rules 17556 n step.new.processor) (step.ensures.now c.if-not-is_calm.true)
@@ -30,23 +30,23 @@ returns-then-not-is_calm-clause-run c =
     ∙ known.run
 
 pub returns-then-not-is_calm-clause-more : goal.returns-then-not-is_calm-clause-more
-returns-then-not-is_calm-clause-more c =
+returns-then-not-is_calm-clause-more g c =
     let bounds = step-bounds bus_rules c.loop-passed.processor in
     omega (arith, c.loop-passed.invariant.start, c.run_plain_step-now.ensures.now c.if-not-is_calm.true, bounds.some)
 
 pub returns-then-not-is_calm-clause-few : goal.returns-then-not-is_calm-clause-few
-returns-then-not-is_calm-clause-few c =
+returns-then-not-is_calm-clause-few g c =
     let bounds = step-bounds bus_rules c.loop-passed.processor in
     omega (arith, c.loop-passed.invariant.below, c.run_plain_step-now.ensures.now c.if-not-is_calm.true, bounds.few)
 
 pub loop-passed-smaller : goal.loop-passed-smaller
-loop-passed-smaller c =
+loop-passed-smaller g c =
     let bounds = step-bounds bus_rules c.loop-passed.processor in
     let step = c.run_plain_step-now in
     omega (arith, step.ensures.fewer c.if-not-is_calm.false, step.ensures.left c.if-not-is_calm.false, bounds.some)
 
 pub loop-passed-preserved : goal.loop-passed-preserved
-loop-passed-preserved c =
+loop-passed-preserved g c =
     let step = c.run_plain_step-now in
     let known = c.loop-passed.invariant in
     let left = c.loop-passed.left in
@@ -64,3 +64,24 @@ loop-passed-preserved c =
       plain = step.ensures.still_plain c.if-not-is_calm.false;
       calm = step.ensures.calm c.if-not-is_calm.false;
     }
+
+pub returns-then-not-is_there-clause-run : goal.returns-then-not-is_there-clause-run
+returns-then-not-is_there-clause-run g c =
+    let step = c.run_plain_step-now in
+    let known = c.loop-passed.invariant in
+    let left = c.loop-passed.left in
+    let end = c.args.passed + c.min-calm.result in
+    let rest = step.result.1 in
+    let cycles = (step_of bus_rules c.loop-passed.processor).stepped.cycles in
+    let fewer : cycles < left = step.ensures.fewer c.if-not-is_calm.false in
+    let taken : step.result.1 ≡ left - cycles = step.ensures.left c.if-not-is_calm.false in
+    let on : end - rest ≡ end - left + cycles = omega (arith, taken, fewer, known.within) in
+    ap (λ (n : ℕ). steps_until bus_rules 17556 n step.new.processor) on
+    ∙ stepped_on (end - left) cycles c.loop-passed.processor step.new.processor known.below step.ensures.after refl ∙ known.run
+
+pub returns-then-not-is_there-clause-more : goal.returns-then-not-is_there-clause-more
+returns-then-not-is_there-clause-more g c =
+    let step = c.run_plain_step-now in
+    let known = c.loop-passed.invariant in
+    let bounds = step-bounds bus_rules c.loop-passed.processor in
+    omega (arith, step.ensures.fewer c.if-not-is_calm.false, step.ensures.left c.if-not-is_calm.false, known.within, known.start, bounds.some)

@@ -6,7 +6,7 @@ use Rattle.sm83_processor.specs.Plain.{IsPlain}
 use Rattle.machine.proofs.frame.run_calm_steps.Given as goal
 
 abbrev pub invariant-loop-passed : goal.invariant-loop-passed
-invariant-loop-passed l = record {
+invariant-loop-passed g l = record {
   run : steps_until bus_rules 17556 (l.end - l.left) l.processor ≡ steps_until bus_rules 17556 l.fn.passed l.fn.processor;
   start : l.fn.passed ≤ l.end - l.left;
   below : l.end - l.left < 17556;
@@ -17,4 +17,4 @@ invariant-loop-passed l = record {
 }
 
 abbrev pub decreases-loop-passed : goal.decreases-loop-passed
-decreases-loop-passed l = l.left
+decreases-loop-passed g l = l.left

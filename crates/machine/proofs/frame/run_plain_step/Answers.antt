@@ -1,9 +1,9 @@
-use Rattle.std.proofs.Common.{◌≡◌, ◌<◌, ◌+◌, ◌-◌, ◌%◌, refl, sym, ap, subst, ◌∙◌, arith}
+use Rattle.std.proofs.Common.{◌≡◌, ◌<◌, ◌+◌, ◌-◌, ◌%◌, refl, sym, subst, ◌∙◌, arith}
 use Rattle.std.specs.Fn.{iterate}
 use Rattle.memory_map.specs.BusRules.{bus_rules}
 use Rattle.memory_map.specs.Bus.{pending_interrupts}
 use Rattle.memory_map.specs.Ticks.{tick}
-use Rattle.memory_map.specs.Quiet.{AreQuietOn, IsCalm}
+use Rattle.memory_map.specs.Quiet.{IsCalm}
 use Rattle.memory_map.proofs.QuietCycles.{fewer_are_quiet, calm_behind}
 use Rattle.sm83_processor.proofs.PlainSteps.{plainly_after, plainly_cycles}
 use Rattle.sm83_processor.proofs.StepCycles.{step-bounds}
@@ -11,70 +11,70 @@ use Rattle.machine.proofs.PlainFrames.{uninterrupted}
 use Rattle.machine.proofs.frame.run_plain_step.Goals as goal
 
 pub returns-then-not-usual-clause-after : goal.returns-then-not-usual-clause-after
-returns-then-not-usual-clause-after c =
+returns-then-not-usual-clause-after g c =
     let p = c.args.processor.now in
     let run = c.run_opcode-cycles in
     let q = run.new.self in
     c.pass_apart.ensures ∙ plainly_after bus_rules c.read-opcode.result run.result.0 p q (iterate tick run.result.0 q.memory) c.requires.plain c.read-opcode.ensures run.ensures.after run.ensures.cycles refl
 
 pub returns-then-not-usual-clause-now : goal.returns-then-not-usual-clause-now
-returns-then-not-usual-clause-now c =
+returns-then-not-usual-clause-now g c =
     let run = c.run_opcode-cycles in
     let took = plainly_cycles bus_rules c.read-opcode.result run.result.0 c.args.processor.now c.requires.plain c.read-opcode.ensures run.ensures.cycles in
     λ _. omega (arith, c.time_behind.ensures, took)
 
 pub returns-then-not-is_calm-clause-after : goal.returns-then-not-is_calm-clause-after
-returns-then-not-is_calm-clause-after c =
+returns-then-not-is_calm-clause-after g c =
     let p = c.args.processor.now in
     let run = c.run_opcode-cycles in
     let q = run.new.self in
     c.pass_usual-is_plain.ensures.after ∙ plainly_after bus_rules c.read-opcode.result run.result.0 p q (iterate tick run.result.0 q.memory) c.requires.plain c.read-opcode.ensures run.ensures.after run.ensures.cycles refl
 
 pub returns-then-not-is_calm-clause-now : goal.returns-then-not-is_calm-clause-now
-returns-then-not-is_calm-clause-now c =
+returns-then-not-is_calm-clause-now g c =
     let run = c.run_opcode-cycles in
     let took = plainly_cycles bus_rules c.read-opcode.result run.result.0 c.args.processor.now c.requires.plain c.read-opcode.ensures run.ensures.cycles in
     λ _. omega (arith, c.time_behind-then-not-is_calm.ensures, took)
 
-pub returns-then-cycles-left-clause-after : goal.returns-then-cycles-left-clause-after
-returns-then-cycles-left-clause-after c =
+pub returns-then-taken-left-clause-after : goal.returns-then-taken-left-clause-after
+returns-then-taken-left-clause-after g c =
     let p = c.args.processor.now in
     let run = c.run_opcode-cycles in
     let q = run.new.self in
-    c.pass_usual-is_plain-then-cycles-left.ensures.after ∙ plainly_after bus_rules c.read-opcode.result run.result.0 p q (iterate tick run.result.0 q.memory) c.requires.plain c.read-opcode.ensures run.ensures.after run.ensures.cycles refl
+    c.pass_usual-is_plain-then-taken-left.ensures.after ∙ plainly_after bus_rules c.read-opcode.result run.result.0 p q (iterate tick run.result.0 q.memory) c.requires.plain c.read-opcode.ensures run.ensures.after run.ensures.cycles refl
 
-pub returns-then-cycles-left-clause-now : goal.returns-then-cycles-left-clause-now
-returns-then-cycles-left-clause-now c =
+pub returns-then-taken-left-clause-now : goal.returns-then-taken-left-clause-now
+returns-then-taken-left-clause-now g c =
     let run = c.run_opcode-cycles in
     let took = plainly_cycles bus_rules c.read-opcode.result run.result.0 c.args.processor.now c.requires.plain c.read-opcode.ensures run.ensures.cycles in
     let bounds = step-bounds bus_rules c.args.processor.now in
-    λ _. omega (arith, c.time_beyond.ensures, took, bounds.few, c.if-cycles-left.true, c.requires.within)
+    λ _. omega (arith, c.time_beyond.ensures, took, bounds.few, c.if-taken-left.true, c.from-taken.ensures, c.requires.within, c.requires.end)
 
 pub stays_calm-is_calm-requires : goal.stays_calm-is_calm-requires
-stays_calm-is_calm-requires c = record { kept = λ kept. subst (IsCalm c.args.left) (sym (c.run_opcode-cycles.ensures.memory kept)) c.requires.calm }
+stays_calm-is_calm-requires g c = record { kept = λ kept. subst (IsCalm c.args.left) (sym (c.run_opcode-cycles.ensures.memory kept)) c.requires.calm }
 
 pub move_on-requires : goal.move_on-requires
-move_on-requires c =
+move_on-requires g c =
     let p = c.args.processor.now in
     let run = c.run_opcode-cycles in
     let q = run.new.self in
-    let few : run.result.0 < c.args.left = omega (arith, c.if-cycles-left.false) in
+    let few : run.result.0 < c.args.left = omega (arith, c.if-taken-left.false, c.from-taken.ensures) in
     let still = c.stays_calm-is_calm.ensures c.if-not-is_calm.false in
     fewer_are_quiet (c.args.left - 1) run.result.0 q.memory (omega (arith, few)) still.quiet
 
 pub returns-clause-after : goal.returns-clause-after
-returns-clause-after c =
+returns-clause-after g c =
     let p = c.args.processor.now in
     let run = c.run_opcode-cycles in
     let q = run.new.self in
     plainly_after bus_rules c.read-opcode.result run.result.0 p q c.move_on.new.self c.requires.plain c.read-opcode.ensures run.ensures.after run.ensures.cycles c.move_on.ensures
 
 pub returns-clause-plain : goal.returns-clause-plain
-returns-clause-plain c =
+returns-clause-plain g c =
     let p = c.args.processor.now in
     let run = c.run_opcode-cycles in
     let q = run.new.self in
-    let few : run.result.0 < c.args.left = omega (arith, c.if-cycles-left.false) in
+    let few : run.result.0 < c.args.left = omega (arith, c.if-taken-left.false, c.from-taken.ensures) in
     let still = c.stays_calm-is_calm.ensures c.if-not-is_calm.false in
     let calm = subst (IsCalm (c.args.left - run.result.0)) (sym c.move_on.ensures) (calm_behind c.args.left run.result.0 q.memory few still) in
     λ _. record {
@@ -83,11 +83,11 @@ returns-clause-plain c =
     }
 
 pub returns-clause-still_plain : goal.returns-clause-still_plain
-returns-clause-still_plain c =
+returns-clause-still_plain g c =
     let p = c.args.processor.now in
     let run = c.run_opcode-cycles in
     let q = run.new.self in
-    let few : run.result.0 < c.args.left = omega (arith, c.if-cycles-left.false) in
+    let few : run.result.0 < c.args.left = omega (arith, c.if-taken-left.false, c.from-taken.ensures) in
     let still = c.stays_calm-is_calm.ensures c.if-not-is_calm.false in
     let calm = subst (IsCalm (c.args.left - run.result.0)) (sym c.move_on.ensures) (calm_behind c.args.left run.result.0 q.memory few still) in
     λ _. record {
@@ -96,24 +96,24 @@ returns-clause-still_plain c =
     }
 
 pub returns-clause-fewer : goal.returns-clause-fewer
-returns-clause-fewer c =
+returns-clause-fewer g c =
     let run = c.run_opcode-cycles in
     let took = plainly_cycles bus_rules c.read-opcode.result run.result.0 c.args.processor.now c.requires.plain c.read-opcode.ensures run.ensures.cycles in
-    λ _. omega (arith, took, c.if-cycles-left.false)
+    λ _. omega (arith, took, c.if-taken-left.false, c.from-taken.ensures)
 
 pub returns-clause-left : goal.returns-clause-left
-returns-clause-left c =
+returns-clause-left g c =
     let run = c.run_opcode-cycles in
     let took = plainly_cycles bus_rules c.read-opcode.result run.result.0 c.args.processor.now c.requires.plain c.read-opcode.ensures run.ensures.cycles in
-    λ _. omega (arith, took, c.if-cycles-left.false)
+    λ _. omega (arith, took, c.if-taken-left.false, c.from-taken.ensures)
 
 pub returns-clause-calm : goal.returns-clause-calm
-returns-clause-calm c =
+returns-clause-calm g c =
     let p = c.args.processor.now in
     let run = c.run_opcode-cycles in
     let q = run.new.self in
-    let few : run.result.0 < c.args.left = omega (arith, c.if-cycles-left.false) in
+    let few : run.result.0 < c.args.left = omega (arith, c.if-taken-left.false, c.from-taken.ensures) in
     let still = c.stays_calm-is_calm.ensures c.if-not-is_calm.false in
     let calm = subst (IsCalm (c.args.left - run.result.0)) (sym c.move_on.ensures) (calm_behind c.args.left run.result.0 q.memory few still) in
-    let same : (c.args.left + (256 - run.result.0)) % 256 ≡ c.args.left - run.result.0 = omega (arith, few) in
+    let same : (c.args.left + (4294967296 - c.from-taken.result)) % 4294967296 ≡ c.args.left - run.result.0 = omega (arith, few, c.from-taken.ensures) in
     λ _. rw same calm

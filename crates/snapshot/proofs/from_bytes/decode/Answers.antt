@@ -1,4 +1,7 @@
-use Rattle.std.proofs.Common.{ap, sym, subst, ◌∙◌, arith}
+use Rattle.std.proofs.Common.{ℕ, List, ap, sym, subst, ◌∙◌, arith}
+use Rattle.std.specs.Prelude.{replicate}
+use Rattle.std.proofs.lemmas.List.{length-replicate}
+use Rattle.picture_unit.specs.Picture.{picture_at_power_on, blank_rows}
 use Rattle.machine.specs.Machine.{MachineState}
 use Rattle.snapshot.specs.Encoding.{encoded}
 use Rattle.snapshot.specs.Reading.{machine_in}
@@ -17,6 +20,12 @@ restore-requires c =
 
 pub fill_stores-requires-clause-length : goal.fill_stores-requires-clause-length
 fill_stores-requires-clause-length c = rw (c.restore.ensures, c.in-Ok.ensures) (start_length c.args.cartridge.now c.args.bytes.now c.in_default.ensures.none)
+
+pub fill_stores-requires-clause-rows : goal.fill_stores-requires-clause-rows
+unfolding picture_at_power_on blank_rows
+fill_stores-requires-clause-rows c =
+    let row : List ℕ = replicate 160 0 in
+    rw (c.restore.ensures, c.in-Ok.ensures) (length-replicate 144 row)
 
 pub fill_stores-requires-clause-ram : goal.fill_stores-requires-clause-ram
 fill_stores-requires-clause-ram c =

@@ -12,11 +12,11 @@ invariant_of-self c =
     let b = the_view c.self.inside in
     let quiet = subst (AreQuietOn c.args.cycles) (sym c.self.view_is) c.requires in
     consistent_behind c.self.inside.calm_until c.self.inside.quiet_until c.args.cycles c.self.inside.timer b _
-    (moved c.args.cycles c.self.inside.timer b c.move_on.new.self refl c.self.invariant.late c.move_on.ensures) quiet c.self.invariant
+    (moved c.args.cycles c.self.inside.timer b c.move_on.new.self refl c.self.invariant.late quiet c.move_on.ensures) quiet c.self.invariant
 
 pub returns : goal.returns
 returns c =
     let b = the_view c.self.inside in
     let quiet = subst (AreQuietOn c.args.cycles) (sym c.self.view_is) c.requires in
-    moved c.args.cycles c.self.inside.timer b c.move_on.new.self refl c.self.invariant.late c.move_on.ensures
+    moved c.args.cycles c.self.inside.timer b c.move_on.new.self refl c.self.invariant.late quiet c.move_on.ensures
     ∙ quiet_pass c.args.cycles c.args.cycles b (omega arith) quiet ∙ ap (iterate tick c.args.cycles) c.self.view_is

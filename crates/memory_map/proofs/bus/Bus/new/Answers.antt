@@ -2,15 +2,16 @@ use Rattle.std.proofs.Common.{◌≡◌, ℕ, ap, ◌∙◌, arith, rules}
 use Rattle.std.specs.Prelude.{length}
 use Rattle.timer_unit.specs.Timer.{unrequested, timer_at_power_on}
 use Rattle.picture_unit.specs.Picture.{PictureUnit, picture_at_power_on, state_at_power_on}
+use Rattle.picture_unit.specs.Laws.{frame_cycle}
 use Rattle.memory_map.specs.LateTimer.{up_to}
 use Rattle.memory_map.specs.declared.late_timer.LateTimer.{LateTimer}
 use Rattle.memory_map.proofs.LateTimers.{settled}
 use Rattle.memory_map.proofs.LateBus.{consistent_now}
 use Rattle.memory_map.proofs.bus.Bus.new.Goals as goal
 
-first_cycle : (p : PictureUnit) → p ≡ picture_at_power_on → p.state.m_cycle ≡ 0
+first_cycle : (p : PictureUnit) → p ≡ picture_at_power_on → frame_cycle p.state ≡ 0
 unfolding picture_at_power_on state_at_power_on
-first_cycle p e = ap (λ (p : PictureUnit). p.state.m_cycle) e
+first_cycle p e = ap (λ (p : PictureUnit). (frame_cycle p.state)) e
 
 pub invariant_of-result : goal.invariant_of-result
 invariant_of-result c =
@@ -23,5 +24,5 @@ pub returns : goal.returns
 returns c =
     let l = c.new-3.result in
     let m = first_cycle c.in_ok-picture.picture c.in_ok-picture.ensures in
-    let t : up_to c.in_ok-picture.picture.state.m_cycle l ≡ unrequested timer_at_power_on = ap (λ (k : ℕ). up_to k l) m ∙ settled 0 l (unrequested timer_at_power_on) c.new-3.ensures in
+    let t : up_to (frame_cycle c.in_ok-picture.picture.state) l ≡ unrequested timer_at_power_on = ap (λ (k : ℕ). up_to k l) m ∙ settled 0 l (unrequested timer_at_power_on) c.new-3.ensures in
     search (rules, t)

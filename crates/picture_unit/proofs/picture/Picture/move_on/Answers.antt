@@ -1,13 +1,15 @@
-use Rattle.std.proofs.Common.{◌+◌, ◌<◌, subst, sym, rules}
-use Rattle.picture_unit.specs.Picture.{PictureUnit}
-use Rattle.picture_unit.proofs.Quiet.{quiet_until_behind, within_line}
+use Rattle.std.proofs.Common.{◌+◌, ℕ, ap, ◌∙◌, subst, sym}
+use Rattle.picture_unit.specs.Picture.{PictureUnit, ticks}
+use Rattle.picture_unit.specs.LatePicture.{AreQuiet, up_to, IsLate}
+use Rattle.picture_unit.proofs.LatePicture.{later, late_behind}
 use Rattle.picture_unit.proofs.picture.Picture.move_on.Goals as goal
 
 pub invariant_of-self : goal.invariant_of-self
 invariant_of-self c =
-    let within : c.self.inside.state.m_cycle + c.args.cycles < 114 = within_line c.args.cycles c.self.inside.state.m_cycle c.self.invariant.whole.legal.m_cycle (subst (λ (s : PictureUnit). 0 < c.args.cycles → s.state.m_cycle + c.args.cycles < 114) (sym c.self.view_is) c.requires) in
-    record {
-      whole = search (rules, within);
-      quiet = quiet_until_behind c.self.inside.quiet_until c.args.cycles c.self.inside.state c.self.invariant.quiet;
-      rows = c.self.invariant.rows;
-    }
+    subst (λ (n : ℕ). IsLate (c.self.inside.frame_cycle + n) c.self.inside.quiet_until c.self.inside.prompt) (sym c.from.ensures)
+    (late_behind _ _ _ c.self.invariant c.args.cycles (subst (λ (u : PictureUnit). AreQuiet c.args.cycles u.state) (sym c.self.view_is) c.requires))
+
+pub returns : goal.returns
+returns c =
+    ap (λ (n : ℕ). up_to (c.self.inside.frame_cycle + n) c.self.inside.prompt) c.from.ensures
+    ∙ later _ c.args.cycles _ c.self.invariant.late ∙ ap (λ (u : PictureUnit). (ticks c.args.cycles u).picture) c.self.view_is

@@ -1,35 +1,25 @@
-use Rattle.std.proofs.Common.{◌+◌, ◌-◌, ◌<◌, ◌≤◌, ap, ◌∙◌, arith, rules}
-use Rattle.picture_unit.specs.Picture.{PictureAndRequests, unrequested, ticks}
-use Rattle.picture_unit.specs.contracts.picture.Picture.{the_view}
-use Rattle.picture_unit.proofs.Quiet.{quiet_ticks, quiet_until_behind, quiet_in_line}
+use Rattle.std.proofs.Common.{◌≤◌, ap, ◌∙◌, subst, sym, arith}
+use Rattle.picture_unit.specs.Picture.{PictureUnit, ticks}
+use Rattle.picture_unit.specs.LatePicture.{AreQuiet}
+use Rattle.picture_unit.proofs.LatePicture.{later, late_behind, fewer_quiet, no_vblank, no_stat}
 use Rattle.picture_unit.proofs.picture.Picture.pass.Goals as goal
-
-pub overflow_add-self : goal.overflow_add-self
-overflow_add-self c =
-    let quiet = c.self.inside.quiet_until - c.self.inside.state.m_cycle in
-    let enough : c.args.cycles ≤ quiet = omega (arith, c.from.ensures, c.saturating_sub-quiet.ensures) in
-    let within : c.self.inside.state.m_cycle + c.args.cycles < 114 = quiet_in_line quiet c.args.cycles c.self.inside.state enough c.self.invariant.quiet c.self.invariant.whole.legal.m_cycle in
-    omega arith
 
 pub invariant_of-self : goal.invariant_of-self
 invariant_of-self c =
-    let quiet = c.self.inside.quiet_until - c.self.inside.state.m_cycle in
-    let enough : c.args.cycles ≤ quiet = omega (arith, c.from.ensures, c.saturating_sub-quiet.ensures) in
-    let within : c.self.inside.state.m_cycle + c.args.cycles < 114 = quiet_in_line quiet c.args.cycles c.self.inside.state enough c.self.invariant.quiet c.self.invariant.whole.legal.m_cycle in
-    record {
-      whole = search (rules, within);
-      quiet = quiet_until_behind c.self.inside.quiet_until c.args.cycles c.self.inside.state c.self.invariant.quiet;
-      rows = c.self.invariant.rows;
-    }
+    let enough : c.args.cycles ≤ c.quiet.result = omega (arith, c.if-cycles-from.false, c.from.ensures) in
+    let quiet = fewer_quiet c.quiet.result c.args.cycles c.args.self.now enough c.quiet.ensures.quiet in
+    late_behind _ _ _ c.self.invariant c.args.cycles (subst (λ (u : PictureUnit). AreQuiet c.args.cycles u.state) (sym c.self.view_is) quiet)
 
-pub returns : goal.returns
-unfolding unrequested
-returns c =
-    let quiet = c.self.inside.quiet_until - c.self.inside.state.m_cycle in
-    let enough : c.args.cycles ≤ quiet = omega (arith, c.from.ensures, c.saturating_sub-quiet.ensures) in
-    let same = quiet_ticks quiet c.args.cycles (the_view c.self.inside) enough c.self.invariant.quiet ∙ ap (ticks c.args.cycles) c.self.view_is in
-    record {
-      picture = ap (λ (d : PictureAndRequests). d.picture) same;
-      vblank = ap (λ (d : PictureAndRequests). d.vblank) same;
-      stat = ap (λ (d : PictureAndRequests). d.stat) same;
-    }
+pub returns-clause-picture : goal.returns-clause-picture
+returns-clause-picture c =
+    later _ c.args.cycles _ c.self.invariant.late ∙ ap (λ (u : PictureUnit). (ticks c.args.cycles u).picture) c.self.view_is
+
+pub returns-clause-vblank : goal.returns-clause-vblank
+returns-clause-vblank c =
+    let enough : c.args.cycles ≤ c.quiet.result = omega (arith, c.if-cycles-from.false, c.from.ensures) in
+    sym (no_vblank c.args.cycles c.args.self.now (fewer_quiet c.quiet.result c.args.cycles c.args.self.now enough c.quiet.ensures.quiet))
+
+pub returns-clause-stat : goal.returns-clause-stat
+returns-clause-stat c =
+    let enough : c.args.cycles ≤ c.quiet.result = omega (arith, c.if-cycles-from.false, c.from.ensures) in
+    sym (no_stat c.args.cycles c.args.self.now (fewer_quiet c.quiet.result c.args.cycles c.args.self.now enough c.quiet.ensures.quiet))

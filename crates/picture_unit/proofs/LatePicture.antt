@@ -1,0 +1,720 @@
+-- The picture unit, which is given its M-cycles late.
+use Rattle.std.proofs.Common.{◌≡◌, ℕ, zero, suc, ◌+◌, ◌-◌, ◌*◌, ◌/◌, ◌%◌, ◌<◌, ◌≤◌, Bool, true, false, cond, refl, sym, ap, subst, ◌∙◌, arith, inl, inr, List, length}
+use Rattle.std.specs.Prelude.{◌⊎◌, ◌≢◌, not, Option, Some, None, slice_get, ◌&&◌, ◌||◌, ◌==◌, nat_lt, [], slice_set}
+use Rattle.std.specs.Bool.{beq}
+use Rattle.std.specs.Fn.{iterate}
+use Rattle.std.proofs.lemmas.Option.{slice_get_within, slice_get-get_or, get_or_from_slice_get}
+use Rattle.std.proofs.lemmas.List.{length-set, get_or-set_other, get_or-set_same}
+use Rattle.picture_lines.specs.declared.registers.LineRegisters.{LineRegisters}
+use Rattle.std.proofs.lemmas.Bool.Decides.{nat_tests}
+use Rattle.std.proofs.Math.Bool.{or-false}
+use Rattle.repeated_steps.proofs.Iterates.{iterate-add, iterate-keeps, iterate-along}
+use Rattle.picture_lines.specs.Bits.{has_bit}
+use Rattle.picture_lines.specs.Pixel.{drawn_row}
+use Rattle.picture_lines.proofs.Shades.{drawn_row-small}
+use Rattle.picture_unit.specs.declared.state.PictureState.{PictureState}
+use Rattle.picture_unit.specs.Picture.{PictureUnit, PictureAndRequests, IsLegalPicture, IsWhole, unrequested, is_on, stat_signal, advanced, entered, drawn, draws, begins_vblank, moved, taken, tick, ticks, line_registers, line_drawn, window_counter_after}
+use Rattle.picture_unit.specs.Laws.{frame_cycle}
+use Rattle.picture_unit.specs.LatePicture.{bare, state_after, AreQuiet, up_to, IsLate, line_drawn_next, rise}
+use Rattle.picture_unit.specs.PictureJump as picture_jump
+use Rattle.picture_unit.specs.PictureJump.{next_entry, next_change, skipped}
+use Rattle.picture_unit.specs.declared.region.PictureRegion.{PictureRegion}
+use Rattle.picture_unit.specs.declared.region.PictureRegion.TheVariants.{Vram, Oam}
+use Rattle.picture_unit.specs.Stores.{region_of, byte_read, is_vram_closed, is_oam_closed, oam_copied, oam_written, vram_written}
+use Rattle.picture_unit.proofs.Kept.{same_written}
+use Rattle.picture_unit.proofs.Quiet.{stays_on, stays_on_skipped, after_change, by_line, before_line_end, requests_none}
+use Rattle.std.proofs.lemmas.Bool.{cases_lt}
+use Rattle.picture_unit.proofs.Settled.{bool_cases, tick_settles}
+use Rattle.picture_unit.proofs.LateLines.{whole_set}
+use Rattle.picture_unit.proofs.PictureLaws.{pending, picture_ticks, frame-cycles, frame_cycle-entered, frame_cycle-advanced, frame_cycle-tick, frame_cycle-drawn, ly-drawn, ly-entered, m_cycle-drawn, m_cycle-entered, ly-tick, m_cycle-tick, ly-advanced, m_cycle-advanced}
+
+-- ---- neither what is requested nor the state depends on VRAM, OAM and rows
+
+abbrev forgetful : PictureAndRequests → PictureAndRequests
+forgetful d = record d { picture = bare d.picture.state }
+
+abbrev with_state : PictureState → PictureUnit → PictureUnit
+with_state p s = record s { state = p }
+
+-- what an M-cycle leaves of state and requests, if the state is this after the drawing
+abbrev run_to : PictureState → Bool → Bool → PictureAndRequests
+run_to q v l = record { picture = bare (record q { signal = stat_signal q }); vblank = v; stat = l || (stat_signal q && not q.signal) }
+
+drawn-bare : (s : PictureUnit) → (drawn s).state ≡ (drawn (bare s.state)).state
+unfolding drawn line_drawn
+drawn-bare s =
+    elim (draws s.state) as (λ b. (cond b (line_drawn s) s).state ≡ (cond b (line_drawn (bare s.state)) (bare s.state)).state) [
+      | true ↦ refl
+      | false ↦ refl
+    ]
+
+tick-forgetful : (d : PictureAndRequests) → forgetful (tick d) ≡ forgetful (tick (forgetful d))
+unfolding tick moved taken
+tick-forgetful d =
+    let next = entered (advanced d.picture.state) in
+    let same = drawn-bare (with_state next d.picture) in
+    elim (is_on d.picture.state) as (λ b. forgetful (cond b (taken (moved d)) d) ≡ forgetful (cond b (taken (moved (forgetful d))) (forgetful d))) [
+      | true ↦ ap (λ (q : PictureState). run_to q (d.vblank || begins_vblank next) d.stat) same
+      | false ↦ refl
+    ]
+
+abbrev bare_tick : PictureAndRequests → PictureAndRequests
+bare_tick d = forgetful (tick d)
+
+ticks-forgetful : (n : ℕ) (s : PictureUnit) → forgetful (ticks n s) ≡ forgetful (ticks n (bare s.state))
+unfolding unrequested
+ticks-forgetful n s =
+    iterate-along tick bare_tick forgetful tick-forgetful n (unrequested s)
+    ∙ sym (iterate-along tick bare_tick forgetful tick-forgetful n (unrequested (bare s.state)))
+
+pub bare_state : (n : ℕ) (s : PictureUnit) → (ticks n s).picture.state ≡ state_after n s.state
+bare_state n s = ap (λ (d : PictureAndRequests). d.picture.state) (ticks-forgetful n s)
+
+pub bare_vblank : (n : ℕ) (s : PictureUnit) → (ticks n s).vblank ≡ (ticks n (bare s.state)).vblank
+bare_vblank n s = ap (λ (d : PictureAndRequests). d.vblank) (ticks-forgetful n s)
+
+pub bare_stat : (n : ℕ) (s : PictureUnit) → (ticks n s).stat ≡ (ticks n (bare s.state)).stat
+bare_stat n s = ap (λ (d : PictureAndRequests). d.stat) (ticks-forgetful n s)
+
+-- ---- n M-cycles and then m
+
+pub ticks_apart : (n m : ℕ) (s : PictureUnit) → ticks (n + m) s ≡ pending (ticks n s).vblank (ticks n s).stat (ticks m (ticks n s).picture)
+unfolding unrequested
+ticks_apart n m s =
+    iterate-add tick n m (unrequested s) ∙ picture_ticks (ticks n s).vblank (ticks n s).stat m (ticks n s).picture
+
+pub picture_apart : (n m : ℕ) (s : PictureUnit) → (ticks (n + m) s).picture ≡ (ticks m (ticks n s).picture).picture
+picture_apart n m s = ap (λ (d : PictureAndRequests). d.picture) (ticks_apart n m s)
+
+pub next_state : (n : ℕ) (s : PictureUnit) → (ticks (n + 1) s).picture.state ≡ state_after 1 (ticks n s).picture.state
+next_state n s =
+    ap (λ (u : PictureUnit). u.state) (picture_apart n 1 s) ∙ bare_state 1 (ticks n s).picture
+
+-- the rows, with the line that an M-cycle draws
+abbrev rows_with : Option LineRegisters → PictureUnit → List (List ℕ)
+rows_with None u = u.rows
+rows_with (Some by) u = slice_set u.rows by.ly (drawn_row by u.vram u.oam)
+
+rows_of_tick : (u : PictureUnit) → (ticks 1 u).picture.rows ≡ rows_with (line_drawn_next u.state) u
+unfolding unrequested tick taken moved drawn line_drawn line_drawn_next line_registers
+rows_of_tick u =
+    let p = entered (advanced u.state) in
+    let s = with_state p u in
+    elim (is_on u.state) as (λ b. (cond b (taken (moved (unrequested u))) (unrequested u)).picture.rows ≡ rows_with (cond (b && draws p) (Some (line_registers p)) None) u) [
+      | true ↦ elim (draws p) as (λ b. (cond b (line_drawn s) s).rows ≡ rows_with (cond b (Some (line_registers p)) None) u) [
+        | true ↦ refl
+        | false ↦ refl
+      ]
+      | false ↦ refl
+    ]
+
+-- ---- what stays
+
+module _ (d : PictureAndRequests) where
+  tick_is : (P : PictureAndRequests → Type 0) → P d → P (taken (record d { picture = with_state (entered (advanced d.picture.state)) d.picture; vblank = d.vblank || begins_vblank (entered (advanced d.picture.state)) }))
+      → P (taken (record d { picture = line_drawn (with_state (entered (advanced d.picture.state)) d.picture); vblank = d.vblank || begins_vblank (entered (advanced d.picture.state)) }))
+      → P (tick d)
+  unfolding tick moved drawn
+  tick_is P off not_drawn is_drawn =
+      let next = entered (advanced d.picture.state) in
+      let s = with_state next d.picture in
+      let v = d.vblank || begins_vblank next in
+      elim (is_on d.picture.state) as (λ b. P (cond b (taken (record { picture = cond (draws next) (line_drawn s) s; vblank = v; stat = d.stat })) d)) [
+        | true ↦ elim (draws next) as (λ b. P (taken (record { picture = cond b (line_drawn s) s; vblank = v; stat = d.stat }))) [
+          | true ↦ is_drawn
+          | false ↦ not_drawn
+        ]
+        | false ↦ off
+      ]
+
+pub vram_kept : (n : ℕ) (s : PictureUnit) → (ticks n s).picture.vram ≡ s.vram
+unfolding unrequested taken line_drawn
+vram_kept n s =
+    let P : PictureAndRequests → Type 0 = λ d. d.picture.vram ≡ s.vram in
+    iterate-keeps P tick (λ d kept. tick_is d P kept kept kept) n (unrequested s) refl
+
+pub oam_kept : (n : ℕ) (s : PictureUnit) → (ticks n s).picture.oam ≡ s.oam
+unfolding unrequested taken line_drawn
+oam_kept n s =
+    let P : PictureAndRequests → Type 0 = λ d. d.picture.oam ≡ s.oam in
+    iterate-keeps P tick (λ d kept. tick_is d P kept kept kept) n (unrequested s) refl
+
+-- the registers, without what passes
+abbrev pub registers : PictureState → PictureState
+registers p = record p { ly = 0; m_cycle = 0; window_counter = 0; seen = false; signal = false }
+
+registers-advanced : (p : PictureState) → registers (advanced p) ≡ registers p
+unfolding advanced
+registers-advanced p = elim (p.m_cycle == 113) as (λ b. registers (cond b (record p { m_cycle = 0; ly = cond (p.ly == 153) 0 (p.ly + 1) }) (record p { m_cycle = p.m_cycle + 1 })) ≡ registers p) [
+  | true ↦ refl
+  | false ↦ refl
+]
+
+registers-entered : (p : PictureState) → registers (entered p) ≡ registers p
+unfolding entered
+registers-entered p = elim (p.m_cycle == 0) as (λ b. registers (cond b (record p { window_counter = cond (p.ly == 0) 0 p.window_counter; seen = (nat_lt 0 p.ly && p.seen) || (nat_lt p.ly 144 && p.wy == p.ly) }) p) ≡ registers p) [
+  | true ↦ refl
+  | false ↦ refl
+]
+
+registers-drawn : (s : PictureUnit) → registers (drawn s).state ≡ registers s.state
+unfolding drawn line_drawn
+registers-drawn s = elim (draws s.state) as (λ b. registers (cond b (line_drawn s) s).state ≡ registers s.state) [
+  | true ↦ refl
+  | false ↦ refl
+]
+
+pub registers_kept : (n : ℕ) (s : PictureUnit) → registers (ticks n s).picture.state ≡ registers s.state
+unfolding unrequested taken line_drawn
+registers_kept n s =
+    let P : PictureAndRequests → Type 0 = λ d. registers d.picture.state ≡ registers s.state in
+    iterate-keeps P tick (λ d kept.
+    let next = registers-entered (advanced d.picture.state) ∙ registers-advanced d.picture.state ∙ kept in
+    tick_is d P kept next next) n (unrequested s) refl
+
+pub on_kept : (n : ℕ) (s : PictureUnit) → is_on (ticks n s).picture.state ≡ is_on s.state
+unfolding is_on
+on_kept n s = ap (λ (p : PictureState). is_on p) (registers_kept n s)
+
+-- ---- sizes and ranges
+
+legal-next : (p : PictureState) → IsLegalPicture p → IsLegalPicture (entered (advanced p))
+unfolding advanced entered
+legal-next p legal = record {
+  lcdc = grind (arith, nat_tests, legal.lcdc);
+  stat = grind (arith, nat_tests, legal.stat);
+  scy = grind (arith, nat_tests, legal.scy);
+  scx = grind (arith, nat_tests, legal.scx);
+  lyc = grind (arith, nat_tests, legal.lyc);
+  bgp = grind (arith, nat_tests, legal.bgp);
+  obp0 = grind (arith, nat_tests, legal.obp0);
+  obp1 = grind (arith, nat_tests, legal.obp1);
+  wy = grind (arith, nat_tests, legal.wy);
+  wx = grind (arith, nat_tests, legal.wx);
+  ly = grind (arith, nat_tests, legal.ly);
+  m_cycle = grind (arith, nat_tests, legal.m_cycle);
+  window_counter = grind (arith, nat_tests, legal.window_counter);
+}
+
+-- with another window counter, or another signal
+legal-counted : (p : PictureState) (counter : ℕ) (signal : Bool) → counter < 256 → IsLegalPicture p → IsLegalPicture (record p { window_counter = counter; signal = signal })
+legal-counted p counter signal few legal = record {
+  lcdc = legal.lcdc;
+  stat = legal.stat;
+  scy = legal.scy;
+  scx = legal.scx;
+  lyc = legal.lyc;
+  bgp = legal.bgp;
+  obp0 = legal.obp0;
+  obp1 = legal.obp1;
+  wy = legal.wy;
+  wx = legal.wx;
+  ly = legal.ly;
+  m_cycle = legal.m_cycle;
+  window_counter = few;
+}
+
+few_rows : (p : PictureState) → p.window_counter < 256 → window_counter_after p < 256
+unfolding window_counter_after
+few_rows p few = grind (arith, nat_tests, few)
+
+with_legal : (p q : PictureState) (oam : List ℕ) (rows : List (List ℕ)) → IsLegalPicture q → IsWhole p oam rows → IsWhole q oam rows
+with_legal p q oam rows legal whole = record { legal = legal; oam_size = whole.oam_size; row_count = whole.row_count; shades = whole.shades }
+
+pub legal_kept : (n : ℕ) (s : PictureUnit) → IsLegalPicture s.state → IsLegalPicture (ticks n s).picture.state
+unfolding unrequested taken line_drawn
+legal_kept n s legal =
+    let P : PictureAndRequests → Type 0 = λ d. IsLegalPicture d.picture.state in
+    iterate-keeps P tick (λ d kept.
+    let p = entered (advanced d.picture.state) in
+    let next = legal-next d.picture.state kept in
+    tick_is d P kept (legal-counted p p.window_counter (stat_signal p) next.window_counter next)
+    (legal-counted p (window_counter_after p) (stat_signal (record p { window_counter = window_counter_after p })) (few_rows p next.window_counter) next)) n (unrequested s) legal
+
+pub whole_kept : (n : ℕ) (s : PictureUnit) → IsWhole s.state s.oam s.rows → IsWhole (ticks n s).picture.state (ticks n s).picture.oam (ticks n s).picture.rows
+unfolding unrequested taken line_drawn
+whole_kept n s whole =
+    let P : PictureAndRequests → Type 0 = λ d. IsWhole d.picture.state d.picture.oam d.picture.rows in
+    iterate-keeps P tick (λ d kept.
+    let p = entered (advanced d.picture.state) in
+    let legal = legal-next d.picture.state kept.legal in
+    let drawn = whole_set d.picture.state d.picture.oam d.picture.rows p.ly (drawn_row (line_registers p) d.picture.vram d.picture.oam) (drawn_row-small _ _ _) kept in
+    tick_is d P kept
+    (with_legal _ _ _ _ (legal-counted p p.window_counter (stat_signal p) legal.window_counter legal) kept)
+    (with_legal _ _ _ _ (legal-counted p (window_counter_after p) (stat_signal (record p { window_counter = window_counter_after p })) (few_rows p legal.window_counter) legal) drawn)) n (unrequested s) whole
+
+-- ---- quiet M-cycles
+
+-- none are
+pub none_quiet : (n : ℕ) (p : PictureState) → n ≡ 0 → AreQuiet n p
+none_quiet n p none = record {
+  legal = λ pos. absurd (omega (arith, none));
+  on = λ pos. absurd (omega (arith, none));
+  frame = λ pos. absurd (omega (arith, none));
+  vblank = λ pos. absurd (omega (arith, none));
+  stat = λ pos. absurd (omega (arith, none));
+}
+
+pub no_vblank : (n : ℕ) (s : PictureUnit) → AreQuiet n s.state → (ticks n s).vblank ≡ false
+unfolding unrequested
+no_vblank zero s quiet = refl
+no_vblank (suc n) s quiet = bare_vblank (suc n) s ∙ quiet.vblank (omega arith)
+
+pub no_stat : (n : ℕ) (s : PictureUnit) → AreQuiet n s.state → (ticks n s).stat ≡ false
+unfolding unrequested
+no_stat zero s quiet = refl
+no_stat (suc n) s quiet = bare_stat (suc n) s ∙ quiet.stat (omega arith)
+
+-- as many as request nothing of any picture unit in this state
+quiet_from : (n : ℕ) (s : PictureUnit) → (0 < n → IsLegalPicture s.state) → (0 < n → is_on s.state ≡ true) → (0 < n → frame_cycle s.state + n < 17556) → (ticks n s).vblank ≡ false → (ticks n s).stat ≡ false → AreQuiet n s.state
+quiet_from n s legal on frame vblank stat = record {
+  legal = legal;
+  on = on;
+  frame = frame;
+  vblank = λ pos. sym (bare_vblank n s) ∙ vblank;
+  stat = λ pos. sym (bare_stat n s) ∙ stat;
+}
+
+pub quiet_position : (n : ℕ) (s : PictureUnit) → AreQuiet n s.state → frame_cycle (ticks n s).picture.state ≡ frame_cycle s.state + n
+unfolding unrequested
+quiet_position zero s quiet = omega arith
+quiet_position (suc n) s quiet =
+    let lt = quiet.frame (omega arith) in
+    let e = frame-cycles (suc n) s (quiet.on (omega arith)) (quiet.legal (omega arith)) in
+    omega (arith, lt, e)
+
+left_none : (p q : Bool) → (p || q) ≡ false → p ≡ false
+left_none false q e = refl
+left_none true q e = e
+
+right_none : (p q : Bool) → (p || q) ≡ false → q ≡ false
+right_none false q e = e
+right_none true q e = cc
+
+neither : (p q : Bool) → p ≡ false → q ≡ false → (p || q) ≡ false
+neither p q e f = ap (λ (b : Bool). b || q) e ∙ f
+
+-- of q quiet M-cycles the first n and the others
+module _ (q n : ℕ) (s : PictureUnit) (le : n ≤ q) (quiet : AreQuiet q s.state) where
+  whole : n + (q - n) ≡ q
+  whole = omega (arith, le)
+
+  vblank_apart : ((ticks n s).vblank || (ticks (q - n) (ticks n s).picture).vblank) ≡ false
+  vblank_apart =
+      sym (ap (λ (d : PictureAndRequests). d.vblank) (ticks_apart n (q - n) s)) ∙ ap (λ (k : ℕ). (ticks k s).vblank) whole ∙ no_vblank q s quiet
+
+  stat_apart : ((ticks n s).stat || (ticks (q - n) (ticks n s).picture).stat) ≡ false
+  stat_apart =
+      sym (ap (λ (d : PictureAndRequests). d.stat) (ticks_apart n (q - n) s)) ∙ ap (λ (k : ℕ). (ticks k s).stat) whole ∙ no_stat q s quiet
+
+  pub fewer_quiet : AreQuiet n s.state
+  fewer_quiet =
+      quiet_from n s (λ pos. quiet.legal (omega (arith, pos, le))) (λ pos. quiet.on (omega (arith, pos, le))) (λ pos. let lt = quiet.frame (omega (arith, pos, le)) in omega (arith, lt, le))
+      (left_none _ _ vblank_apart) (left_none _ _ stat_apart)
+
+  pub rest_quiet : AreQuiet (q - n) (ticks n s).picture.state
+  rest_quiet =
+      let at = quiet_position n s fewer_quiet in
+      quiet_from (q - n) (ticks n s).picture (λ pos. legal_kept n s (quiet.legal (omega (arith, pos)))) (λ pos. on_kept n s ∙ quiet.on (omega (arith, pos)))
+      (λ pos. let lt = quiet.frame (omega (arith, pos)) in omega (arith, lt, le, at))
+      (right_none _ _ vblank_apart) (right_none _ _ stat_apart)
+
+-- those behind quiet ones
+pub joined_quiet : (m n : ℕ) (s : PictureUnit) → AreQuiet m s.state → AreQuiet n (ticks m s).picture.state → AreQuiet (m + n) s.state
+unfolding unrequested
+joined_quiet m n s first second =
+    let at = quiet_position m s first in
+    let legal : 0 < m + n → IsLegalPicture s.state = λ pos. elim (cases_lt 0 m) [
+      | inl some ↦ first.legal some
+      | inr none ↦
+          let zero_cycles : m ≡ 0 = omega (arith, none) in
+          subst (λ (k : ℕ). IsLegalPicture (ticks k s).picture.state) zero_cycles (second.legal (omega (arith, pos, none)))
+    ] in
+    let on : 0 < m + n → is_on s.state ≡ true = λ pos. elim (cases_lt 0 m) [
+      | inl some ↦ first.on some
+      | inr none ↦ sym (on_kept m s) ∙ second.on (omega (arith, pos, none))
+    ] in
+    let frame : 0 < m + n → frame_cycle s.state + (m + n) < 17556 = λ pos. elim (cases_lt 0 n) [
+      | inl some ↦ let lt = second.frame some in omega (arith, lt, at)
+      | inr none ↦ let lt = first.frame (omega (arith, pos, none)) in omega (arith, lt, none)
+    ] in
+    quiet_from (m + n) s legal on frame
+    (ap (λ (d : PictureAndRequests). d.vblank) (ticks_apart m n s) ∙ neither _ _ (no_vblank m s first) (no_vblank n (ticks m s).picture second))
+    (ap (λ (d : PictureAndRequests). d.stat) (ticks_apart m n s) ∙ neither _ _ (no_stat m s first) (no_stat n (ticks m s).picture second))
+
+-- those up to an M-cycle, n M-cycles on
+pub quiet_until_behind : (until now n : ℕ) (s : PictureUnit) → AreQuiet (until - now) s.state → AreQuiet (until - (now + n)) (ticks n s).picture.state
+quiet_until_behind until now n s quiet =
+    elim (cases_lt until (now + n)) [
+      | inl lt ↦ none_quiet (until - (now + n)) (ticks n s).picture.state (omega (arith, lt))
+      | inr le ↦ let same : until - (now + n) ≡ until - now - n = omega arith in rw same (rest_quiet (until - now) n s (omega (arith, le)) quiet)
+    ]
+
+-- ---- a picture unit that is late
+
+pub prompt_now : (n : ℕ) (s : PictureUnit) → n ≡ frame_cycle s.state → up_to n s ≡ s
+unfolding unrequested
+prompt_now n s e =
+    let none : n - frame_cycle s.state ≡ 0 = omega (arith, e) in
+    ap (λ (k : ℕ). (ticks k s).picture) none
+
+pub later : (now n : ℕ) (s : PictureUnit) → frame_cycle s.state ≤ now → up_to (now + n) s ≡ (ticks n (up_to now s)).picture
+later now n s le =
+    let more : now + n - frame_cycle s.state ≡ now - frame_cycle s.state + n = omega (arith, le) in
+    ap (λ (k : ℕ). (ticks k s).picture) more ∙ picture_apart (now - frame_cycle s.state) n s
+
+-- caught up, and so many M-cycles are quiet
+pub late_now : (now q : ℕ) (s : PictureUnit) → now ≡ frame_cycle s.state → IsWhole s.state s.oam s.rows → AreQuiet q s.state → IsLate now (now + q) s
+late_now now q s at whole quiet =
+    let same : now + q - now ≡ q = omega arith in record {
+      whole = whole;
+      late = omega (arith, at);
+      passed = none_quiet (now - frame_cycle s.state) s.state (omega (arith, at));
+      coming = rw same (subst (λ (u : PictureUnit). AreQuiet q u.state) (sym (prompt_now now s at)) quiet);
+    }
+
+module _ (now until : ℕ) (s : PictureUnit) (late : IsLate now until s) where
+  -- it is at this M-cycle of the frame
+  pub position : frame_cycle (up_to now s).state ≡ now
+  position =
+      let at = quiet_position (now - frame_cycle s.state) s late.passed in
+      omega (arith, at, late.late)
+
+  pub whole_now : IsWhole (up_to now s).state (up_to now s).oam (up_to now s).rows
+  whole_now = whole_kept (now - frame_cycle s.state) s late.whole
+
+  -- quiet M-cycles on
+  pub late_behind : (n : ℕ) → AreQuiet n (up_to now s).state → IsLate (now + n) until s
+  late_behind n quiet =
+      let more : now + n - frame_cycle s.state ≡ now - frame_cycle s.state + n = omega (arith, late.late) in record {
+        whole = late.whole;
+        late = omega (arith, late.late);
+        passed = rw more (joined_quiet (now - frame_cycle s.state) n s late.passed quiet);
+        coming = subst (λ (u : PictureUnit). AreQuiet (until - (now + n)) u.state) (sym (later now n s late.late)) (quiet_until_behind until now n (up_to now s) late.coming);
+      }
+
+in_frame : (n : ℕ) (p : PictureState) → IsLegalPicture p → AreQuiet n p → frame_cycle p + n < 17556
+in_frame zero p legal quiet = omega (arith, legal.ly, legal.m_cycle)
+in_frame (suc n) p legal quiet = quiet.frame (omega arith)
+
+pub quiet_in_frame : (now until : ℕ) (s : PictureUnit) → IsLate now until s → frame_cycle (up_to now s).state + (until - now) < 17556
+quiet_in_frame now until s late = in_frame (until - now) (up_to now s).state (whole_now now until s late).legal late.coming
+
+-- caught up, and in the same state: the same M-cycles are quiet
+pub late_kept : (now until now' : ℕ) (s t : PictureUnit) → IsLate now until s → t.state ≡ (up_to now s).state → now' ≡ frame_cycle t.state → IsWhole t.state t.oam t.rows → IsLate now' until t
+late_kept now until now' s t late same at whole =
+    let here : now' ≡ now = at ∙ ap (λ (p : PictureState). frame_cycle p) same ∙ position now until s late in record {
+      whole = whole;
+      late = omega (arith, at);
+      passed = none_quiet (now' - frame_cycle t.state) t.state (omega (arith, at));
+      coming = rw here (subst (λ (p : PictureState). AreQuiet (until - now) p) (sym (ap (λ (u : PictureUnit). u.state) (prompt_now now t (sym here ∙ at)) ∙ same)) late.coming);
+    }
+
+line_and_cycle : (ly m_cycle now : ℕ) → m_cycle < 114 → 114 * ly + m_cycle ≡ now → (ly ≡ now / 114) × (m_cycle ≡ now % 114)
+line_and_cycle ly m_cycle now few e = (omega (arith, few, e), omega (arith, few, e))
+
+abbrev placed : PictureState → (ly m_cycle counter : ℕ) → (seen signal : Bool) → PictureState
+placed p ly m_cycle counter seen signal = record p { ly = ly; m_cycle = m_cycle; window_counter = counter; seen = seen; signal = signal }
+
+-- LY and the M-cycle are those of the frame's M-cycle, and the registers as they were
+pub state_now : (now until : ℕ) (s : PictureUnit) → IsLate now until s →
+    (up_to now s).state ≡ placed s.state (now / 114) (now % 114) (up_to now s).state.window_counter (up_to now s).state.seen (up_to now s).state.signal
+state_now now until s late =
+    let p = (up_to now s).state in
+    let at = line_and_cycle p.ly p.m_cycle now (whole_now now until s late).legal.m_cycle (position now until s late) in
+    ap (λ (r : PictureState). placed r p.ly p.m_cycle p.window_counter p.seen p.signal) (registers_kept (now - frame_cycle s.state) s)
+    ∙ ap (λ (k : ℕ). placed s.state k p.m_cycle p.window_counter p.seen p.signal) at.0
+    ∙ ap (λ (k : ℕ). placed s.state (now / 114) k p.window_counter p.seen p.signal) at.1
+
+-- ---- a row after M-cycles
+
+module _ (n y : ℕ) (s : PictureUnit) where
+  next_rows : (line : Option LineRegisters) (vram oam : List ℕ) → line ≡ line_drawn_next (ticks n s).picture.state → vram ≡ s.vram → oam ≡ s.oam
+      → (ticks (n + 1) s).picture.rows ≡ rows_with line (record (ticks n s).picture { vram = vram; oam = oam })
+  next_rows line vram oam e f g =
+      let u = (ticks n s).picture in
+      ap (λ (u : PictureUnit). u.rows) (picture_apart n 1 s) ∙ rows_of_tick u
+      ∙ ap (λ (l : Option LineRegisters). rows_with l u) (sym e)
+      ∙ ap (λ (v : List ℕ). rows_with line (record u { vram = v })) (vram_kept n s ∙ sym f)
+      ∙ ap (λ (o : List ℕ). rows_with line (record u { vram = vram; oam = o })) (oam_kept n s ∙ sym g)
+
+  abbrev row_is : ℕ → List ℕ → Type 0
+  row_is k row = slice_get (ticks k s).picture.rows y ≡ Some row
+
+  -- no line is drawn
+  pub row_stays : (row : List ℕ) → None ≡ line_drawn_next (ticks n s).picture.state → row_is n row → row_is (n + 1) row
+  row_stays row e is = ap (λ (rows : List (List ℕ)). slice_get rows y) (next_rows None s.vram s.oam e refl refl) ∙ is
+
+  -- another line is
+  pub row_of_other : (by : LineRegisters) (row : List ℕ) → Some by ≡ line_drawn_next (ticks n s).picture.state → y ≢ by.ly → row_is n row → row_is (n + 1) row
+  row_of_other by row e other is =
+      let rows = (ticks n s).picture.rows in
+      let new = drawn_row by s.vram s.oam in
+      let within : y < length rows = slice_get_within rows y row is in
+      ap (λ (rows : List (List ℕ)). slice_get rows y) (next_rows (Some by) s.vram s.oam e refl refl)
+      ∙ slice_get-get_or (slice_set rows by.ly new) y [] (omega (arith, within, length-set rows by.ly new))
+      ∙ ap Some (get_or-set_other rows by.ly y new [] other ∙ get_or_from_slice_get rows y row [] is)
+
+  -- this one is
+  pub row_is_drawn : (by : LineRegisters) (vram oam row new : List ℕ) → Some by ≡ line_drawn_next (ticks n s).picture.state → by.ly ≡ y → vram ≡ s.vram → oam ≡ s.oam → row_is n row
+      → new ≡ drawn_row by vram oam → row_is (n + 1) new
+  row_is_drawn by vram oam row new e here f g is drawing =
+      let rows = (ticks n s).picture.rows in
+      let within : y < length rows = slice_get_within rows y row is in
+      ap (λ (rows : List (List ℕ)). slice_get rows y) (next_rows (Some by) vram oam e f g)
+      ∙ ap (λ (k : ℕ). slice_get (slice_set rows k (drawn_row by vram oam)) y) here
+      ∙ slice_get-get_or (slice_set rows y (drawn_row by vram oam)) y [] (omega (arith, within, length-set rows y (drawn_row by vram oam)))
+      ∙ ap Some (get_or-set_same rows y (drawn_row by vram oam) [] within ∙ sym drawing)
+
+-- ---- M-cycles of lines while STAT enables no mode
+
+tick_registers : (d : PictureAndRequests) → registers (tick d).picture.state ≡ registers d.picture.state
+unfolding taken line_drawn
+tick_registers d =
+    let next = registers-entered (advanced d.picture.state) ∙ registers-advanced d.picture.state in
+    tick_is d (λ e. registers e.picture.state ≡ registers d.picture.state) refl next next
+
+-- the M-cycles up to the n-th miss this one of the frame
+abbrev Misses : (cycle n at : ℕ) → Type 0
+Misses cycle n at = (cycle + n < at) ⊎ (at ≤ cycle)
+
+missed : (cycle n at next : ℕ) → next ≡ cycle + 1 → Misses cycle (suc n) at → (next < at) ⊎ (at < next)
+missed cycle n at next e (inl before) = inl (omega (arith, before, e))
+missed cycle n at next e (inr after) = inr (omega (arith, after, e))
+
+miss_more : (cycle n at next : ℕ) → next ≡ cycle + 1 → Misses cycle (suc n) at → Misses next n at
+miss_more cycle n at next e (inl before) = inl (omega (arith, before, e))
+miss_more cycle n at next e (inr after) = inr (omega (arith, after, e))
+
+elsewhere : (p : PictureState) → (frame_cycle p < 16416) ⊎ (16416 < frame_cycle p) → begins_vblank p ≡ false
+unfolding begins_vblank
+elsewhere p (inl before) = grind (arith, nat_tests, before)
+elsewhere p (inr after) = grind (arith, nat_tests, after)
+
+no_bit : (stat : ℕ) → stat ≡ 0 → has_bit stat 6 ≡ false
+unfolding has_bit
+no_bit stat e = rw e refl
+
+and_none : (a b : Bool) → b ≡ false → (a && b) ≡ false
+and_none true b e = e
+and_none false b e = refl
+
+other_line : (q : PictureState) → q.stat % 64 ≡ 0 → q.m_cycle ≡ 0 → (frame_cycle q < rise q) ⊎ (rise q < frame_cycle q) → stat_signal q ≡ false
+other_line q none first misses =
+    by_line q none
+    ∙ and_none (is_on q) (has_bit q.stat 6 && q.ly == q.lyc) (elim (bool_cases (q.stat == 0)) [
+      | inl e ↦ ap (λ (b : Bool). b && q.ly == q.lyc) (no_bit q.stat (grind (arith, nat_tests, e)))
+      | inr e ↦
+          let at : rise q ≡ 114 * q.lyc = ap (λ (b : Bool). cond b 0 (114 * q.lyc)) e in
+          and_none (has_bit q.stat 6) (q.ly == q.lyc) (elim misses [
+            | inl before ↦ let lt : 114 * q.ly < 114 * q.lyc = omega (arith, before, at, first) in grind (arith, nat_tests, lt)
+            | inr after ↦ let lt : 114 * q.lyc < 114 * q.ly = omega (arith, after, at, first) in grind (arith, nat_tests, lt)
+          ])
+    ])
+
+no_rise : (s t : Bool) → s ≡ t → (s && not t) ≡ false
+no_rise true true e = refl
+no_rise false t e = refl
+no_rise true false e = cc
+
+stays_in_line : (p : PictureState) → ((advanced p).m_cycle == 0) ≡ false → (advanced p).ly ≡ p.ly
+unfolding advanced
+stays_in_line p e = grind (arith, nat_tests, e)
+
+signal-advanced : (p : PictureState) → (advanced p).signal ≡ p.signal
+unfolding advanced
+signal-advanced p = elim (p.m_cycle == 113) as (λ b. (cond b (record p { m_cycle = 0; ly = cond (p.ly == 153) 0 (p.ly + 1) }) (record p { m_cycle = p.m_cycle + 1 })).signal ≡ p.signal) [
+  | true ↦ refl
+  | false ↦ refl
+]
+
+signal-entered : (p : PictureState) → (entered p).signal ≡ p.signal
+unfolding entered
+signal-entered p = elim (p.m_cycle == 0) as (λ b. (cond b (record p { window_counter = cond (p.ly == 0) 0 p.window_counter; seen = (nat_lt 0 p.ly && p.seen) || (nat_lt p.ly 144 && p.wy == p.ly) }) p).signal ≡ p.signal) [
+  | true ↦ refl
+  | false ↦ refl
+]
+
+signal-drawn : (s : PictureUnit) → (drawn s).state.signal ≡ s.state.signal
+unfolding drawn line_drawn
+signal-drawn s = elim (draws s.state) as (λ b. (cond b (line_drawn s) s).state.signal ≡ s.state.signal) [
+  | true ↦ refl
+  | false ↦ refl
+]
+
+-- the signal of a line does not depend on anything but the registers and LY
+same_line : (p q : PictureState) → p.stat % 64 ≡ 0 → registers q ≡ registers p → q.ly ≡ p.ly → stat_signal q ≡ stat_signal p
+unfolding is_on
+same_line p q none same line =
+    let none' : q.stat % 64 ≡ 0 = ap (λ (r : PictureState). r.stat % 64) same ∙ none in
+    by_line q none'
+    ∙ ap (λ (r : PictureState). is_on r && (has_bit r.stat 6 && q.ly == r.lyc)) same
+    ∙ ap (λ (k : ℕ). is_on p && (has_bit p.stat 6 && k == p.lyc)) line
+    ∙ sym (by_line p none)
+
+module _ (d : PictureAndRequests) (n : ℕ) (on : is_on d.picture.state ≡ true) (none : d.picture.state.stat % 64 ≡ 0) (settled : stat_signal d.picture.state ≡ d.picture.state.signal)
+    (ly : d.picture.state.ly < 154) (m_cycle : d.picture.state.m_cycle < 114) (within : frame_cycle d.picture.state + suc n < 17556)
+    (misses : Misses (frame_cycle d.picture.state) (suc n) 16416) (no_line : Misses (frame_cycle d.picture.state) (suc n) (rise d.picture.state)) where
+  one_on : frame_cycle (tick d).picture.state ≡ frame_cycle d.picture.state + 1
+  one_on =
+      let e = frame_cycle-tick d on ly m_cycle in
+      omega (arith, e, within)
+
+  next_at : frame_cycle (entered (advanced d.picture.state)) ≡ frame_cycle d.picture.state + 1
+  next_at =
+      let e = frame_cycle-entered (advanced d.picture.state) ∙ frame_cycle-advanced d.picture.state ly m_cycle in
+      omega (arith, e, within)
+
+  vblank_stays : (tick d).vblank ≡ d.vblank
+  unfolding tick taken moved
+  vblank_stays =
+      let next = entered (advanced d.picture.state) in
+      ap (λ b. (cond b (taken (moved d)) d).vblank) on
+      ∙ ap (λ (b : Bool). d.vblank || b) (elsewhere next (missed (frame_cycle d.picture.state) n 16416 (frame_cycle next) next_at misses)) ∙ or-false d.vblank
+
+  stat_stays : (tick d).stat ≡ d.stat
+  unfolding tick taken moved
+  stat_stays =
+      let p = d.picture.state in
+      let a = advanced p in
+      let next = entered a in
+      let q = (drawn (with_state next d.picture)).state in
+      let same : registers q ≡ registers p = registers-drawn (with_state next d.picture) ∙ registers-entered a ∙ registers-advanced p in
+      let was : q.signal ≡ p.signal = signal-drawn (with_state next d.picture) ∙ signal-entered a ∙ signal-advanced p in
+      let none' : q.stat % 64 ≡ 0 = ap (λ (r : PictureState). r.stat % 64) same ∙ none in
+      let line : q.ly ≡ a.ly = ly-drawn (with_state next d.picture) ∙ ly-entered a in
+      let cycle : q.m_cycle ≡ a.m_cycle = m_cycle-drawn (with_state next d.picture) ∙ m_cycle-entered a in
+      let same_rise : rise q ≡ rise p = ap (λ (r : PictureState). rise r) same in
+      let at : frame_cycle q ≡ frame_cycle p + 1 = frame_cycle-drawn (with_state next d.picture) ∙ next_at in
+      let quiet : (stat_signal q && not q.signal) ≡ false =
+      elim (bool_cases (a.m_cycle == 0)) [
+        | inl first ↦
+            let zero_cycle : q.m_cycle ≡ 0 = cycle ∙ grind (arith, nat_tests, first) in
+            ap (λ (b : Bool). b && not q.signal) (other_line q none' zero_cycle (missed (frame_cycle p) n (rise q) (frame_cycle q) at (subst (λ (k : ℕ). Misses (frame_cycle p) (suc n) k) (sym same_rise) no_line)))
+        | inr inside ↦ no_rise (stat_signal q) q.signal (same_line p q none same (line ∙ stays_in_line p inside) ∙ settled ∙ sym was)
+      ] in
+      ap (λ b. (cond b (taken (moved d)) d).stat) on ∙ ap (λ (b : Bool). d.stat || b) quiet ∙ or-false d.stat
+
+pub no_requests : (n : ℕ) (d : PictureAndRequests) → is_on d.picture.state ≡ true → d.picture.state.stat % 64 ≡ 0 → stat_signal d.picture.state ≡ d.picture.state.signal
+    → d.picture.state.ly < 154 → d.picture.state.m_cycle < 114 → frame_cycle d.picture.state + n < 17556
+    → Misses (frame_cycle d.picture.state) n 16416 → Misses (frame_cycle d.picture.state) n (rise d.picture.state)
+    → ((iterate tick n d).vblank ≡ d.vblank) × ((iterate tick n d).stat ≡ d.stat)
+no_requests zero d on none settled ly m_cycle within misses no_line = (refl, refl)
+no_requests (suc n) d on none settled ly m_cycle within misses no_line =
+    let at = one_on d n on none settled ly m_cycle within misses no_line in
+    let on' = stays_on d (tick d) on refl in
+    let same_rise : rise (tick d).picture.state ≡ rise d.picture.state = ap (λ (r : PictureState). rise r) (tick_registers d) in
+    let rest =
+    no_requests n (tick d) on' (ap (λ (r : PictureState). r.stat % 64) (tick_registers d) ∙ none) (tick_settles d on')
+    (subst (λ (k : ℕ). k < 154) (sym (ly-tick d on)) (ly-advanced d.picture.state ly))
+    (subst (λ (k : ℕ). k < 114) (sym (m_cycle-tick d on)) (m_cycle-advanced d.picture.state m_cycle))
+    (omega (arith, at, within)) (miss_more (frame_cycle d.picture.state) n 16416 (frame_cycle (tick d).picture.state) at misses)
+    (subst (λ (k : ℕ). Misses (frame_cycle (tick d).picture.state) n k) (sym same_rise) (miss_more (frame_cycle d.picture.state) n (rise d.picture.state) (frame_cycle (tick d).picture.state) at no_line)) in
+    (rest.0 ∙ vblank_stays d n on none settled ly m_cycle within misses no_line, rest.1 ∙ stat_stays d n on none settled ly m_cycle within misses no_line)
+
+-- VBlank does not begin, nor line LYC if that is a source
+pub quiet_for_lines : (n : ℕ) (p : PictureState) → IsLegalPicture p → is_on p ≡ true → p.stat % 64 ≡ 0 → stat_signal p ≡ p.signal → frame_cycle p + n < 17556
+    → Misses (frame_cycle p) n 16416 → Misses (frame_cycle p) n (rise p) → AreQuiet n p
+unfolding unrequested
+quiet_for_lines n p legal on none settled within misses no_line =
+    let still = no_requests n (unrequested (bare p)) on none settled legal.ly legal.m_cycle within misses no_line in record {
+      legal = λ _. legal;
+      on = λ _. on;
+      frame = λ _. within;
+      vblank = λ _. still.0;
+      stat = λ _. still.1;
+    }
+
+-- before the next entry
+entry_is_change : (p : PictureState) → 0 < p.stat % 64 → next_change p ≡ next_entry p
+unfolding next_change
+entry_is_change p some = grind (arith, nat_tests, some)
+
+pub quiet_before_entry : (n : ℕ) (p : PictureState) → IsLegalPicture p → is_on p ≡ true → stat_signal p ≡ p.signal → 0 < p.stat % 64 → n < next_entry p → AreQuiet n p
+quiet_before_entry n p legal on settled some lt =
+    let lt' : n < next_change p = subst (λ (k : ℕ). n < k) (sym (entry_is_change p some)) lt in
+    let still = requests_none n (bare p) on lt' settled in
+    let line = before_line_end p n legal.m_cycle lt' in record {
+      legal = λ _. legal;
+      on = λ _. on;
+      frame = λ _. omega (arith, line, legal.ly);
+      vblank = λ _. still.0;
+      stat = λ _. still.1;
+    }
+
+pub entry_in_line : (n : ℕ) (p : PictureState) → IsLegalPicture p → n < next_entry p → frame_cycle p + n < 17556
+unfolding next_entry
+entry_in_line n p legal lt =
+    let line : p.m_cycle + n < 114 = grind (arith, nat_tests, lt, legal.m_cycle) in
+    omega (arith, line, legal.ly)
+
+pub region_kept : (now : ℕ) (s : PictureUnit) (region : PictureRegion) → region_of (up_to now s) region ≡ region_of s region
+unfolding region_of
+region_kept now s Vram = vram_kept (now - frame_cycle s.state) s
+region_kept now s Oam = oam_kept (now - frame_cycle s.state) s
+
+pub same_bool : (a b : Bool) → not (beq a b) ≡ false → a ≡ b
+same_bool true true e = refl
+same_bool false false e = refl
+same_bool true false e = cc
+same_bool false true e = cc
+
+-- ---- a whole line while STAT enables no mode
+
+pub up_to_drawing : (p : PictureState) → p.m_cycle ≡ 0 → p.ly < 143 → 19 < next_change p
+unfolding next_change next_entry
+up_to_drawing p first visible = grind (arith, nat_tests, first, visible)
+
+from_drawing : (p : PictureState) → p.stat % 64 ≡ 0 → p.m_cycle ≡ 20 → 93 < next_change p
+unfolding next_change
+from_drawing p none at = grind (arith, nat_tests, none, at)
+
+drawing_at : (p : PictureState) → p.m_cycle ≡ 19 → (advanced p).m_cycle ≡ 20
+unfolding advanced
+drawing_at p at = grind (arith, nat_tests, at)
+
+pub up_to_next_line : (d e f : PictureAndRequests) → is_on d.picture.state ≡ true → d.picture.state.stat % 64 ≡ 0 → d.picture.state.m_cycle ≡ 0 → e ≡ skipped 19 d → f ≡ tick e → 93 < next_change f.picture.state
+unfolding skipped picture_jump.later taken
+up_to_next_line d e f on none first skip ran =
+    let on' = stays_on_skipped 19 d e on skip in
+    let none' : f.picture.state.stat % 64 ≡ 0 = ap (λ (x : PictureAndRequests). x.picture.state.stat % 64) ran ∙ ap (λ (r : PictureState). r.stat % 64) (tick_registers e) ∙ ap (λ (x : PictureAndRequests). x.picture.state.stat % 64) skip ∙ none in
+    let at : e.picture.state.m_cycle ≡ 19 = ap (λ (x : PictureAndRequests). x.picture.state.m_cycle) skip ∙ ap (λ (k : ℕ). k + 19) first in
+    let at' : f.picture.state.m_cycle ≡ 20 = ap (λ (x : PictureAndRequests). x.picture.state.m_cycle) ran ∙ m_cycle-tick e on' ∙ drawing_at e.picture.state at in
+    from_drawing f.picture.state none' at'
+
+pub line_passed : (d e f g h : PictureAndRequests) → is_on d.picture.state ≡ true → d.picture.state.stat % 64 ≡ 0 → d.picture.state.m_cycle ≡ 0 → d.picture.state.ly < 143
+    → e ≡ skipped 19 d → f ≡ tick e → g ≡ skipped 93 f → h ≡ tick g → h ≡ iterate tick 114 d
+line_passed d e f g h on none first visible skip ran skip' ran' =
+    let on' = stays_on e f (stays_on_skipped 19 d e on skip) ran in
+    after_change 94 93 f g h (omega arith) on' (up_to_next_line d e f on none first skip ran) skip' ran'
+    ∙ after_change 114 19 d e f (omega arith) on (up_to_drawing d.picture.state first visible) skip ran
+
+pub line_of_many : (n : ℕ) (d e : PictureAndRequests) → 114 ≤ n → e ≡ iterate tick 114 d → iterate tick (n - 114) e ≡ iterate tick n d
+line_of_many n d e le ran =
+    let whole : 114 + (n - 114) ≡ n = omega (arith, le) in
+    ap (iterate tick (n - 114)) ran ∙ sym (iterate-add tick 114 (n - 114) d) ∙ ap (λ (k : ℕ). iterate tick k d) whole
+
+-- ---- writes that keep the state
+
+pub state-oam_copied : (offset value : ℕ) (s : PictureUnit) → (oam_copied offset value s).state ≡ s.state
+unfolding oam_copied
+state-oam_copied offset value s = refl
+
+pub state-oam_written : (offset value : ℕ) (s : PictureUnit) → (oam_written offset value s).state ≡ s.state
+unfolding oam_written oam_copied
+state-oam_written offset value s = elim (is_oam_closed s.state) as (λ b. (cond b s (oam_copied offset value s)).state ≡ s.state) [
+  | true ↦ refl
+  | false ↦ refl
+]
+
+pub state-vram_written : (offset value : ℕ) (s : PictureUnit) → (vram_written offset value s).state ≡ s.state
+unfolding vram_written
+state-vram_written offset value s = elim (is_vram_closed s.state) as (λ b. (cond b s (record s { vram = slice_set s.vram offset value })).state ≡ s.state) [
+  | true ↦ refl
+  | false ↦ refl
+]
+
+-- a byte that is there already
+pub same_copied : (offset value : ℕ) (s : PictureUnit) → byte_read false s.oam offset ≡ value → s ≡ oam_copied offset value s
+unfolding oam_copied byte_read
+same_copied offset value s same = sym (ap (λ (o : List ℕ). record s { oam = o }) (same_written s.oam offset value same))

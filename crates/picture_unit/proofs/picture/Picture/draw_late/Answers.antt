@@ -1,0 +1,9 @@
+use Rattle.std.proofs.Common.{◌∙◌}
+use Rattle.picture_unit.proofs.LatePicture.{late_now, prompt_now}
+use Rattle.picture_unit.proofs.picture.Picture.draw_late.Goals as goal
+
+pub invariant_of-self : goal.invariant_of-self
+invariant_of-self c = late_now _ _ _ c.frame_cycle-self-inside.ensures.now c.frame_cycle-self-inside.ensures.whole c.quiet.ensures.quiet
+
+pub returns : goal.returns
+returns c = prompt_now _ _ c.frame_cycle-self-inside.ensures.now ∙ c.draw_late.ensures ∙ c.pass_to.ensures ∙ c.self.view_is

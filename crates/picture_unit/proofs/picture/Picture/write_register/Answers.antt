@@ -1,0 +1,10 @@
+use Rattle.std.proofs.Common.{◌≡◌, ap, ◌∙◌}
+use Rattle.picture_unit.specs.Picture.{PictureUnit, unrequested}
+use Rattle.picture_unit.specs.Registers.{register_written}
+use Rattle.picture_unit.proofs.LatePicture.{prompt_now}
+use Rattle.picture_unit.proofs.picture.Picture.write_register.Goals as goal
+
+pub returns-clause-picture : goal.returns-clause-picture
+returns-clause-picture c =
+    let same : c.pass_to.new.self ≡ c.args.self.now = c.pass_to.ensures ∙ c.self.view_is in
+    prompt_now _ _ c.frame_cycle-self-inside.ensures.now ∙ c.write_register-requested.ensures.picture ∙ ap (λ (u : PictureUnit). (register_written c.args.address c.args.value (unrequested u)).picture) same

@@ -1,0 +1,46 @@
+-- The picture unit, which is given its M-cycles late.
+use Rattle.std.specs.Prelude.{◌≡◌, ℕ, ◌+◌, ◌-◌, ◌*◌, ◌/◌, ◌%◌, ◌<◌, ◌≤◌, true, false, ◌&&◌, ◌==◌, [], Option, Some, None, if◌then◌else◌}
+use Rattle.picture_lines.specs.declared.registers.LineRegisters.{LineRegisters}
+use Rattle.picture_unit.specs.declared.state.PictureState.{PictureState}
+use Rattle.picture_unit.specs.Picture.{PictureUnit, IsLegalPicture, IsWhole, is_on, advanced, entered, draws, line_registers, ticks}
+use Rattle.picture_unit.specs.Laws.{frame_cycle}
+
+-- A picture unit without VRAM, OAM and rows: neither what it requests nor the state that it comes to depends on these.
+abbrev pub bare : PictureState → PictureUnit
+bare p = record { state = p; vram = []; oam = []; rows = [] }
+
+-- n M-cycles on
+abbrev pub state_after : ℕ → PictureState → PictureState
+state_after n p = (ticks n (bare p)).picture.state
+
+-- In the next n M-cycles, if any, nothing is requested, and the frame does not end.
+pub record AreQuiet (n : ℕ) (p : PictureState) : Type 0 where
+  pub legal : 0 < n → IsLegalPicture p
+  pub on : 0 < n → is_on p ≡ true
+  pub frame : 0 < n → frame_cycle p + n < 17556
+  pub vblank : 0 < n → (ticks n (bare p)).vblank ≡ false
+  pub stat : 0 < n → (ticks n (bare p)).stat ≡ false
+
+-- as it is at an M-cycle of the frame
+abbrev pub up_to : ℕ → PictureUnit → PictureUnit
+up_to now s = (ticks (now - frame_cycle s.state) s).picture
+
+-- What is known of a picture unit that was given its M-cycles up to an earlier one: those since are quiet, and so are those
+-- before `quiet_until`.
+pub record IsLate (now quiet_until : ℕ) (s : PictureUnit) : Type 0 where
+  pub whole : IsWhole s.state s.oam s.rows
+  pub late : frame_cycle s.state ≤ now
+  pub passed : AreQuiet (now - frame_cycle s.state) s.state
+  pub coming : AreQuiet (quiet_until - now) (up_to now s).state
+
+-- the M-cycle of the frame in which the signal may rise with the entry to line LYC: 0 where STAT does not enable this
+abbrev pub rise : PictureState → ℕ
+rise p = if p.stat == 0 then 0 else 114 * p.lyc
+
+-- the same state at another M-cycle of the frame
+abbrev pub at_cycle : ℕ → PictureState → PictureState
+at_cycle now p = record p { ly = now / 114; m_cycle = now % 114 }
+
+-- what the line is drawn by that the next M-cycle draws, if it draws one
+unfoldable pub line_drawn_next : PictureState → Option LineRegisters
+line_drawn_next p = if is_on p && draws (entered (advanced p)) then Some (line_registers (entered (advanced p))) else None

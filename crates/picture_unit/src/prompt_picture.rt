@@ -1,0 +1,237 @@
+//! The picture unit, which is given all its M-cycles as they pass.
+
+ghost use Rattle.std.specs.Prelude.{◌≡◌, false, not, ◌&&◌, IfOk};
+
+mod clock;
+mod snapshot;
+
+use crate::rows::Rows;
+use crate::state::PictureState;
+use picture_lines::TileMemory;
+use std::alloc::{AllocError, Global};
+use std::marker::Model;
+
+/// The picture unit, with nothing left to be given to it but the lines that are noted in `rows`.
+#[derive(Drop)]
+pub(crate) struct PromptPicture {
+    state: PictureState,
+    tiles: TileMemory,
+    oam: Vec<u8>,
+    rows: Rows,
+}
+
+impl Model for PromptPicture {
+    ghost use Rattle.picture_unit.specs.Picture.{PictureUnit, IsWhole};
+    ghost use Rattle.picture_unit.specs.LateRows.{rows_of, AreRight};
+
+    ghost Value = { PictureUnit };
+
+    ghost view = { λ p. record {
+      state = p.state;
+      vram = p.tiles;
+      oam = p.oam.items;
+      rows = rows_of p.rows p.tiles p.oam.items;
+    } };
+
+    ghost invariant = { λ p. record {
+      whole : IsWhole p.state p.oam.items (rows_of p.rows p.tiles p.oam.items);
+      rows : AreRight p.rows;
+    } };
+}
+
+impl PromptPicture {
+    ghost use Rattle.picture_unit.specs.Picture.{unrequested, is_on, stat_signal, taken, picture_at_power_on};
+    ghost use Rattle.picture_unit.specs.Registers.{register_written, lcdc_written, stat_written, lyc_written, switched_off, switched_on};
+    ghost use Rattle.picture_unit.specs.Stores.{byte_read, vram_written, oam_written, oam_copied};
+
+    /// The picture unit when the machine is switched on: LCDC 91, BGP FC, OBP0 and OBP1 FF, the
+    /// other registers, VRAM, OAM and all shades 0, at the beginning of line 0. Refused if there is
+    /// no memory.
+    pub(crate) fn new(alloc: Global) -> Result<PromptPicture, AllocError>
+        ensures { IfOk result (λ p. p ≡ picture_at_power_on) }
+    {
+        let tiles = TileMemory::new(alloc)?;
+        let oam = Vec::from_elem(alloc, 0u8, 160)?;
+        let rows = Rows::new(alloc)?;
+        Ok(PromptPicture {
+            state: PictureState::at_power_on(),
+            tiles,
+            oam,
+            rows,
+        })
+    }
+
+    /// A byte of VRAM, in every mode.
+    #[tactic(auto, unfolding(crate::specs::Stores::byte_read))]
+    pub(crate) fn peek_vram(&self, offset: u16) -> u8
+        ensures { result ≡ byte_read false self.now.vram offset }
+    {
+        let bytes = self.tiles.bytes();
+        if offset as usize >= bytes.len() {
+            return 0;
+        }
+        bytes[offset as usize]
+    }
+
+    /// Writes a byte of VRAM, by its offset from 8000. The write is ignored in mode 3, and beyond
+    /// VRAM.
+    #[tactic(auto, unfolding(crate::specs::Stores::vram_written))]
+    pub(crate) fn write_vram(&mut self, offset: u16, value: u8)
+        ensures { self.new ≡ vram_written offset value self.old }
+    {
+        if self.state.is_vram_closed() {
+            return;
+        }
+        if offset as usize >= self.tiles.bytes().len() {
+            return;
+        }
+        if self.tiles.byte(offset as usize) == value {
+            return;
+        }
+        self.rows.settle(&self.tiles, &self.oam);
+        self.tiles.write(offset as usize, value);
+    }
+
+    /// A byte of OAM, in every mode.
+    #[tactic(auto, unfolding(crate::specs::Stores::byte_read))]
+    pub(crate) fn peek_oam(&self, offset: u8) -> u8
+        ensures { result ≡ byte_read false self.now.oam offset }
+    {
+        if offset as usize >= self.oam.len() {
+            return 0;
+        }
+        self.oam[offset as usize]
+    }
+
+    /// Writes a byte of OAM, by its offset from FE00. The write is ignored in modes 2 and 3, and
+    /// beyond OAM.
+    #[tactic(auto, unfolding(crate::specs::Stores::oam_written, crate::specs::Stores::oam_copied))]
+    pub(crate) fn write_oam(&mut self, offset: u8, value: u8)
+        ensures { self.new ≡ oam_written offset value self.old }
+    {
+        if self.state.is_oam_closed() {
+            return;
+        }
+        self.copy_to_oam(offset, value);
+    }
+
+    /// Writes a byte of OAM in every mode, as the object DMA does. Beyond OAM the write is ignored.
+    #[tactic(auto, unfolding(crate::specs::Stores::oam_copied))]
+    pub(crate) fn copy_to_oam(&mut self, offset: u8, value: u8)
+        ensures { self.new ≡ oam_copied offset value self.old }
+    {
+        if offset as usize >= self.oam.len() {
+            return;
+        }
+        if self.oam[offset as usize] == value {
+            return;
+        }
+        self.rows.settle(&self.tiles, &self.oam);
+        self.oam[offset as usize] = value;
+    }
+
+    /// Whether LCDC bit 7 is set: the LCD is on.
+    #[inline]
+    pub(crate) fn is_on(&self) -> bool
+        ensures { result ≡ is_on self.now.state }
+    {
+        self.state.is_on()
+    }
+
+    /// Writes a register, and answers whether that requests the STAT interrupt. LY and every other
+    /// address ignore it.
+    #[tactic(auto, unfolding(crate::specs::Registers::register_written, crate::specs::Picture::unrequested))]
+    pub(crate) fn write_register(&mut self, address: u16, value: u8) -> bool
+        ensures picture { self.new
+            ≡ (register_written address value (unrequested self.old)).picture }
+        ensures stat { result ≡ (register_written address value (unrequested self.old)).stat }
+    {
+        match address {
+            0xff40 => self.write_lcdc(value),
+            0xff41 => self.write_stat(value),
+            0xff45 => self.write_lyc(value),
+            _ => {
+                self.state.store_register(address, value);
+                false
+            }
+        }
+    }
+
+    #[tactic(auto, unfolding(crate::specs::Picture::unrequested, crate::specs::Picture::taken))]
+    fn write_lcdc(&mut self, value: u8) -> bool
+        ensures picture { self.new ≡ (taken (unrequested (lcdc_written value self.old))).picture }
+        ensures stat { result ≡ (taken (unrequested (lcdc_written value self.old))).stat }
+    {
+        self.store_lcdc(value);
+        self.take_signal()
+    }
+
+    #[tactic(auto, unfolding(crate::specs::Registers::lcdc_written))]
+    fn store_lcdc(&mut self, value: u8)
+        ensures { self.new ≡ lcdc_written value self.old }
+    {
+        let was_on = self.state.is_on();
+        if was_on && value < 128 {
+            return self.switch_off(value);
+        }
+        if !was_on && value >= 128 {
+            return self.switch_on(value);
+        }
+        self.state.lcdc = value;
+    }
+
+    #[tactic(auto, unfolding(crate::specs::Registers::switched_off, crate::specs::Picture::blank_rows))]
+    fn switch_off(&mut self, lcdc: u8)
+        ensures { self.new ≡ switched_off lcdc self.old }
+    {
+        self.state.lcdc = lcdc;
+        self.state.ly = 0;
+        self.state.m_cycle = 0;
+        self.state.window_counter = 0;
+        self.state.seen = false;
+        self.state.signal = false;
+        self.rows.blank();
+    }
+
+    #[tactic(auto, unfolding(crate::specs::Registers::switched_on))]
+    fn switch_on(&mut self, lcdc: u8)
+        ensures { self.new ≡ switched_on lcdc self.old }
+    {
+        self.state.lcdc = lcdc;
+        self.state.ly = 0;
+        self.state.m_cycle = 0;
+        self.state.window_counter = 0;
+        self.state.seen = self.state.wy == 0;
+    }
+
+    #[tactic(auto, unfolding(crate::specs::Picture::unrequested, crate::specs::Picture::taken, crate::specs::Registers::stat_written))]
+    fn write_stat(&mut self, value: u8) -> bool
+        ensures picture { self.new ≡ (taken (unrequested (stat_written value self.old))).picture }
+        ensures stat { result ≡ (taken (unrequested (stat_written value self.old))).stat }
+    {
+        self.state.stat = value / 8 % 16 * 8;
+        self.take_signal()
+    }
+
+    #[tactic(auto, unfolding(crate::specs::Picture::unrequested, crate::specs::Picture::taken, crate::specs::Registers::lyc_written))]
+    fn write_lyc(&mut self, value: u8) -> bool
+        ensures picture { self.new ≡ (taken (unrequested (lyc_written value self.old))).picture }
+        ensures stat { result ≡ (taken (unrequested (lyc_written value self.old))).stat }
+    {
+        self.state.lyc = value;
+        self.take_signal()
+    }
+
+    // Takes the STAT signal. Answers whether it rises.
+    fn take_signal(&mut self) -> bool
+        ensures rises { result ≡ (stat_signal self.old.state && not self.old.state.signal) }
+        ensures taken { self.new ≡ record self.old {
+          state = record self.old.state { signal = stat_signal self.old.state };
+        } }
+    {
+        let signal = self.state.stat_signal();
+        let rises = signal && !self.state.signal;
+        self.state.signal = signal;
+        rises
+    }
+}
