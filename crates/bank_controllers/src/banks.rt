@@ -113,7 +113,7 @@ impl Banks {
             return self.rom[self.low + usize::from(address)];
         }
         if address < 0x8000 {
-            return self.rom[self.high + usize::from(address - 0x4000)];
+            return self.rom[self.high + usize::from(address) - 0x4000];
         }
         if address >= 0xA000 && address < 0xC000 {
             return self.read_window(usize::from(address - 0xA000));

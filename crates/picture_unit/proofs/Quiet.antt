@@ -232,3 +232,9 @@ unfolding unrequested
 requests_none n s on lt settled =
     let e = sym (quiet_ticks n s on lt settled) in
     (ap (λ (d : PictureAndRequests). d.vblank) e, ap (λ (d : PictureAndRequests). d.stat) e)
+
+-- the state by another name
+pub skips_before : (n : ℕ) (p : PictureState) (s : PictureUnit) (e : PictureAndRequests) → p ≡ s.state → is_on p ≡ true → n < next_change p → e ≡ skipped n (unrequested s) → e ≡ ticks n s
+unfolding unrequested
+skips_before n p s e same on before skip =
+    skip ∙ sym (skips n (unrequested s) (ap is_on (sym same) ∙ on) (subst (λ (p : PictureState). n < next_change p) same before))

@@ -10,7 +10,7 @@ use crate::state::PictureRequests;
 
 impl PromptPicture {
     /// Lets this many M-cycles pass: lines are entered and noted, and interrupts are requested.
-    #[inline(never)]
+    #[inline(always)]
     #[tactic(auto, unfolding(crate::specs::Picture::unrequested))]
     pub(crate) fn pass(&mut self, cycles: u32) -> PictureRequests
         ensures picture { self.new ≡ (ticks cycles self.old).picture }
@@ -23,6 +23,10 @@ impl PromptPicture {
         };
         if !self.state.is_on() {
             return none;
+        }
+        let change = self.state.change_at() - self.state.m_cycle;
+        if cycles < u32::from(change) {
+            return self.skip(cycles, none);
         }
         self.advance(cycles, none)
     }
@@ -73,6 +77,7 @@ impl PromptPicture {
     }
 
     // M-cycles of a picture unit that is on, from change to change.
+    #[inline(never)]
     fn advance(&mut self, cycles: u32, requests: PictureRequests) -> PictureRequests
         requires { is_on self.old.state ≡ true }
         ensures on { is_on self.new.state ≡ true }

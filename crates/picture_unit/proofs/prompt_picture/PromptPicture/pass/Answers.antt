@@ -1,6 +1,7 @@
-use Rattle.std.proofs.Common.{◌≡◌, false, ap, sym}
+use Rattle.std.proofs.Common.{◌≡◌, ◌-◌, ◌<◌, true, false, ap, sym, ◌∙◌, arith}
 use Rattle.picture_unit.specs.Picture.{PictureUnit, PictureAndRequests, is_on, unrequested}
-use Rattle.picture_unit.proofs.Quiet.{ticks_when_off}
+use Rattle.picture_unit.specs.PictureJump.{next_change}
+use Rattle.picture_unit.proofs.Quiet.{ticks_when_off, skips_before}
 use Rattle.picture_unit.proofs.prompt_picture.PromptPicture.pass.Goals as goal
 
 pub returns-then-not-is_on : goal.returns-then-not-is_on
@@ -13,3 +14,24 @@ returns-then-not-is_on c =
       vblank = ap (λ (d : PictureAndRequests). d.vblank) same;
       stat = ap (λ (d : PictureAndRequests). d.stat) same;
     }
+
+pub returns-then-cycles-from-clause-picture : goal.returns-then-cycles-from-clause-picture
+unfolding unrequested
+returns-then-cycles-from-clause-picture c =
+    let on : is_on c.self.inside.state ≡ true = sym c.is_on.ensures ∙ c.if-not-is_on.false in
+    let before : c.args.cycles < next_change c.self.inside.state = omega (arith, c.change_at.ensures.change, c.from.ensures, c.if-cycles-from.true) in
+    ap (λ (d : PictureAndRequests). d.picture) (skips_before c.args.cycles c.self.inside.state c.args.self.now _ (ap (λ (s : PictureUnit). s.state) c.self.view_is) on before c.skip.ensures)
+
+pub returns-then-cycles-from-clause-vblank : goal.returns-then-cycles-from-clause-vblank
+unfolding unrequested
+returns-then-cycles-from-clause-vblank c =
+    let on : is_on c.self.inside.state ≡ true = sym c.is_on.ensures ∙ c.if-not-is_on.false in
+    let before : c.args.cycles < next_change c.self.inside.state = omega (arith, c.change_at.ensures.change, c.from.ensures, c.if-cycles-from.true) in
+    ap (λ (d : PictureAndRequests). d.vblank) (skips_before c.args.cycles c.self.inside.state c.args.self.now _ (ap (λ (s : PictureUnit). s.state) c.self.view_is) on before c.skip.ensures)
+
+pub returns-then-cycles-from-clause-stat : goal.returns-then-cycles-from-clause-stat
+unfolding unrequested
+returns-then-cycles-from-clause-stat c =
+    let on : is_on c.self.inside.state ≡ true = sym c.is_on.ensures ∙ c.if-not-is_on.false in
+    let before : c.args.cycles < next_change c.self.inside.state = omega (arith, c.change_at.ensures.change, c.from.ensures, c.if-cycles-from.true) in
+    ap (λ (d : PictureAndRequests). d.stat) (skips_before c.args.cycles c.self.inside.state c.args.self.now _ (ap (λ (s : PictureUnit). s.state) c.self.view_is) on before c.skip.ensures)
