@@ -10,7 +10,7 @@ ghost use Rattle.sm83_processor.specs.Plain.{IsPlain, IsUsual};
 ghost use Rattle.sm83_processor.specs.Steps.{passing, step_of};
 
 use memory_map::Bus;
-use sm83_processor::{IN_FRAME, IN_LOWER_ROM, IN_UPPER_ROM, Processor, What};
+use sm83_processor::{IN_FRAME, IN_HRAM, IN_LOWER_ROM, IN_UPPER_ROM, IN_WRAM, Processor, What};
 
 /// The M-cycles of a frame.
 const FRAME: u32 = 17_556;
@@ -68,8 +68,9 @@ fn run_plain_steps(processor: &mut Processor<Bus>, passed: u32) -> u32
     passed
 }
 
-/// Makes plain steps while PC stays in the lower half of ROM, in the upper half, or above both. Says how
-/// many M-cycles of the frame have passed after them, and whether the next step is known to be plain.
+/// Makes plain steps while PC stays in the lower half of ROM, in the upper half, in WRAM or in HRAM, or
+/// above ROM if it begins in none of them. Says how many M-cycles of the frame have passed after them,
+/// and whether the next step is known to be plain.
 #[inline(always)]
 fn run_plain_steps_here(processor: &mut Processor<Bus>, passed: u32) -> (u32, bool)
     requires below { passed < 17556 }
@@ -83,19 +84,28 @@ fn run_plain_steps_here(processor: &mut Processor<Bus>, passed: u32) -> (u32, bo
         run_plain_steps_by::<IN_LOWER_ROM>(processor, passed)
     } else if is_there::<IN_UPPER_ROM>(processor.registers.pc) {
         run_plain_steps_by::<IN_UPPER_ROM>(processor, passed)
+    } else if is_there::<IN_WRAM>(processor.registers.pc) {
+        run_plain_steps_by::<IN_WRAM>(processor, passed)
+    } else if is_there::<IN_HRAM>(processor.registers.pc) {
+        run_plain_steps_by::<IN_HRAM>(processor, passed)
     } else {
         run_plain_steps_by::<IN_FRAME>(processor, passed)
     }
 }
 
 /// Whether PC is where the loop of this WAY runs: where all bytes of an instruction lie in the lower
-/// half of ROM, in the upper half, or above both. A loop that runs only there need not ask it for each byte.
+/// half of ROM, in the upper half, in WRAM, in HRAM, or above ROM. A loop that runs only there need not
+/// ask it for each byte.
 #[inline(always)]
 fn is_there<const WAY: u8>(pc: u16) -> bool {
     if WAY == IN_LOWER_ROM {
         pc < 0x3ffe
     } else if WAY == IN_UPPER_ROM {
         pc >= 0x4000 && pc < 0x7ffe
+    } else if WAY == IN_WRAM {
+        pc >= 0xc000 && pc < 0xdffe
+    } else if WAY == IN_HRAM {
+        pc >= 0xff80 && pc < 0xfffd
     } else {
         pc >= 0x8000
     }
@@ -180,22 +190,21 @@ fn run_plain_step<const WAY: u8>(
     let opcode = Bus::read(&processor.memory, processor.registers.pc);
     let (cycles, usual, is_memory_kept) = processor.run_opcode::<WAY>(opcode);
     if !usual {
-        pass_apart(processor, cycles);
+        pass_apart(processor, cycles as u8);
         return (time_behind(end, left, cycles), 0, false, false);
     }
     let is_calm = stays_calm(&processor.memory, is_memory_kept, left);
     if !is_calm {
-        let is_plain = pass_usual(processor, cycles);
+        let is_plain = pass_usual(processor, cycles as u8);
         return (time_behind(end, left, cycles), 0, is_plain, false);
     }
     // What is left is taken before it is known whether it was enough: the host does both at once.
-    let taken = u32::from(cycles);
-    let fewer = left.wrapping_sub(taken);
-    if taken >= left {
-        let is_plain = pass_usual(processor, cycles);
+    let fewer = left.wrapping_sub(cycles);
+    if cycles >= left {
+        let is_plain = pass_usual(processor, cycles as u8);
         return (time_beyond(end, fewer), 0, is_plain, false);
     }
-    Bus::move_on(&mut processor.memory, cycles);
+    Bus::move_on(&mut processor.memory, cycles as u8);
     (0, fewer, true, true)
 }
 
@@ -215,12 +224,13 @@ fn stays_calm(memory: &Bus, is_kept: bool, left: u32) -> bool
 /// The M-cycles of the frame that have passed behind an instruction, where so many were left up to
 /// `end` before it.
 #[inline(always)]
-fn time_behind(end: u32, left: u32, cycles: u8) -> u32
+fn time_behind(end: u32, left: u32, cycles: u32) -> u32
     requires within { left ≤ end }
     requires end { end ≤ 17556 }
+    requires few { cycles ≤ 6 }
     ensures { result ≡ end - left + cycles }
 {
-    end - left + u32::from(cycles)
+    end - left + cycles
 }
 
 /// The same, by what is left then, which is below 0.

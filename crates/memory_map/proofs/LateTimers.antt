@@ -19,11 +19,6 @@ not_late now l e =
 pub settled : (now : ℕ) (l : LateTimer) (s : timer.TimerAndRequest) → l ≡ settled_at now s → up_to now l ≡ s
 settled now l s e = ap (up_to now) e ∙ not_late now (settled_at now s) refl
 
--- the M-cycle of the frame is counted anew
-pub settled_between : (m m' now at : ℕ) (l l' : LateTimer) → now ≡ m → at ≡ m' → l' ≡ settled_at at (up_to now l) → up_to m' l' ≡ up_to m l
-settled_between m m' now at l l' e f g =
-    settled m' l' (up_to m l) (g ∙ ap (λ (k : ℕ). settled_at k (up_to now l)) f ∙ ap (λ (k : ℕ). settled_at m' (up_to k l)) e)
-
 -- n M-cycles later it is n M-cycles on
 pub later : (now n : ℕ) (l : LateTimer) → l.at ≤ now → up_to (now + n) l ≡ iterate timer.tick n (up_to now l)
 later now n l le =

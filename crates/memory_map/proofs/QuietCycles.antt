@@ -1,6 +1,6 @@
 -- Quiet M-cycles of the bus at once.
-use Rattle.std.proofs.Common.{◌≡◌, ℕ, zero, suc, ◌+◌, ◌-◌, ◌<◌, ◌≤◌, Bool, true, false, min, refl, sym, ap, subst, ◌∙◌, arith, inl, inr}
-use Rattle.std.specs.Prelude.{◌||◌}
+use Rattle.std.proofs.Common.{◌≡◌, ℕ, zero, suc, ◌+◌, ◌-◌, ◌*◌, ◌/◌, ◌%◌, ◌<◌, ◌≤◌, Bool, true, false, cond, min, refl, sym, ap, subst, ◌∙◌, arith, inl, inr}
+use Rattle.std.specs.Prelude.{◌||◌, ◌&&◌, ◌==◌, not}
 use Rattle.std.specs.Fn.{iterate}
 use Rattle.std.proofs.lemmas.Bool.{cases_lt}
 use Rattle.std.proofs.lemmas.Bool.Decides.{nat_tests}
@@ -15,22 +15,22 @@ use Rattle.picture_unit.specs.Picture as picture
 use Rattle.picture_unit.specs.LatePicture as late_picture
 use Rattle.picture_unit.specs.declared.state.PictureState.{PictureState}
 use Rattle.picture_unit.proofs.Quiet.{stands_still}
-use Rattle.picture_unit.proofs.LatePicture.{none_quiet, fewer_quiet, rest_quiet, no_vblank, no_stat, quiet_position}
+use Rattle.picture_unit.proofs.Settled.{bool_cases, both_ways}
+use Rattle.picture_unit.proofs.LatePicture.{none_quiet, fewer_quiet, rest_quiet, no_vblank, no_stat, on_kept}
 use Rattle.picture_unit.proofs.PictureLaws.{picture_ticks}
-use Rattle.picture_unit.specs.Laws.{frame_cycle}
 use Rattle.memory_map.specs.State.{BusState}
 use Rattle.memory_map.specs.Bus.{pending_interrupts}
-use Rattle.memory_map.specs.Ticks.{tick, tick_timer}
+use Rattle.memory_map.specs.Ticks.{tick}
 use Rattle.memory_map.specs.Quiet.{AreQuiet, AreQuietOn, IsCalm}
 use Rattle.memory_map.proofs.NextBusEvent.{ticks_apart}
-use Rattle.memory_map.proofs.UnitRuns.{timers_tick}
 
 pub none_are_quiet : (n copied : ℕ) (t : TimerState) (left : ℕ) (p : PictureState) → n ≡ 0 → AreQuiet n copied t left p
 none_are_quiet n copied t left p none = record {
   copy = λ pos. absurd (omega (arith, none));
   timer = λ pos. absurd (omega (arith, none));
   serial = λ pos. absurd (omega (arith, none));
-  picture = none_quiet n p none;
+  lit = λ on. none_quiet n p none;
+  dark = λ pos off. absurd (omega (arith, none));
 }
 
 -- ---- the timer requests nothing
@@ -68,6 +68,31 @@ still_requested n s none =
 pub goes_on : (n : ℕ) (s : timer.TimerAndRequest) → (iterate timer.tick n s).timer ≡ (timer.ticks n s.timer).timer
 goes_on n s = ap (λ (x : timer.TimerAndRequest). x.timer) (timer_request_added s.requested n s.timer)
 
+-- ---- the counter of DIV
+
+-- a new counter and TAC
+pub counter_set : (counter tac : ℕ) (s : timer.TimerAndRequest) → (timer.with_counter_and_tac counter tac s).timer.counter ≡ counter
+counter_set counter tac s =
+    let changed : timer.TimerAndRequest = record { timer = record s.timer { counter = counter; tac = tac }; requested = s.requested } in
+    let counted : timer.TimerAndRequest = record { timer = record changed.timer { tima = s.timer.tima + 1 }; requested = s.requested } in
+    let reloaded : timer.TimerAndRequest = record { timer = record changed.timer { tima = s.timer.tma }; requested = true } in
+    elim (timer.signal s.timer.tac s.timer.counter && not (timer.signal tac counter)) as (λ b. (cond b (timer.increment_tima changed) changed).timer.counter ≡ counter) [
+      | true ↦ elim (s.timer.tima == 255) as (λ b. (cond b reloaded counted).timer.counter ≡ counter) [
+        | true ↦ refl
+        | false ↦ refl
+      ]
+      | false ↦ refl
+    ]
+
+-- n M-cycles in which it does not overflow
+pub counter_after : (n : ℕ) (s : timer.TimerAndRequest) → (0 < n → s.timer.counter / 4 + n < 16384) → (iterate timer.tick n s).timer.counter ≡ s.timer.counter + 4 * n
+counter_after zero s below = omega arith
+counter_after (suc n) s below =
+    let first = counter_set ((s.timer.counter + 4) % 65536) s.timer.tac s in
+    let lt = below (omega arith) in
+    let rest = counter_after n (timer.tick s) (λ pos. omega (arith, lt, first)) in
+    omega (arith, lt, first, rest)
+
 -- ---- the other units
 
 serial_stays : (n : ℕ) (s : serial.SerialAndRequest) → s.serial.cycles_left ≡ 0 → iterate serial.tick n s ≡ s
@@ -88,6 +113,19 @@ picture_goes_on q n d le quiet =
     ∙ ap (λ (v : Bool). with_picture (further n d.picture) v (d.stat || false)) (or-false d.vblank)
     ∙ ap (λ (l : Bool). with_picture (further n d.picture) d.vblank l) (or-false d.stat)
 
+-- the LCD is off
+stays_dark : (n : ℕ) (s : picture.PictureUnit) → picture.is_on s.state ≡ false → further n s ≡ s
+unfolding picture.unrequested
+stays_dark n s off = ap (λ (d : picture.PictureAndRequests). d.picture) (stands_still n (picture.unrequested s) off)
+
+picture_passes : (q n : ℕ) (d : picture.PictureAndRequests) → n ≤ q → (picture.is_on d.picture.state ≡ true → late_picture.AreQuiet q d.picture.state)
+    → iterate picture.tick n d ≡ record d { picture = further n d.picture }
+picture_passes q n d le quiet =
+    elim (bool_cases (picture.is_on d.picture.state)) [
+      | inl on ↦ picture_goes_on q n d le (quiet on)
+      | inr off ↦ stands_still n d off ∙ sym (ap (λ (s : picture.PictureUnit). with_picture s d.vblank d.stat) (stays_dark n d.picture off))
+    ]
+
 -- ---- the bus
 
 -- what n quiet M-cycles leave
@@ -105,19 +143,10 @@ unfolding picture.unrequested
 quiet_pass q zero b le quiet = refl
 quiet_pass q (suc n) b le quiet =
     let s = serial_stays (suc n) b.serial (quiet.serial (omega arith)) in
-    let p = picture_goes_on q (suc n) b.picture le quiet.picture in
+    let p = picture_passes q (suc n) b.picture le quiet.lit in
     sym (ticks_apart (suc n) b (quiet.copy (omega arith))
     ∙ ap (λ (x : serial.SerialAndRequest). with_units (iterate timer.tick (suc n) b.timer) x (iterate picture.tick (suc n) b.picture) b) s
     ∙ ap (λ (x : picture.PictureAndRequests). with_units (iterate timer.tick (suc n) b.timer) b.serial x b) p)
-
--- where the LCD is off and neither a copy nor a transfer runs, the timer alone goes on
-pub timer_alone : (n : ℕ) (b : BusState) → 160 ≤ b.control.dma_copied → b.serial.serial.cycles_left ≡ 0 → picture.is_on b.picture.picture.state ≡ false
-    → iterate tick_timer n b ≡ iterate tick n b
-timer_alone n b copy left off =
-    sym (ticks_apart n b copy
-    ∙ ap (λ (x : serial.SerialAndRequest). with_units (iterate timer.tick n b.timer) x (iterate picture.tick n b.picture) b) (serial_stays n b.serial left)
-    ∙ ap (λ (x : picture.PictureAndRequests). with_units (iterate timer.tick n b.timer) b.serial x b) (stands_still n b.picture off)
-    ∙ timers_tick n b)
 
 -- what is quiet behind n quiet M-cycles
 pub quiet_after : (q n : ℕ) (b : BusState) → n ≤ q → AreQuietOn q b → AreQuietOn (q - n) (gone_on n b)
@@ -125,7 +154,11 @@ quiet_after q n b le quiet = record {
   copy = λ pos. quiet.copy (omega arith);
   timer = λ pos. ap (λ (t : TimerState). (timer.ticks (q - n) t).requested) (goes_on n b.timer) ∙ (requested_apart q n b.timer.timer le (quiet.timer (omega arith))).1;
   serial = λ pos. quiet.serial (omega arith);
-  picture = rest_quiet q n b.picture.picture le quiet.picture;
+  lit = λ on. rest_quiet q n b.picture.picture le (quiet.lit (sym (on_kept n b.picture.picture) ∙ on));
+  dark = λ pos off.
+      let lt = quiet.dark (omega (arith, pos)) (sym (on_kept n b.picture.picture) ∙ off) in
+      let counted = counter_after n b.timer (λ some. omega (arith, lt, le)) in
+      omega (arith, lt, le, counted);
 }
 
 -- fewer are quiet too
@@ -134,29 +167,38 @@ fewer_are_quiet q n b le quiet = record {
   copy = λ pos. quiet.copy (omega arith);
   timer = λ pos. (requested_apart q n b.timer.timer le (quiet.timer (omega arith))).0;
   serial = λ pos. quiet.serial (omega arith);
-  picture = fewer_quiet q n b.picture.picture le quiet.picture;
+  lit = λ on. fewer_quiet q n b.picture.picture le (quiet.lit on);
+  dark = λ pos off. let lt = quiet.dark (omega (arith, pos, le)) off in omega (arith, lt, le);
 }
 
--- those up to an M-cycle of the frame, n quiet M-cycles on
-pub quiet_until_behind : (until n : ℕ) (b : BusState) → AreQuietOn n b → AreQuietOn (until - frame_cycle b.picture.picture.state) b
-    → AreQuietOn (until - frame_cycle (gone_on n b).picture.picture.state) (gone_on n b)
-quiet_until_behind until n b passed quiet =
-    let m = frame_cycle b.picture.picture.state in
-    let at = quiet_position n b.picture.picture passed.picture in
-    let left = until - frame_cycle (gone_on n b).picture.picture.state in
-    elim (cases_lt until (m + n)) [
-      | inl lt ↦ none_are_quiet left (gone_on n b).control.dma_copied (gone_on n b).timer.timer (gone_on n b).serial.serial.cycles_left (gone_on n b).picture.picture.state (omega (arith, lt, at))
-      | inr le ↦ let same : left ≡ until - m - n = omega (arith, at) in rw same (quiet_after (until - m) n b (omega (arith, le)) quiet)
+-- those up to an M-cycle of the clock, n quiet M-cycles on
+pub quiet_until_behind : (until clock n : ℕ) (b : BusState) → AreQuietOn (until - clock) b → AreQuietOn (until - (clock + n)) (gone_on n b)
+quiet_until_behind until clock n b quiet =
+    elim (cases_lt until (clock + n)) [
+      | inl lt ↦ none_are_quiet (until - (clock + n)) (gone_on n b).control.dma_copied (gone_on n b).timer.timer (gone_on n b).serial.serial.cycles_left (gone_on n b).picture.picture.state (omega (arith, lt))
+      | inr le ↦ let same : until - (clock + n) ≡ until - clock - n = omega arith in rw same (quiet_after (until - clock) n b (omega (arith, le)) quiet)
     ]
 
--- as many as are quiet for the timer and for the picture unit
-pub both_quiet : (n m q copied : ℕ) (t : TimerState) (left : ℕ) (s : picture.PictureUnit) → n ≡ min m q → 160 ≤ copied → left ≡ 0
-    → (timer.ticks m t).requested ≡ false → late_picture.AreQuiet q s.state → AreQuiet n copied t left s.state
-both_quiet n m q copied t left s e copy none still quiet = record {
+-- as many as are quiet for the timer, and for the picture unit while it is on
+pub lit_quiet : (n m q copied : ℕ) (t : TimerState) (left : ℕ) (s : picture.PictureUnit) → n ≡ min m q → 160 ≤ copied → left ≡ 0
+    → (timer.ticks m t).requested ≡ false → picture.is_on s.state ≡ true → late_picture.AreQuiet q s.state → AreQuiet n copied t left s.state
+lit_quiet n m q copied t left s e copy none still on quiet = record {
   copy = λ _. copy;
   timer = λ _. (requested_apart m n t (omega arith) still).0;
   serial = λ _. none;
-  picture = fewer_quiet q n s (omega arith) quiet;
+  lit = λ _. fewer_quiet q n s (omega arith) quiet;
+  dark = λ _ off. both_ways (picture.is_on s.state) on off;
+}
+
+-- and up to the overflow of DIV's counter while it is off
+pub dark_quiet : (n m q copied : ℕ) (t : TimerState) (left : ℕ) (s : picture.PictureUnit) → n ≡ min m q → 160 ≤ copied → left ≡ 0
+    → (timer.ticks m t).requested ≡ false → picture.is_on s.state ≡ false → t.counter / 4 + q < 16384 → AreQuiet n copied t left s.state
+dark_quiet n m q copied t left s e copy none still off below = record {
+  copy = λ _. copy;
+  timer = λ _. (requested_apart m n t (omega arith) still).0;
+  serial = λ _. none;
+  lit = λ on. both_ways (picture.is_on s.state) on off;
+  dark = λ _ _. omega (arith, below, e);
 }
 
 abbrev pending_with : Bool → BusState → ℕ

@@ -8,10 +8,10 @@ use Rattle.memory_map.specs.declared.late_timer.LateTimer.{LateTimer}
 abbrev pub running : LateTimer → TimerAndRequest
 running l = record { timer = l.timer; requested = l.requested }
 
--- as it is at an M-cycle of the frame
+-- as it is at this M-cycle of the clock
 abbrev pub up_to : ℕ → LateTimer → TimerAndRequest
 up_to now l = iterate tick (now - l.at) (running l)
 
--- a timer that has been given all its M-cycles up to one of the frame
+-- a timer that has been given all its M-cycles up to this one of the clock
 abbrev pub settled_at : ℕ → TimerAndRequest → LateTimer
 settled_at now s = record { timer = s.timer; requested = s.requested; at = now }

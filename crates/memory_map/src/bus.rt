@@ -32,8 +32,11 @@ pub struct Bus {
     hram: [u8; 127],
     sound: [u8; 48],
     control: Control,
-    // Before this M-cycle of the frame IE and IF share no bit, and up to the one before it nothing is requested and no byte copied:
-    // the picture unit, which counts, and the timer are given them late. What may end that sets it to 0.
+    // The M-cycle of the frame. While the LCD is off, those since it was last set to 0: it runs on, and at the latest when the counter of
+    // DIV overflows it is set to 0 again.
+    clock: u16,
+    // Before this M-cycle of the clock IE and IF share no bit, and up to the one before it nothing is requested and no byte copied: the
+    // picture unit, which counts too, and the timer are given them late. What may end that sets it to 0.
     calm_until: u16,
     // The same where IE and IF may share a bit: up to this M-cycle nothing is requested and no byte copied.
     quiet_until: u16,
@@ -43,12 +46,11 @@ impl Model for Bus {
     ghost use Rattle.memory_map.specs.State.{BusState};
     ghost use Rattle.memory_map.specs.LateTimer.{up_to};
     ghost use Rattle.memory_map.specs.Quiet.{IsConsistent};
-    ghost use Rattle.picture_unit.specs.Laws.{frame_cycle};
 
     ghost Value = { BusState };
 
     ghost view = { λ b. record {
-      timer = up_to (frame_cycle b.picture.state) b.timer;
+      timer = up_to b.clock b.timer;
       serial = record { serial = b.serial; requested = b.serial_requested };
       picture = record { picture = b.picture; vblank = b.vblank_requested; stat = b.stat_requested };
       banks = b.banks;
@@ -58,8 +60,8 @@ impl Model for Bus {
       control = b.control;
     } };
 
-    ghost invariant = { λ b. IsConsistent b.calm_until b.quiet_until b.timer (record {
-      timer = up_to (frame_cycle b.picture.state) b.timer;
+    ghost invariant = { λ b. IsConsistent b.calm_until b.quiet_until b.clock b.timer (record {
+      timer = up_to b.clock b.timer;
       serial = record { serial = b.serial; requested = b.serial_requested };
       picture = record { picture = b.picture; vblank = b.vblank_requested; stat = b.stat_requested };
       banks = b.banks;
@@ -119,6 +121,7 @@ impl Bus {
             hram: hram_at_power_on(),
             sound: sound_at_power_on(),
             control: Control::at_power_on(),
+            clock: 0,
             calm_until: 0,
             quiet_until: 0,
         })

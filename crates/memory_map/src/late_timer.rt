@@ -6,8 +6,8 @@ ghost use Rattle.memory_map.specs.LateTimer.{up_to, settled_at, running};
 
 use timer_unit::{Timer, TimerState};
 
-/// The timer as it was at an M-cycle of the frame, and whether it had requested its interrupt by then. The M-cycles that have passed
-/// since are counted by the picture unit alone.
+/// The timer as it was at an M-cycle of the bus's clock, and whether it had requested its interrupt by then. The M-cycles that have
+/// passed since are counted by the clock alone.
 #[derive(Drop)]
 pub(crate) struct LateTimer {
     pub(crate) timer: Timer,
@@ -16,7 +16,7 @@ pub(crate) struct LateTimer {
 }
 
 impl LateTimer {
-    /// The timer at power-on, at the first M-cycle of the frame.
+    /// The timer at power-on, at the clock's first M-cycle.
     pub(crate) fn new() -> Self
         ensures { result ≡ record { timer = timer_at_power_on; requested = false; at = 0 } }
     {
@@ -27,7 +27,7 @@ impl LateTimer {
         }
     }
 
-    /// Gives the timer the M-cycles up to this one of the frame, which from now on is counted as `at`.
+    /// Gives the timer the M-cycles up to this one of the clock, which from now on is counted as `at`.
     #[inline]
     pub(crate) fn settle(&mut self, now: u16, at: u16)
         ensures { self.new ≡ settled_at at (up_to now self.old) }
@@ -39,17 +39,17 @@ impl LateTimer {
         self.pass_all(at, u32::from(now.saturating_sub(self.at)));
     }
 
-    /// Gives the timer the M-cycles up to this one of the frame, and as many more.
+    /// Gives the timer the M-cycles up to this one of the clock, which from now on is counted as `at`, and as many more.
     #[inline]
-    pub(crate) fn pass(&mut self, now: u16, cycles: u32)
-        ensures { self.new ≡ settled_at now (iterate tick cycles (up_to now self.old)) }
+    pub(crate) fn pass(&mut self, now: u16, at: u16, cycles: u32)
+        ensures { self.new ≡ settled_at at (iterate tick cycles (up_to now self.old)) }
     {
         let late = u32::from(now.saturating_sub(self.at));
         if cycles > 0xffff_0000 {
-            self.settle(now, now);
-            return self.pass_all(now, cycles);
+            self.settle(now, at);
+            return self.pass_all(at, cycles);
         }
-        self.pass_all(now, late + cycles);
+        self.pass_all(at, late + cycles);
     }
 
     #[inline]
@@ -61,7 +61,7 @@ impl LateTimer {
         self.at = now;
     }
 
-    /// The timer as it is at this M-cycle of the frame.
+    /// The timer as it is at this M-cycle of the clock.
     #[inline(never)]
     pub(crate) fn copy_at(&self, now: u16) -> Timer
         ensures { result ≡ (up_to now self.now).timer }
@@ -72,7 +72,7 @@ impl LateTimer {
         timer
     }
 
-    /// Requests the interrupt or withdraws the request, at this M-cycle of the frame.
+    /// Requests the interrupt or withdraws the request, at this M-cycle of the clock.
     pub(crate) fn set_requested(&mut self, now: u16, requested: bool)
         ensures { self.new ≡ settled_at now (record (up_to now self.old) { requested = requested }) }
     {
@@ -80,7 +80,7 @@ impl LateTimer {
         self.requested = requested;
     }
 
-    /// The timer becomes this one, at this M-cycle of the frame. Condition: the state is legal.
+    /// The timer becomes this one, at this M-cycle of the clock. Condition: the state is legal.
     pub(crate) fn restore(&mut self, now: u16, state: &TimerState)
         requires { IsLegalTimer state.now }
         ensures { self.new ≡ record { timer = state.now; requested = self.old.requested; at = now } }
@@ -89,16 +89,16 @@ impl LateTimer {
         self.at = now;
     }
 
-    /// A write to DIV at this M-cycle of the frame.
-    pub(crate) fn write_div(&mut self, now: u16)
-        ensures { self.new ≡ settled_at now (with_counter_and_tac 0 (up_to now self.old).timer.tac (up_to now self.old)) }
+    /// A write to DIV at this M-cycle of the clock, which from now on is counted as `at`.
+    pub(crate) fn write_div(&mut self, now: u16, at: u16)
+        ensures { self.new ≡ settled_at at (with_counter_and_tac 0 (up_to now self.old).timer.tac (up_to now self.old)) }
     {
-        self.settle(now, now);
+        self.settle(now, at);
         let requests = self.timer.write_div();
         self.requested |= requests.bits != 0;
     }
 
-    /// A write to TIMA at this M-cycle of the frame.
+    /// A write to TIMA at this M-cycle of the clock.
     pub(crate) fn write_tima(&mut self, now: u16, value: u8)
         ensures { self.new ≡ settled_at now (record (up_to now self.old) { timer = record (up_to now self.old).timer { tima = value } }) }
     {
@@ -106,7 +106,7 @@ impl LateTimer {
         self.timer.write_tima(value);
     }
 
-    /// A write to TMA at this M-cycle of the frame.
+    /// A write to TMA at this M-cycle of the clock.
     pub(crate) fn write_tma(&mut self, now: u16, value: u8)
         ensures { self.new ≡ settled_at now (record (up_to now self.old) { timer = record (up_to now self.old).timer { tma = value } }) }
     {
@@ -114,7 +114,7 @@ impl LateTimer {
         self.timer.write_tma(value);
     }
 
-    /// A write to TAC at this M-cycle of the frame.
+    /// A write to TAC at this M-cycle of the clock.
     pub(crate) fn write_tac(&mut self, now: u16, value: u8)
         ensures { self.new ≡ settled_at now (with_counter_and_tac (up_to now self.old).timer.counter (value % 8) (up_to now self.old)) }
     {

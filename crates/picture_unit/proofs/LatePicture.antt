@@ -15,14 +15,14 @@ use Rattle.picture_lines.proofs.Shades.{drawn_row-small}
 use Rattle.picture_unit.specs.declared.state.PictureState.{PictureState}
 use Rattle.picture_unit.specs.Picture.{PictureUnit, PictureAndRequests, IsLegalPicture, IsWhole, unrequested, is_on, stat_signal, advanced, entered, drawn, draws, begins_vblank, moved, taken, tick, ticks, line_registers, line_drawn, window_counter_after}
 use Rattle.picture_unit.specs.Laws.{frame_cycle}
-use Rattle.picture_unit.specs.LatePicture.{bare, state_after, AreQuiet, up_to, IsLate, line_drawn_next, rise}
+use Rattle.picture_unit.specs.LatePicture.{bare, state_after, AreQuiet, up_to, moment, IsLate, line_drawn_next, rise}
 use Rattle.picture_unit.specs.PictureJump as picture_jump
 use Rattle.picture_unit.specs.PictureJump.{next_entry, next_change, skipped}
 use Rattle.picture_unit.specs.declared.region.PictureRegion.{PictureRegion}
 use Rattle.picture_unit.specs.declared.region.PictureRegion.TheVariants.{Vram, Oam}
 use Rattle.picture_unit.specs.Stores.{region_of, byte_read, is_vram_closed, is_oam_closed, oam_copied, oam_written, vram_written}
 use Rattle.picture_unit.proofs.Kept.{same_written}
-use Rattle.picture_unit.proofs.Quiet.{stays_on, stays_on_skipped, after_change, by_line, before_line_end, requests_none}
+use Rattle.picture_unit.proofs.Quiet.{stands_still, stays_on, stays_on_skipped, after_change, by_line, before_line_end, requests_none}
 use Rattle.std.proofs.lemmas.Bool.{cases_lt}
 use Rattle.picture_unit.proofs.Settled.{bool_cases, tick_settles}
 use Rattle.picture_unit.proofs.LateLines.{whole_set}
@@ -352,9 +352,9 @@ quiet_until_behind until now n s quiet =
 
 -- ---- a picture unit that is late
 
-pub prompt_now : (n : ℕ) (s : PictureUnit) → n ≡ frame_cycle s.state → up_to n s ≡ s
+pub at_once : (n : ℕ) (s : PictureUnit) → n ≡ frame_cycle s.state → up_to n s ≡ s
 unfolding unrequested
-prompt_now n s e =
+at_once n s e =
     let none : n - frame_cycle s.state ≡ 0 = omega (arith, e) in
     ap (λ (k : ℕ). (ticks k s).picture) none
 
@@ -364,13 +364,13 @@ later now n s le =
     ap (λ (k : ℕ). (ticks k s).picture) more ∙ picture_apart (now - frame_cycle s.state) n s
 
 -- caught up, and so many M-cycles are quiet
-pub late_now : (now q : ℕ) (s : PictureUnit) → now ≡ frame_cycle s.state → IsWhole s.state s.oam s.rows → AreQuiet q s.state → IsLate now (now + q) s
-late_now now q s at whole quiet =
+late_at_once : (now q : ℕ) (s : PictureUnit) → now ≡ frame_cycle s.state → IsWhole s.state s.oam s.rows → AreQuiet q s.state → IsLate now (now + q) s
+late_at_once now q s at whole quiet =
     let same : now + q - now ≡ q = omega arith in record {
       whole = whole;
       late = omega (arith, at);
       passed = none_quiet (now - frame_cycle s.state) s.state (omega (arith, at));
-      coming = rw same (subst (λ (u : PictureUnit). AreQuiet q u.state) (sym (prompt_now now s at)) quiet);
+      coming = rw same (subst (λ (u : PictureUnit). AreQuiet q u.state) (sym (at_once now s at)) quiet);
     }
 
 module _ (now until : ℕ) (s : PictureUnit) (late : IsLate now until s) where
@@ -379,6 +379,10 @@ module _ (now until : ℕ) (s : PictureUnit) (late : IsLate now until s) where
   position =
       let at = quiet_position (now - frame_cycle s.state) s late.passed in
       omega (arith, at, late.late)
+
+  -- which is what is told of it
+  pub is_moment : (k : ℕ) (u : PictureUnit) → up_to now s ≡ u → k ≡ frame_cycle u.state → k ≡ now
+  is_moment k u same e = e ∙ sym (ap (λ (u : PictureUnit). frame_cycle u.state) same) ∙ position
 
   pub whole_now : IsWhole (up_to now s).state (up_to now s).oam (up_to now s).rows
   whole_now = whole_kept (now - frame_cycle s.state) s late.whole
@@ -401,14 +405,90 @@ pub quiet_in_frame : (now until : ℕ) (s : PictureUnit) → IsLate now until s 
 quiet_in_frame now until s late = in_frame (until - now) (up_to now s).state (whole_now now until s late).legal late.coming
 
 -- caught up, and in the same state: the same M-cycles are quiet
-pub late_kept : (now until now' : ℕ) (s t : PictureUnit) → IsLate now until s → t.state ≡ (up_to now s).state → now' ≡ frame_cycle t.state → IsWhole t.state t.oam t.rows → IsLate now' until t
-late_kept now until now' s t late same at whole =
+late_kept_at : (now until now' : ℕ) (s t : PictureUnit) → IsLate now until s → t.state ≡ (up_to now s).state → now' ≡ frame_cycle t.state → IsWhole t.state t.oam t.rows → IsLate now' until t
+late_kept_at now until now' s t late same at whole =
     let here : now' ≡ now = at ∙ ap (λ (p : PictureState). frame_cycle p) same ∙ position now until s late in record {
       whole = whole;
       late = omega (arith, at);
       passed = none_quiet (now' - frame_cycle t.state) t.state (omega (arith, at));
-      coming = rw here (subst (λ (p : PictureState). AreQuiet (until - now) p) (sym (ap (λ (u : PictureUnit). u.state) (prompt_now now t (sym here ∙ at)) ∙ same)) late.coming);
+      coming = rw here (subst (λ (p : PictureState). AreQuiet (until - now) p) (sym (ap (λ (u : PictureUnit). u.state) (at_once now t (sym here ∙ at)) ∙ same)) late.coming);
     }
+
+-- ---- what is counted, the LCD on or off
+
+pub moment_on : (counted : ℕ) (s : PictureUnit) → is_on s.state ≡ true → moment counted s ≡ counted
+moment_on counted s on = ap (λ (b : Bool). cond b counted (frame_cycle s.state)) on
+
+pub moment_off : (counted : ℕ) (s : PictureUnit) → is_on s.state ≡ false → moment counted s ≡ frame_cycle s.state
+moment_off counted s off = ap (λ (b : Bool). cond b counted (frame_cycle s.state)) off
+
+-- caught up
+moment_now : (n : ℕ) (s : PictureUnit) → n ≡ frame_cycle s.state → moment n s ≡ frame_cycle s.state
+moment_now n s e =
+    elim (is_on s.state) as (λ b. cond b n (frame_cycle s.state) ≡ frame_cycle s.state) [
+      | true ↦ e
+      | false ↦ refl
+    ]
+
+pub prompt_now : (n : ℕ) (s : PictureUnit) → n ≡ frame_cycle s.state → up_to (moment n s) s ≡ s
+prompt_now n s e = at_once (moment n s) s (moment_now n s e)
+
+pub late_now : (n until q : ℕ) (s : PictureUnit) → n ≡ frame_cycle s.state → until ≡ n + q → IsWhole s.state s.oam s.rows → AreQuiet q s.state → IsLate (moment n s) until s
+late_now n until q s e at whole quiet =
+    let here = moment_now n s e in
+    let same : moment n s + q ≡ until = omega (arith, here, e, at) in
+    subst (λ (k : ℕ). IsLate (moment n s) k s) same (late_at_once (moment n s) q s here whole quiet)
+
+pub late_kept : (now until n : ℕ) (s t : PictureUnit) → IsLate now until s → t.state ≡ (up_to now s).state → n ≡ frame_cycle t.state → IsWhole t.state t.oam t.rows → IsLate (moment n t) until t
+late_kept now until n s t late same e whole = late_kept_at now until (moment n t) s t late same (moment_now n t e) whole
+
+-- while the LCD is off it stays as it is
+off_still : (now : ℕ) (s : PictureUnit) → is_on s.state ≡ false → up_to now s ≡ s
+unfolding unrequested
+off_still now s off = ap (λ (d : PictureAndRequests). d.picture) (stands_still (now - frame_cycle s.state) (unrequested s) off)
+
+-- to be given the M-cycles up to what is counted is to be given those up to the moment
+pub to_the_moment : (counted : ℕ) (s : PictureUnit) → up_to counted s ≡ up_to (moment counted s) s
+to_the_moment counted s =
+    elim (bool_cases (is_on s.state)) [
+      | inl on ↦ sym (ap (λ (k : ℕ). up_to k s) (moment_on counted s on))
+      | inr off ↦ off_still counted s off ∙ sym (off_still (moment counted s) s off)
+    ]
+
+module _ (counted until n : ℕ) (s : PictureUnit) (late : IsLate (moment counted s) until s) (quiet : is_on (up_to (moment counted s) s).state ≡ true → AreQuiet n (up_to (moment counted s) s).state) where
+  on_now : is_on s.state ≡ true → is_on (up_to (moment counted s) s).state ≡ true
+  on_now on = on_kept (moment counted s - frame_cycle s.state) s ∙ on
+
+  counted_on : is_on s.state ≡ true → moment ((counted + n) % 65536) s ≡ moment counted s + n
+  counted_on on =
+      let here = moment_on counted s on in
+      let there = moment_on ((counted + n) % 65536) s on in
+      let few = in_frame n (up_to (moment counted s) s).state (whole_now (moment counted s) until s late).legal (quiet (on_now on)) in
+      let at = position (moment counted s) until s late in
+      omega (arith, here, there, few, at)
+
+  -- the count after some M-cycles, which are quiet while the LCD is on
+  pub counted_late : IsLate (moment ((counted + n) % 65536) s) until s
+  counted_late =
+      elim (bool_cases (is_on s.state)) [
+        | inl on ↦ subst (λ (k : ℕ). IsLate k until s) (sym (counted_on on)) (late_behind (moment counted s) until s late n (quiet (on_now on)))
+        | inr off ↦ subst (λ (k : ℕ). IsLate k until s) (moment_off counted s off ∙ sym (moment_off ((counted + n) % 65536) s off)) late
+      ]
+
+  still_off : is_on s.state ≡ false → up_to (moment ((counted + n) % 65536) s) s ≡ (ticks n (up_to (moment counted s) s)).picture
+  unfolding unrequested
+  still_off off =
+      let u = up_to (moment counted s) s in
+      let dark : is_on u.state ≡ false = on_kept (moment counted s - frame_cycle s.state) s ∙ off in
+      off_still (moment ((counted + n) % 65536) s) s off ∙ sym (off_still (moment counted s) s off)
+      ∙ sym (ap (λ (d : PictureAndRequests). d.picture) (stands_still n (unrequested u) dark))
+
+  pub counted_up_to : up_to (moment ((counted + n) % 65536) s) s ≡ (ticks n (up_to (moment counted s) s)).picture
+  counted_up_to =
+      elim (bool_cases (is_on s.state)) [
+        | inl on ↦ ap (λ (k : ℕ). up_to k s) (counted_on on) ∙ later (moment counted s) n s late.late
+        | inr off ↦ still_off off
+      ]
 
 line_and_cycle : (ly m_cycle now : ℕ) → m_cycle < 114 → 114 * ly + m_cycle ≡ now → (ly ≡ now / 114) × (m_cycle ≡ now % 114)
 line_and_cycle ly m_cycle now few e = (omega (arith, few, e), omega (arith, few, e))

@@ -12,7 +12,7 @@ pub bool_cases : (b : Bool) → (b ≡ true) ⊎ (b ≡ false)
 bool_cases true = inl refl
 bool_cases false = inr refl
 
-both_ways : {A : Type 0} (b : Bool) → b ≡ true → b ≡ false → A
+pub both_ways : {A : Type 0} (b : Bool) → b ≡ true → b ≡ false → A
 both_ways b t f =
     let e : true ≡ false = sym t ∙ f in
     cc

@@ -25,6 +25,10 @@ pub record AreQuiet (n : ℕ) (p : PictureState) : Type 0 where
 abbrev pub up_to : ℕ → PictureUnit → PictureUnit
 up_to now s = (ticks (now - frame_cycle s.state) s).picture
 
+-- the M-cycle of the frame by what was counted: while the LCD is off the count runs on and means nothing
+abbrev pub moment : ℕ → PictureUnit → ℕ
+moment counted s = if is_on s.state then counted else frame_cycle s.state
+
 -- What is known of a picture unit that was given its M-cycles up to an earlier one: those since are quiet, and so are those
 -- before `quiet_until`.
 pub record IsLate (now quiet_until : ℕ) (s : PictureUnit) : Type 0 where

@@ -21,7 +21,8 @@ use std::marker::Model;
 pub struct Picture {
     // The picture unit as it was when it was last given its M-cycles.
     prompt: PromptPicture,
-    // The M-cycle of the frame. Those since then are quiet: they requested nothing, and the frame did not end.
+    // The M-cycle of the frame. Those since then are quiet: they requested nothing, and the frame did not end. While the LCD is off,
+    // when no M-cycle changes anything, it is counted on and means nothing.
     frame_cycle: u16,
     // Those up to this one are known to be quiet too.
     quiet_until: u16,
@@ -29,13 +30,13 @@ pub struct Picture {
 
 impl Model for Picture {
     ghost use Rattle.picture_unit.specs.Picture.{PictureUnit};
-    ghost use Rattle.picture_unit.specs.LatePicture.{up_to, IsLate};
+    ghost use Rattle.picture_unit.specs.LatePicture.{moment, up_to, IsLate};
 
     ghost Value = { PictureUnit };
 
-    ghost view = { λ p. up_to p.frame_cycle p.prompt };
+    ghost view = { λ p. up_to (moment p.frame_cycle p.prompt) p.prompt };
 
-    ghost invariant = { λ p. IsLate p.frame_cycle p.quiet_until p.prompt };
+    ghost invariant = { λ p. IsLate (moment p.frame_cycle p.prompt) p.quiet_until p.prompt };
 }
 
 impl Picture {
@@ -185,7 +186,7 @@ impl Picture {
         ensures registers { (address : ℕ) → register_value result address ≡ register_value self.now.state address }
         ensures entry { next_entry result ≡ next_entry self.now.state }
     {
-        self.prompt.state().at(self.frame_cycle)
+        self.prompt.state().at(self.frame_cycle())
     }
 }
 

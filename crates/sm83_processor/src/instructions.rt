@@ -30,7 +30,7 @@ const DIVIDER: u16 = 0xff04;
 const HIGH_PAGE: u16 = 0xff00;
 
 #[inline(always)]
-fn by_operand(operand: Operand8, in_memory: u8, in_register: u8) -> u8
+fn by_operand(operand: Operand8, in_memory: u32, in_register: u32) -> u32
     ensures { result ≡ (if is_in_memory operand then in_memory else in_register) }
 {
     match operand {
@@ -95,7 +95,7 @@ impl<M: Memory> Processor<M> {
 
     /// NOP
     #[inline]
-    pub(crate) fn run_nop(&mut self) -> u8
+    pub(crate) fn run_nop(&mut self) -> u32
         ensures after { self.new ≡ executed_behind M.rules Instr.Nop (taken self.old) }
         ensures cycles { result ≡ cycles_with Instr.Nop self.old.registers.flags }
     {
@@ -105,7 +105,7 @@ impl<M: Memory> Processor<M> {
 
     /// LD (n16),SP
     #[inline]
-    pub(crate) fn run_store_sp(&mut self, address: u16) -> u8
+    pub(crate) fn run_store_sp(&mut self, address: u16) -> u32
         ensures after { self.new ≡ executed_behind M.rules (Instr.StoreSp address) (taken self.old) }
         ensures cycles { result ≡ cycles_with (Instr.StoreSp address) self.old.registers.flags }
     {
@@ -116,7 +116,7 @@ impl<M: Memory> Processor<M> {
 
     /// STOP
     #[inline]
-    pub(crate) fn run_stop(&mut self) -> u8
+    pub(crate) fn run_stop(&mut self) -> u32
         ensures after { self.new ≡ executed_behind M.rules Instr.Stop (taken self.old) }
         ensures cycles { result ≡ cycles_with Instr.Stop self.old.registers.flags }
     {
@@ -128,7 +128,7 @@ impl<M: Memory> Processor<M> {
 
     /// JR e
     #[inline]
-    pub(crate) fn run_jump_relative(&mut self, offset: u8) -> u8
+    pub(crate) fn run_jump_relative(&mut self, offset: u8) -> u32
         ensures after { self.new ≡ executed_behind M.rules (Instr.JumpRelative offset) (taken self.old) }
         ensures cycles { result ≡ cycles_with (Instr.JumpRelative offset) self.old.registers.flags }
     {
@@ -139,7 +139,7 @@ impl<M: Memory> Processor<M> {
 
     /// JR cc,e
     #[inline]
-    pub(crate) fn run_jump_relative_if(&mut self, condition: Condition, offset: u8) -> u8
+    pub(crate) fn run_jump_relative_if(&mut self, condition: Condition, offset: u8) -> u32
         ensures after { self.new ≡ executed_behind M.rules (Instr.JumpRelativeIf condition offset) (taken self.old) }
         ensures cycles { result ≡ cycles_with (Instr.JumpRelativeIf condition offset) self.old.registers.flags }
     {
@@ -154,7 +154,7 @@ impl<M: Memory> Processor<M> {
 
     /// LD rp,n16
     #[inline]
-    pub(crate) fn run_load_register16(&mut self, register: Register16, word: u16) -> u8
+    pub(crate) fn run_load_register16(&mut self, register: Register16, word: u16) -> u32
         ensures after { self.new ≡ executed_behind M.rules (Instr.LoadRegister16 register word) (taken self.old) }
         ensures cycles { result ≡ cycles_with (Instr.LoadRegister16 register word) self.old.registers.flags }
     {
@@ -165,7 +165,7 @@ impl<M: Memory> Processor<M> {
 
     /// ADD HL,rp
     #[inline]
-    pub(crate) fn run_add_hl(&mut self, register: Register16) -> u8
+    pub(crate) fn run_add_hl(&mut self, register: Register16) -> u32
         ensures after { self.new ≡ executed_behind M.rules (Instr.AddHl register) (taken self.old) }
         ensures cycles { result ≡ cycles_with (Instr.AddHl register) self.old.registers.flags }
     {
@@ -176,7 +176,7 @@ impl<M: Memory> Processor<M> {
 
     /// LD (BC),A and the like
     #[inline]
-    pub(crate) fn run_store_accumulator(&mut self, operand: Indirect) -> u8
+    pub(crate) fn run_store_accumulator(&mut self, operand: Indirect) -> u32
         ensures after { self.new ≡ executed_behind M.rules (Instr.StoreAccumulator operand) (taken self.old) }
         ensures cycles { result ≡ cycles_with (Instr.StoreAccumulator operand) self.old.registers.flags }
     {
@@ -189,7 +189,7 @@ impl<M: Memory> Processor<M> {
 
     /// LD A,(BC) and the like
     #[inline]
-    pub(crate) fn run_load_accumulator(&mut self, operand: Indirect) -> u8
+    pub(crate) fn run_load_accumulator(&mut self, operand: Indirect) -> u32
         ensures after { self.new ≡ executed_behind M.rules (Instr.LoadAccumulator operand) (taken self.old) }
         ensures cycles { result ≡ cycles_with (Instr.LoadAccumulator operand) self.old.registers.flags }
     {
@@ -202,7 +202,7 @@ impl<M: Memory> Processor<M> {
 
     /// INC rp
     #[inline]
-    pub(crate) fn run_increment_register16(&mut self, register: Register16) -> u8
+    pub(crate) fn run_increment_register16(&mut self, register: Register16) -> u32
         ensures after { self.new ≡ executed_behind M.rules (Instr.IncrementRegister16 register) (taken self.old) }
         ensures cycles { result ≡ cycles_with (Instr.IncrementRegister16 register) self.old.registers.flags }
     {
@@ -213,7 +213,7 @@ impl<M: Memory> Processor<M> {
 
     /// DEC rp
     #[inline]
-    pub(crate) fn run_decrement_register16(&mut self, register: Register16) -> u8
+    pub(crate) fn run_decrement_register16(&mut self, register: Register16) -> u32
         ensures after { self.new ≡ executed_behind M.rules (Instr.DecrementRegister16 register) (taken self.old) }
         ensures cycles { result ≡ cycles_with (Instr.DecrementRegister16 register) self.old.registers.flags }
     {
@@ -224,7 +224,7 @@ impl<M: Memory> Processor<M> {
 
     /// INC r
     #[inline]
-    pub(crate) fn run_increment(&mut self, operand: Operand8) -> u8
+    pub(crate) fn run_increment(&mut self, operand: Operand8) -> u32
         ensures after { self.new ≡ executed_behind M.rules (Instr.Increment operand) (taken self.old) }
         ensures cycles { result ≡ cycles_with (Instr.Increment operand) self.old.registers.flags }
     {
@@ -237,7 +237,7 @@ impl<M: Memory> Processor<M> {
 
     /// DEC r
     #[inline]
-    pub(crate) fn run_decrement(&mut self, operand: Operand8) -> u8
+    pub(crate) fn run_decrement(&mut self, operand: Operand8) -> u32
         ensures after { self.new ≡ executed_behind M.rules (Instr.Decrement operand) (taken self.old) }
         ensures cycles { result ≡ cycles_with (Instr.Decrement operand) self.old.registers.flags }
     {
@@ -250,7 +250,7 @@ impl<M: Memory> Processor<M> {
 
     /// LD r,n8
     #[inline]
-    pub(crate) fn run_load_byte(&mut self, operand: Operand8, byte: u8) -> u8
+    pub(crate) fn run_load_byte(&mut self, operand: Operand8, byte: u8) -> u32
         ensures after { self.new ≡ executed_behind M.rules (Instr.LoadByte operand byte) (taken self.old) }
         ensures cycles { result ≡ cycles_with (Instr.LoadByte operand byte) self.old.registers.flags }
     {
@@ -261,7 +261,7 @@ impl<M: Memory> Processor<M> {
 
     /// RLCA and the like
     #[inline]
-    pub(crate) fn run_accumulator(&mut self, operation: AccumulatorOperation) -> u8
+    pub(crate) fn run_accumulator(&mut self, operation: AccumulatorOperation) -> u32
         ensures after { self.new ≡ executed_behind M.rules (Instr.Accumulator operation) (taken self.old) }
         ensures cycles { result ≡ cycles_with (Instr.Accumulator operation) self.old.registers.flags }
     {
@@ -272,7 +272,7 @@ impl<M: Memory> Processor<M> {
 
     /// LD r,r
     #[inline]
-    pub(crate) fn run_load(&mut self, to: Operand8, from: Operand8) -> u8
+    pub(crate) fn run_load(&mut self, to: Operand8, from: Operand8) -> u32
         ensures after { self.new ≡ executed_behind M.rules (Instr.Load to from) (taken self.old) }
         ensures cycles { result ≡ cycles_with (Instr.Load to from) self.old.registers.flags }
     {
@@ -284,7 +284,7 @@ impl<M: Memory> Processor<M> {
 
     /// HALT. Apart, so that a loop of steps keeps nothing in a register for IE and IF.
     #[inline(never)]
-    pub(crate) fn run_halt(&mut self) -> u8
+    pub(crate) fn run_halt(&mut self) -> u32
         ensures after { self.new ≡ executed_behind M.rules Instr.Halt (taken self.old) }
         ensures cycles { result ≡ cycles_with Instr.Halt self.old.registers.flags }
     {
@@ -295,7 +295,7 @@ impl<M: Memory> Processor<M> {
 
     /// ADD A,r and the like
     #[inline]
-    pub(crate) fn run_operate(&mut self, operation: Operation, operand: Operand8) -> u8
+    pub(crate) fn run_operate(&mut self, operation: Operation, operand: Operand8) -> u32
         ensures after { self.new ≡ executed_behind M.rules (Instr.Operate operation operand) (taken self.old) }
         ensures cycles { result ≡ cycles_with (Instr.Operate operation operand) self.old.registers.flags }
     {
@@ -307,7 +307,7 @@ impl<M: Memory> Processor<M> {
 
     /// ADD A,n8 and the like
     #[inline]
-    pub(crate) fn run_operate_byte(&mut self, operation: Operation, byte: u8) -> u8
+    pub(crate) fn run_operate_byte(&mut self, operation: Operation, byte: u8) -> u32
         ensures after { self.new ≡ executed_behind M.rules (Instr.OperateByte operation byte) (taken self.old) }
         ensures cycles { result ≡ cycles_with (Instr.OperateByte operation byte) self.old.registers.flags }
     {
@@ -318,7 +318,7 @@ impl<M: Memory> Processor<M> {
 
     /// RET cc
     #[inline]
-    pub(crate) fn run_return_if(&mut self, condition: Condition) -> u8
+    pub(crate) fn run_return_if(&mut self, condition: Condition) -> u32
         ensures after { self.new ≡ executed_behind M.rules (Instr.ReturnIf condition) (taken self.old) }
         ensures cycles { result ≡ cycles_with (Instr.ReturnIf condition) self.old.registers.flags }
     {
@@ -333,7 +333,7 @@ impl<M: Memory> Processor<M> {
 
     /// LDH (n8),A
     #[inline]
-    pub(crate) fn run_store_high(&mut self, low: u8) -> u8
+    pub(crate) fn run_store_high(&mut self, low: u8) -> u32
         ensures after { self.new ≡ executed_behind M.rules (Instr.StoreHigh low) (taken self.old) }
         ensures cycles { result ≡ cycles_with (Instr.StoreHigh low) self.old.registers.flags }
     {
@@ -345,7 +345,7 @@ impl<M: Memory> Processor<M> {
 
     /// ADD SP,e
     #[inline]
-    pub(crate) fn run_add_sp(&mut self, offset: u8) -> u8
+    pub(crate) fn run_add_sp(&mut self, offset: u8) -> u32
         ensures after { self.new ≡ executed_behind M.rules (Instr.AddSp offset) (taken self.old) }
         ensures cycles { result ≡ cycles_with (Instr.AddSp offset) self.old.registers.flags }
     {
@@ -358,7 +358,7 @@ impl<M: Memory> Processor<M> {
 
     /// LDH A,(n8)
     #[inline]
-    pub(crate) fn run_load_high(&mut self, low: u8) -> u8
+    pub(crate) fn run_load_high(&mut self, low: u8) -> u32
         ensures after { self.new ≡ executed_behind M.rules (Instr.LoadHigh low) (taken self.old) }
         ensures cycles { result ≡ cycles_with (Instr.LoadHigh low) self.old.registers.flags }
     {
@@ -369,7 +369,7 @@ impl<M: Memory> Processor<M> {
 
     /// LD HL,SP+e
     #[inline]
-    pub(crate) fn run_load_hl_sp(&mut self, offset: u8) -> u8
+    pub(crate) fn run_load_hl_sp(&mut self, offset: u8) -> u32
         ensures after { self.new ≡ executed_behind M.rules (Instr.LoadHlSp offset) (taken self.old) }
         ensures cycles { result ≡ cycles_with (Instr.LoadHlSp offset) self.old.registers.flags }
     {
@@ -382,7 +382,7 @@ impl<M: Memory> Processor<M> {
 
     /// POP rp
     #[inline]
-    pub(crate) fn run_pop(&mut self, register: StackRegister16) -> u8
+    pub(crate) fn run_pop(&mut self, register: StackRegister16) -> u32
         ensures after { self.new ≡ executed_behind M.rules (Instr.Pop register) (taken self.old) }
         ensures cycles { result ≡ cycles_with (Instr.Pop register) self.old.registers.flags }
     {
@@ -394,7 +394,7 @@ impl<M: Memory> Processor<M> {
 
     /// RET
     #[inline]
-    pub(crate) fn run_return(&mut self) -> u8
+    pub(crate) fn run_return(&mut self) -> u32
         ensures after { self.new ≡ executed_behind M.rules Instr.Return (taken self.old) }
         ensures cycles { result ≡ cycles_with Instr.Return self.old.registers.flags }
     {
@@ -405,7 +405,7 @@ impl<M: Memory> Processor<M> {
 
     /// RETI
     #[inline]
-    pub(crate) fn run_return_from_interrupt(&mut self) -> u8
+    pub(crate) fn run_return_from_interrupt(&mut self) -> u32
         ensures after { self.new ≡ executed_behind M.rules Instr.ReturnFromInterrupt (taken self.old) }
         ensures cycles { result ≡ cycles_with Instr.ReturnFromInterrupt self.old.registers.flags }
     {
@@ -417,7 +417,7 @@ impl<M: Memory> Processor<M> {
 
     /// JP HL
     #[inline]
-    pub(crate) fn run_jump_hl(&mut self) -> u8
+    pub(crate) fn run_jump_hl(&mut self) -> u32
         ensures after { self.new ≡ executed_behind M.rules Instr.JumpHl (taken self.old) }
         ensures cycles { result ≡ cycles_with Instr.JumpHl self.old.registers.flags }
     {
@@ -428,7 +428,7 @@ impl<M: Memory> Processor<M> {
 
     /// LD SP,HL
     #[inline]
-    pub(crate) fn run_load_sp_hl(&mut self) -> u8
+    pub(crate) fn run_load_sp_hl(&mut self) -> u32
         ensures after { self.new ≡ executed_behind M.rules Instr.LoadSpHl (taken self.old) }
         ensures cycles { result ≡ cycles_with Instr.LoadSpHl self.old.registers.flags }
     {
@@ -439,7 +439,7 @@ impl<M: Memory> Processor<M> {
 
     /// JP cc,n16
     #[inline]
-    pub(crate) fn run_jump_if(&mut self, condition: Condition, address: u16) -> u8
+    pub(crate) fn run_jump_if(&mut self, condition: Condition, address: u16) -> u32
         ensures after { self.new ≡ executed_behind M.rules (Instr.JumpIf condition address) (taken self.old) }
         ensures cycles { result ≡ cycles_with (Instr.JumpIf condition address) self.old.registers.flags }
     {
@@ -454,7 +454,7 @@ impl<M: Memory> Processor<M> {
 
     /// LD (C),A
     #[inline]
-    pub(crate) fn run_store_high_c(&mut self) -> u8
+    pub(crate) fn run_store_high_c(&mut self) -> u32
         ensures after { self.new ≡ executed_behind M.rules Instr.StoreHighC (taken self.old) }
         ensures cycles { result ≡ cycles_with Instr.StoreHighC self.old.registers.flags }
     {
@@ -466,7 +466,7 @@ impl<M: Memory> Processor<M> {
 
     /// LD (n16),A
     #[inline]
-    pub(crate) fn run_store_at(&mut self, address: u16) -> u8
+    pub(crate) fn run_store_at(&mut self, address: u16) -> u32
         ensures after { self.new ≡ executed_behind M.rules (Instr.StoreAt address) (taken self.old) }
         ensures cycles { result ≡ cycles_with (Instr.StoreAt address) self.old.registers.flags }
     {
@@ -477,7 +477,7 @@ impl<M: Memory> Processor<M> {
 
     /// LD A,(C)
     #[inline]
-    pub(crate) fn run_load_high_c(&mut self) -> u8
+    pub(crate) fn run_load_high_c(&mut self) -> u32
         ensures after { self.new ≡ executed_behind M.rules Instr.LoadHighC (taken self.old) }
         ensures cycles { result ≡ cycles_with Instr.LoadHighC self.old.registers.flags }
     {
@@ -489,7 +489,7 @@ impl<M: Memory> Processor<M> {
 
     /// LD A,(n16)
     #[inline]
-    pub(crate) fn run_load_at(&mut self, address: u16) -> u8
+    pub(crate) fn run_load_at(&mut self, address: u16) -> u32
         ensures after { self.new ≡ executed_behind M.rules (Instr.LoadAt address) (taken self.old) }
         ensures cycles { result ≡ cycles_with (Instr.LoadAt address) self.old.registers.flags }
     {
@@ -500,7 +500,7 @@ impl<M: Memory> Processor<M> {
 
     /// JP n16
     #[inline]
-    pub(crate) fn run_jump(&mut self, address: u16) -> u8
+    pub(crate) fn run_jump(&mut self, address: u16) -> u32
         ensures after { self.new ≡ executed_behind M.rules (Instr.Jump address) (taken self.old) }
         ensures cycles { result ≡ cycles_with (Instr.Jump address) self.old.registers.flags }
     {
@@ -511,7 +511,7 @@ impl<M: Memory> Processor<M> {
 
     /// DI
     #[inline]
-    pub(crate) fn run_disable_interrupts(&mut self) -> u8
+    pub(crate) fn run_disable_interrupts(&mut self) -> u32
         ensures after { self.new ≡ executed_behind M.rules Instr.DisableInterrupts (taken self.old) }
         ensures cycles { result ≡ cycles_with Instr.DisableInterrupts self.old.registers.flags }
     {
@@ -523,7 +523,7 @@ impl<M: Memory> Processor<M> {
 
     /// EI
     #[inline]
-    pub(crate) fn run_enable_interrupts(&mut self) -> u8
+    pub(crate) fn run_enable_interrupts(&mut self) -> u32
         ensures after { self.new ≡ executed_behind M.rules Instr.EnableInterrupts (taken self.old) }
         ensures cycles { result ≡ cycles_with Instr.EnableInterrupts self.old.registers.flags }
     {
@@ -534,7 +534,7 @@ impl<M: Memory> Processor<M> {
 
     /// CALL cc,n16
     #[inline]
-    pub(crate) fn run_call_if(&mut self, condition: Condition, address: u16) -> u8
+    pub(crate) fn run_call_if(&mut self, condition: Condition, address: u16) -> u32
         ensures after { self.new ≡ executed_behind M.rules (Instr.CallIf condition address) (taken self.old) }
         ensures cycles { result ≡ cycles_with (Instr.CallIf condition address) self.old.registers.flags }
     {
@@ -549,7 +549,7 @@ impl<M: Memory> Processor<M> {
 
     /// PUSH rp
     #[inline]
-    pub(crate) fn run_push(&mut self, register: StackRegister16) -> u8
+    pub(crate) fn run_push(&mut self, register: StackRegister16) -> u32
         ensures after { self.new ≡ executed_behind M.rules (Instr.Push register) (taken self.old) }
         ensures cycles { result ≡ cycles_with (Instr.Push register) self.old.registers.flags }
     {
@@ -561,7 +561,7 @@ impl<M: Memory> Processor<M> {
 
     /// CALL n16
     #[inline]
-    pub(crate) fn run_call(&mut self, address: u16) -> u8
+    pub(crate) fn run_call(&mut self, address: u16) -> u32
         ensures after { self.new ≡ executed_behind M.rules (Instr.Call address) (taken self.old) }
         ensures cycles { result ≡ cycles_with (Instr.Call address) self.old.registers.flags }
     {
@@ -572,7 +572,7 @@ impl<M: Memory> Processor<M> {
 
     /// RST n8
     #[inline]
-    pub(crate) fn run_restart(&mut self, address: u8) -> u8
+    pub(crate) fn run_restart(&mut self, address: u8) -> u32
         ensures after { self.new ≡ executed_behind M.rules (Instr.Restart address) (taken self.old) }
         ensures cycles { result ≡ cycles_with (Instr.Restart address) self.old.registers.flags }
     {
@@ -583,7 +583,7 @@ impl<M: Memory> Processor<M> {
 
     /// RLC r and the like
     #[inline(always)]
-    pub(crate) fn run_shift(&mut self, shift_by: Shift, operand: Operand8) -> u8
+    pub(crate) fn run_shift(&mut self, shift_by: Shift, operand: Operand8) -> u32
         ensures after { self.new ≡ executed_behind M.rules (Instr.Shift shift_by operand) (taken self.old) }
         ensures cycles { result ≡ cycles_with (Instr.Shift shift_by operand) self.old.registers.flags }
     {
@@ -595,7 +595,7 @@ impl<M: Memory> Processor<M> {
 
     /// BIT n,r
     #[inline(always)]
-    pub(crate) fn run_test_bit(&mut self, bit: u8, operand: Operand8) -> u8
+    pub(crate) fn run_test_bit(&mut self, bit: u8, operand: Operand8) -> u32
         ensures after { self.new ≡ executed_behind M.rules (Instr.TestBit bit operand) (taken self.old) }
         ensures cycles { result ≡ cycles_with (Instr.TestBit bit operand) self.old.registers.flags }
     {
@@ -608,7 +608,7 @@ impl<M: Memory> Processor<M> {
 
     /// RES n,r
     #[inline(always)]
-    pub(crate) fn run_reset_bit(&mut self, bit: u8, operand: Operand8) -> u8
+    pub(crate) fn run_reset_bit(&mut self, bit: u8, operand: Operand8) -> u32
         ensures after { self.new ≡ executed_behind M.rules (Instr.ResetBit bit operand) (taken self.old) }
         ensures cycles { result ≡ cycles_with (Instr.ResetBit bit operand) self.old.registers.flags }
     {
@@ -620,7 +620,7 @@ impl<M: Memory> Processor<M> {
 
     /// SET n,r
     #[inline(always)]
-    pub(crate) fn run_set_bit(&mut self, bit: u8, operand: Operand8) -> u8
+    pub(crate) fn run_set_bit(&mut self, bit: u8, operand: Operand8) -> u32
         ensures after { self.new ≡ executed_behind M.rules (Instr.SetBit bit operand) (taken self.old) }
         ensures cycles { result ≡ cycles_with (Instr.SetBit bit operand) self.old.registers.flags }
     {
@@ -631,7 +631,7 @@ impl<M: Memory> Processor<M> {
     }
 
     #[inline(never)]
-    pub(crate) fn run_shift_apart(&mut self, shift_by: Shift, operand: Operand8) -> u8
+    pub(crate) fn run_shift_apart(&mut self, shift_by: Shift, operand: Operand8) -> u32
         ensures after { self.new ≡ executed_behind M.rules (Instr.Shift shift_by operand) (taken self.old) }
         ensures cycles { result ≡ cycles_with (Instr.Shift shift_by operand) self.old.registers.flags }
     {
@@ -639,7 +639,7 @@ impl<M: Memory> Processor<M> {
     }
 
     #[inline(never)]
-    pub(crate) fn run_test_bit_apart(&mut self, bit: u8, operand: Operand8) -> u8
+    pub(crate) fn run_test_bit_apart(&mut self, bit: u8, operand: Operand8) -> u32
         ensures after { self.new ≡ executed_behind M.rules (Instr.TestBit bit operand) (taken self.old) }
         ensures cycles { result ≡ cycles_with (Instr.TestBit bit operand) self.old.registers.flags }
     {
@@ -647,7 +647,7 @@ impl<M: Memory> Processor<M> {
     }
 
     #[inline(never)]
-    pub(crate) fn run_reset_bit_apart(&mut self, bit: u8, operand: Operand8) -> u8
+    pub(crate) fn run_reset_bit_apart(&mut self, bit: u8, operand: Operand8) -> u32
         ensures after { self.new ≡ executed_behind M.rules (Instr.ResetBit bit operand) (taken self.old) }
         ensures cycles { result ≡ cycles_with (Instr.ResetBit bit operand) self.old.registers.flags }
     {
@@ -655,7 +655,7 @@ impl<M: Memory> Processor<M> {
     }
 
     #[inline(never)]
-    pub(crate) fn run_set_bit_apart(&mut self, bit: u8, operand: Operand8) -> u8
+    pub(crate) fn run_set_bit_apart(&mut self, bit: u8, operand: Operand8) -> u32
         ensures after { self.new ≡ executed_behind M.rules (Instr.SetBit bit operand) (taken self.old) }
         ensures cycles { result ≡ cycles_with (Instr.SetBit bit operand) self.old.registers.flags }
     {
@@ -664,7 +664,7 @@ impl<M: Memory> Processor<M> {
 
     /// an undefined opcode
     #[inline]
-    pub(crate) fn run_undefined(&mut self, opcode: u8) -> u8
+    pub(crate) fn run_undefined(&mut self, opcode: u8) -> u32
         ensures after { self.new ≡ executed_behind M.rules (Instr.Undefined opcode) (taken self.old) }
         ensures cycles { result ≡ cycles_with (Instr.Undefined opcode) self.old.registers.flags }
     {

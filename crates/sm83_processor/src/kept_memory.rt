@@ -10,7 +10,7 @@ impl<M: Memory> Processor<M> {
     /// Whether every instruction of this opcode that takes so many M-cycles leaves the memory as it
     /// is. Where the answer is false, it may or may not.
     #[inline(always)]
-    pub(crate) fn keeps_memory(opcode: u8, cycles: u8) -> bool
+    pub(crate) fn keeps_memory(opcode: u8, cycles: u32) -> bool
         ensures { result ≡ true → KeepsMemory M.rules opcode cycles }
     {
         match opcode {

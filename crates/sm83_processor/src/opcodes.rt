@@ -1,7 +1,7 @@
 //! One instruction by its opcode. The last arm of each match is its last opcode, the only one left
 //! by the others.
 
-ghost use Rattle.std.specs.Prelude.{◌≡◌, ◌%◌, ◌/◌, true};
+ghost use Rattle.std.specs.Prelude.{◌≡◌, ◌≤◌, ◌%◌, ◌/◌, true};
 ghost use Rattle.sm83_processor.specs.Opcodes.{taken, opened, instruction_at, executed_behind, cycles_with};
 ghost use Rattle.sm83_processor.specs.Plain.{IsUsual};
 ghost use Rattle.opcode_table.specs.Table.{bit_instruction};
@@ -34,6 +34,12 @@ pub const IN_LOWER_ROM: u8 = 4;
 /// As the parameter `WAY` of a call: plain steps in a frame, in the upper half of ROM.
 pub const IN_UPPER_ROM: u8 = 5;
 
+/// As the parameter `WAY` of a call: plain steps in a frame, in WRAM.
+pub const IN_WRAM: u8 = 6;
+
+/// As the parameter `WAY` of a call: plain steps in a frame, in HRAM.
+pub const IN_HRAM: u8 = 7;
+
 /// As the parameter `WAY` of a call: plain steps that are counted.
 pub(crate) const COUNTED: u8 = 2;
 
@@ -46,9 +52,10 @@ impl<M: Memory> Processor<M> {
     /// comes, and whether it is sure to have left the memory as it was. WAY names the caller: code
     /// is made separately for each, so that it can be inlined into the caller's loop.
     #[inline(always)]
-    pub fn run_opcode<const WAY: u8>(&mut self, opcode: u8) -> (u8, bool, bool)
+    pub fn run_opcode<const WAY: u8>(&mut self, opcode: u8) -> (u32, bool, bool)
         ensures after { self.new ≡ executed_behind M.rules (instruction_at M.rules opcode (taken self.old)) (taken self.old) }
         ensures cycles { result.0 ≡ cycles_with (instruction_at M.rules opcode (taken self.old)) self.old.registers.flags }
+        ensures few { result.0 ≤ 6 }
         ensures usual { result.1 ≡ true → IsUsual self.old.state → IsUsual self.new.state }
         ensures memory { result.2 ≡ true → self.new.memory ≡ self.old.memory }
     {
@@ -69,7 +76,7 @@ impl<M: Memory> Processor<M> {
         ensures cycles { result ≡ cycles_with (instruction_at M.rules opcode (opened self.old)) self.old.registers.flags }
     {
         self.open();
-        self.run_opcode::<APART>(opcode).0
+        self.run_opcode::<APART>(opcode).0 as u8
     }
 
     /// Ends `halt_bug`, with PC where the byte behind it is the one to come.
@@ -87,7 +94,7 @@ impl<M: Memory> Processor<M> {
     /// M-cycles. One match on all opcodes makes one jump.
     #[inline(always)]
     #[tactic(auto, unfolding(opcode_table::specs::Table::instruction_of, opcode_table::specs::Table::loads_and_steps, opcode_table::specs::Table::jumps_and_stack))]
-    fn run_instruction<const WAY: u8>(&mut self, opcode: u8) -> u8
+    fn run_instruction<const WAY: u8>(&mut self, opcode: u8) -> u32
         ensures after { self.new ≡ executed_behind M.rules (instruction_at M.rules opcode (taken self.old)) (taken self.old) }
         ensures cycles { result ≡ cycles_with (instruction_at M.rules opcode (taken self.old)) self.old.registers.flags }
     {
@@ -354,19 +361,19 @@ impl<M: Memory> Processor<M> {
     /// Executes the instruction of an opcode CB and this byte, and answers its M-cycles. In a frame
     /// it is in line, since a call costs as much as most of these instructions.
     #[inline(always)]
-    fn run_prefixed<const WAY: u8>(&mut self, byte: u8) -> u8
+    fn run_prefixed<const WAY: u8>(&mut self, byte: u8) -> u32
         ensures after { self.new ≡ executed_behind M.rules (bit_instruction (byte / 64) (byte % 8) (byte / 8 % 8)) (taken self.old) }
         ensures cycles { result ≡ cycles_with (bit_instruction (byte / 64) (byte % 8) (byte / 8 % 8)) self.old.registers.flags }
     {
-        if WAY == IN_FRAME || WAY == IN_LOWER_ROM || WAY == IN_UPPER_ROM {
-            self.run_bit_opcode::<WAY>(byte)
-        } else {
+        if WAY == APART || WAY == COUNTED || WAY == REPORTED {
             self.run_bit_opcode_apart(byte)
+        } else {
+            self.run_bit_opcode::<WAY>(byte)
         }
     }
 
     #[inline(never)]
-    fn run_bit_opcode_apart(&mut self, byte: u8) -> u8
+    fn run_bit_opcode_apart(&mut self, byte: u8) -> u32
         ensures after { self.new ≡ executed_behind M.rules (bit_instruction (byte / 64) (byte % 8) (byte / 8 % 8)) (taken self.old) }
         ensures cycles { result ≡ cycles_with (bit_instruction (byte / 64) (byte % 8) (byte / 8 % 8)) self.old.registers.flags }
     {
@@ -378,7 +385,7 @@ impl<M: Memory> Processor<M> {
     /// memory is apart, so that the others save no registers for its calls.
     #[inline(always)]
     #[tactic(auto, unfolding(opcode_table::specs::Table::bit_instruction))]
-    fn run_bit_opcode<const WAY: u8>(&mut self, byte: u8) -> u8
+    fn run_bit_opcode<const WAY: u8>(&mut self, byte: u8) -> u32
         ensures after { self.new ≡ executed_behind M.rules (bit_instruction (byte / 64) (byte % 8) (byte / 8 % 8)) (taken self.old) }
         ensures cycles { result ≡ cycles_with (bit_instruction (byte / 64) (byte % 8) (byte / 8 % 8)) self.old.registers.flags }
     {

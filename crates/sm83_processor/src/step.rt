@@ -177,7 +177,8 @@ impl<M: Memory> Processor<M> {
         ensures cycles { result.0 ≡ (step_of M.rules self.old).stepped.cycles }
         ensures plain { result.1 ≡ true → IsPlain M.rules self.new }
     {
-        let (cycles, usual, _) = self.run_opcode::<WAY>(opcode);
+        let (taken, usual, _) = self.run_opcode::<WAY>(opcode);
+        let cycles = taken as u8;
         if !usual {
             self.memory.pass(cycles);
             return (cycles, false);

@@ -8,6 +8,7 @@ ghost use Rattle.memory_map.specs.Ticks.{tick, tick_timer, tick_serial, tick_dma
 ghost use Rattle.memory_map.specs.Quiet.{AreQuietOn, IsCalm};
 
 use super::Bus;
+use picture_unit::Picture;
 
 impl Bus {
     /// Lets this many M-cycles pass for all units; in each M-cycle the order is timer, serial,
@@ -43,7 +44,7 @@ impl Bus {
     pub fn calm(&self) -> u16
         ensures { IsCalm result self.now }
     {
-        self.calm_until.saturating_sub(self.picture.frame_cycle())
+        self.calm_until.saturating_sub(self.clock)
     }
 
     /// Lets M-cycles pass that request nothing and copy no byte, as `calm` tells: the fastest call for them. Condition: they are such.
@@ -53,6 +54,7 @@ impl Bus {
         ensures { self.new ≡ iterate tick cycles self.old }
     {
         self.picture.move_on(cycles);
+        self.clock += u16::from(cycles);
     }
 
     /// The same as `pass_few`, if IE and IF may share a bit, or not all M-cycles are quiet.
@@ -63,22 +65,7 @@ impl Bus {
         if u16::from(cycles) <= self.quiet() {
             return self.move_on(cycles);
         }
-        if self.timer_runs_alone() {
-            return self.pass_timer(u32::from(cycles));
-        }
         self.pass_by_units(u32::from(cycles));
-    }
-
-    /// Whether no M-cycle changes anything but the timer: the LCD is off, and neither a copy nor a transfer runs.
-    #[inline]
-    fn timer_runs_alone(&self) -> bool
-        ensures copy { result ≡ true → 160 ≤ self.now.control.dma_copied }
-        ensures serial { result ≡ true → self.now.serial.serial.cycles_left ≡ 0 }
-        ensures picture { result ≡ true → is_on self.now.picture.picture.state ≡ false }
-    {
-        !self.picture.is_on()
-            && self.control.dma_copied >= 160
-            && self.serial.state().cycles_left == 0
     }
 
     /// A number of quiet M-cycles, where IE and IF may share a bit.
@@ -86,7 +73,7 @@ impl Bus {
     fn quiet(&self) -> u16
         ensures { AreQuietOn result self.now }
     {
-        self.quiet_until.saturating_sub(self.picture.frame_cycle())
+        self.quiet_until.saturating_sub(self.clock)
     }
 
     #[inline]
@@ -103,14 +90,13 @@ impl Bus {
     fn look_ahead(&mut self)
         ensures { self.new ≡ self.old }
     {
-        let now = self.picture.frame_cycle();
-        let quiet = self.quiet_cycles();
+        let quiet_until = self.clock.saturating_add(self.quiet_cycles());
         if self.shared_by_flags() == 0 {
-            self.calm_until = now + quiet + 1;
+            self.calm_until = quiet_until.saturating_add(1);
             self.quiet_until = 0;
         } else {
             self.calm_until = 0;
-            self.quiet_until = now + quiet;
+            self.quiet_until = quiet_until;
         }
     }
 
@@ -136,10 +122,9 @@ impl Bus {
     }
 
     fn quiet_cycles(&self) -> u16
-        ensures frame { frame_cycle self.now.picture.picture.state + result < 17556 }
-        ensures quiet { AreQuietOn result self.now }
+        ensures { AreQuietOn result self.now }
     {
-        if self.timer.at != self.picture.frame_cycle() {
+        if self.timer.at != self.clock {
             return 0;
         }
         if self.control.dma_copied < 160 {
@@ -148,7 +133,12 @@ impl Bus {
         if self.serial.state().cycles_left > 0 {
             return 0;
         }
-        self.timer.timer.unrequested_for().min(self.picture.quiet())
+        let unrequested = self.timer.timer.unrequested_for();
+        if self.picture.is_on() {
+            unrequested.min(self.picture.quiet())
+        } else {
+            unrequested.min(16_383 - self.timer.timer.state().counter / 4)
+        }
     }
 
     /// For how many M-cycles IE and IF are sure to share no bit: before each of them they share
@@ -170,7 +160,7 @@ impl Bus {
             Some(1)
         } else {
             earlier(
-                self.timer.copy_at(self.picture.frame_cycle()).due(),
+                self.timer.copy_at(self.clock).due(),
                 earlier(self.serial.due(), self.picture.due()),
             )
         }
@@ -183,7 +173,9 @@ impl Bus {
     {
         self.calm_until = 0;
         self.quiet_until = 0;
-        self.timer.pass(self.picture.frame_cycle(), cycles);
+        let clock = clock_of(&self.picture);
+        self.timer.pass(self.clock, clock, cycles);
+        self.clock = clock;
     }
 
     #[inline]
@@ -227,9 +219,10 @@ impl Bus {
     {
         self.calm_until = 0;
         self.quiet_until = 0;
-        let now = self.picture.frame_cycle();
         let requests = self.picture.pass(cycles);
-        self.timer.settle(now, self.picture.frame_cycle());
+        let clock = clock_of(&self.picture);
+        self.timer.settle(self.clock, clock);
+        self.clock = clock;
         self.vblank_requested |= requests.vblank;
         self.stat_requested |= requests.stat;
     }
@@ -248,6 +241,19 @@ impl Bus {
         self.quiet_until = 0;
         self.picture.copy_to_oam(self.control.dma_copied, byte);
         self.control.dma_copied += 1;
+    }
+}
+
+/// What the clock is set to: the M-cycle of the frame, or 0 while the LCD is off.
+#[inline]
+pub(super) fn clock_of(picture: &Picture) -> u16
+    ensures lit { is_on picture.now.state ≡ true → result ≡ frame_cycle picture.now.state }
+    ensures dark { is_on picture.now.state ≡ false → result ≡ 0 }
+{
+    if picture.is_on() {
+        picture.frame_cycle()
+    } else {
+        0
     }
 }
 

@@ -6,6 +6,7 @@ ghost use Rattle.memory_map.specs.Joypad.{joypad_set, select_bits};
 ghost use Rattle.memory_map.specs.Bus.{register_value, register_written, interrupt_flag, with_interrupt_flag, pending_interrupts, acknowledged};
 
 use super::Bus;
+use super::clock::clock_of;
 use crate::control::select_bits;
 
 impl Bus {
@@ -15,7 +16,7 @@ impl Bus {
     pub fn pending_interrupts(&self) -> u8
         ensures { result ≡ pending_interrupts self.now }
     {
-        if self.calm_until > self.picture.frame_cycle() {
+        if self.calm_until > self.clock {
             return 0;
         }
         self.control.ie & self.interrupt_flag()
@@ -36,7 +37,7 @@ impl Bus {
         match bit {
             0 => self.vblank_requested = false,
             1 => self.stat_requested = false,
-            2 => self.timer.set_requested(self.picture.frame_cycle(), false),
+            2 => self.timer.set_requested(self.clock, false),
             3 => self.serial_requested = false,
             4 => self.control.joypad = false,
             _ => {}
@@ -61,8 +62,7 @@ impl Bus {
         self.calm_until = 0;
         self.vblank_requested = value / 1 % 2 == 1;
         self.stat_requested = value / 2 % 2 == 1;
-        self.timer
-            .set_requested(self.picture.frame_cycle(), value / 4 % 2 == 1);
+        self.timer.set_requested(self.clock, value / 4 % 2 == 1);
         self.serial_requested = value / 8 % 2 == 1;
         self.control.joypad = value / 16 % 2 == 1;
         self.find_calm();
@@ -76,10 +76,10 @@ impl Bus {
             0xff00 => self.control.p1(),
             0xff01 => self.serial.sb(),
             0xff02 => self.serial.sc(),
-            0xff04 => self.timer.copy_at(self.picture.frame_cycle()).div(),
-            0xff05 => self.timer.copy_at(self.picture.frame_cycle()).tima(),
-            0xff06 => self.timer.copy_at(self.picture.frame_cycle()).tma(),
-            0xff07 => self.timer.copy_at(self.picture.frame_cycle()).tac(),
+            0xff04 => self.timer.copy_at(self.clock).div(),
+            0xff05 => self.timer.copy_at(self.clock).tima(),
+            0xff06 => self.timer.copy_at(self.clock).tma(),
+            0xff07 => self.timer.copy_at(self.clock).tac(),
             0xff0f => 0xe0 + self.interrupt_flag() % 32,
             0xff46 => self.control.dma,
             _ => self.picture.read_register(address),
@@ -126,7 +126,9 @@ impl Bus {
     {
         self.calm_until = 0;
         self.quiet_until = 0;
-        self.timer.write_div(self.picture.frame_cycle());
+        let clock = clock_of(&self.picture);
+        self.timer.write_div(self.clock, clock);
+        self.clock = clock;
     }
 
     fn write_tac(&mut self, value: u8)
@@ -134,7 +136,7 @@ impl Bus {
     {
         self.calm_until = 0;
         self.quiet_until = 0;
-        self.timer.write_tac(self.picture.frame_cycle(), value);
+        self.timer.write_tac(self.clock, value);
     }
 
     fn write_tima(&mut self, value: u8)
@@ -142,7 +144,7 @@ impl Bus {
     {
         self.calm_until = 0;
         self.quiet_until = 0;
-        self.timer.write_tima(self.picture.frame_cycle(), value);
+        self.timer.write_tima(self.clock, value);
     }
 
     fn write_tma(&mut self, value: u8)
@@ -150,7 +152,7 @@ impl Bus {
     {
         self.calm_until = 0;
         self.quiet_until = 0;
-        self.timer.write_tma(self.picture.frame_cycle(), value);
+        self.timer.write_tma(self.clock, value);
     }
 
     fn write_picture(&mut self, address: u16, value: u8)
@@ -158,8 +160,9 @@ impl Bus {
     {
         self.calm_until = 0;
         self.quiet_until = 0;
-        let now = self.picture.frame_cycle();
         self.stat_requested |= self.picture.write_register(address, value);
-        self.timer.settle(now, self.picture.frame_cycle());
+        let clock = clock_of(&self.picture);
+        self.timer.settle(self.clock, clock);
+        self.clock = clock;
     }
 }

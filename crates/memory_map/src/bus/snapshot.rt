@@ -4,6 +4,7 @@ ghost use Rattle.bank_controllers.specs.CartridgeState.{second};
 ghost use Rattle.memory_map.specs.Stores.{without_memory, restored, AreLegalFor, region_of, region_filled, FitsRegion};
 
 use super::Bus;
+use super::clock::clock_of;
 use crate::bus_without_memory::BusWithoutMemory;
 use crate::region::Region;
 use picture_unit::{Picture, PictureRegion};
@@ -20,7 +21,7 @@ impl Bus {
             interrupt_flag: self.interrupt_flag(),
             buttons: self.control.buttons,
             p1_select: self.control.p1_select,
-            timer: self.timer.copy_at(self.picture.frame_cycle()).state(),
+            timer: self.timer.copy_at(self.clock).state(),
             serial: self.serial.state(),
             dma: self.control.dma,
             dma_copied: self.control.dma_copied,
@@ -38,7 +39,8 @@ impl Bus {
         self.quiet_until = 0;
         self.serial.restore(&state.serial);
         self.picture.restore(&state.picture);
-        self.timer.restore(self.picture.frame_cycle(), &state.timer);
+        self.clock = clock_of(&self.picture);
+        self.timer.restore(self.clock, &state.timer);
         self.banks.restore(&state.banks);
         self.control.ie = state.ie;
         self.control.buttons = state.buttons;

@@ -1,6 +1,6 @@
-ghost use Rattle.std.specs.Prelude.{◌≡◌, ◌+◌, ◌<◌};
+ghost use Rattle.std.specs.Prelude.{◌≡◌, ◌+◌, ◌<◌, true};
 ghost use Rattle.repeated_steps.specs.NextEvent.{IsNextEvent};
-ghost use Rattle.picture_unit.specs.Picture.{unrequested, tick, ticks, is_entry};
+ghost use Rattle.picture_unit.specs.Picture.{unrequested, is_on, tick, ticks, is_entry};
 ghost use Rattle.picture_unit.specs.Laws.{frame_cycle};
 ghost use Rattle.picture_unit.specs.LatePicture.{AreQuiet};
 
@@ -19,7 +19,7 @@ impl Picture {
         if cycles > u32::from(self.quiet()) {
             return self.pass_at_once(cycles);
         }
-        self.frame_cycle += cycles as u16;
+        self.count(cycles as u16);
         PictureRequests {
             vblank: false,
             stat: false,
@@ -40,13 +40,22 @@ impl Picture {
         requests
     }
 
-    /// Lets quiet M-cycles pass: they are only counted. Condition: they are quiet.
+    /// Lets quiet M-cycles pass: they are only counted. Condition: they are quiet, unless the LCD is off.
     #[inline]
     pub fn move_on(&mut self, cycles: u8)
-        requires { AreQuiet cycles self.old.state }
+        requires { is_on self.old.state ≡ true → AreQuiet cycles self.old.state }
         ensures { self.new ≡ (ticks cycles self.old).picture }
     {
-        self.frame_cycle += u16::from(cycles);
+        self.count(u16::from(cycles));
+    }
+
+    // The count wraps while the LCD is off.
+    #[inline(always)]
+    fn count(&mut self, cycles: u16)
+        requires { is_on self.old.state ≡ true → AreQuiet cycles self.old.state }
+        ensures { self.new ≡ (ticks cycles self.old).picture }
+    {
+        self.frame_cycle = self.frame_cycle.wrapping_add(cycles);
     }
 
     /// A number of M-cycles in which nothing is requested and the frame does not end.
@@ -55,7 +64,7 @@ impl Picture {
         ensures quiet { AreQuiet result self.now.state }
         ensures frame { frame_cycle self.now.state + result < 17556 }
     {
-        self.quiet_until.saturating_sub(self.frame_cycle)
+        self.quiet_until.saturating_sub(self.frame_cycle())
     }
 
     /// The M-cycle of the frame, 0 to 17,555.
@@ -64,7 +73,11 @@ impl Picture {
         ensures now { result ≡ frame_cycle self.now.state }
         ensures few { result < 17556 }
     {
-        self.frame_cycle
+        if self.prompt.is_on() {
+            self.frame_cycle
+        } else {
+            self.prompt.frame_cycle()
+        }
     }
 
     /// The same as `pass`, M-cycle by M-cycle: what `pass` is compared with.

@@ -13,7 +13,7 @@ impl Picture {
         ensures legal { IsLegalPicture result }
         ensures rows { length self.now.rows ≡ 144 }
     {
-        let late = self.frame_cycle - self.prompt.frame_cycle();
+        let late = self.frame_cycle() - self.prompt.frame_cycle();
         self.prompt.state().after(late)
     }
 
@@ -57,7 +57,7 @@ impl Picture {
         ensures row { slice_get self.now.rows y ≡ Some result }
         ensures shades { All (λ shade. shade < 4) result }
     {
-        let late = self.frame_cycle - self.prompt.frame_cycle();
+        let late = self.frame_cycle() - self.prompt.frame_cycle();
         self.prompt.row_after(late, y)
     }
 

@@ -36,19 +36,19 @@ returns-then-not-is_calm-clause-now g c =
     let took = plainly_cycles bus_rules c.read-opcode.result run.result.0 c.args.processor.now c.requires.plain c.read-opcode.ensures run.ensures.cycles in
     λ _. omega (arith, c.time_behind-then-not-is_calm.ensures, took)
 
-pub returns-then-taken-left-clause-after : goal.returns-then-taken-left-clause-after
-returns-then-taken-left-clause-after g c =
+pub returns-then-cycles-left-clause-after : goal.returns-then-cycles-left-clause-after
+returns-then-cycles-left-clause-after g c =
     let p = c.args.processor.now in
     let run = c.run_opcode-cycles in
     let q = run.new.self in
-    c.pass_usual-is_plain-then-taken-left.ensures.after ∙ plainly_after bus_rules c.read-opcode.result run.result.0 p q (iterate tick run.result.0 q.memory) c.requires.plain c.read-opcode.ensures run.ensures.after run.ensures.cycles refl
+    c.pass_usual-is_plain-then-cycles-left.ensures.after ∙ plainly_after bus_rules c.read-opcode.result run.result.0 p q (iterate tick run.result.0 q.memory) c.requires.plain c.read-opcode.ensures run.ensures.after run.ensures.cycles refl
 
-pub returns-then-taken-left-clause-now : goal.returns-then-taken-left-clause-now
-returns-then-taken-left-clause-now g c =
+pub returns-then-cycles-left-clause-now : goal.returns-then-cycles-left-clause-now
+returns-then-cycles-left-clause-now g c =
     let run = c.run_opcode-cycles in
     let took = plainly_cycles bus_rules c.read-opcode.result run.result.0 c.args.processor.now c.requires.plain c.read-opcode.ensures run.ensures.cycles in
     let bounds = step-bounds bus_rules c.args.processor.now in
-    λ _. omega (arith, c.time_beyond.ensures, took, bounds.few, c.if-taken-left.true, c.from-taken.ensures, c.requires.within, c.requires.end)
+    λ _. omega (arith, c.time_beyond.ensures, took, bounds.few, c.if-cycles-left.true, c.requires.within, c.requires.end)
 
 pub stays_calm-is_calm-requires : goal.stays_calm-is_calm-requires
 stays_calm-is_calm-requires g c = record { kept = λ kept. subst (IsCalm c.args.left) (sym (c.run_opcode-cycles.ensures.memory kept)) c.requires.calm }
@@ -58,7 +58,7 @@ move_on-requires g c =
     let p = c.args.processor.now in
     let run = c.run_opcode-cycles in
     let q = run.new.self in
-    let few : run.result.0 < c.args.left = omega (arith, c.if-taken-left.false, c.from-taken.ensures) in
+    let few : run.result.0 < c.args.left = omega (arith, c.if-cycles-left.false) in
     let still = c.stays_calm-is_calm.ensures c.if-not-is_calm.false in
     fewer_are_quiet (c.args.left - 1) run.result.0 q.memory (omega (arith, few)) still.quiet
 
@@ -74,7 +74,7 @@ returns-clause-plain g c =
     let p = c.args.processor.now in
     let run = c.run_opcode-cycles in
     let q = run.new.self in
-    let few : run.result.0 < c.args.left = omega (arith, c.if-taken-left.false, c.from-taken.ensures) in
+    let few : run.result.0 < c.args.left = omega (arith, c.if-cycles-left.false) in
     let still = c.stays_calm-is_calm.ensures c.if-not-is_calm.false in
     let calm = subst (IsCalm (c.args.left - run.result.0)) (sym c.move_on.ensures) (calm_behind c.args.left run.result.0 q.memory few still) in
     λ _. record {
@@ -87,7 +87,7 @@ returns-clause-still_plain g c =
     let p = c.args.processor.now in
     let run = c.run_opcode-cycles in
     let q = run.new.self in
-    let few : run.result.0 < c.args.left = omega (arith, c.if-taken-left.false, c.from-taken.ensures) in
+    let few : run.result.0 < c.args.left = omega (arith, c.if-cycles-left.false) in
     let still = c.stays_calm-is_calm.ensures c.if-not-is_calm.false in
     let calm = subst (IsCalm (c.args.left - run.result.0)) (sym c.move_on.ensures) (calm_behind c.args.left run.result.0 q.memory few still) in
     λ _. record {
@@ -99,21 +99,21 @@ pub returns-clause-fewer : goal.returns-clause-fewer
 returns-clause-fewer g c =
     let run = c.run_opcode-cycles in
     let took = plainly_cycles bus_rules c.read-opcode.result run.result.0 c.args.processor.now c.requires.plain c.read-opcode.ensures run.ensures.cycles in
-    λ _. omega (arith, took, c.if-taken-left.false, c.from-taken.ensures)
+    λ _. omega (arith, took, c.if-cycles-left.false)
 
 pub returns-clause-left : goal.returns-clause-left
 returns-clause-left g c =
     let run = c.run_opcode-cycles in
     let took = plainly_cycles bus_rules c.read-opcode.result run.result.0 c.args.processor.now c.requires.plain c.read-opcode.ensures run.ensures.cycles in
-    λ _. omega (arith, took, c.if-taken-left.false, c.from-taken.ensures)
+    λ _. omega (arith, took, c.if-cycles-left.false)
 
 pub returns-clause-calm : goal.returns-clause-calm
 returns-clause-calm g c =
     let p = c.args.processor.now in
     let run = c.run_opcode-cycles in
     let q = run.new.self in
-    let few : run.result.0 < c.args.left = omega (arith, c.if-taken-left.false, c.from-taken.ensures) in
+    let few : run.result.0 < c.args.left = omega (arith, c.if-cycles-left.false) in
     let still = c.stays_calm-is_calm.ensures c.if-not-is_calm.false in
     let calm = subst (IsCalm (c.args.left - run.result.0)) (sym c.move_on.ensures) (calm_behind c.args.left run.result.0 q.memory few still) in
-    let same : (c.args.left + (4294967296 - c.from-taken.result)) % 4294967296 ≡ c.args.left - run.result.0 = omega (arith, few, c.from-taken.ensures) in
+    let same : (c.args.left + (4294967296 - run.result.0)) % 4294967296 ≡ c.args.left - run.result.0 = omega (arith, few) in
     λ _. rw same calm

@@ -1,4 +1,4 @@
-use Rattle.std.proofs.Common.{◌≡◌, ℕ, ap, ◌∙◌, arith, rules}
+use Rattle.std.proofs.Common.{◌≡◌, refl, sym, ap, arith, rules}
 use Rattle.std.specs.Prelude.{length}
 use Rattle.timer_unit.specs.Timer.{unrequested, timer_at_power_on}
 use Rattle.picture_unit.specs.Picture.{PictureUnit, picture_at_power_on, state_at_power_on}
@@ -18,11 +18,10 @@ invariant_of-result c =
     let l = c.new-3.result in
     let m = first_cycle c.in_ok-picture.picture c.in_ok-picture.ensures in
     let wram : length c.in_ok-wram.wram.items ≡ 8192 = omega (arith, c.in_ok-wram.wram.ok.0, c.in_ok-wram.ensures.len) in
-    consistent_now 0 l _ m (ap (λ (l : LateTimer). l.at) c.new-3.ensures) (ap (λ (k : ℕ). up_to k l) m) wram c.at_power_on.ensures.legal
+    consistent_now 0 l _ (λ _. sym m) (λ _. omega arith) (ap (λ (l : LateTimer). l.at) c.new-3.ensures) refl wram c.at_power_on.ensures.legal
 
 pub returns : goal.returns
 returns c =
     let l = c.new-3.result in
-    let m = first_cycle c.in_ok-picture.picture c.in_ok-picture.ensures in
-    let t : up_to (frame_cycle c.in_ok-picture.picture.state) l ≡ unrequested timer_at_power_on = ap (λ (k : ℕ). up_to k l) m ∙ settled 0 l (unrequested timer_at_power_on) c.new-3.ensures in
+    let t : up_to 0 l ≡ unrequested timer_at_power_on = settled 0 l (unrequested timer_at_power_on) c.new-3.ensures in
     search (rules, t)

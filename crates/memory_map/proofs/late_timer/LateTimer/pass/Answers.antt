@@ -9,5 +9,5 @@ pub returns : goal.returns
 returns c =
     let l = c.args.self.now in
     let late : c.from-late.result ≡ c.args.now - l.at = c.from-late.ensures ∙ c.saturating_sub.ensures in
-    c.pass_all-2.ensures ∙ ap (λ (k : ℕ). settled_at c.args.now (iterate tick (k + c.args.cycles) (running l))) late
-    ∙ ap (settled_at c.args.now) (iterate-add tick (c.args.now - l.at) c.args.cycles (running l))
+    c.pass_all-2.ensures ∙ ap (λ (k : ℕ). settled_at c.args.at (iterate tick (k + c.args.cycles) (running l))) late
+    ∙ ap (settled_at c.args.at) (iterate-add tick (c.args.now - l.at) c.args.cycles (running l))

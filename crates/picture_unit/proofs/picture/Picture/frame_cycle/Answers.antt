@@ -1,8 +1,13 @@
 use Rattle.std.proofs.Common.{ap, sym, ◌∙◌}
 use Rattle.picture_unit.specs.Picture.{PictureUnit}
 use Rattle.picture_unit.specs.Laws.{frame_cycle}
-use Rattle.picture_unit.proofs.LatePicture.{position}
+use Rattle.picture_unit.proofs.LatePicture.{position, moment_on, moment_off}
 use Rattle.picture_unit.proofs.picture.Picture.frame_cycle.Goals as goal
 
-pub returns-clause-now : goal.returns-clause-now
-returns-clause-now c = sym (position _ _ _ c.self.invariant) ∙ ap (λ (u : PictureUnit). frame_cycle u.state) c.self.view_is
+pub returns-then-is_on-clause-now : goal.returns-then-is_on-clause-now
+returns-then-is_on-clause-now c =
+    sym (position _ _ _ c.self.invariant ∙ moment_on c.self.inside.frame_cycle c.self.inside.prompt (sym c.is_on.ensures ∙ c.if-is_on.true)) ∙ ap (λ (u : PictureUnit). frame_cycle u.state) c.self.view_is
+
+pub returns-else-is_on-clause-now : goal.returns-else-is_on-clause-now
+returns-else-is_on-clause-now c =
+    c.frame_cycle.ensures.now ∙ sym (position _ _ _ c.self.invariant ∙ moment_off c.self.inside.frame_cycle c.self.inside.prompt (sym c.is_on.ensures ∙ c.if-is_on.false)) ∙ ap (λ (u : PictureUnit). frame_cycle u.state) c.self.view_is

@@ -1,10 +1,11 @@
 use Rattle.std.proofs.Common.{◌-◌, ap, sym, ◌∙◌}
 use Rattle.picture_unit.specs.Picture.{PictureUnit, is_on}
 use Rattle.picture_unit.specs.Laws.{frame_cycle}
+use Rattle.picture_unit.specs.LatePicture.{moment}
 use Rattle.picture_unit.proofs.LatePicture.{on_kept}
 use Rattle.picture_unit.proofs.picture.Picture.is_on.Goals as goal
 
 pub returns : goal.returns
 returns c =
     let s = c.self.inside.prompt in
-    c.is_on.ensures ∙ sym (on_kept (c.self.inside.frame_cycle - frame_cycle s.state) s) ∙ ap (λ (u : PictureUnit). is_on u.state) c.self.view_is
+    c.is_on.ensures ∙ sym (on_kept (moment c.self.inside.frame_cycle s - frame_cycle s.state) s) ∙ ap (λ (u : PictureUnit). is_on u.state) c.self.view_is

@@ -1,9 +1,19 @@
 use Rattle.std.proofs.Common.{◌≡◌, ap, ◌∙◌}
 use Rattle.picture_unit.specs.Picture.{PictureUnit, ticks}
-use Rattle.picture_unit.proofs.LatePicture.{prompt_now}
+use Rattle.picture_unit.proofs.LatePicture.{to_the_moment, prompt_now}
 use Rattle.picture_unit.proofs.picture.Picture.pass_plainly.Goals as goal
 
 pub returns-clause-picture : goal.returns-clause-picture
 returns-clause-picture c =
-    let same : c.pass_to.new.self ≡ c.args.self.now = c.pass_to.ensures ∙ c.self.view_is in
+    let same : c.pass_to.new.self ≡ c.args.self.now = c.pass_to.ensures ∙ to_the_moment c.self.inside.frame_cycle c.self.inside.prompt ∙ c.self.view_is in
     prompt_now _ _ c.frame_cycle-self-inside.ensures.now ∙ c.pass_plainly-requests.ensures.picture ∙ ap (λ (u : PictureUnit). (ticks c.args.cycles u).picture) same
+
+pub returns-clause-vblank : goal.returns-clause-vblank
+returns-clause-vblank c =
+    let same : c.pass_to.new.self ≡ c.args.self.now = c.pass_to.ensures ∙ to_the_moment c.self.inside.frame_cycle c.self.inside.prompt ∙ c.self.view_is in
+    c.pass_plainly-requests.ensures.vblank ∙ ap (λ (u : PictureUnit). (ticks c.args.cycles u).vblank) same
+
+pub returns-clause-stat : goal.returns-clause-stat
+returns-clause-stat c =
+    let same : c.pass_to.new.self ≡ c.args.self.now = c.pass_to.ensures ∙ to_the_moment c.self.inside.frame_cycle c.self.inside.prompt ∙ c.self.view_is in
+    c.pass_plainly-requests.ensures.stat ∙ ap (λ (u : PictureUnit). (ticks c.args.cycles u).stat) same

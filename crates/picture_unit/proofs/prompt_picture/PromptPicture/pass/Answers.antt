@@ -1,4 +1,4 @@
-use Rattle.std.proofs.Common.{◌≡◌, ◌-◌, ◌<◌, true, false, ap, sym, ◌∙◌, arith}
+use Rattle.std.proofs.Common.{◌≡◌, ◌<◌, true, false, ap, sym, ◌∙◌, arith}
 use Rattle.picture_unit.specs.Picture.{PictureUnit, PictureAndRequests, is_on, unrequested}
 use Rattle.picture_unit.specs.PictureJump.{next_change}
 use Rattle.picture_unit.proofs.Quiet.{ticks_when_off, skips_before}

@@ -3,18 +3,18 @@ use Rattle.sm83_processor.proofs.processor.Processor.run_plain_opcode.Goals as g
 
 pub returns-then-not-usual-clause-after : goal.returns-then-not-usual-clause-after
 returns-then-not-usual-clause-after g c =
-    let run = c.run_opcode-cycles in
+    let run = c.run_opcode-taken in
     plainly_after g.M.Memory.rules c.args.opcode run.result.0 c.args.self.now run.new.self c.pass.new.self c.requires.plain c.requires.here run.ensures.after run.ensures.cycles c.pass.ensures
 
 pub returns-then-not-usual-clause-cycles : goal.returns-then-not-usual-clause-cycles
 returns-then-not-usual-clause-cycles g c =
-    plainly_cycles g.M.Memory.rules c.args.opcode c.run_opcode-cycles.result.0 c.args.self.now c.requires.plain c.requires.here c.run_opcode-cycles.ensures.cycles
+    plainly_cycles g.M.Memory.rules c.args.opcode c.run_opcode-taken.result.0 c.args.self.now c.requires.plain c.requires.here c.run_opcode-taken.ensures.cycles
 
 pub returns-clause-after : goal.returns-clause-after
 returns-clause-after g c =
-    let run = c.run_opcode-cycles in
+    let run = c.run_opcode-taken in
     plainly_after g.M.Memory.rules c.args.opcode run.result.0 c.args.self.now run.new.self c.pass-2.new.self c.requires.plain c.requires.here run.ensures.after run.ensures.cycles c.pass-2.ensures
 
 pub returns-clause-cycles : goal.returns-clause-cycles
 returns-clause-cycles g c =
-    plainly_cycles g.M.Memory.rules c.args.opcode c.run_opcode-cycles.result.0 c.args.self.now c.requires.plain c.requires.here c.run_opcode-cycles.ensures.cycles
+    plainly_cycles g.M.Memory.rules c.args.opcode c.run_opcode-taken.result.0 c.args.self.now c.requires.plain c.requires.here c.run_opcode-taken.ensures.cycles
