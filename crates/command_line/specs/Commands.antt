@@ -55,10 +55,13 @@ stream = over_save (codes "stream")
 abbrev pub bare : App
 bare = let named = new_app (codes "gbkeep") in record named { top = record named.top { has_version = true; subcommand_required = true } }
 
+-- with the commands that resume no session
+abbrev pub without_sessions : App
+without_sessions = with_subcommand (with_subcommand (with_subcommand (with_subcommand bare info.top) list.top) step.top) new.top
+
 -- the whole program's
 abbrev pub gbkeep : App
-gbkeep = with_subcommand (with_subcommand (with_subcommand (with_subcommand (with_subcommand (with_subcommand (with_subcommand (with_subcommand bare
-    info.top) list.top) step.top) new.top) play.top) frame.top) trace.top) stream.top
+gbkeep = with_subcommand (with_subcommand (with_subcommand (with_subcommand without_sessions play.top) frame.top) trace.top) stream.top
 
 -- a command that `clap` reads so, none of whose operands is global
 pub record Reads (app : App) (command : Command) : Type 0 where

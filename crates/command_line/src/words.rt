@@ -1,7 +1,7 @@
 //! The commands and their words.
 ghost use Rattle.std.specs.Prelude.{IfOk, codes};
 ghost use Rattle.command_line.specs.Commands.{Reads, ReadsOperand, number, operand, over_cart, over_save};
-ghost use Rattle.command_line.specs.Commands.{bare, frame, gbkeep, info, list, new, play, step, stream, trace};
+ghost use Rattle.command_line.specs.Commands.{bare, frame, gbkeep, info, list, new, play, step, stream, trace, without_sessions};
 
 use clap::{Arg, Command, value_parser};
 use std::alloc::{AllocError, Global};
@@ -14,23 +14,22 @@ const VERSION: &str = "0.1.0";
 pub(crate) fn command<'a>(alloc: Global) -> Result<Command<'a>, AllocError>
     ensures { IfOk result (Reads gbkeep) }
 {
-    let info = over_cart(alloc, "info", "Prints the header of a cartridge")?;
-    let list = list(alloc)?;
-    let step = step(alloc)?;
-    let new = new(alloc)?;
-    let play = play(alloc)?;
-    let frame = frame(alloc)?;
-    let trace = trace(alloc)?;
-    let stream = stream(alloc)?;
+    without_sessions(alloc)?
+        .subcommand(play(alloc)?)?
+        .subcommand(frame(alloc)?)?
+        .subcommand(trace(alloc)?)?
+        .subcommand(stream(alloc)?)
+}
+
+/// The program with the commands that resume no session.
+fn without_sessions<'a>(alloc: Global) -> Result<Command<'a>, AllocError>
+    ensures { IfOk result (Reads without_sessions) }
+{
     bare(alloc)?
-        .subcommand(info)?
-        .subcommand(list)?
-        .subcommand(step)?
-        .subcommand(new)?
-        .subcommand(play)?
-        .subcommand(frame)?
-        .subcommand(trace)?
-        .subcommand(stream)
+        .subcommand(info(alloc)?)?
+        .subcommand(list(alloc)?)?
+        .subcommand(step(alloc)?)?
+        .subcommand(new(alloc)?)
 }
 
 /// The program without its commands.
@@ -56,6 +55,12 @@ fn over_cart<'a>(alloc: Global, name: &'a str, about: &'a str) -> Result<Command
     Command::new(alloc, name)
         .about(about)
         .arg(word(alloc, "CART", "The ROM file"))
+}
+
+fn info<'a>(alloc: Global) -> Result<Command<'a>, AllocError>
+    ensures { IfOk result (Reads info) }
+{
+    over_cart(alloc, "info", "Prints the header of a cartridge")
 }
 
 fn list<'a>(alloc: Global) -> Result<Command<'a>, AllocError>

@@ -1,5 +1,5 @@
 //! Worked values on the whole bus. Most begin with the LCD and the timer off and no interrupt requested.
-use crate::asserting::{holds, same};
+use crate::asserting::{OrStop, holds, same};
 use cartridge::Cartridge;
 use memory_map::{Bus, Region};
 use std::alloc::Global;
@@ -50,8 +50,8 @@ fn has(rt: &impl Abort, bus: &Bus, expected: &[(u16, u8)]) {
 }
 
 #[test]
-fn power_on_values(rt: HostRuntime) -> Result<(), Fail> {
-    let bus = at_power_on(rt.alloc())?;
+fn power_on_values(rt: HostRuntime) {
+    let bus = at_power_on(rt.alloc()).or_stop(&rt);
     has(
         &rt,
         &bus,
@@ -75,12 +75,11 @@ fn power_on_values(rt: HostRuntime) -> Result<(), Fail> {
         ],
     );
     same!(rt; due(&bus), Some(20));
-    Ok(())
 }
 
 #[test]
-fn echo_and_what_is_not_mapped(rt: HostRuntime) -> Result<(), Fail> {
-    let mut bus = quiet(rt.alloc())?;
+fn echo_and_what_is_not_mapped(rt: HostRuntime) {
+    let mut bus = quiet(rt.alloc()).or_stop(&rt);
     put(&mut bus, 0xc000, 0x5a);
     put(&mut bus, 0xfdff, 0xa5);
     put(&mut bus, 0xfea0, 0x11);
@@ -110,12 +109,11 @@ fn echo_and_what_is_not_mapped(rt: HostRuntime) -> Result<(), Fail> {
             (0xa000, 0xff),
         ],
     );
-    Ok(())
 }
 
 #[test]
-fn joypad_lines_and_interrupt(rt: HostRuntime) -> Result<(), Fail> {
-    let mut bus = quiet(rt.alloc())?;
+fn joypad_lines_and_interrupt(rt: HostRuntime) {
+    let mut bus = quiet(rt.alloc()).or_stop(&rt);
     put(&mut bus, 0xff00, 0x10);
     press(&mut bus, 0x10);
     has(&rt, &bus, &[(0xff00, 0xde), (0xff0f, 0xf0)]);
@@ -129,12 +127,11 @@ fn joypad_lines_and_interrupt(rt: HostRuntime) -> Result<(), Fail> {
     same!(rt; bus.pending_interrupts(), 0x10);
     bus.acknowledge(5);
     same!(rt; bus.pending_interrupts(), 0x10);
-    Ok(())
 }
 
 #[test]
-fn timer_counts_falls(rt: HostRuntime) -> Result<(), Fail> {
-    let mut bus = quiet(rt.alloc())?;
+fn timer_counts_falls(rt: HostRuntime) {
+    let mut bus = quiet(rt.alloc()).or_stop(&rt);
     put(&mut bus, 0xff04, 0x00);
     put(&mut bus, 0xff06, 0xfe);
     put(&mut bus, 0xff05, 0xff);
@@ -149,25 +146,23 @@ fn timer_counts_falls(rt: HostRuntime) -> Result<(), Fail> {
     pass(&mut bus, 2);
     put(&mut bus, 0xff04, 0x77);
     has(&rt, &bus, &[(0xff04, 0x00), (0xff05, 0x11)]);
-    Ok(())
 }
 
 #[test]
-fn serial_transfers_end_or_are_stopped(rt: HostRuntime) -> Result<(), Fail> {
-    let mut bus = quiet(rt.alloc())?;
+fn serial_transfers_end_or_are_stopped(rt: HostRuntime) {
+    let mut bus = quiet(rt.alloc()).or_stop(&rt);
     put(&mut bus, 0xff02, 0x81);
     pass(&mut bus, 1023);
     has(&rt, &bus, &[(0xff02, 0xff), (0xff0f, 0xe0)]);
     pass(&mut bus, 1);
     has(&rt, &bus, &[(0xff01, 0xff), (0xff02, 0x7f), (0xff0f, 0xe8)]);
-    let mut bus = quiet(rt.alloc())?;
+    let mut bus = quiet(rt.alloc()).or_stop(&rt);
     put(&mut bus, 0xff02, 0x81);
     pass(&mut bus, 500);
     put(&mut bus, 0xff02, 0x01);
     has(&rt, &bus, &[(0xff02, 0x7f)]);
     pass(&mut bus, 1024);
     has(&rt, &bus, &[(0xff0f, 0xe0)]);
-    Ok(())
 }
 
 fn put_page(bus: &mut Bus, page: u16, first: u8) {
@@ -181,8 +176,8 @@ fn put_page(bus: &mut Bus, page: u16, first: u8) {
 }
 
 #[test]
-fn object_dma_copies_a_page(rt: HostRuntime) -> Result<(), Fail> {
-    let mut bus = quiet(rt.alloc())?;
+fn object_dma_copies_a_page(rt: HostRuntime) {
+    let mut bus = quiet(rt.alloc()).or_stop(&rt);
     put_page(&mut bus, 0xc100, 0x00);
     put_page(&mut bus, 0xc200, 0x40);
     put(&mut bus, 0xff46, 0xc1);
@@ -201,12 +196,11 @@ fn object_dma_copies_a_page(rt: HostRuntime) -> Result<(), Fail> {
     put(&mut bus, 0xff46, 0xe1);
     pass(&mut bus, 160);
     has(&rt, &bus, &[(0xff46, 0xe1), (0xfe01, 0x01)]);
-    Ok(())
 }
 
 #[test]
-fn stat_interrupt_at_a_line(rt: HostRuntime) -> Result<(), Fail> {
-    let mut bus = quiet(rt.alloc())?;
+fn stat_interrupt_at_a_line(rt: HostRuntime) {
+    let mut bus = quiet(rt.alloc()).or_stop(&rt);
     put(&mut bus, 0xff45, 0x01);
     put(&mut bus, 0xff41, 0x40);
     put(&mut bus, 0xff40, 0x91);
@@ -214,12 +208,11 @@ fn stat_interrupt_at_a_line(rt: HostRuntime) -> Result<(), Fail> {
     has(&rt, &bus, &[(0xff0f, 0xe0)]);
     pass(&mut bus, 1);
     has(&rt, &bus, &[(0xff0f, 0xe2)]);
-    Ok(())
 }
 
 #[test]
-fn a_tile_written_between_lines(rt: HostRuntime) -> Result<(), Fail> {
-    let mut bus = at_power_on(rt.alloc())?;
+fn a_tile_written_between_lines(rt: HostRuntime) {
+    let mut bus = at_power_on(rt.alloc()).or_stop(&rt);
     put(&mut bus, 0xff47, 0xe4);
     pass(&mut bus, 63);
     put(&mut bus, 0x8002, 0xff);
@@ -229,19 +222,17 @@ fn a_tile_written_between_lines(rt: HostRuntime) -> Result<(), Fail> {
     holds!(rt; first);
     let second = bus.picture().row(1).iter().all(|shade| *shade == 3);
     holds!(rt; second);
-    Ok(())
 }
 
 #[test]
-fn nothing_comes_with_the_lcd_off(rt: HostRuntime) -> Result<(), Fail> {
-    let mut bus = at_power_on(rt.alloc())?;
+fn nothing_comes_with_the_lcd_off(rt: HostRuntime) {
+    let mut bus = at_power_on(rt.alloc()).or_stop(&rt);
     put(&mut bus, 0xff40, 0x00);
     same!(rt; due(&bus), None);
     for _ in 0..1000u32 {
         pass(&mut bus, u32::MAX);
     }
     has(&rt, &bus, &[(0xff04, 0x9b)]);
-    Ok(())
 }
 
 /// Ten objects on line 0, as in the worked example of the limit of ten.
@@ -277,10 +268,10 @@ fn is_same(rt: &impl Abort, left: &Bus, right: &Bus) {
 }
 
 #[test]
-fn a_frame_at_once_and_one_by_one(rt: HostRuntime) -> Result<(), Fail> {
-    let mut at_once = quiet(rt.alloc())?;
+fn a_frame_at_once_and_one_by_one(rt: HostRuntime) {
+    let mut at_once = quiet(rt.alloc()).or_stop(&rt);
     put_objects(&mut at_once);
-    let mut one_by_one = quiet(rt.alloc())?;
+    let mut one_by_one = quiet(rt.alloc()).or_stop(&rt);
     put_objects(&mut one_by_one);
     put(&mut at_once, 0xff40, 0x93);
     put(&mut one_by_one, 0xff40, 0x93);
@@ -293,5 +284,4 @@ fn a_frame_at_once_and_one_by_one(rt: HostRuntime) -> Result<(), Fail> {
         pass(&mut one_by_one, 1);
     }
     is_same(&rt, &at_once, &one_by_one);
-    Ok(())
 }

@@ -1,5 +1,5 @@
 //! Worked values on the whole machine.
-use crate::asserting::{holds, same};
+use crate::asserting::{OrStop, holds, same};
 use cartridge::Cartridge;
 use machine::{Input, Machine, Region, Stepped, What};
 use std::alloc::Global;
@@ -130,15 +130,14 @@ fn has_run(stepped: &Stepped, pc: u16, length: u8) -> bool {
 }
 
 #[test]
-fn frames_keep_what_they_run_over(rt: HostRuntime) -> Result<(), Fail> {
-    let mut machine = machine(rt.alloc(), &[0x23, 0x18, 0xfd])?;
+fn frames_keep_what_they_run_over(rt: HostRuntime) {
+    let mut machine = machine(rt.alloc(), &[0x23, 0x18, 0xfd]).or_stop(&rt);
     for (h, l, ticks) in [(0x0f, 0x05, 1), (0x1c, 0xbc, 0)] {
         frame(&mut machine, 0);
         same!(rt; pc_of(&machine), 0x0101);
         same!(rt; hl_of(&machine), (h, l));
         same!(rt; overrun(&machine), ticks);
     }
-    Ok(())
 }
 
 fn has_jumped(rt: &impl Abort, machine: &Machine) {
@@ -151,11 +150,10 @@ fn has_jumped(rt: &impl Abort, machine: &Machine) {
 }
 
 #[test]
-fn a_frame_of_jumps(rt: HostRuntime) -> Result<(), Fail> {
-    let mut machine = machine(rt.alloc(), &[0x18, 0xfe])?;
+fn a_frame_of_jumps(rt: HostRuntime) {
+    let mut machine = machine(rt.alloc(), &[0x18, 0xfe]).or_stop(&rt);
     frame(&mut machine, 0);
     has_jumped(&rt, &machine);
-    Ok(())
 }
 
 // The next step dispatches the interrupt of this address, from that of the instruction behind.
@@ -170,8 +168,8 @@ fn dispatches(rt: &impl Abort, machine: &mut Machine, to: u16, from: [u8; 2]) {
 }
 
 #[test]
-fn interrupts_are_dispatched(rt: HostRuntime) -> Result<(), Fail> {
-    let mut machine = machine(rt.alloc(), &[])?;
+fn interrupts_are_dispatched(rt: HostRuntime) {
+    let mut machine = machine(rt.alloc(), &[]).or_stop(&rt);
     set_registers(&mut machine, 0xc123, 0xd000);
     set_enabling(&mut machine, true, true);
     set_interrupts(&mut machine, 0x05, 0x04);
@@ -179,19 +177,17 @@ fn interrupts_are_dispatched(rt: HostRuntime) -> Result<(), Fail> {
     same!(rt; sp_of(&machine), 0xcffe);
     same!(rt; enabling(&machine), (false, false));
     same!(rt; byte_at(&machine, 0xff0f), 0xe0);
-    Ok(())
 }
 
 #[test]
-fn a_halt_that_is_not_entered_repeats_a_byte(rt: HostRuntime) -> Result<(), Fail> {
-    let mut machine = machine_at_c000(rt.alloc(), &[0x76, 0x3c])?;
+fn a_halt_that_is_not_entered_repeats_a_byte(rt: HostRuntime) {
+    let mut machine = machine_at_c000(rt.alloc(), &[0x76, 0x3c]).or_stop(&rt);
     set_interrupts(&mut machine, 0x01, 0x01);
     set_a(&mut machine, 0x10);
     for _ in 0..3u32 {
         let _ = step(&mut machine);
     }
     same!(rt; (a_of(&machine), pc_of(&machine)), (0x12, 0xc002));
-    Ok(())
 }
 
 /// A machine with an interrupt requested, after EI and this opcode.
@@ -203,27 +199,25 @@ fn after_enabling(alloc: Global, opcode: u8) -> Result<Machine, Fail> {
     Ok(machine)
 }
 
-fn disables_again(rt: &impl Abort, alloc: Global) -> Result<(), Fail> {
-    let mut machine = after_enabling(alloc, 0xf3)?;
+fn disables_again(rt: &impl Abort, alloc: Global) {
+    let mut machine = after_enabling(alloc, 0xf3).or_stop(rt);
     same!(rt; enabling(&machine).0, false);
     let third = step(&mut machine);
     holds!(rt; has_run(&third, 0xc002, 1));
-    Ok(())
 }
 
 #[test]
-fn interrupts_are_enabled_behind_the_next_instruction(rt: HostRuntime) -> Result<(), Fail> {
-    disables_again(&rt, rt.alloc())?;
-    let mut machine = after_enabling(rt.alloc(), 0x00)?;
+fn interrupts_are_enabled_behind_the_next_instruction(rt: HostRuntime) {
+    disables_again(&rt, rt.alloc());
+    let mut machine = after_enabling(rt.alloc(), 0x00).or_stop(&rt);
     same!(rt; enabling(&machine).0, true);
     dispatches(&rt, &mut machine, 0x40, [0xc0, 0x02]);
     same!(rt; sp_of(&machine), 0xfffc);
-    Ok(())
 }
 
 #[test]
-fn an_undefined_opcode_locks(rt: HostRuntime) -> Result<(), Fail> {
-    let mut machine = machine_at_c000(rt.alloc(), &[0xd3])?;
+fn an_undefined_opcode_locks(rt: HostRuntime) {
+    let mut machine = machine_at_c000(rt.alloc(), &[0xd3]).or_stop(&rt);
     let first = step(&mut machine);
     holds!(rt; has_run(&first, 0xc000, 1));
     same!(rt; first.cycles, 1);
@@ -233,12 +227,11 @@ fn an_undefined_opcode_locks(rt: HostRuntime) -> Result<(), Fail> {
         same!(rt; waited.cycles, 1);
     }
     same!(rt; pc_of(&machine), 0xc001);
-    Ok(())
 }
 
 #[test]
-fn a_stop_ends_with_a_button(rt: HostRuntime) -> Result<(), Fail> {
-    let mut machine = machine_at_c000(rt.alloc(), &[0x10, 0x00, 0x3c])?;
+fn a_stop_ends_with_a_button(rt: HostRuntime) {
+    let mut machine = machine_at_c000(rt.alloc(), &[0x10, 0x00, 0x3c]).or_stop(&rt);
     let _ = step(&mut machine);
     same!(rt; byte_at(&machine, 0xff04), 0x00);
     let waited = step(&mut machine);
@@ -246,16 +239,14 @@ fn a_stop_ends_with_a_button(rt: HostRuntime) -> Result<(), Fail> {
     press(&mut machine, 0x01);
     let _ = step(&mut machine);
     same!(rt; (a_of(&machine), pc_of(&machine)), (0x02, 0xc003));
-    Ok(())
 }
 
 #[test]
-fn inputs_set_buttons_and_the_clock(rt: HostRuntime) -> Result<(), Fail> {
-    let mut machine = machine(rt.alloc(), &[0x18, 0xfe])?;
+fn inputs_set_buttons_and_the_clock(rt: HostRuntime) {
+    let mut machine = machine(rt.alloc(), &[0x18, 0xfe]).or_stop(&rt);
     apply(&mut machine, Input::Frame(0x81));
     same!(rt; buttons(&machine), 0x81);
     let before = machine.state();
     apply(&mut machine, Input::Seconds(60));
     holds!(rt; machine.state() == before);
-    Ok(())
 }

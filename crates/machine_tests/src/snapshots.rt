@@ -1,5 +1,5 @@
 //! Worked values on snapshots.
-use crate::asserting::{holds, same};
+use crate::asserting::{OrStop, holds, same};
 use cartridge::Cartridge;
 use machine::{Input, Machine, Region};
 use snapshot::{SnapError, decode, encode, length};
@@ -125,14 +125,13 @@ fn snapshot_at_power_on(alloc: Global, cartridge: &Cartridge) -> Result<Vec<u8>,
 }
 
 #[test]
-fn lengths(rt: HostRuntime) -> Result<(), Fail> {
+fn lengths(rt: HostRuntime) {
     same!(rt; length(0), 22_607);
     same!(rt; length(512), 23_119);
     same!(rt; length(8_192), 30_799);
     same!(rt; length(32_768), 55_375);
     same!(rt; length(65_536), 88_143);
     same!(rt; length(131_072), 153_679);
-    Ok(())
 }
 
 // Whether this is the snapshot of a machine at power-on.
@@ -152,12 +151,12 @@ fn has_fault(
 }
 
 #[test]
-fn snapshots_are_refused_at_their_first_fault(rt: HostRuntime) -> Result<(), Fail> {
+fn snapshots_are_refused_at_their_first_fault(rt: HostRuntime) {
     let alloc = rt.alloc();
-    let cartridge = cartridge(alloc, 0x00, 0, &[])?;
-    let mut bytes = snapshot_at_power_on(alloc, &cartridge)?;
+    let cartridge = cartridge(alloc, 0x00, 0, &[]).or_stop(&rt);
+    let mut bytes = snapshot_at_power_on(alloc, &cartridge).or_stop(&rt);
     same!(rt; bytes.len(), 22_607);
-    holds!(rt; is_at_power_on(alloc, &bytes, &cartridge)?);
+    holds!(rt; is_at_power_on(alloc, &bytes, &cartridge).or_stop(&rt));
     for (offset, field) in [(127, 67), (9, 9)] {
         put(&mut bytes, offset, 0x01);
         has_fault(
@@ -173,17 +172,15 @@ fn snapshots_are_refused_at_their_first_fault(rt: HostRuntime) -> Result<(), Fai
         let wanted = Some(SnapError::SnapLength(length as u64));
         has_fault(&rt, alloc, &bytes, &cartridge, wanted);
     }
-    Ok(())
 }
 
 #[test]
-fn another_kind_is_refused(rt: HostRuntime) -> Result<(), Fail> {
+fn another_kind_is_refused(rt: HostRuntime) {
     let alloc = rt.alloc();
-    let plain = cartridge(alloc, 0x00, 0, &[])?;
-    let mbc1 = cartridge(alloc, 0x01, 0, &[])?;
-    let bytes = snapshot_at_power_on(alloc, &plain)?;
+    let plain = cartridge(alloc, 0x00, 0, &[]).or_stop(&rt);
+    let mbc1 = cartridge(alloc, 0x01, 0, &[]).or_stop(&rt);
+    let bytes = snapshot_at_power_on(alloc, &plain).or_stop(&rt);
     has_fault(&rt, alloc, &bytes, &mbc1, Some(SnapError::Field(51)));
-    Ok(())
 }
 
 // All fields but the stores.
@@ -196,23 +193,21 @@ const FRONT: [u8; 67] = [
 ];
 
 #[test]
-fn the_snapshot_at_power_on(rt: HostRuntime) -> Result<(), Fail> {
+fn the_snapshot_at_power_on(rt: HostRuntime) {
     let alloc = rt.alloc();
-    let cartridge = cartridge(alloc, 0x00, 0, &[])?;
-    let bytes = snapshot_at_power_on(alloc, &cartridge)?;
+    let cartridge = cartridge(alloc, 0x00, 0, &[]).or_stop(&rt);
+    let bytes = snapshot_at_power_on(alloc, &cartridge).or_stop(&rt);
     holds!(rt; bytes.starts_with(&FRONT));
     holds!(rt; bytes.iter().skip(67).all(|byte| *byte == 0));
-    Ok(())
 }
 
 #[test]
-fn the_overrun_is_kept(rt: HostRuntime) -> Result<(), Fail> {
+fn the_overrun_is_kept(rt: HostRuntime) {
     let alloc = rt.alloc();
-    let cartridge = cartridge(alloc, 0x00, 0, &[0x23, 0x18, 0xfd])?;
-    let mut machine = power_on(alloc, &cartridge)?;
+    let cartridge = cartridge(alloc, 0x00, 0, &[0x23, 0x18, 0xfd]).or_stop(&rt);
+    let mut machine = power_on(alloc, &cartridge).or_stop(&rt);
     frame(&mut machine, 0);
-    same!(rt; at(&snapshot_of(alloc, &machine)?, 21), 0x01);
-    Ok(())
+    same!(rt; at(&snapshot_of(alloc, &machine).or_stop(&rt), 21), 0x01);
 }
 
 fn begin_copy(machine: &mut Machine) {
@@ -244,14 +239,13 @@ fn copy_goes_on(rt: &impl Abort, machine: &mut Machine) {
 }
 
 #[test]
-fn a_copy_goes_on(rt: HostRuntime) -> Result<(), Fail> {
+fn a_copy_goes_on(rt: HostRuntime) {
     let alloc = rt.alloc();
-    let cartridge = cartridge(alloc, 0x00, 0, &[])?;
-    let bytes = snapshot_in_a_copy(alloc, &cartridge)?;
+    let cartridge = cartridge(alloc, 0x00, 0, &[]).or_stop(&rt);
+    let bytes = snapshot_in_a_copy(alloc, &cartridge).or_stop(&rt);
     same!(rt; at(&bytes, 35), 0xc1);
     same!(rt; at(&bytes, 36), 0x0a);
-    copy_goes_on(&rt, &mut machine_of(alloc, &bytes, &cartridge)?);
-    Ok(())
+    copy_goes_on(&rt, &mut machine_of(alloc, &bytes, &cartridge).or_stop(&rt));
 }
 
 fn set_enable(machine: &mut Machine) {
@@ -340,16 +334,15 @@ fn set_variant(machine: &mut Machine, variant: u8) {
 const WRITER: [u8; 4] = [0x22, 0x3c, 0x18, 0xfc];
 
 #[test]
-fn machines_come_back_from_their_snapshots(rt: HostRuntime) -> Result<(), Fail> {
+fn machines_come_back_from_their_snapshots(rt: HostRuntime) {
     let alloc = rt.alloc();
-    let cartridge = cartridge(alloc, 0x03, 0x02, &WRITER)?;
+    let cartridge = cartridge(alloc, 0x03, 0x02, &WRITER).or_stop(&rt);
     for variant in 0..9u8 {
-        let mut machine = power_on(alloc, &cartridge)?;
+        let mut machine = power_on(alloc, &cartridge).or_stop(&rt);
         frame(&mut machine, 0);
         set_variant(&mut machine, variant);
-        holds!(rt; comes_back(alloc, &mut machine, &cartridge)?);
+        holds!(rt; comes_back(alloc, &mut machine, &cartridge).or_stop(&rt));
     }
-    Ok(())
 }
 
 // Machines of this type with every RAM code, after writes from 014D on and with the next ones from 9F00 on.
@@ -379,39 +372,33 @@ fn set_h(machine: &mut Machine, h: u8) {
 }
 
 #[test]
-fn plain_comes_back_from_its_snapshot(rt: HostRuntime) -> Result<(), Fail> {
-    holds!(rt; come_back(rt.alloc(), 0x00)?);
-    Ok(())
+fn plain_comes_back_from_its_snapshot(rt: HostRuntime) {
+    holds!(rt; come_back(rt.alloc(), 0x00).or_stop(&rt));
 }
 
 #[test]
-fn mbc1_comes_back_from_its_snapshot(rt: HostRuntime) -> Result<(), Fail> {
-    holds!(rt; come_back(rt.alloc(), 0x02)?);
-    Ok(())
+fn mbc1_comes_back_from_its_snapshot(rt: HostRuntime) {
+    holds!(rt; come_back(rt.alloc(), 0x02).or_stop(&rt));
 }
 
 #[test]
-fn mbc2_comes_back_from_its_snapshot(rt: HostRuntime) -> Result<(), Fail> {
-    holds!(rt; come_back(rt.alloc(), 0x06)?);
-    Ok(())
+fn mbc2_comes_back_from_its_snapshot(rt: HostRuntime) {
+    holds!(rt; come_back(rt.alloc(), 0x06).or_stop(&rt));
 }
 
 #[test]
-fn mbc3_comes_back_from_its_snapshot(rt: HostRuntime) -> Result<(), Fail> {
-    holds!(rt; come_back(rt.alloc(), 0x12)?);
-    Ok(())
+fn mbc3_comes_back_from_its_snapshot(rt: HostRuntime) {
+    holds!(rt; come_back(rt.alloc(), 0x12).or_stop(&rt));
 }
 
 #[test]
-fn mbc5_comes_back_from_its_snapshot(rt: HostRuntime) -> Result<(), Fail> {
-    holds!(rt; come_back(rt.alloc(), 0x1a)?);
-    Ok(())
+fn mbc5_comes_back_from_its_snapshot(rt: HostRuntime) {
+    holds!(rt; come_back(rt.alloc(), 0x1a).or_stop(&rt));
 }
 
 #[test]
-fn mbc5_with_rumble_comes_back_from_its_snapshot(rt: HostRuntime) -> Result<(), Fail> {
-    holds!(rt; come_back(rt.alloc(), 0x1d)?);
-    Ok(())
+fn mbc5_with_rumble_comes_back_from_its_snapshot(rt: HostRuntime) {
+    holds!(rt; come_back(rt.alloc(), 0x1d).or_stop(&rt));
 }
 
 // It enables RAM, sets the clock's minutes to 59 and its day to 256, and arms the latch.
@@ -435,21 +422,19 @@ fn clocks_are_in(rt: &impl Abort, bytes: &[u8]) {
     same!(rt; bytes_at(bytes, [62, 63, 64, 66]), [0, 59, 0, 1]);
 }
 
-fn clocks_come_back(rt: &impl Abort, alloc: Global, ram_code: u8) -> Result<(), Fail> {
-    let cartridge = cartridge(alloc, 0x10, ram_code, &CLOCK)?;
-    let mut machine = power_on(alloc, &cartridge)?;
+fn clocks_come_back(rt: &impl Abort, alloc: Global, ram_code: u8) {
+    let cartridge = cartridge(alloc, 0x10, ram_code, &CLOCK).or_stop(rt);
+    let mut machine = power_on(alloc, &cartridge).or_stop(rt);
     pass_clock(&mut machine);
-    clocks_are_in(rt, &snapshot_of(alloc, &machine)?);
-    holds!(rt; comes_back(alloc, &mut machine, &cartridge)?);
-    Ok(())
+    clocks_are_in(rt, &snapshot_of(alloc, &machine).or_stop(rt));
+    holds!(rt; comes_back(alloc, &mut machine, &cartridge).or_stop(rt));
 }
 
 #[test]
-fn an_armed_latch_and_both_clocks_come_back(rt: HostRuntime) -> Result<(), Fail> {
+fn an_armed_latch_and_both_clocks_come_back(rt: HostRuntime) {
     for ram_code in RAM_CODES {
-        clocks_come_back(&rt, rt.alloc(), ram_code)?;
+        clocks_come_back(&rt, rt.alloc(), ram_code);
     }
-    Ok(())
 }
 
 // A row of the table as the tests have it: where the field begins, its width, the least and the greatest number, and the
@@ -639,19 +624,18 @@ fn each_field_is_looked_at(alloc: Global, kind: Kind) -> Result<u32, Fail> {
 }
 
 #[test]
-fn each_field_of_each_kind_is_looked_at(rt: HostRuntime) -> Result<(), Fail> {
+fn each_field_of_each_kind_is_looked_at(rt: HostRuntime) {
     for kind in kinds() {
-        let refused = each_field_is_looked_at(rt.alloc(), kind)?;
+        let refused = each_field_is_looked_at(rt.alloc(), kind).or_stop(&rt);
         holds!(rt; refused > 300);
     }
-    Ok(())
 }
 
 #[test]
-fn every_byte_of_magic_and_unused_is_looked_at(rt: HostRuntime) -> Result<(), Fail> {
+fn every_byte_of_magic_and_unused_is_looked_at(rt: HostRuntime) {
     let alloc = rt.alloc();
-    let cartridge = cartridge(alloc, 0x00, 0, &[])?;
-    let mut bytes = snapshot_at_power_on(alloc, &cartridge)?;
+    let cartridge = cartridge(alloc, 0x00, 0, &[]).or_stop(&rt);
+    let mut bytes = snapshot_at_power_on(alloc, &cartridge).or_stop(&rt);
     for offset in 0..8 {
         let byte = at(&bytes, offset);
         put(&mut bytes, offset, byte ^ 1);
@@ -664,7 +648,6 @@ fn every_byte_of_magic_and_unused_is_looked_at(rt: HostRuntime) -> Result<(), Fa
         put(&mut bytes, offset, 0);
     }
     has_fault(&rt, alloc, &bytes, &cartridge, None);
-    Ok(())
 }
 
 fn last_of_ram_in(alloc: Global, bytes: &[u8], cartridge: &Cartridge) -> Result<Option<u8>, Fail> {
@@ -672,13 +655,13 @@ fn last_of_ram_in(alloc: Global, bytes: &[u8], cartridge: &Cartridge) -> Result<
 }
 
 #[test]
-fn half_bytes_of_mbc2(rt: HostRuntime) -> Result<(), Fail> {
+fn half_bytes_of_mbc2(rt: HostRuntime) {
     let alloc = rt.alloc();
-    let cartridge = cartridge(alloc, 0x05, 0, &[])?;
-    let mut bytes = snapshot_at_power_on(alloc, &cartridge)?;
+    let cartridge = cartridge(alloc, 0x05, 0, &[]).or_stop(&rt);
+    let mut bytes = snapshot_at_power_on(alloc, &cartridge).or_stop(&rt);
     same!(rt; bytes.len(), 23_119);
     put(&mut bytes, 23_118, 0x0f);
-    same!(rt; last_of_ram_in(alloc, &bytes, &cartridge)?, Some(0x0f));
+    same!(rt; last_of_ram_in(alloc, &bytes, &cartridge).or_stop(&rt), Some(0x0f));
     put(&mut bytes, 23_118, 0x10);
     has_fault(
         &rt,
@@ -687,7 +670,6 @@ fn half_bytes_of_mbc2(rt: HostRuntime) -> Result<(), Fail> {
         &cartridge,
         Some(SnapError::Field(22_607)),
     );
-    Ok(())
 }
 
 // The next number of a plain generator.
@@ -789,43 +771,36 @@ fn random_snapshots_are_answered(alloc: Global, index: usize) -> Result<bool, Fa
 }
 
 #[test]
-fn random_snapshots_of_plain(rt: HostRuntime) -> Result<(), Fail> {
-    holds!(rt; random_snapshots_are_answered(rt.alloc(), 0)?);
-    Ok(())
+fn random_snapshots_of_plain(rt: HostRuntime) {
+    holds!(rt; random_snapshots_are_answered(rt.alloc(), 0).or_stop(&rt));
 }
 
 #[test]
-fn random_snapshots_of_mbc1(rt: HostRuntime) -> Result<(), Fail> {
-    holds!(rt; random_snapshots_are_answered(rt.alloc(), 1)?);
-    Ok(())
+fn random_snapshots_of_mbc1(rt: HostRuntime) {
+    holds!(rt; random_snapshots_are_answered(rt.alloc(), 1).or_stop(&rt));
 }
 
 #[test]
-fn random_snapshots_of_mbc2(rt: HostRuntime) -> Result<(), Fail> {
-    holds!(rt; random_snapshots_are_answered(rt.alloc(), 2)?);
-    Ok(())
+fn random_snapshots_of_mbc2(rt: HostRuntime) {
+    holds!(rt; random_snapshots_are_answered(rt.alloc(), 2).or_stop(&rt));
 }
 
 #[test]
-fn random_snapshots_of_mbc3(rt: HostRuntime) -> Result<(), Fail> {
-    holds!(rt; random_snapshots_are_answered(rt.alloc(), 3)?);
-    Ok(())
+fn random_snapshots_of_mbc3(rt: HostRuntime) {
+    holds!(rt; random_snapshots_are_answered(rt.alloc(), 3).or_stop(&rt));
 }
 
 #[test]
-fn random_snapshots_of_mbc3_with_clock(rt: HostRuntime) -> Result<(), Fail> {
-    holds!(rt; random_snapshots_are_answered(rt.alloc(), 4)?);
-    Ok(())
+fn random_snapshots_of_mbc3_with_clock(rt: HostRuntime) {
+    holds!(rt; random_snapshots_are_answered(rt.alloc(), 4).or_stop(&rt));
 }
 
 #[test]
-fn random_snapshots_of_mbc5(rt: HostRuntime) -> Result<(), Fail> {
-    holds!(rt; random_snapshots_are_answered(rt.alloc(), 5)?);
-    Ok(())
+fn random_snapshots_of_mbc5(rt: HostRuntime) {
+    holds!(rt; random_snapshots_are_answered(rt.alloc(), 5).or_stop(&rt));
 }
 
 #[test]
-fn random_snapshots_of_mbc5_with_rumble(rt: HostRuntime) -> Result<(), Fail> {
-    holds!(rt; random_snapshots_are_answered(rt.alloc(), 6)?);
-    Ok(())
+fn random_snapshots_of_mbc5_with_rumble(rt: HostRuntime) {
+    holds!(rt; random_snapshots_are_answered(rt.alloc(), 6).or_stop(&rt));
 }

@@ -1,5 +1,5 @@
 //! New games.
-use crate::asserting::{holds, same};
+use crate::asserting::{OrStop, holds, same};
 use crate::common::{
     begun, calls, cartridge, cartridge_of, clock_snapshot, count, counts, fresh, game, has_bytes,
     image, into_device, is_blank_from, left_by_new_game, other_cartridge, refused, resumed,
@@ -7,20 +7,24 @@ use crate::common::{
 };
 use sector_device::MemoryDevice;
 use session::{SessionError, sectors_needed};
-use std::test::Fail;
 
 #[test]
-fn sectors_that_are_needed(rt: HostRuntime) -> Result<(), Fail> {
+fn sectors_that_are_needed(rt: HostRuntime) {
     let alloc = rt.alloc();
     for (kind, ram_code, want) in [(0x00, 0x00, 156), (0x10, 0x02, 188)] {
-        let cartridge = cartridge_of(alloc, kind, ram_code, b'A')?;
+        let cartridge = cartridge_of(alloc, kind, ram_code, b'A').or_stop(&rt);
         same!(rt; sectors_needed(&cartridge), want);
-        let few = fresh(alloc, want as usize - 1)?;
+        let few = fresh(alloc, want as usize - 1).or_stop(&rt);
         let (why, few) = left_by_new_game(alloc, few, &cartridge);
         same!(rt; why, Some(SessionError::TooSmall { need: want }));
         // It was synced, and nothing was written.
         same!(rt; few.calls(), 1);
-        let session = begun(&rt, alloc, fresh(alloc, want as usize)?, &cartridge);
+        let session = begun(
+            &rt,
+            alloc,
+            fresh(alloc, want as usize).or_stop(&rt),
+            &cartridge,
+        );
         same!(rt; counts(&session), [0, 0, 0]);
         resumes_at(
             &rt,
@@ -28,21 +32,20 @@ fn sectors_that_are_needed(rt: HostRuntime) -> Result<(), Fail> {
             into_device(session),
             &cartridge,
             0,
-            &clock_snapshot(alloc, &cartridge, 0)?,
-        )?;
+            &clock_snapshot(alloc, &cartridge, 0).or_stop(&rt),
+        );
     }
-    Ok(())
 }
 
 #[test]
-fn a_new_game_is_the_first_generation(rt: HostRuntime) -> Result<(), Fail> {
+fn a_new_game_is_the_first_generation(rt: HostRuntime) {
     let alloc = rt.alloc();
-    let cartridge = cartridge(alloc)?;
+    let cartridge = cartridge(alloc).or_stop(&rt);
     // A sync; 32 blank log sectors, 61 of the snapshot, a sync, the root and a sync.
-    let device = MemoryDevice::new(alloc, 188, 97)?;
+    let device = MemoryDevice::new(alloc, 188, 97).or_stop(&rt);
     let session = begun(&rt, alloc, device, &cartridge);
     same!(rt; calls(&session), 97);
-    let bytes = snapshot_of(alloc, session.machine())?;
+    let bytes = snapshot_of(alloc, session.machine()).or_stop(&rt);
     let mut device = into_device(session);
     let root = b"GBKPROOT\x02\x00\x00\x00\x01\x00\x00\x00\x00\x00\x00\x00";
     has_bytes(&rt, &mut device, 1, 0, root);
@@ -65,19 +68,18 @@ fn a_new_game_is_the_first_generation(rt: HostRuntime) -> Result<(), Fail> {
         bytes.get(..512).unwrap_or(b"short".as_slice()),
     );
 
-    let device = MemoryDevice::new(alloc, 188, 96)?;
+    let device = MemoryDevice::new(alloc, 188, 96).or_stop(&rt);
     let (why, device) = left_by_new_game(alloc, device, &cartridge);
     same!(rt; why, Some(SessionError::Device));
     same!(rt; device.calls(), 96);
-    Ok(())
 }
 
 #[test]
-fn a_new_game_replaces_that_of_another_rom(rt: HostRuntime) -> Result<(), Fail> {
+fn a_new_game_replaces_that_of_another_rom(rt: HostRuntime) {
     let alloc = rt.alloc();
-    let ours = cartridge(alloc)?;
-    let other = other_cartridge(alloc)?;
-    let session = begun(&rt, alloc, game(&rt, alloc, &other, 5)?, &ours);
+    let ours = cartridge(alloc).or_stop(&rt);
+    let other = other_cartridge(alloc).or_stop(&rt);
+    let session = begun(&rt, alloc, game(&rt, alloc, &other, 5), &ours);
     same!(rt; counts(&session), [0, 0, 0]);
     let device = into_device(session);
     let refusal = refused(&rt, alloc, device, &other);
@@ -88,48 +90,51 @@ fn a_new_game_replaces_that_of_another_rom(rt: HostRuntime) -> Result<(), Fail> 
         refusal.device,
         &ours,
         0,
-        &clock_snapshot(alloc, &ours, 0)?,
-    )?;
-    Ok(())
+        &clock_snapshot(alloc, &ours, 0).or_stop(&rt),
+    );
 }
 
 /// Of a new game over one of 120 inputs, cut at any call, the old game or the new one is left; once it was begun only the new one.
 #[test]
-fn a_new_game_cut_anywhere_leaves_old_or_new(rt: HostRuntime) -> Result<(), Fail> {
+fn a_new_game_cut_anywhere_leaves_old_or_new(rt: HostRuntime) {
     let alloc = rt.alloc();
-    let cartridge = cartridge(alloc)?;
-    let old = game(&rt, alloc, &cartridge, 120)?;
+    let cartridge = cartridge(alloc).or_stop(&rt);
+    let old = game(&rt, alloc, &cartridge, 120);
     let mut begun_after = None;
     for k in 0..103 {
-        let mut device = old.image(alloc, &[])?;
+        let mut device = old.image(alloc, &[]).or_stop(&rt);
         device.fuse(k);
         let (why, device) = left_by_new_game(alloc, device, &cartridge);
         if why.is_none() && begun_after.is_none() {
             begun_after = Some(k);
         }
         for keeps in [[false, false], [true, true], [true, false]] {
-            let left = count(&rt, alloc, image(alloc, &device, keeps)?, &cartridge);
+            let left = count(
+                &rt,
+                alloc,
+                image(alloc, &device, keeps).or_stop(&rt),
+                &cartridge,
+            );
             holds!(rt; left == 0 || (left == 120 && why == Some(SessionError::Device)));
         }
     }
     // A sync, two roots, two log sectors; 93 sectors, a sync, the root and a sync.
     same!(rt; begun_after, Some(101));
-    Ok(())
 }
 
 /// The same over another ROM's game: the one is found, or the other.
 #[test]
-fn a_cut_new_game_of_another_rom(rt: HostRuntime) -> Result<(), Fail> {
+fn a_cut_new_game_of_another_rom(rt: HostRuntime) {
     let alloc = rt.alloc();
-    let ours = cartridge(alloc)?;
-    let other = other_cartridge(alloc)?;
-    let old = game(&rt, alloc, &other, 5)?;
+    let ours = cartridge(alloc).or_stop(&rt);
+    let other = other_cartridge(alloc).or_stop(&rt);
+    let old = game(&rt, alloc, &other, 5);
     for k in 90..101 {
-        let mut device = old.image(alloc, &[])?;
+        let mut device = old.image(alloc, &[]).or_stop(&rt);
         device.fuse(k);
         let (why, device) = left_by_new_game(alloc, device, &ours);
         for keeps in [[false, false], [true, true]] {
-            let left = image(alloc, &device, keeps)?;
+            let left = image(alloc, &device, keeps).or_stop(&rt);
             let is_new = why.is_none() || (keeps[0] && k > 97);
             if is_new {
                 same!(rt; count(&rt, alloc, left, &ours), 0);
@@ -138,5 +143,4 @@ fn a_cut_new_game_of_another_rom(rt: HostRuntime) -> Result<(), Fail> {
             }
         }
     }
-    Ok(())
 }

@@ -1,5 +1,5 @@
 //! Cartridges, devices and sessions of the tests. These have no contract, so that a test's proof does not follow the numbers.
-use crate::asserting::{holds, same};
+use crate::asserting::{OrStop, holds, same};
 use cartridge::Cartridge;
 use machine::{Input, Machine, Region};
 use sector_device::{MemoryDevice, SectorDevice};
@@ -188,7 +188,7 @@ pub(crate) fn resumes_at(
     cartridge: &Cartridge,
     inputs: u64,
     bytes: &[u8],
-) -> Result<(), Fail> {
+) {
     let session = resumed(rt, alloc, device, cartridge);
     same!(rt;
         session.counts(),
@@ -198,9 +198,8 @@ pub(crate) fn resumes_at(
             pending: 0
         }
     );
-    let found = snapshot_of(alloc, session.machine())?;
+    let found = snapshot_of(alloc, session.machine()).or_stop(rt);
     holds!(rt; found.as_slice() == bytes);
-    Ok(())
 }
 
 /// Gives a session the alternating frames from one index up to another.
@@ -264,11 +263,11 @@ pub(crate) fn game(
     alloc: Global,
     cartridge: &Cartridge,
     inputs: u32,
-) -> Result<MemoryDevice, Fail> {
-    let mut session = begun(rt, alloc, fresh(alloc, 188)?, cartridge);
+) -> MemoryDevice {
+    let mut session = begun(rt, alloc, fresh(alloc, 188).or_stop(rt), cartridge);
     give(rt, &mut session, 0, inputs);
     save(rt, &mut session, u64::from(inputs));
-    Ok(session.into_device().image(alloc, &[])?)
+    session.into_device().image(alloc, &[]).or_stop(rt)
 }
 
 /// What a cut leaves where of the unsynced writes those are kept whose place modulo two is true.
@@ -324,11 +323,7 @@ pub(crate) fn put(rt: &impl Abort, device: &mut MemoryDevice, at: u64, from: usi
 }
 
 /// The device as it is, all of it synced and with an empty record.
-pub(crate) fn settled(
-    rt: &impl Abort,
-    alloc: Global,
-    mut device: MemoryDevice,
-) -> Result<MemoryDevice, Fail> {
+pub(crate) fn settled(rt: &impl Abort, alloc: Global, mut device: MemoryDevice) -> MemoryDevice {
     holds!(rt; device.sync().is_ok());
-    Ok(device.image(alloc, &[])?)
+    device.image(alloc, &[]).or_stop(rt)
 }

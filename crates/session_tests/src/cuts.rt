@@ -1,5 +1,5 @@
 //! Resumes cut at any device call.
-use crate::asserting::same;
+use crate::asserting::{OrStop, same};
 use crate::common::{
     begun, calls, cartridge, clock_snapshot, fresh, game, give_input, has_bytes, image,
     into_device, left_by_resume, put, resumed, resumes_at, settled, snapshot_of,
@@ -10,7 +10,6 @@ use sector_device::MemoryDevice;
 use session::SessionError;
 use std::alloc::Global;
 use std::process::Abort;
-use std::test::Fail;
 
 /// Cuts a resume after each number of calls, keeps each choice of the unsynced writes, and resumes again: the count and the machine
 /// are always these. Answers after how many calls it was first taken up.
@@ -21,10 +20,10 @@ fn resume_cut_anywhere(
     old: &MemoryDevice,
     inputs: u64,
     bytes: &[u8],
-) -> Result<Option<u64>, Fail> {
+) -> Option<u64> {
     let mut taken_up = None;
     for k in 0..163 {
-        let mut device = old.image(alloc, &[])?;
+        let mut device = old.image(alloc, &[]).or_stop(rt);
         device.fuse(k);
         let (why, device) = left_by_resume(alloc, device, cartridge);
         match why {
@@ -36,43 +35,37 @@ fn resume_cut_anywhere(
             Some(why) => same!(rt; why, SessionError::Device),
         }
         for keeps in [[false, false], [true, true], [true, false]] {
-            let left = image(alloc, &device, keeps)?;
-            resumes_at(rt, alloc, left, cartridge, inputs, bytes)?;
+            let left = image(alloc, &device, keeps).or_stop(rt);
+            resumes_at(rt, alloc, left, cartridge, inputs, bytes);
         }
     }
-    Ok(taken_up)
+    taken_up
 }
 
 #[test]
-fn a_resume_cut_anywhere_loses_nothing(rt: HostRuntime) -> Result<(), Fail> {
+fn a_resume_cut_anywhere_loses_nothing(rt: HostRuntime) {
     let alloc = rt.alloc();
-    let cartridge = cartridge(alloc)?;
-    let old = game(&rt, alloc, &cartridge, 5)?;
-    let bytes = clock_snapshot(alloc, &cartridge, 5)?;
-    let taken_up = resume_cut_anywhere(&rt, alloc, &cartridge, &old, 5, &bytes)?;
+    let cartridge = cartridge(alloc).or_stop(&rt);
+    let old = game(&rt, alloc, &cartridge, 5);
+    let bytes = clock_snapshot(alloc, &cartridge, 5).or_stop(&rt);
+    let taken_up = resume_cut_anywhere(&rt, alloc, &cartridge, &old, 5, &bytes);
     // It looks by a sync and 64 reads: two roots, a log sector and 61 of the snapshot. Then it makes 96 calls.
     same!(rt; taken_up, Some(161));
-    Ok(())
 }
 
 #[test]
-fn a_resume_looks_and_writes_one_generation(rt: HostRuntime) -> Result<(), Fail> {
+fn a_resume_looks_and_writes_one_generation(rt: HostRuntime) {
     let alloc = rt.alloc();
-    let cartridge = cartridge(alloc)?;
-    let old = game(&rt, alloc, &cartridge, 5)?;
+    let cartridge = cartridge(alloc).or_stop(&rt);
+    let old = game(&rt, alloc, &cartridge, 5);
     let session = resumed(&rt, alloc, old, &cartridge);
     // A sync; 32 blank log sectors, 61 of the snapshot, a sync, the root and a sync.
     same!(rt; calls(&session), 97);
-    Ok(())
 }
 
 /// The device of a game of the third generation of version 1, with 5 inputs before the snapshot and two in the log.
-fn version_one(
-    rt: &impl Abort,
-    alloc: Global,
-    cartridge: &Cartridge,
-) -> Result<MemoryDevice, Fail> {
-    let mut device = game(rt, alloc, cartridge, 0)?;
+fn version_one(rt: &impl Abort, alloc: Global, cartridge: &Cartridge) -> MemoryDevice {
+    let mut device = game(rt, alloc, cartridge, 0);
     put(rt, &mut device, 1, 8, b"\x01\x00\x00\x00\x03");
     put(rt, &mut device, 1, 52, b"\x05");
     put(
@@ -86,15 +79,15 @@ fn version_one(
 }
 
 #[test]
-fn version_one_is_taken_up(rt: HostRuntime) -> Result<(), Fail> {
+fn version_one_is_taken_up(rt: HostRuntime) {
     let alloc = rt.alloc();
-    let cartridge = cartridge(alloc)?;
-    let mut session = begun(&rt, alloc, fresh(alloc, 188)?, &cartridge);
+    let cartridge = cartridge(alloc).or_stop(&rt);
+    let mut session = begun(&rt, alloc, fresh(alloc, 188).or_stop(&rt), &cartridge);
     give_input(&rt, &mut session, Input::Frame(1));
     give_input(&rt, &mut session, Input::Seconds(3600));
-    let bytes = snapshot_of(alloc, session.machine())?;
-    let old = version_one(&rt, alloc, &cartridge)?;
-    let session = resumed(&rt, alloc, old.image(alloc, &[])?, &cartridge);
+    let bytes = snapshot_of(alloc, session.machine()).or_stop(&rt);
+    let old = version_one(&rt, alloc, &cartridge);
+    let session = resumed(&rt, alloc, old.image(alloc, &[]).or_stop(&rt), &cartridge);
     same!(rt; session.counts().all, 7);
     let mut device = into_device(session);
     has_bytes(
@@ -105,6 +98,5 @@ fn version_one_is_taken_up(rt: HostRuntime) -> Result<(), Fail> {
         b"GBKPROOT\x02\x00\x00\x00\x04\x00\x00\x00\x00\x00\x00\x00",
     );
     has_bytes(&rt, &mut device, 0, 52, b"\x07\x00\x00\x00\x00\x00\x00\x00");
-    resume_cut_anywhere(&rt, alloc, &cartridge, &old, 7, &bytes)?;
-    Ok(())
+    resume_cut_anywhere(&rt, alloc, &cartridge, &old, 7, &bytes);
 }

@@ -1,5 +1,5 @@
 //! What a resume finds on a device and refuses. Then it has made one sync and written nothing.
-use crate::asserting::same;
+use crate::asserting::{OrStop, same};
 use crate::common::{
     answer, begun, cartridge, clock_snapshot, counts, fresh, game, give, into_device,
     other_cartridge, put, refused, resumed, resumes_at, save, settled,
@@ -11,7 +11,6 @@ use session::{Damage, SessionError};
 use snapshot::SnapError;
 use std::alloc::Global;
 use std::process::Abort;
-use std::test::Fail;
 
 /// The resume of this device is refused so, twice, and no sector is written.
 fn is_refused(
@@ -46,8 +45,8 @@ fn changed(
     cartridge: &Cartridge,
     sectors: usize,
     changes: &[Change],
-) -> Result<MemoryDevice, Fail> {
-    let mut session = begun(rt, alloc, fresh(alloc, sectors)?, cartridge);
+) -> MemoryDevice {
+    let mut session = begun(rt, alloc, fresh(alloc, sectors).or_stop(rt), cartridge);
     give(rt, &mut session, 0, 3);
     save(rt, &mut session, 3);
     let mut device = into_device(session);
@@ -94,43 +93,41 @@ fn no_snapshot() -> Change {
 }
 
 #[test]
-fn an_empty_device_has_no_session(rt: HostRuntime) -> Result<(), Fail> {
+fn an_empty_device_has_no_session(rt: HostRuntime) {
     let alloc = rt.alloc();
-    let cartridge = cartridge(alloc)?;
+    let cartridge = cartridge(alloc).or_stop(&rt);
     for sectors in [0, 1, 2, 188] {
-        let device = fresh(alloc, sectors)?;
+        let device = fresh(alloc, sectors).or_stop(&rt);
         is_refused(&rt, alloc, device, &cartridge, SessionError::NoSession);
     }
-    Ok(())
 }
 
 #[test]
-fn a_game_of_another_rom_is_left_alone(rt: HostRuntime) -> Result<(), Fail> {
+fn a_game_of_another_rom_is_left_alone(rt: HostRuntime) {
     let alloc = rt.alloc();
-    let ours = cartridge(alloc)?;
-    let other = other_cartridge(alloc)?;
-    let device = game(&rt, alloc, &ours, 5)?;
+    let ours = cartridge(alloc).or_stop(&rt);
+    let other = other_cartridge(alloc).or_stop(&rt);
+    let device = game(&rt, alloc, &ours, 5);
     let device = is_refused(&rt, alloc, device, &other, SessionError::OtherCartridge);
-    let bytes = clock_snapshot(alloc, &ours, 5)?;
-    resumes_at(&rt, alloc, device, &ours, 5, &bytes)
+    let bytes = clock_snapshot(alloc, &ours, 5).or_stop(&rt);
+    resumes_at(&rt, alloc, device, &ours, 5, &bytes);
 }
 
 #[test]
-fn another_rom_comes_before_damage(rt: HostRuntime) -> Result<(), Fail> {
+fn another_rom_comes_before_damage(rt: HostRuntime) {
     let alloc = rt.alloc();
-    let ours = cartridge(alloc)?;
-    let other = other_cartridge(alloc)?;
+    let ours = cartridge(alloc).or_stop(&rt);
+    let other = other_cartridge(alloc).or_stop(&rt);
     for change in [base(u64::MAX), no_snapshot(), third_entry()] {
-        let device = changed(&rt, alloc, &ours, 188, &[change])?;
+        let device = changed(&rt, alloc, &ours, 188, &[change]);
         is_refused(&rt, alloc, device, &other, SessionError::OtherCartridge);
     }
-    Ok(())
 }
 
 #[test]
-fn damage_is_told_in_its_order(rt: HostRuntime) -> Result<(), Fail> {
+fn damage_is_told_in_its_order(rt: HostRuntime) {
     let alloc = rt.alloc();
-    let cartridge = cartridge(alloc)?;
+    let cartridge = cartridge(alloc).or_stop(&rt);
     let field = Damage::Snapshot(SnapError::Field(0));
     for (changes, damage) in [
         ([base(u64::MAX), base(u64::MAX)], Damage::Count),
@@ -141,7 +138,7 @@ fn damage_is_told_in_its_order(rt: HostRuntime) -> Result<(), Fail> {
         ([no_snapshot(), third_entry()], field),
         ([third_entry(), third_entry()], Damage::Entry(2)),
     ] {
-        let device = changed(&rt, alloc, &cartridge, 188, &changes)?;
+        let device = changed(&rt, alloc, &cartridge, 188, &changes);
         is_refused(
             &rt,
             alloc,
@@ -150,25 +147,23 @@ fn damage_is_told_in_its_order(rt: HostRuntime) -> Result<(), Fail> {
             SessionError::Damaged(damage),
         );
     }
-    Ok(())
 }
 
 #[test]
-fn a_snapshot_that_does_not_fit(rt: HostRuntime) -> Result<(), Fail> {
+fn a_snapshot_that_does_not_fit(rt: HostRuntime) {
     let alloc = rt.alloc();
-    let cartridge = cartridge(alloc)?;
-    let device = changed(&rt, alloc, &cartridge, 188, &[snapshot_length(u32::MAX)])?;
+    let cartridge = cartridge(alloc).or_stop(&rt);
+    let device = changed(&rt, alloc, &cartridge, 188, &[snapshot_length(u32::MAX)]);
     let short = SessionError::TooSmall { need: 16_777_282 };
     is_refused(&rt, alloc, device, &cartridge, short);
-    Ok(())
 }
 
 #[test]
-fn a_snapshot_of_other_length(rt: HostRuntime) -> Result<(), Fail> {
+fn a_snapshot_of_other_length(rt: HostRuntime) {
     let alloc = rt.alloc();
-    let cartridge = cartridge(alloc)?;
+    let cartridge = cartridge(alloc).or_stop(&rt);
     for length in [40_000, 30_798, 30_800, 0] {
-        let device = changed(&rt, alloc, &cartridge, 512, &[snapshot_length(length)])?;
+        let device = changed(&rt, alloc, &cartridge, 512, &[snapshot_length(length)]);
         let damage = Damage::Snapshot(SnapError::SnapLength(u64::from(length)));
         is_refused(
             &rt,
@@ -178,33 +173,31 @@ fn a_snapshot_of_other_length(rt: HostRuntime) -> Result<(), Fail> {
             SessionError::Damaged(damage),
         );
     }
-    Ok(())
 }
 
 #[test]
-fn the_last_generation_is_used_up(rt: HostRuntime) -> Result<(), Fail> {
+fn the_last_generation_is_used_up(rt: HostRuntime) {
     let alloc = rt.alloc();
-    let cartridge = cartridge(alloc)?;
+    let cartridge = cartridge(alloc).or_stop(&rt);
     let last = Change {
         at: 1,
         from: 12,
         bytes: u64::MAX.to_le_bytes(),
     };
-    let device = changed(&rt, alloc, &cartridge, 188, &[last])?;
+    let device = changed(&rt, alloc, &cartridge, 188, &[last]);
     is_refused(&rt, alloc, device, &cartridge, SessionError::Worn);
-    let device = changed(&rt, alloc, &cartridge, 188, &[last, third_entry()])?;
+    let device = changed(&rt, alloc, &cartridge, 188, &[last, third_entry()]);
     let wrong = SessionError::Damaged(Damage::Entry(2));
     is_refused(&rt, alloc, device, &cartridge, wrong);
-    Ok(())
 }
 
 #[test]
-fn the_greatest_count(rt: HostRuntime) -> Result<(), Fail> {
+fn the_greatest_count(rt: HostRuntime) {
     let alloc = rt.alloc();
-    let cartridge = cartridge(alloc)?;
-    let mut device = game(&rt, alloc, &cartridge, 0)?;
+    let cartridge = cartridge(alloc).or_stop(&rt);
+    let mut device = game(&rt, alloc, &cartridge, 0);
     put(&rt, &mut device, 1, 52, &u64::MAX.to_le_bytes());
-    let device = settled(&rt, alloc, device)?;
+    let device = settled(&rt, alloc, device);
     let mut session = resumed(&rt, alloc, device, &cartridge);
     same!(rt; counts(&session), [u64::MAX, u64::MAX, 0]);
     same!(rt;
@@ -213,5 +206,4 @@ fn the_greatest_count(rt: HostRuntime) -> Result<(), Fail> {
     );
     same!(rt; counts(&session), [u64::MAX, u64::MAX, 0]);
     save(&rt, &mut session, u64::MAX);
-    Ok(())
 }

@@ -1,5 +1,5 @@
 //! Whole plays of scripts, and what they report. One of them is cut before each of its device calls.
-use crate::asserting::{holds, same};
+use crate::asserting::{OrStop, holds, same};
 use crate::common::{apply, cartridge, fresh, game, has_bytes, resumed, seconds, snapshot_of};
 use cartridge::Cartridge;
 use machine::{Input, Machine};
@@ -164,15 +164,15 @@ struct Known {
     choices: Vec<Vec<bool>>,
 }
 
-fn make_known(rt: &impl Abort, alloc: Global, cartridge: &Cartridge) -> Result<Known, Fail> {
-    let moves = moves_of(rt, alloc, &long_script(alloc)?);
-    let snapshots = snapshots_of(alloc, cartridge, 5, &moves)?;
-    Ok(Known {
+fn make_known(rt: &impl Abort, alloc: Global, cartridge: &Cartridge) -> Known {
+    let moves = moves_of(rt, alloc, &long_script(alloc).or_stop(rt));
+    let snapshots = snapshots_of(alloc, cartridge, 5, &moves).or_stop(rt);
+    Known {
         moves,
         snapshots,
-        counts: counts_in(alloc, REPORT)?,
-        choices: choices(alloc)?,
-    })
+        counts: counts_in(alloc, REPORT).or_stop(rt),
+        choices: choices(alloc).or_stop(rt),
+    }
 }
 
 /// A resume finds a count from `least` to `most`, which it answers, and the machine of so many inputs.
@@ -184,7 +184,7 @@ fn resumes_between(
     least: u64,
     most: u64,
     snapshots: &[Vec<u8>],
-) -> Result<u64, Fail> {
+) -> u64 {
     let session = resumed(rt, alloc, device, cartridge);
     let counts = session.counts();
     holds!(rt; least <= counts.all && counts.all <= most);
@@ -192,9 +192,9 @@ fn resumes_between(
     let Some(want) = snapshots.get(counts.all as usize) else {
         panic!(rt; "more inputs than there are");
     };
-    let found = snapshot_of(alloc, session.machine())?;
+    let found = snapshot_of(alloc, session.machine()).or_stop(rt);
     holds!(rt; found.as_slice() == want.as_slice());
-    Ok(counts.all)
+    counts.all
 }
 
 /// What was seen of plays that were cut.
@@ -215,7 +215,7 @@ fn images_hold_what_was_told(
     known: &Known,
     lines: usize,
     seen: &mut Seen,
-) -> Result<(), Fail> {
+) {
     let last = known.counts.last().copied().unwrap_or(0);
     let least = known
         .counts
@@ -224,21 +224,20 @@ fn images_hold_what_was_told(
         .unwrap_or(0);
     let most = known.counts.get(lines).copied().unwrap_or(last);
     for kept in &known.choices {
-        let image = device.image(alloc, kept)?;
-        let found = resumes_between(rt, alloc, image, cartridge, least, most, &known.snapshots)?;
+        let image = device.image(alloc, kept).or_stop(rt);
+        let found = resumes_between(rt, alloc, image, cartridge, least, most, &known.snapshots);
         seen.images = seen.images.wrapping_add(1);
         if least < found && found < most {
             seen.between = seen.between.wrapping_add(1);
         }
     }
-    Ok(())
 }
 
 /// The report has so many complete lines of the whole one and nothing behind them.
-fn complete_lines(rt: &impl Abort, alloc: Global, report: &[u8]) -> Result<usize, Fail> {
+fn complete_lines(rt: &impl Abort, alloc: Global, report: &[u8]) -> usize {
     holds!(rt; REPORT.starts_with(report));
     holds!(rt; report.is_empty() || report.ends_with(b"\n"));
-    Ok(counts_in(alloc, report)?.len())
+    counts_in(alloc, report).or_stop(rt).len()
 }
 
 /// Cuts the play before its call number `k`, from 0, and takes up what is left. Answers whether there was no such call.
@@ -250,21 +249,21 @@ fn cut_before(
     known: &Known,
     k: u64,
     seen: &mut Seen,
-) -> Result<bool, Fail> {
-    let mut device = old.image(alloc, &[])?;
+) -> bool {
+    let mut device = old.image(alloc, &[]).or_stop(rt);
     device.fuse(k);
     let mut report = Vec::new(alloc);
     let (why, device) = left_by_play(alloc, device, cartridge, &known.moves, &mut report);
-    let lines = complete_lines(rt, alloc, &report)?;
-    images_hold_what_was_told(rt, alloc, &device, cartridge, known, lines, seen)?;
+    let lines = complete_lines(rt, alloc, &report);
+    images_hold_what_was_told(rt, alloc, &device, cartridge, known, lines, seen);
     if device.blown() {
         same!(rt; why, Some(SessionError::Device));
-        return Ok(false);
+        return false;
     }
     same!(rt; why, None);
     holds!(rt; report.as_slice() == REPORT);
     // the third generation: the one before the play, that of the resume, and that of the save that replaced
-    let mut left = device.image(alloc, &[])?;
+    let mut left = device.image(alloc, &[]).or_stop(rt);
     has_bytes(
         rt,
         &mut left,
@@ -272,22 +271,22 @@ fn cut_before(
         0,
         b"GBKPROOT\x02\x00\x00\x00\x03\x00\x00\x00",
     );
-    Ok(true)
+    true
 }
 
 #[test]
-fn a_play_cut_before_any_call_keeps_what_it_told(rt: HostRuntime) -> Result<(), Fail> {
+fn a_play_cut_before_any_call_keeps_what_it_told(rt: HostRuntime) {
     let alloc = rt.alloc();
-    let cartridge = cartridge(alloc)?;
-    let known = make_known(&rt, alloc, &cartridge)?;
-    let old = game(&rt, alloc, &cartridge, 5)?;
+    let cartridge = cartridge(alloc).or_stop(&rt);
+    let known = make_known(&rt, alloc, &cartridge);
+    let old = game(&rt, alloc, &cartridge, 5);
     let mut seen = Seen {
         images: 0,
         between: 0,
     };
     let mut calls = 0;
     for k in 0..400 {
-        if calls == k && !cut_before(&rt, alloc, &old, &cartridge, &known, k, &mut seen)? {
+        if calls == k && !cut_before(&rt, alloc, &old, &cartridge, &known, k, &mut seen) {
             calls = calls + 1;
         }
     }
@@ -295,7 +294,6 @@ fn a_play_cut_before_any_call_keeps_what_it_told(rt: HostRuntime) -> Result<(), 
     same!(rt; calls, 302);
     same!(rt; seen.images, 6_060);
     holds!(rt; seen.between > 0);
-    Ok(())
 }
 
 /// Plays a script to its end, and answers what is left.
@@ -316,14 +314,14 @@ fn reports(
 }
 
 #[test]
-fn plays_report_what_is_saved(rt: HostRuntime) -> Result<(), Fail> {
+fn plays_report_what_is_saved(rt: HostRuntime) {
     let alloc = rt.alloc();
-    let cartridge = cartridge(alloc)?;
-    let begun = game(&rt, alloc, &cartridge, 0)?;
+    let cartridge = cartridge(alloc).or_stop(&rt);
+    let begun = game(&rt, alloc, &cartridge, 0);
     let first = reports(
         &rt,
         alloc,
-        begun.image(alloc, &[])?,
+        begun.image(alloc, &[]).or_stop(&rt),
         &cartridge,
         b"frames 00 3\nseconds 60\nsave",
         b"resumed 0\nsaved 4\n",
@@ -341,8 +339,8 @@ fn plays_report_what_is_saved(rt: HostRuntime) -> Result<(), Fail> {
     // no call but those of a resume
     same!(rt; third.calls().saturating_sub(made), 97);
     let mut script = Vec::new(alloc);
-    add_lines(&mut script, b"seconds 0\n", 3_200)?;
-    script.extend_from_slice(b"save")?;
+    add_lines(&mut script, b"seconds 0\n", 3_200).or_stop(&rt);
+    script.extend_from_slice(b"save").or_stop(&rt);
     reports(
         &rt,
         alloc,
@@ -351,19 +349,17 @@ fn plays_report_what_is_saved(rt: HostRuntime) -> Result<(), Fail> {
         &script,
         b"resumed 0\nsaved 3200\nsaved 3200\n",
     );
-    Ok(())
 }
 
 #[test]
-fn a_play_on_an_empty_device_reports_nothing(rt: HostRuntime) -> Result<(), Fail> {
+fn a_play_on_an_empty_device_reports_nothing(rt: HostRuntime) {
     let alloc = rt.alloc();
-    let cartridge = cartridge(alloc)?;
+    let cartridge = cartridge(alloc).or_stop(&rt);
     let moves = moves_of(&rt, alloc, b"save");
     let mut report = Vec::new(alloc);
-    let device = fresh(alloc, 188)?;
+    let device = fresh(alloc, 188).or_stop(&rt);
     let (why, device) = left_by_play(alloc, device, &cartridge, &moves, &mut report);
     same!(rt; why, Some(SessionError::NoSession));
     same!(rt; report.len(), 0);
     same!(rt; device.calls(), 1);
-    Ok(())
 }

@@ -1,5 +1,5 @@
 //! Streams of lines, and what they answer.
-use crate::asserting::{holds, same};
+use crate::asserting::{OrStop, holds, same};
 use crate::common::{cartridge, game, resumed, sector};
 use cartridge::Cartridge;
 use playing::play;
@@ -10,7 +10,6 @@ use std::alloc::Global;
 use std::io;
 use std::io::{ErrorKind, Read, Write};
 use std::process::Abort;
-use std::test::Fail;
 use streaming::{StreamError, stream};
 
 /// Gives so many bytes a read, and fails behind them where that is wanted.
@@ -58,7 +57,7 @@ fn streams(
     fails: bool,
     want: Option<StreamError>,
     text: &[u8],
-) -> Result<MemoryDevice, Fail> {
+) -> MemoryDevice {
     let mut input = Slow {
         rest: lines,
         most,
@@ -67,14 +66,14 @@ fn streams(
     let mut out = Vec::new(alloc);
     let (why, device) = left_by_stream(
         alloc,
-        game.image(alloc, &[])?,
+        game.image(alloc, &[]).or_stop(rt),
         cartridge,
         &mut input,
         &mut out,
     );
     same!(rt; why, want);
     holds!(rt; out.as_slice() == text);
-    Ok(device)
+    device
 }
 
 fn sectors_are(rt: &impl Abort, one: &mut MemoryDevice, other: &mut MemoryDevice) {
@@ -88,17 +87,17 @@ const SCRIPT: &[u8] = b"frame 01\n\nseconds 60\nsave\nframes 80 3\nsave\nsave\ns
 
 /// A stream of a script answers as a play of it does, and leaves the same device, however the bytes come.
 #[test]
-fn a_stream_of_a_script_is_its_play(rt: HostRuntime) -> Result<(), Fail> {
+fn a_stream_of_a_script_is_its_play(rt: HostRuntime) {
     let alloc = rt.alloc();
-    let cartridge = cartridge(alloc)?;
-    let old = game(&rt, alloc, &cartridge, 5)?;
+    let cartridge = cartridge(alloc).or_stop(&rt);
+    let old = game(&rt, alloc, &cartridge, 5);
     let Ok(moves) = read_script(alloc, SCRIPT) else {
         panic!(rt; "no script");
     };
     let mut report = Vec::new(alloc);
     let Ok(session) = play(
         alloc,
-        old.image(alloc, &[])?,
+        old.image(alloc, &[]).or_stop(&rt),
         &cartridge,
         &moves,
         &mut report,
@@ -111,18 +110,17 @@ fn a_stream_of_a_script_is_its_play(rt: HostRuntime) -> Result<(), Fail> {
     for most in [1, 7, 5000] {
         let mut left = streams(
             &rt, alloc, &old, &cartridge, most, SCRIPT, false, None, want,
-        )?;
+        );
         sectors_are(&rt, &mut left, &mut played);
     }
-    Ok(())
 }
 
 /// What is written, what is refused, and what is saved then.
 #[test]
-fn lines_are_answered_or_refused(rt: HostRuntime) -> Result<(), Fail> {
+fn lines_are_answered_or_refused(rt: HostRuntime) {
     let alloc = rt.alloc();
-    let cartridge = cartridge(alloc)?;
-    let old = game(&rt, alloc, &cartridge, 2)?;
+    let cartridge = cartridge(alloc).or_stop(&rt);
+    let old = game(&rt, alloc, &cartridge, 2);
     let wrong = |n| Some(StreamError::Line(n));
     let cases: [(&[u8], bool, Option<StreamError>, &[u8]); 9] = [
         (b"".as_slice(), false, None, b"resumed 2\n".as_slice()),
@@ -172,10 +170,9 @@ fn lines_are_answered_or_refused(rt: HostRuntime) -> Result<(), Fail> {
     ];
     for (lines, fails, want, text) in cases {
         for most in [1, 4096] {
-            streams(&rt, alloc, &old, &cartridge, most, lines, fails, want, text)?;
+            streams(&rt, alloc, &old, &cartridge, most, lines, fails, want, text);
         }
     }
-    Ok(())
 }
 
 /// The picture of the machine that a game stands for.
@@ -184,19 +181,19 @@ fn picture_in(
     alloc: Global,
     game: MemoryDevice,
     cartridge: &Cartridge,
-) -> Result<Vec<u8>, Fail> {
+) -> Vec<u8> {
     let session = resumed(rt, alloc, game, cartridge);
     let mut text = Vec::new(alloc);
     holds!(rt; session.machine().picture().write_pgm(&mut text).is_ok());
-    Ok(text)
+    text
 }
 
 #[test]
-fn pictures_are_those_of_their_machines(rt: HostRuntime) -> Result<(), Fail> {
+fn pictures_are_those_of_their_machines(rt: HostRuntime) {
     let alloc = rt.alloc();
-    let cartridge = cartridge(alloc)?;
-    let old = game(&rt, alloc, &cartridge, 0)?;
-    let first = picture_in(&rt, alloc, old.image(alloc, &[])?, &cartridge)?;
+    let cartridge = cartridge(alloc).or_stop(&rt);
+    let old = game(&rt, alloc, &cartridge, 0);
+    let first = picture_in(&rt, alloc, old.image(alloc, &[]).or_stop(&rt), &cartridge);
     let later = streams(
         &rt,
         alloc,
@@ -207,16 +204,16 @@ fn pictures_are_those_of_their_machines(rt: HostRuntime) -> Result<(), Fail> {
         false,
         None,
         b"resumed 0\nsaved 2\n".as_slice(),
-    )?;
-    let second = picture_in(&rt, alloc, later, &cartridge)?;
+    );
+    let second = picture_in(&rt, alloc, later, &cartridge);
     same!(rt; first.len(), 46_093);
     same!(rt; second.len(), 46_093);
     let mut text = Vec::new(alloc);
-    text.extend_from_slice(b"resumed 0\n")?;
-    text.extend_from_slice(&first)?;
-    text.extend_from_slice(&second)?;
-    text.extend_from_slice(&second)?;
-    text.extend_from_slice(b"saved 2\n")?;
+    text.extend_from_slice(b"resumed 0\n").or_stop(&rt);
+    text.extend_from_slice(&first).or_stop(&rt);
+    text.extend_from_slice(&second).or_stop(&rt);
+    text.extend_from_slice(&second).or_stop(&rt);
+    text.extend_from_slice(b"saved 2\n").or_stop(&rt);
     for most in [1, 64] {
         streams(
             &rt,
@@ -228,17 +225,16 @@ fn pictures_are_those_of_their_machines(rt: HostRuntime) -> Result<(), Fail> {
             false,
             None,
             &text,
-        )?;
+        );
     }
-    Ok(())
 }
 
 /// An output that is full ends a stream, and what was told before is saved.
 #[test]
-fn a_full_output_ends_a_stream(rt: HostRuntime) -> Result<(), Fail> {
+fn a_full_output_ends_a_stream(rt: HostRuntime) {
     let alloc = rt.alloc();
-    let cartridge = cartridge(alloc)?;
-    let old = game(&rt, alloc, &cartridge, 1)?;
+    let cartridge = cartridge(alloc).or_stop(&rt);
+    let old = game(&rt, alloc, &cartridge, 1);
     for room in [0, 5, 10, 15, 18, 30_000] {
         let mut input = Slow {
             rest: b"seconds 1\nsave\nseconds 2\npicture\n",
@@ -251,7 +247,7 @@ fn a_full_output_ends_a_stream(rt: HostRuntime) -> Result<(), Fail> {
         };
         let (why, left) = left_by_stream(
             alloc,
-            old.image(alloc, &[])?,
+            old.image(alloc, &[]).or_stop(&rt),
             &cartridge,
             &mut input,
             &mut out,
@@ -260,5 +256,4 @@ fn a_full_output_ends_a_stream(rt: HostRuntime) -> Result<(), Fail> {
         let counts = resumed(&rt, alloc, left, &cartridge).counts();
         same!(rt; counts.all, if room < 10 { 1 } else { 2 });
     }
-    Ok(())
 }

@@ -19,6 +19,20 @@ pub fn is_true(rt: &impl Abort, found: bool, what: &impl Display)
     assert!(rt; found, "{what}");
 }
 
+/// What a call answers that has to succeed here. With a `?` in its place a test would drop what it holds.
+pub trait OrStop<T> {
+    fn or_stop(self, rt: &impl Abort) -> T;
+}
+
+impl<T, E> OrStop<T> for Result<T, E> {
+    fn or_stop(self, rt: &impl Abort) -> T {
+        match self {
+            Ok(value) => value,
+            Err(_) => panic!(rt; "a call that has to succeed was refused"),
+        }
+    }
+}
+
 macro_rules! same {
     ($rt:expr; $found:expr, $wanted:expr $(,)?) => {
         $crate::asserting::is_same(&$rt, &$found, &$wanted, &stringify!($found))

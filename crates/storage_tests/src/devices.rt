@@ -1,9 +1,8 @@
-use crate::asserting::{holds, same};
+use crate::asserting::{OrStop, holds, same};
 use sector_device::{DeviceFault, FileDevice, MemoryDevice, SectorDevice};
 use std::fs::{self, OpenOptions};
 use std::path::Path;
 use std::process::Abort;
-use std::test::Fail;
 
 /// The byte of a sector of which all bytes are the same.
 fn byte_at<D: SectorDevice>(rt: &impl Abort, device: &mut D, at: u64) -> Result<u8, DeviceFault> {
@@ -36,13 +35,13 @@ fn put<D: SectorDevice>(
 }
 
 #[test]
-fn images_keep_the_chosen_writes(rt: HostRuntime) -> Result<(), Fail> {
-    let mut device = MemoryDevice::new(rt.alloc(), 3, 4)?;
-    same!(rt; three(&rt, &mut device)?, [0, 0, 0]);
-    put(&rt, &mut device, 0, 1)?;
-    device.sync()?;
-    put(&rt, &mut device, 1, 2)?;
-    put(&rt, &mut device, 2, 3)?;
+fn images_keep_the_chosen_writes(rt: HostRuntime) {
+    let mut device = MemoryDevice::new(rt.alloc(), 3, 4).or_stop(&rt);
+    same!(rt; three(&rt, &mut device).or_stop(&rt), [0, 0, 0]);
+    put(&rt, &mut device, 0, 1).or_stop(&rt);
+    device.sync().or_stop(&rt);
+    put(&rt, &mut device, 1, 2).or_stop(&rt);
+    put(&rt, &mut device, 2, 3).or_stop(&rt);
     same!(rt; device.calls(), 4);
     for (kept, want) in [
         ([true].as_slice(), [1, 2, 0]),
@@ -50,165 +49,155 @@ fn images_keep_the_chosen_writes(rt: HostRuntime) -> Result<(), Fail> {
         ([].as_slice(), [1, 0, 0]),
         ([true, true].as_slice(), [1, 2, 3]),
     ] {
-        let mut image = device.image(rt.alloc(), kept)?;
-        same!(rt; three(&rt, &mut image)?, want);
+        let mut image = device.image(rt.alloc(), kept).or_stop(&rt);
+        same!(rt; three(&rt, &mut image).or_stop(&rt), want);
         same!(rt; image.calls(), 0);
         holds!(rt; !image.blown());
     }
-    same!(rt; three(&rt, &mut device)?, [1, 2, 3]);
-    Ok(())
+    same!(rt; three(&rt, &mut device).or_stop(&rt), [1, 2, 3]);
 }
 
 #[test]
-fn a_full_record_fails_the_call(rt: HostRuntime) -> Result<(), Fail> {
-    let mut device = MemoryDevice::new(rt.alloc(), 3, 2)?;
-    put(&rt, &mut device, 0, 1)?;
-    device.sync()?;
+fn a_full_record_fails_the_call(rt: HostRuntime) {
+    let mut device = MemoryDevice::new(rt.alloc(), 3, 2).or_stop(&rt);
+    put(&rt, &mut device, 0, 1).or_stop(&rt);
+    device.sync().or_stop(&rt);
     same!(rt; device.calls(), 2);
-    same!(rt; three(&rt, &mut device)?, [1, 0, 0]);
+    same!(rt; three(&rt, &mut device).or_stop(&rt), [1, 0, 0]);
     same!(rt; put(&rt, &mut device, 0, 2), Err(DeviceFault::Device));
     same!(rt; device.sync(), Err(DeviceFault::Device));
     same!(rt; device.calls(), 2);
-    same!(rt; three(&rt, &mut device)?, [1, 0, 0]);
-    Ok(())
+    same!(rt; three(&rt, &mut device).or_stop(&rt), [1, 0, 0]);
 }
 
 #[test]
-fn a_fuse_fails_every_later_call(rt: HostRuntime) -> Result<(), Fail> {
-    let mut device = MemoryDevice::new(rt.alloc(), 3, 9)?;
+fn a_fuse_fails_every_later_call(rt: HostRuntime) {
+    let mut device = MemoryDevice::new(rt.alloc(), 3, 9).or_stop(&rt);
     device.fuse(2);
-    put(&rt, &mut device, 0, 1)?;
-    device.sync()?;
+    put(&rt, &mut device, 0, 1).or_stop(&rt);
+    device.sync().or_stop(&rt);
     holds!(rt; !device.blown());
     same!(rt; put(&rt, &mut device, 1, 2), Err(DeviceFault::Device));
     holds!(rt; device.blown());
     same!(rt; device.sync(), Err(DeviceFault::Device));
     same!(rt; device.calls(), 4);
-    let mut image = device.image(rt.alloc(), &[true])?;
-    same!(rt; three(&rt, &mut image)?, [1, 2, 0]);
+    let mut image = device.image(rt.alloc(), &[true]).or_stop(&rt);
+    same!(rt; three(&rt, &mut image).or_stop(&rt), [1, 2, 0]);
     device.fuse(9);
     holds!(rt; !device.blown());
-    same!(rt; three(&rt, &mut device)?, [1, 0, 0]);
-    Ok(())
+    same!(rt; three(&rt, &mut device).or_stop(&rt), [1, 0, 0]);
 }
 
 #[test]
-fn one_call_fails(rt: HostRuntime) -> Result<(), Fail> {
+fn one_call_fails(rt: HostRuntime) {
     for (kept, want) in [(false, [0, 0, 0]), (true, [0, 2, 0])] {
-        let mut device = MemoryDevice::new(rt.alloc(), 3, 9)?;
+        let mut device = MemoryDevice::new(rt.alloc(), 3, 9).or_stop(&rt);
         device.fail_at(2, kept);
-        device.sync()?;
+        device.sync().or_stop(&rt);
         same!(rt; put(&rt, &mut device, 1, 2), Err(DeviceFault::Device));
-        same!(rt; three(&rt, &mut device)?, want);
+        same!(rt; three(&rt, &mut device).or_stop(&rt), want);
         holds!(rt; !device.blown());
         same!(rt; device.calls(), 2);
     }
-    let mut device = MemoryDevice::new(rt.alloc(), 3, 9)?;
+    let mut device = MemoryDevice::new(rt.alloc(), 3, 9).or_stop(&rt);
     device.fuse(0);
     device.fail_at(1, true);
     same!(rt; put(&rt, &mut device, 1, 2), Err(DeviceFault::Device));
     device.fuse(9);
-    same!(rt; three(&rt, &mut device)?, [0, 0, 0]);
-    Ok(())
+    same!(rt; three(&rt, &mut device).or_stop(&rt), [0, 0, 0]);
 }
 
 #[test]
-fn a_file_keeps_sectors(rt: HostRuntime) -> Result<(), Fail> {
+fn a_file_keeps_sectors(rt: HostRuntime) {
     let path = "kept.save";
-    let mut device = FileDevice::create(&rt, Path::new(path), 3)?;
-    same!(rt; three(&rt, &mut device)?, [0, 0, 0]);
-    put(&rt, &mut device, 1, 7)?;
-    device.sync()?;
-    same!(rt; three(&rt, &mut device)?, [0, 7, 0]);
-    same!(rt; fs::metadata(&rt, path)?.len(), 1536);
+    let mut device = FileDevice::create(&rt, Path::new(path), 3).or_stop(&rt);
+    same!(rt; three(&rt, &mut device).or_stop(&rt), [0, 0, 0]);
+    put(&rt, &mut device, 1, 7).or_stop(&rt);
+    device.sync().or_stop(&rt);
+    same!(rt; three(&rt, &mut device).or_stop(&rt), [0, 7, 0]);
+    same!(rt; fs::metadata(&rt, path).or_stop(&rt).len(), 1536);
     drop(device);
-    let mut again = FileDevice::attach(&rt, Path::new(path))?;
-    same!(rt; three(&rt, &mut again)?, [0, 7, 0]);
+    let mut again = FileDevice::attach(&rt, Path::new(path)).or_stop(&rt);
+    same!(rt; three(&rt, &mut again).or_stop(&rt), [0, 7, 0]);
     match FileDevice::create(&rt, Path::new(path), 3) {
         Ok(_) => holds!(rt; false, "made where a file stands"),
         Err(fault) => same!(rt; fault, DeviceFault::Device),
     }
-    same!(rt; fs::metadata(&rt, path)?.len(), 1536);
-    fs::remove_file(&rt, path)?;
+    same!(rt; fs::metadata(&rt, path).or_stop(&rt).len(), 1536);
+    fs::remove_file(&rt, path).or_stop(&rt);
     match FileDevice::attach(&rt, Path::new(path)) {
         Ok(_) => holds!(rt; false, "attached to nothing"),
         Err(fault) => same!(rt; fault, DeviceFault::Device),
     }
-    Ok(())
 }
 
 #[test]
-fn a_file_that_another_device_holds_is_refused(rt: HostRuntime) -> Result<(), Fail> {
+fn a_file_that_another_device_holds_is_refused(rt: HostRuntime) {
     let path = "held.save";
-    let mut device = FileDevice::create(&rt, Path::new(path), 3)?;
+    let mut device = FileDevice::create(&rt, Path::new(path), 3).or_stop(&rt);
     same!(rt;
         FileDevice::attach(&rt, Path::new(path)).err(),
         Some(DeviceFault::Device)
     );
-    put(&rt, &mut device, 1, 7)?;
-    device.sync()?;
+    put(&rt, &mut device, 1, 7).or_stop(&rt);
+    device.sync().or_stop(&rt);
     drop(device);
-    let mut device = FileDevice::attach(&rt, Path::new(path))?;
+    let mut device = FileDevice::attach(&rt, Path::new(path)).or_stop(&rt);
     same!(rt;
         FileDevice::attach(&rt, Path::new(path)).err(),
         Some(DeviceFault::Device)
     );
-    same!(rt; three(&rt, &mut device)?, [0, 7, 0]);
-    fs::remove_file(&rt, path)?;
-    Ok(())
+    same!(rt; three(&rt, &mut device).or_stop(&rt), [0, 7, 0]);
+    fs::remove_file(&rt, path).or_stop(&rt);
 }
 
 #[test]
-fn a_file_of_other_size_is_refused(rt: HostRuntime) -> Result<(), Fail> {
+fn a_file_of_other_size_is_refused(rt: HostRuntime) {
     let path = "odd.save";
-    fs::write(&rt, path, [0u8; 1000].as_slice())?;
+    fs::write(&rt, path, [0u8; 1000].as_slice()).or_stop(&rt);
     match FileDevice::attach(&rt, Path::new(path)) {
         Ok(_) => holds!(rt; false, "attached to 1000 bytes"),
         Err(fault) => same!(rt; fault, DeviceFault::SizeNotSectors(1000)),
     }
-    fs::remove_file(&rt, path)?;
-    Ok(())
+    fs::remove_file(&rt, path).or_stop(&rt);
 }
 
 #[test]
-fn a_length_that_is_too_great_leaves_no_file(rt: HostRuntime) -> Result<(), Fail> {
+fn a_length_that_is_too_great_leaves_no_file(rt: HostRuntime) {
     let path = "great.save";
     match FileDevice::create(&rt, Path::new(path), u64::MAX) {
         Ok(_) => holds!(rt; false, "made"),
         Err(fault) => same!(rt; fault, DeviceFault::Device),
     }
     holds!(rt; fs::metadata(&rt, path).is_err());
-    Ok(())
 }
 
 #[test]
-fn a_changed_file_gives_a_fault(rt: HostRuntime) -> Result<(), Fail> {
+fn a_changed_file_gives_a_fault(rt: HostRuntime) {
     let path = "changed.save";
-    let mut device = FileDevice::create(&rt, Path::new(path), 3)?;
-    same!(rt; three(&rt, &mut device)?, [0, 0, 0]);
-    let other = OpenOptions::new().write(true).open(&rt, path)?;
-    other.set_len(700)?;
-    same!(rt; byte_at(&rt, &mut device, 0)?, 0);
+    let mut device = FileDevice::create(&rt, Path::new(path), 3).or_stop(&rt);
+    same!(rt; three(&rt, &mut device).or_stop(&rt), [0, 0, 0]);
+    let other = OpenOptions::new().write(true).open(&rt, path).or_stop(&rt);
+    other.set_len(700).or_stop(&rt);
+    same!(rt; byte_at(&rt, &mut device, 0).or_stop(&rt), 0);
     same!(rt; byte_at(&rt, &mut device, 1), Err(DeviceFault::Device));
     same!(rt; byte_at(&rt, &mut device, 2), Err(DeviceFault::Device));
-    fs::write(&rt, path, [5u8; 1536].as_slice())?;
+    fs::write(&rt, path, [5u8; 1536].as_slice()).or_stop(&rt);
     same!(rt; byte_at(&rt, &mut device, 0), Err(DeviceFault::Device));
-    put(&rt, &mut device, 0, 6)?;
-    same!(rt; byte_at(&rt, &mut device, 0)?, 6);
-    fs::remove_file(&rt, path)?;
-    Ok(())
+    put(&rt, &mut device, 0, 6).or_stop(&rt);
+    same!(rt; byte_at(&rt, &mut device, 0).or_stop(&rt), 6);
+    fs::remove_file(&rt, path).or_stop(&rt);
 }
 
 #[test]
-fn faults_have_texts(rt: HostRuntime) -> Result<(), Fail> {
+fn faults_have_texts(rt: HostRuntime) {
     let alloc = rt.alloc();
     same!(rt;
-        format!(in alloc; "{}", DeviceFault::Device)?.as_str(),
+        format!(in alloc; "{}", DeviceFault::Device).or_stop(&rt).as_str(),
         "device failed"
     );
     same!(rt;
-        format!(in alloc; "{}", DeviceFault::SizeNotSectors(1000))?.as_str(),
+        format!(in alloc; "{}", DeviceFault::SizeNotSectors(1000)).or_stop(&rt).as_str(),
         "device size 1000"
     );
-    Ok(())
 }

@@ -1,4 +1,4 @@
-use crate::asserting::{holds, same};
+use crate::asserting::{OrStop, holds, same};
 use sector_device::{MemoryDevice, SectorDevice};
 use sector_log::{
     Entry, Found, Header, LogFault, Opened, Part, Refused, Store, StoredEntry, are_inputs, open_log,
@@ -155,9 +155,8 @@ fn append_alternating(
     store: &mut Store<MemoryDevice>,
     from: u32,
     to: u32,
-) -> Result<(), Fail> {
-    append(rt, store, &alternating_from(alloc, from, to)?);
-    Ok(())
+) {
+    append(rt, store, &alternating_from(alloc, from, to).or_stop(rt));
 }
 
 /// `many` frames with no button.
@@ -191,10 +190,10 @@ fn has_content(rt: &impl Abort, opened: &Opened<MemoryDevice>, base: u64, blob: 
 }
 
 #[test]
-fn a_new_generation_makes_these_calls(rt: HostRuntime) -> Result<(), Fail> {
-    let blob = Vec::from_elem(rt.alloc(), 3, 30_799)?;
+fn a_new_generation_makes_these_calls(rt: HostRuntime) {
+    let blob = Vec::from_elem(rt.alloc(), 3, 30_799).or_stop(&rt);
     // A sync; 32 blank log sectors, 61 of the blob, a sync, the root and a sync.
-    let device = MemoryDevice::new(rt.alloc(), 188, 97)?;
+    let device = MemoryDevice::new(rt.alloc(), 188, 97).or_stop(&rt);
     let mut device = must_begin(&rt, opened(&rt, rt.alloc(), device), 0, &blob).into_device();
     same!(rt; device.calls(), 97);
     has_bytes(
@@ -214,20 +213,19 @@ fn a_new_generation_makes_these_calls(rt: HostRuntime) -> Result<(), Fail> {
     );
     is_blank_from(&rt, &mut device, 1, 64);
 
-    let device = MemoryDevice::new(rt.alloc(), 188, 96)?;
+    let device = MemoryDevice::new(rt.alloc(), 188, 96).or_stop(&rt);
     let answer = refusal(&rt, opened(&rt, rt.alloc(), device), 0, &blob);
     same!(rt; answer, (LogFault::Device, 96));
 
-    let device = MemoryDevice::new(rt.alloc(), 187, 97)?;
+    let device = MemoryDevice::new(rt.alloc(), 187, 97).or_stop(&rt);
     let answer = refusal(&rt, opened(&rt, rt.alloc(), device), 0, &blob);
     same!(rt; answer, (LogFault::TooSmall { need: 188 }, 1));
-    Ok(())
 }
 
 #[test]
-fn a_log_is_full_at_2688_entries(rt: HostRuntime) -> Result<(), Fail> {
+fn a_log_is_full_at_2688_entries(rt: HostRuntime) {
     let mut store = begun(&rt, rt.alloc());
-    append_alternating(&rt, rt.alloc(), &mut store, 0, 2688)?;
+    append_alternating(&rt, rt.alloc(), &mut store, 0, 2688);
     same!(rt; refused(&rt, &mut store, &[seconds(1)]), LogFault::LogFull);
     // The last sector is full, so its last run is not lengthened either.
     same!(rt;
@@ -239,11 +237,10 @@ fn a_log_is_full_at_2688_entries(rt: HostRuntime) -> Result<(), Fail> {
     // A sync; 32 log sectors, one of the blob, a sync, the root, a sync; 32 log sectors and a sync.
     same!(rt; device.calls(), 70);
     same!(rt; inputs(&rt, rt.alloc(), device), 2688);
-    Ok(())
 }
 
 #[test]
-fn equal_frames_are_one_entry(rt: HostRuntime) -> Result<(), Fail> {
+fn equal_frames_are_one_entry(rt: HostRuntime) {
     let mut store = begun(&rt, rt.alloc());
     append(
         &rt,
@@ -260,13 +257,12 @@ fn equal_frames_are_one_entry(rt: HostRuntime) -> Result<(), Fail> {
     same!(rt; opened.entries().len(), 2);
     has_entry(&rt, &opened, 0, [0, 0, 3, 0, 0, 0]);
     has_content(&rt, &opened, 5, b"blob");
-    Ok(())
 }
 
 #[test]
-fn a_full_sector_is_never_written_again(rt: HostRuntime) -> Result<(), Fail> {
+fn a_full_sector_is_never_written_again(rt: HostRuntime) {
     let mut store = begun(&rt, rt.alloc());
-    append_alternating(&rt, rt.alloc(), &mut store, 0, 84)?;
+    append_alternating(&rt, rt.alloc(), &mut store, 0, 84);
     append(&rt, &mut store, &[frame(1); 10]);
     let mut device = store.into_device();
     // A sync, 33 sectors, a sync, the root, a sync; a log sector and a sync for each append.
@@ -275,18 +271,17 @@ fn a_full_sector_is_never_written_again(rt: HostRuntime) -> Result<(), Fail> {
     has_bytes(&rt, &mut device, 37, 0, b"GBL2\x01\x00\x01\x00");
     has_bytes(&rt, &mut device, 37, 8, b"\x00\x01\x0a\x00\x00\x00");
     is_blank_from(&rt, &mut device, 37, 14);
-    Ok(())
 }
 
 #[test]
-fn a_log_holds_216000_inputs(rt: HostRuntime) -> Result<(), Fail> {
+fn a_log_holds_216000_inputs(rt: HostRuntime) {
     let mut store = begun(&rt, rt.alloc());
-    let piece = frames(rt.alloc(), 3200)?;
+    let piece = frames(rt.alloc(), 3200).or_stop(&rt);
     for _ in 0..67 {
         append(&rt, &mut store, &piece);
     }
     same!(rt; refused(&rt, &mut store, &piece), LogFault::LogFull);
-    append(&rt, &mut store, &frames(rt.alloc(), 1600)?);
+    append(&rt, &mut store, &frames(rt.alloc(), 1600).or_stop(&rt));
     same!(rt; refused(&rt, &mut store, &[frame(0)]), LogFault::LogFull);
     let mut device = store.into_device();
     has_bytes(
@@ -297,53 +292,50 @@ fn a_log_holds_216000_inputs(rt: HostRuntime) -> Result<(), Fail> {
         b"GBL2\x00\x00\x01\x00\x00\x00\xc0\x4b\x03\x00",
     );
     same!(rt; inputs(&rt, rt.alloc(), device), 216_000);
-    Ok(())
 }
 
 /// The device of a log of 40 inputs, whose sync of 80 more in two sectors has failed.
-fn cut(rt: &impl Abort, alloc: Global) -> Result<MemoryDevice, Fail> {
-    let mut device = MemoryDevice::new(alloc, 70, 100)?;
+fn cut(rt: &impl Abort, alloc: Global) -> MemoryDevice {
+    let mut device = MemoryDevice::new(alloc, 70, 100).or_stop(rt);
     // Opening takes three calls, beginning 36, the first append two, the second two writes and this sync.
     device.fail_at(44, false);
     let mut store = must_begin(rt, opened(rt, alloc, device), 5, b"blob");
-    append_alternating(rt, alloc, &mut store, 0, 40)?;
-    let more = alternating_from(alloc, 40, 120)?;
+    append_alternating(rt, alloc, &mut store, 0, 40);
+    let more = alternating_from(alloc, 40, 120).or_stop(rt);
     same!(rt; refused(rt, &mut store, &more), LogFault::Device);
     same!(rt; refused(rt, &mut store, &more), LogFault::Broken);
     same!(rt; store.replace(5, b"blob"), Err(LogFault::Broken));
-    Ok(store.into_device())
+    store.into_device()
 }
 
 /// An image of that device, opened.
-fn image_of_cut(rt: &impl Abort, alloc: Global, kept: &[bool]) -> Result<MemoryDevice, Fail> {
-    Ok(cut(rt, alloc)?.image(alloc, kept)?)
+fn image_of_cut(rt: &impl Abort, alloc: Global, kept: &[bool]) -> MemoryDevice {
+    cut(rt, alloc).image(alloc, kept).or_stop(rt)
 }
 
 #[test]
-fn a_cut_leaves_a_prefix(rt: HostRuntime) -> Result<(), Fail> {
+fn a_cut_leaves_a_prefix(rt: HostRuntime) {
     for (kept, want) in [
         ([].as_slice(), 40),
         ([false, true].as_slice(), 40),
         ([true, false].as_slice(), 84),
         ([true, true].as_slice(), 120),
     ] {
-        let image = image_of_cut(&rt, rt.alloc(), kept)?;
+        let image = image_of_cut(&rt, rt.alloc(), kept);
         same!(rt; inputs(&rt, rt.alloc(), image), want);
     }
-    Ok(())
 }
 
 /// What a lost append left behind never joins a later one: the generation that follows stands in the other area.
 #[test]
-fn what_was_lost_stays_lost(rt: HostRuntime) -> Result<(), Fail> {
-    let image = image_of_cut(&rt, rt.alloc(), &[false, true])?;
+fn what_was_lost_stays_lost(rt: HostRuntime) {
+    let image = image_of_cut(&rt, rt.alloc(), &[false, true]);
     let mut store = must_begin(&rt, opened(&rt, rt.alloc(), image), 45, b"blob");
-    append_alternating(&rt, rt.alloc(), &mut store, 0, 84)?;
+    append_alternating(&rt, rt.alloc(), &mut store, 0, 84);
     let opened = opened(&rt, rt.alloc(), store.into_device());
     same!(rt; opened.generation(), 2);
     same!(rt; opened.entries().len(), 84);
     has_content(&rt, &opened, 45, b"blob");
-    Ok(())
 }
 
 /// What a cut may leave of a call.
@@ -354,32 +346,27 @@ struct Outcome {
 }
 
 /// The image that a cut leaves where of the unsynced writes none, all or every second is kept, opened.
-fn image_after(
-    rt: &impl Abort,
-    alloc: Global,
-    device: &MemoryDevice,
-    keeps: [bool; 2],
-) -> Result<Outcome, Fail> {
+fn image_after(rt: &impl Abort, alloc: Global, device: &MemoryDevice, keeps: [bool; 2]) -> Outcome {
     let mut kept = Vec::new(alloc);
     for _ in 0..20 {
-        kept.push(keeps[0])?;
-        kept.push(keeps[1])?;
+        kept.push(keeps[0]).or_stop(rt);
+        kept.push(keeps[1]).or_stop(rt);
     }
-    let opened = opened(rt, alloc, device.image(alloc, &kept)?);
+    let opened = opened(rt, alloc, device.image(alloc, &kept).or_stop(rt));
     let generation = opened.generation();
     if generation > 0 {
         holds!(rt; opened.blob().is_some());
     }
     let device = opened.into_device();
-    Ok(Outcome {
+    Outcome {
         generation,
         inputs: inputs(rt, alloc, device),
-    })
+    }
 }
 
 /// Three inputs are saved; then the power goes in the call behind `k` more calls of an append of 120 or of a replace.
-fn cut_after(rt: &impl Abort, alloc: Global, k: u64, replaces: bool) -> Result<MemoryDevice, Fail> {
-    let mut device = MemoryDevice::new(alloc, 70, 100)?;
+fn cut_after(rt: &impl Abort, alloc: Global, k: u64, replaces: bool) -> MemoryDevice {
+    let mut device = MemoryDevice::new(alloc, 70, 100).or_stop(rt);
     // Opening takes three calls, beginning 36, the first append two.
     device.fuse(k.saturating_add(41));
     let mut store = must_begin(rt, opened(rt, alloc, device), 5, b"blob");
@@ -387,19 +374,19 @@ fn cut_after(rt: &impl Abort, alloc: Global, k: u64, replaces: bool) -> Result<M
     if replaces {
         let _ = store.replace(8, b"later");
     } else {
-        let more = alternating_from(alloc, 0, 120)?;
+        let more = alternating_from(alloc, 0, 120).or_stop(rt);
         assert!(rt; are_inputs(&more));
         let _ = store.append(&more);
     }
-    Ok(store.into_device())
+    store.into_device()
 }
 
 #[test]
-fn an_append_cut_anywhere_leaves_a_prefix(rt: HostRuntime) -> Result<(), Fail> {
+fn an_append_cut_anywhere_leaves_a_prefix(rt: HostRuntime) {
     for k in 0..4 {
         for keeps in [[false, false], [true, true], [true, false], [false, true]] {
-            let device = cut_after(&rt, rt.alloc(), k, false)?;
-            let left = image_after(&rt, rt.alloc(), &device, keeps)?;
+            let device = cut_after(&rt, rt.alloc(), k, false);
+            let left = image_after(&rt, rt.alloc(), &device, keeps);
             same!(rt; left.generation, 1);
             // Of the two sectors none, the first, or both count; after the sync all does.
             holds!(rt; left.inputs == 3 || left.inputs == 84 || left.inputs == 123);
@@ -408,15 +395,14 @@ fn an_append_cut_anywhere_leaves_a_prefix(rt: HostRuntime) -> Result<(), Fail> {
             }
         }
     }
-    Ok(())
 }
 
 #[test]
-fn a_replace_cut_anywhere_leaves_old_or_new(rt: HostRuntime) -> Result<(), Fail> {
+fn a_replace_cut_anywhere_leaves_old_or_new(rt: HostRuntime) {
     for k in 0..37 {
         for keeps in [[false, false], [true, true], [true, false], [false, true]] {
-            let device = cut_after(&rt, rt.alloc(), k, true)?;
-            let left = image_after(&rt, rt.alloc(), &device, keeps)?;
+            let device = cut_after(&rt, rt.alloc(), k, true);
+            let left = image_after(&rt, rt.alloc(), &device, keeps);
             if left.generation == 1 {
                 same!(rt; left.inputs, 3);
                 holds!(rt; k < 36);
@@ -427,14 +413,13 @@ fn a_replace_cut_anywhere_leaves_old_or_new(rt: HostRuntime) -> Result<(), Fail>
             }
         }
     }
-    Ok(())
 }
 
 #[test]
-fn a_begin_cut_anywhere_leaves_nothing_or_the_new(rt: HostRuntime) -> Result<(), Fail> {
+fn a_begin_cut_anywhere_leaves_nothing_or_the_new(rt: HostRuntime) {
     for k in 0..37 {
         for keeps in [[false, false], [true, true], [true, false], [false, true]] {
-            let mut device = MemoryDevice::new(rt.alloc(), 70, 100)?;
+            let mut device = MemoryDevice::new(rt.alloc(), 70, 100).or_stop(&rt);
             device.fuse(k + 3);
             let opened = opened(&rt, rt.alloc(), device);
             let device = match begin(&rt, opened, 5, b"blob") {
@@ -444,14 +429,13 @@ fn a_begin_cut_anywhere_leaves_nothing_or_the_new(rt: HostRuntime) -> Result<(),
                     refused.device
                 }
             };
-            let left = image_after(&rt, rt.alloc(), &device, keeps)?;
+            let left = image_after(&rt, rt.alloc(), &device, keeps);
             same!(rt; left.inputs, 0);
             holds!(rt; left.generation < 2);
             holds!(rt; k < 36 || left.generation == 1);
             holds!(rt; k > 33 || left.generation == 0);
         }
     }
-    Ok(())
 }
 
 /// A root in its slot: its version, generation, the id 7.., this base and a blob of this length.
@@ -473,8 +457,8 @@ fn put_root(
 }
 
 #[test]
-fn version_one_is_read(rt: HostRuntime) -> Result<(), Fail> {
-    let mut device = MemoryDevice::new(rt.alloc(), 70, 100)?;
+fn version_one_is_read(rt: HostRuntime) {
+    let mut device = MemoryDevice::new(rt.alloc(), 70, 100).or_stop(&rt);
     put_root(&rt, &mut device, 1, 3, 5, 4);
     put(
         &rt,
@@ -502,13 +486,12 @@ fn version_one_is_read(rt: HostRuntime) -> Result<(), Fail> {
     let second = opened(&rt, rt.alloc(), device);
     has_content(&rt, &second, 7, b"next");
     holds!(rt; second.entries().is_empty());
-    Ok(())
 }
 
 /// A frame of version 1 with other bytes behind its buttons is read as a run of no frames, which is no input.
 #[test]
-fn an_entry_of_version_one_that_is_no_input(rt: HostRuntime) -> Result<(), Fail> {
-    let mut device = MemoryDevice::new(rt.alloc(), 70, 100)?;
+fn an_entry_of_version_one_that_is_no_input(rt: HostRuntime) {
+    let mut device = MemoryDevice::new(rt.alloc(), 70, 100).or_stop(&rt);
     put_root(&rt, &mut device, 1, 3, 5, 0);
     put(
         &rt,
@@ -521,13 +504,12 @@ fn an_entry_of_version_one_that_is_no_input(rt: HostRuntime) -> Result<(), Fail>
     same!(rt; opened.entries().len(), 2);
     has_entry(&rt, &opened, 0, [0, 9, 0, 0, 0, 0]);
     has_entry(&rt, &opened, 1, [7, 1, 2, 3, 4, 0]);
-    Ok(())
 }
 
 /// A sector of the other version is not valid, and nothing is read behind a sector that is not full.
 #[test]
-fn what_ends_a_log(rt: HostRuntime) -> Result<(), Fail> {
-    let mut device = MemoryDevice::new(rt.alloc(), 70, 100)?;
+fn what_ends_a_log(rt: HostRuntime) {
+    let mut device = MemoryDevice::new(rt.alloc(), 70, 100).or_stop(&rt);
     put_root(&rt, &mut device, 1, 3, 5, 0);
     put(
         &rt,
@@ -555,12 +537,11 @@ fn what_ends_a_log(rt: HostRuntime) -> Result<(), Fail> {
     );
     let second = opened(&rt, rt.alloc(), device);
     same!(rt; second.entries().len(), 1);
-    Ok(())
 }
 
 #[test]
-fn what_is_damaged(rt: HostRuntime) -> Result<(), Fail> {
-    let mut device = MemoryDevice::new(rt.alloc(), 188, 100)?;
+fn what_is_damaged(rt: HostRuntime) {
+    let mut device = MemoryDevice::new(rt.alloc(), 188, 100).or_stop(&rt);
     put_root(&rt, &mut device, 2, 1, 5, u32::MAX);
     let first = opened(&rt, rt.alloc(), device);
     same!(rt;
@@ -589,23 +570,21 @@ fn what_is_damaged(rt: HostRuntime) -> Result<(), Fail> {
         Found::Damaged(header(u64::MAX, 4), Part::Count)
     );
     same!(rt; third.entries().len(), 1);
-    Ok(())
 }
 
 #[test]
-fn generations_are_used_up(rt: HostRuntime) -> Result<(), Fail> {
-    let mut device = MemoryDevice::new(rt.alloc(), 70, 100)?;
+fn generations_are_used_up(rt: HostRuntime) {
+    let mut device = MemoryDevice::new(rt.alloc(), 70, 100).or_stop(&rt);
     put_root(&rt, &mut device, 2, u64::MAX, 5, 4);
     same!(rt; device.calls(), 6);
     let opened = opened(&rt, rt.alloc(), device);
     same!(rt; opened.generation(), u64::MAX);
     // One sync was made, and nothing was written.
     same!(rt; refusal(&rt, opened, 5, b"blob"), (LogFault::Worn, 7));
-    Ok(())
 }
 
 #[test]
-fn a_store_is_replaced(rt: HostRuntime) -> Result<(), Fail> {
+fn a_store_is_replaced(rt: HostRuntime) {
     let mut store = begun(&rt, rt.alloc());
     append(&rt, &mut store, &[frame(1), frame(1)]);
     same!(rt;
@@ -619,35 +598,32 @@ fn a_store_is_replaced(rt: HostRuntime) -> Result<(), Fail> {
     has_content(&rt, &opened, 7, b"later");
     same!(rt; opened.entries().len(), 1);
     has_entry(&rt, &opened, 0, [1, 1, 0, 0, 0, 0]);
-    Ok(())
 }
 
 #[test]
-fn a_long_blob_is_not_kept(rt: HostRuntime) -> Result<(), Fail> {
+fn a_long_blob_is_not_kept(rt: HostRuntime) {
     let store = begun(&rt, rt.alloc());
     let Ok(opened) = open_log(rt.alloc(), store.into_device(), 3) else {
         panic!(rt; "not opened");
     };
     holds!(rt; opened.blob().is_none());
     same!(rt; opened.found(), Found::Intact(header(5, 4)));
-    Ok(())
 }
 
 #[test]
-fn a_failed_read_is_a_device_fault(rt: HostRuntime) -> Result<(), Fail> {
+fn a_failed_read_is_a_device_fault(rt: HostRuntime) {
     for call in 1..4 {
-        let mut device = MemoryDevice::new(rt.alloc(), 70, 9)?;
+        let mut device = MemoryDevice::new(rt.alloc(), 70, 9).or_stop(&rt);
         device.fail_at(call, false);
         match open_log(rt.alloc(), device, 16) {
             Ok(_) => panic!(rt; "opened"),
             Err(refused) => same!(rt; refused.why, LogFault::Device),
         }
     }
-    Ok(())
 }
 
 #[test]
-fn faults_have_texts(rt: HostRuntime) -> Result<(), Fail> {
+fn faults_have_texts(rt: HostRuntime) {
     let alloc = rt.alloc();
     for (fault, text) in [
         (LogFault::Memory, "no memory"),
@@ -660,7 +636,6 @@ fn faults_have_texts(rt: HostRuntime) -> Result<(), Fail> {
         (LogFault::LogFull, "log full"),
         (LogFault::Broken, "broken, open it again"),
     ] {
-        same!(rt; format!(in alloc; "{}", fault)?.as_str(), text);
+        same!(rt; format!(in alloc; "{}", fault).or_stop(&rt).as_str(), text);
     }
-    Ok(())
 }

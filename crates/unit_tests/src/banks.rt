@@ -1,4 +1,4 @@
-use crate::asserting::{holds, same};
+use crate::asserting::{OrStop, holds, same};
 use bank_controllers::{Banks, BanksState, ClockRegisters};
 use cartridge::{Cartridge, Controller};
 use std::alloc::Global;
@@ -59,20 +59,19 @@ struct Shows {
     high: u16,
 }
 
-fn select(rt: &impl Abort, alloc: Global, case: &Shows) -> Result<(), Fail> {
-    let mut banks = inserted(alloc, case.kind, case.rom_banks, 0)?;
+fn select(rt: &impl Abort, alloc: Global, case: &Shows) {
+    let mut banks = inserted(alloc, case.kind, case.rom_banks, 0).or_stop(rt);
     for (address, value) in case.writes {
         write(&mut banks, *address, *value);
     }
     same!(rt; bank_at(&banks, 0x0000), case.low);
     same!(rt; bank_at(&banks, 0x4000), case.high);
-    Ok(())
 }
 
 /// Pan Docs, "MBC1" ("2000-3FFF ROM Bank Number", "6000-7FFF Banking Mode Select"), "MBC2" ("0000-3FFF RAM
 /// Enable, ROM Bank Number"), "MBC3" ("2000-3FFF ROM Bank Number") and "MBC5" ("2000-2FFF", "3000-3FFF").
 #[test]
-fn rom_banks(rt: HostRuntime) -> Result<(), Fail> {
+fn rom_banks(rt: HostRuntime) {
     let cases = [
         Shows {
             kind: 0x00,
@@ -202,15 +201,14 @@ fn rom_banks(rt: HostRuntime) -> Result<(), Fail> {
         },
     ];
     for case in &cases {
-        select(&rt, rt.alloc(), case)?;
+        select(&rt, rt.alloc(), case);
     }
-    Ok(())
 }
 
 /// Pan Docs, "The Cartridge Header", "0149 - RAM size", and the RAM registers of each controller's page: with so
 /// many banks of 8 KiB, bank n is also bank n plus their number.
 #[test]
-fn ram_banks(rt: HostRuntime) -> Result<(), Fail> {
+fn ram_banks(rt: HostRuntime) {
     for (kind, ram_code, present) in [
         (0x09, 0x02, 1),
         (0x03, 0x02, 1),
@@ -221,7 +219,7 @@ fn ram_banks(rt: HostRuntime) -> Result<(), Fail> {
         (0x1E, 0x03, 4),
         (0x1E, 0x05, 8),
     ] {
-        let mut banks = inserted(rt.alloc(), kind, 2, ram_code)?;
+        let mut banks = inserted(rt.alloc(), kind, 2, ram_code).or_stop(&rt);
         same!(rt; stored(&banks), 0x2000 * usize::from(present));
         same!(rt; read(&banks, 0xA000), if kind == 0x09 { 0x00 } else { 0xFF });
         write(&mut banks, 0x1FFF, 0x1A);
@@ -247,35 +245,33 @@ fn ram_banks(rt: HostRuntime) -> Result<(), Fail> {
         write(&mut banks, 0x0000, 0x0B);
         same!(rt; read(&banks, 0xBFFF) == 0xFF, kind != 0x09);
     }
-    Ok(())
 }
 
 /// MBC1 in mode 0 shows RAM bank 0, whatever its upper bits are; MBC3 answers nothing at D to F.
 #[test]
-fn ram_that_is_not_shown(rt: HostRuntime) -> Result<(), Fail> {
-    let mut mbc1 = inserted(rt.alloc(), 0x03, 2, 0x03)?;
+fn ram_that_is_not_shown(rt: HostRuntime) {
+    let mut mbc1 = inserted(rt.alloc(), 0x03, 2, 0x03).or_stop(&rt);
     write(&mut mbc1, 0x0000, 0x0A);
     write(&mut mbc1, 0x4000, 0x02);
     write(&mut mbc1, 0xA123, 0x55);
     same!(rt; stored(&mbc1), 0x8000);
     same!(rt; stored_at(&mbc1, 0x0123), Some(0x55));
-    let mut mbc3 = inserted(rt.alloc(), 0x12, 2, 0x03)?;
+    let mut mbc3 = inserted(rt.alloc(), 0x12, 2, 0x03).or_stop(&rt);
     write(&mut mbc3, 0x0000, 0x0A);
     for select in [0x08, 0x0C, 0x0D, 0x0F] {
         write(&mut mbc3, 0x4000, select);
         write(&mut mbc3, 0xA000, 0x55);
         same!(rt; read(&mbc3, 0xA000), 0xFF);
     }
-    let mut bare = inserted(rt.alloc(), 0x08, 2, 0x00)?;
+    let mut bare = inserted(rt.alloc(), 0x08, 2, 0x00).or_stop(&rt);
     write(&mut bare, 0xA000, 0x55);
     same!(rt; read(&bare, 0xA000), 0xFF);
-    Ok(())
 }
 
 /// Pan Docs, "MBC2": 512 half bytes, and bit 8 of the address tells the two registers apart.
 #[test]
-fn half_bytes(rt: HostRuntime) -> Result<(), Fail> {
-    let mut banks = inserted(rt.alloc(), 0x06, 16, 0x00)?;
+fn half_bytes(rt: HostRuntime) {
+    let mut banks = inserted(rt.alloc(), 0x06, 16, 0x00).or_stop(&rt);
     write(&mut banks, 0x0000, 0x0A);
     write(&mut banks, 0xA000, 0x35);
     same!(rt; read(&banks, 0xA000), 0xF5);
@@ -288,7 +284,6 @@ fn half_bytes(rt: HostRuntime) -> Result<(), Fail> {
     same!(rt; read(&banks, 0xA000), 0xF5);
     write(&mut banks, 0x3EFF, 0x00);
     same!(rt; read(&banks, 0xA000), 0xFF);
-    Ok(())
 }
 
 /// An MBC3 with clock, whose clock registers are set to these and enabled.
@@ -315,7 +310,7 @@ fn latched(banks: &mut Banks) -> [u8; 5] {
 }
 
 #[test]
-fn seconds(rt: HostRuntime) -> Result<(), Fail> {
+fn seconds(rt: HostRuntime) {
     for (registers, seconds, after) in [
         ([59, 59, 23, 0xFF, 0x01], 1, [0, 0, 0, 0, 0x80]),
         ([59, 59, 23, 0xFF, 0x41], 1, [59, 59, 23, 0xFF, 0x41]),
@@ -325,43 +320,41 @@ fn seconds(rt: HostRuntime) -> Result<(), Fail> {
         ([0, 0, 0, 0, 0x80], 86400, [0, 0, 0, 1, 0x80]),
         ([0, 0, 0, 0, 0], 4294967295, [0x0F, 0x1C, 0x06, 0x2E, 0x80]),
     ] {
-        let mut banks = clock(rt.alloc(), registers)?;
+        let mut banks = clock(rt.alloc(), registers).or_stop(&rt);
         same!(rt; latched(&mut banks), registers);
         banks.pass_seconds(seconds);
         same!(rt; latched(&mut banks), after);
     }
-    Ok(())
 }
 
 /// Jumps and single seconds agree, from registers out of range too.
 #[test]
-fn seconds_at_once(rt: HostRuntime) -> Result<(), Fail> {
+fn seconds_at_once(rt: HostRuntime) {
     for registers in [
         [58, 59, 23, 0xFF, 1],
         [61, 62, 30, 0xFF, 0x81],
         [0, 63, 25, 7, 0],
     ] {
-        let mut at_once = clock(rt.alloc(), registers)?;
-        let mut one_by_one = clock(rt.alloc(), registers)?;
+        let mut at_once = clock(rt.alloc(), registers).or_stop(&rt);
+        let mut one_by_one = clock(rt.alloc(), registers).or_stop(&rt);
         at_once.pass_seconds(20000);
         for _ in 0..20000 {
             one_by_one.pass_seconds(1);
         }
         same!(rt; at_once.state(), one_by_one.state());
     }
-    Ok(())
 }
 
 /// Pan Docs, "MBC3", "6000-7FFF - Latch Clock Data".
 #[test]
-fn the_latch_is_armed_by_zero(rt: HostRuntime) -> Result<(), Fail> {
+fn the_latch_is_armed_by_zero(rt: HostRuntime) {
     for (writes, copies) in [
         ([0x00, 0x01], true),
         ([0x01, 0x01], false),
         ([0x00, 0x02], false),
         ([0x02, 0x01], false),
     ] {
-        let mut banks = clock(rt.alloc(), [10, 0, 0, 0, 0])?;
+        let mut banks = clock(rt.alloc(), [10, 0, 0, 0, 0]).or_stop(&rt);
         banks.pass_seconds(5);
         for value in writes {
             write(&mut banks, 0x7FFF, value);
@@ -369,20 +362,18 @@ fn the_latch_is_armed_by_zero(rt: HostRuntime) -> Result<(), Fail> {
         write(&mut banks, 0x4000, 0x08);
         same!(rt; read(&banks, 0xA000), if copies { 15 } else { 10 });
     }
-    Ok(())
 }
 
 #[test]
-fn without_a_clock_no_time_passes(rt: HostRuntime) -> Result<(), Fail> {
-    let mut banks = inserted(rt.alloc(), 0x13, 2, 0x03)?;
+fn without_a_clock_no_time_passes(rt: HostRuntime) {
+    let mut banks = inserted(rt.alloc(), 0x13, 2, 0x03).or_stop(&rt);
     let before = banks.state();
     banks.pass_seconds(4294967295);
     same!(rt; banks.state(), before);
-    Ok(())
 }
 
 #[test]
-fn begins_as_at_power_on(rt: HostRuntime) -> Result<(), Fail> {
+fn begins_as_at_power_on(rt: HostRuntime) {
     for (kind, controller, rom_bank) in [
         (0x08, Controller::Plain, 0),
         (0x02, Controller::Mbc1, 1),
@@ -391,7 +382,7 @@ fn begins_as_at_power_on(rt: HostRuntime) -> Result<(), Fail> {
         (0x0F, Controller::Mbc3Clock, 1),
         (0x1D, Controller::Mbc5, 1),
     ] {
-        let banks = inserted(rt.alloc(), kind, 2, 0x02)?;
+        let banks = inserted(rt.alloc(), kind, 2, 0x02).or_stop(&rt);
         let zero = ClockRegisters {
             seconds: 0,
             minutes: 0,
@@ -414,12 +405,11 @@ fn begins_as_at_power_on(rt: HostRuntime) -> Result<(), Fail> {
         same!(rt; read(&banks, 0xC000), 0xFF);
         same!(rt; read(&banks, 0xFFFF), 0xFF);
     }
-    Ok(())
 }
 
 #[test]
-fn restores_registers_and_ram(rt: HostRuntime) -> Result<(), Fail> {
-    let mut banks = inserted(rt.alloc(), 0x1B, 64, 0x03)?;
+fn restores_registers_and_ram(rt: HostRuntime) {
+    let mut banks = inserted(rt.alloc(), 0x1B, 64, 0x03).or_stop(&rt);
     write(&mut banks, 0x0000, 0x0A);
     write(&mut banks, 0x2000, 0x2A);
     write(&mut banks, 0x4000, 0x03);
@@ -437,10 +427,9 @@ fn restores_registers_and_ram(rt: HostRuntime) -> Result<(), Fail> {
     banks.restore(&other);
     same!(rt; banks.state(), other);
     same!(rt; bank_at(&banks, 0x4000), 0x15);
-    let bytes = repeated(rt.alloc(), 0x77, stored(&banks))?;
+    let bytes = repeated(rt.alloc(), 0x77, stored(&banks)).or_stop(&rt);
     fill(&rt, &mut banks, &bytes);
     same!(rt; read(&banks, 0xB234), 0x77);
-    Ok(())
 }
 
 fn repeated(alloc: Global, value: u8, count: usize) -> Result<Vec<u8>, Fail> {

@@ -1,4 +1,4 @@
-use crate::asserting::{holds, same};
+use crate::asserting::{OrStop, holds, same};
 use cartridge::{Cartridge, Controller};
 use std::alloc::Global;
 use std::process::Abort;
@@ -44,8 +44,8 @@ fn has(
 }
 
 #[test]
-fn reads_an_image_of_zeros(rt: HostRuntime) -> Result<(), Fail> {
-    let cartridge = Cartridge::read(image(rt.alloc(), 32768, 0, 0)?)?;
+fn reads_an_image_of_zeros(rt: HostRuntime) {
+    let cartridge = Cartridge::read(image(rt.alloc(), 32768, 0, 0).or_stop(&rt)).or_stop(&rt);
     let wanted = [32768, 0, 0, 0, 2, 0, 0, 0, 0xE7];
     has(&rt, &cartridge, wanted, Controller::Plain, b"");
     // `head -c 32768 /dev/zero | sha256sum`
@@ -55,7 +55,6 @@ fn reads_an_image_of_zeros(rt: HostRuntime) -> Result<(), Fail> {
         0x04, 0x79,
     ];
     same!(rt; digest_of(&cartridge), digest);
-    Ok(())
 }
 
 /// `digest` behind a function without a contract: a proof would follow SHA-256.
@@ -64,50 +63,40 @@ fn digest_of(cartridge: &Cartridge) -> [u8; 32] {
 }
 
 #[test]
-fn reads_a_header(rt: HostRuntime) -> Result<(), Fail> {
-    let mut bytes = image(rt.alloc(), 65536, 0x1C, 0x03)?;
+fn reads_a_header(rt: HostRuntime) {
+    let mut bytes = image(rt.alloc(), 65536, 0x1C, 0x03).or_stop(&rt);
     assert_eq!(rt; bytes.len(), 65536);
     bytes[0x134..0x13A].copy_from_slice(b"TETRIS");
     bytes[0x148] = 0x01;
     bytes[0x14D] = 0x99;
-    let cartridge = Cartridge::read(bytes)?;
+    let cartridge = Cartridge::read(bytes).or_stop(&rt);
     let wanted = [65536, 0x1C, 1, 0x01, 4, 0x03, 32768, 0x99, 0xEC];
     has(&rt, &cartridge, wanted, Controller::Mbc5, b"TETRIS");
-    Ok(())
 }
 
 #[test]
-fn a_title_of_sixteen_bytes_has_no_end(rt: HostRuntime) -> Result<(), Fail> {
-    let mut bytes = image(rt.alloc(), 32768, 0, 0)?;
+fn a_title_of_sixteen_bytes_has_no_end(rt: HostRuntime) {
+    let mut bytes = image(rt.alloc(), 32768, 0, 0).or_stop(&rt);
     assert_eq!(rt; bytes.len(), 32768);
     bytes[0x134..0x144].copy_from_slice(b"ABCDEFGHIJKLMNOP");
-    let cartridge = Cartridge::read(bytes)?;
+    let cartridge = Cartridge::read(bytes).or_stop(&rt);
     holds!(rt; cartridge.title() == b"ABCDEFGHIJKLMNOP".as_slice());
-    Ok(())
 }
 
 /// The outcome of reading an image of zeros with this length, type and RAM code.
-fn refused(
-    rt: &impl Abort,
-    alloc: Global,
-    length: usize,
-    kind: u8,
-    ram_code: u8,
-    text: &str,
-) -> Result<(), Fail> {
-    let said = match Cartridge::read(image(alloc, length, kind, ram_code)?) {
-        Ok(_) => format!(in alloc; "accepted")?,
-        Err(why) => format!(in alloc; "{why}")?,
+fn refused(rt: &impl Abort, alloc: Global, length: usize, kind: u8, ram_code: u8, text: &str) {
+    let said = match Cartridge::read(image(alloc, length, kind, ram_code).or_stop(rt)) {
+        Ok(_) => format!(in alloc; "accepted").or_stop(rt),
+        Err(why) => format!(in alloc; "{why}").or_stop(rt),
     };
     holds!(rt;
         said.as_str() == text,
         "length {length} kind {kind} code {ram_code}: {said}"
     );
-    Ok(())
 }
 
 #[test]
-fn names_the_first_broken_rule(rt: HostRuntime) -> Result<(), Fail> {
+fn names_the_first_broken_rule(rt: HostRuntime) {
     for (length, kind, ram_code, text) in [
         (0, 0x00, 0x00, "rom length 0"),
         (32767, 0x00, 0x00, "rom length 32767"),
@@ -124,13 +113,12 @@ fn names_the_first_broken_rule(rt: HostRuntime) -> Result<(), Fail> {
         (524288, 0x06, 0x00, "too many banks 32"),
         (4194304, 0x13, 0x03, "too many banks 256"),
     ] {
-        refused(&rt, rt.alloc(), length, kind, ram_code, text)?;
+        refused(&rt, rt.alloc(), length, kind, ram_code, text);
     }
-    Ok(())
 }
 
 #[test]
-fn gives_each_type_its_controller_and_ram(rt: HostRuntime) -> Result<(), Fail> {
+fn gives_each_type_its_controller_and_ram(rt: HostRuntime) {
     for (length, kind, ram_code, controller, ram) in [
         (32768, 0x08, 0x02, Controller::Plain, 8192),
         (2097152, 0x03, 0x03, Controller::Mbc1, 32768),
@@ -140,10 +128,11 @@ fn gives_each_type_its_controller_and_ram(rt: HostRuntime) -> Result<(), Fail> {
         (65536, 0x12, 0x03, Controller::Mbc3, 32768),
         (8388608, 0x1B, 0x04, Controller::Mbc5, 131072),
     ] {
-        let cartridge = Cartridge::read(image(rt.alloc(), length, kind, ram_code)?)?;
+        let cartridge = Cartridge::read(image(rt.alloc(), length, kind, ram_code).or_stop(
+            &rt,
+        )).or_stop(&rt);
         same!(rt; cartridge.controller(), controller);
         same!(rt; cartridge.ram_length(), ram);
         same!(rt; usize::from(cartridge.banks()), length / 16384);
     }
-    Ok(())
 }

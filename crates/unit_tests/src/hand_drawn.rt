@@ -1,5 +1,5 @@
 //! Rows of pixels drawn by hand from Pan Docs ("Tile Data", "OAM", "LCD Control", "Scrolling", "Window"), each by both bodies.
-use crate::asserting::holds;
+use crate::asserting::{OrStop, holds};
 use picture_lines::{LineRegisters, TileMemory};
 use std::alloc::Global;
 use std::test::Fail;
@@ -717,33 +717,29 @@ static WINDOW_IS_PLACED: [Drawn; 20] = [
 ];
 
 #[test]
-fn objects_are_turned(rt: HostRuntime) -> Result<(), Fail> {
+fn objects_are_turned(rt: HostRuntime) {
     for drawn in OBJECTS_ARE_TURNED.as_slice() {
-        holds!(rt; is_drawn(rt.alloc(), drawn)?, "{}", drawn.what);
+        holds!(rt; is_drawn(rt.alloc(), drawn).or_stop(&rt), "{}", drawn.what);
     }
-    Ok(())
 }
 
 #[test]
-fn objects_are_chosen(rt: HostRuntime) -> Result<(), Fail> {
+fn objects_are_chosen(rt: HostRuntime) {
     for drawn in OBJECTS_ARE_CHOSEN.as_slice() {
-        holds!(rt; is_drawn(rt.alloc(), drawn)?, "{}", drawn.what);
+        holds!(rt; is_drawn(rt.alloc(), drawn).or_stop(&rt), "{}", drawn.what);
     }
-    Ok(())
 }
 
 #[test]
-fn background_is_found(rt: HostRuntime) -> Result<(), Fail> {
+fn background_is_found(rt: HostRuntime) {
     for drawn in BACKGROUND_IS_FOUND.as_slice() {
-        holds!(rt; is_drawn(rt.alloc(), drawn)?, "{}", drawn.what);
+        holds!(rt; is_drawn(rt.alloc(), drawn).or_stop(&rt), "{}", drawn.what);
     }
-    Ok(())
 }
 
 #[test]
-fn window_is_placed(rt: HostRuntime) -> Result<(), Fail> {
+fn window_is_placed(rt: HostRuntime) {
     for drawn in WINDOW_IS_PLACED.as_slice() {
-        holds!(rt; is_drawn(rt.alloc(), drawn)?, "{}", drawn.what);
+        holds!(rt; is_drawn(rt.alloc(), drawn).or_stop(&rt), "{}", drawn.what);
     }
-    Ok(())
 }

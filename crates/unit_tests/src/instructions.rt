@@ -1,8 +1,7 @@
 //! Texts and lengths that Pan Docs and the table of instructions give.
-use crate::asserting::{holds, same};
+use crate::asserting::{OrStop, holds, same};
 use opcode_table::{decode, list_line, write_text};
 use std::process::Abort;
-use std::test::Fail;
 
 #[derive(Clone, Copy)]
 struct Row {
@@ -161,7 +160,7 @@ fn the_matrix_has_256_opcodes(rt: HostRuntime) {
 static REGISTERS: [&str; 8] = ["B", "C", "D", "E", "H", "L", "(HL)", "A"];
 
 #[test]
-fn the_cb_opcodes_go_by_registers(rt: HostRuntime) -> Result<(), Fail> {
+fn the_cb_opcodes_go_by_registers(rt: HostRuntime) {
     let mut opcode = 0u8;
     let mut count = 0u32;
     let rotations = [
@@ -182,7 +181,7 @@ fn the_cb_opcodes_go_by_registers(rt: HostRuntime) -> Result<(), Fail> {
                 } else {
                     cycles.0
                 };
-                let text = format!(in rt.alloc(); "{name}{operand}{register}")?;
+                let text = format!(in rt.alloc(); "{name}{operand}{register}").or_stop(&rt);
                 let decoded = decode([0xcb, opcode, 0]);
                 let same = write_text(&decoded.instr).as_str() == text.as_str();
                 holds!(rt; same, "{text}");
@@ -196,5 +195,4 @@ fn the_cb_opcodes_go_by_registers(rt: HostRuntime) -> Result<(), Fail> {
         }
     }
     same!(rt; count, 256);
-    Ok(())
 }

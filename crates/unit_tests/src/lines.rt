@@ -1,6 +1,6 @@
 ghost use Rattle.std.specs.Prelude.{◌≡◌};
 
-use crate::asserting::holds;
+use crate::asserting::{OrStop, holds};
 use picture_lines::{LineRegisters, TileMemory};
 use std::alloc::Global;
 use std::test::Fail;
@@ -53,7 +53,7 @@ fn tile_1_in_the_upper_map() -> [u8; 8192] {
 }
 
 #[test]
-fn ten_objects_by_oam_order(rt: HostRuntime) -> Result<(), Fail> {
+fn ten_objects_by_oam_order(rt: HostRuntime) {
     let vram = tile_1_in_the_upper_map();
     for (is_reversed, end) in [(false, 72), (true, 80)] {
         let mut oam = [0; 160];
@@ -63,26 +63,24 @@ fn ten_objects_by_oam_order(rt: HostRuntime) -> Result<(), Fail> {
             oam[4 * index + 1] = (8 * place) as u8;
             oam[4 * index + 2] = 1;
         }
-        let line = line_of(rt.alloc(), &vram, &oam, line_0(0x93, 0))?;
+        let line = line_of(rt.alloc(), &vram, &oam, line_0(0x93, 0)).or_stop(&rt);
         let mut want = [0; 160];
         for column in 0..160 {
             want[column] = if column < end { 3 } else { 0 };
         }
         holds!(rt; line == Some(want));
     }
-    Ok(())
 }
 
 #[test]
-fn window_at_its_edges(rt: HostRuntime) -> Result<(), Fail> {
+fn window_at_its_edges(rt: HostRuntime) {
     let vram = tile_1_in_the_upper_map();
     for (wx, start) in [(3, 0), (0xa6, 159), (0xa7, 160)] {
-        let line = line_of(rt.alloc(), &vram, &[0; 160], line_0(0xf1, wx))?;
+        let line = line_of(rt.alloc(), &vram, &[0; 160], line_0(0xf1, wx)).or_stop(&rt);
         let mut want = [0; 160];
         for column in 0..160 {
             want[column] = if column >= start { 3 } else { 0 };
         }
         holds!(rt; line == Some(want));
     }
-    Ok(())
 }

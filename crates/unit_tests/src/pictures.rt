@@ -1,4 +1,4 @@
-use crate::asserting::{holds, same};
+use crate::asserting::{OrStop, holds, same};
 use picture_unit::{
     OutputFailed, Picture, PictureRegion, PictureRequests, PictureState, map_shades, tile_colours,
 };
@@ -134,33 +134,31 @@ fn window_counter(picture: &Picture) -> u8 {
 }
 
 #[test]
-fn ten_objects_in_oam_order(rt: HostRuntime) -> Result<(), Fail> {
+fn ten_objects_in_oam_order(rt: HostRuntime) {
     for (is_reversed, end) in [(false, 72), (true, 80)] {
-        let mut picture = off(rt.alloc())?;
+        let mut picture = off(rt.alloc()).or_stop(&rt);
         put_objects(&mut picture, is_reversed);
         write(&mut picture, 0xff40, 0x93);
         pass(&mut picture, 20);
         same!(rt; row_of(&picture, 0), black(0, end));
     }
-    Ok(())
 }
 
 #[test]
-fn window_at_the_edges(rt: HostRuntime) -> Result<(), Fail> {
+fn window_at_the_edges(rt: HostRuntime) {
     for (wx, start, counter) in [(0x03, 0, 1), (0xa6, 159, 1), (0xa7, 160, 0)] {
-        let mut picture = off(rt.alloc())?;
+        let mut picture = off(rt.alloc()).or_stop(&rt);
         write(&mut picture, 0xff4b, wx);
         write(&mut picture, 0xff40, 0xf1);
         pass(&mut picture, 114);
         same!(rt; row_of(&picture, 0), black(start, 160), "WX {wx}");
         same!(rt; window_counter(&picture), counter, "WX {wx}");
     }
-    Ok(())
 }
 
 #[test]
-fn interrupts_of_a_frame(rt: HostRuntime) -> Result<(), Fail> {
-    let mut picture = off(rt.alloc())?;
+fn interrupts_of_a_frame(rt: HostRuntime) {
+    let mut picture = off(rt.alloc()).or_stop(&rt);
     write(&mut picture, 0xff45, 1);
     holds!(rt; !write(&mut picture, 0xff41, 0x40));
     holds!(rt; !write(&mut picture, 0xff40, 0x91));
@@ -170,12 +168,11 @@ fn interrupts_of_a_frame(rt: HostRuntime) -> Result<(), Fail> {
     holds!(rt; pass(&mut picture, 1).vblank);
     same!(rt; read(&picture, 0xff44), 144);
     holds!(rt; write(&mut picture, 0xff45, 144));
-    Ok(())
 }
 
 #[test]
-fn tile_written_between_lines(rt: HostRuntime) -> Result<(), Fail> {
-    let mut picture = off(rt.alloc())?;
+fn tile_written_between_lines(rt: HostRuntime) {
+    let mut picture = off(rt.alloc()).or_stop(&rt);
     write(&mut picture, 0xff40, 0x91);
     pass(&mut picture, FRAME + 63);
     same!(rt; read(&picture, 0xff41) % 4, 0);
@@ -184,7 +181,6 @@ fn tile_written_between_lines(rt: HostRuntime) -> Result<(), Fail> {
     pass(&mut picture, 114);
     same!(rt; row_of(&picture, 0), [0; 160]);
     same!(rt; row_of(&picture, 1), [3; 160]);
-    Ok(())
 }
 
 fn frames_are_same(
@@ -204,34 +200,32 @@ fn frames_are_same(
 }
 
 #[test]
-fn cycles_at_once_and_one_by_one(rt: HostRuntime) -> Result<(), Fail> {
-    let mut at_once = off(rt.alloc())?;
+fn cycles_at_once_and_one_by_one(rt: HostRuntime) {
+    let mut at_once = off(rt.alloc()).or_stop(&rt);
     put_objects(&mut at_once, false);
     write(&mut at_once, 0xff41, 0x78);
     write(&mut at_once, 0xff40, 0x93);
-    let mut by_one = copy(rt.alloc(), &at_once)?;
-    let mut plain = copy(rt.alloc(), &at_once)?;
+    let mut by_one = copy(rt.alloc(), &at_once).or_stop(&rt);
+    let mut plain = copy(rt.alloc(), &at_once).or_stop(&rt);
     frames_are_same(&rt, &mut at_once, &mut by_one, &mut plain);
-    Ok(())
 }
 
 #[test]
-fn restored_picture_goes_on_the_same(rt: HostRuntime) -> Result<(), Fail> {
+fn restored_picture_goes_on_the_same(rt: HostRuntime) {
     for lcdc in [0xa1, 0xf3, 0xef] {
-        let mut picture = off(rt.alloc())?;
+        let mut picture = off(rt.alloc()).or_stop(&rt);
         put_noise(&mut picture);
         write(&mut picture, 0xff4b, 90);
         write(&mut picture, 0xff42, 3);
         write(&mut picture, 0xff43, 77);
         write(&mut picture, 0xff40, lcdc);
         pass(&mut picture, FRAME + 5000);
-        let mut restored = copy(rt.alloc(), &picture)?;
+        let mut restored = copy(rt.alloc(), &picture).or_stop(&rt);
         for _frame in 0..10 {
             holds!(rt; pass(&mut picture, FRAME) == pass(&mut restored, FRAME));
             holds!(rt; is_same(&picture, &restored));
         }
     }
-    Ok(())
 }
 
 // STAT, and what VRAM reads and holds and OAM reads and holds behind a write to each. Then 11 is copied to OAM.
@@ -259,8 +253,8 @@ fn outside(picture: &Picture) -> [u8; 3] {
 }
 
 #[test]
-fn modes_close_vram_and_oam(rt: HostRuntime) -> Result<(), Fail> {
-    let mut picture = off(rt.alloc())?;
+fn modes_close_vram_and_oam(rt: HostRuntime) {
+    let mut picture = off(rt.alloc()).or_stop(&rt);
     write(&mut picture, 0xff40, 0x91);
     // M-cycles to wait, the mode, and STAT, what VRAM reads and holds, and what OAM reads and holds
     let modes = [
@@ -273,12 +267,11 @@ fn modes_close_vram_and_oam(rt: HostRuntime) -> Result<(), Fail> {
         same!(rt; seen(&mut picture, mode), wanted);
     }
     same!(rt; outside(&picture), [0x11, 0, 0]);
-    Ok(())
 }
 
 #[test]
-fn switched_off_and_on(rt: HostRuntime) -> Result<(), Fail> {
-    let mut picture = Picture::new(rt.alloc())?;
+fn switched_off_and_on(rt: HostRuntime) {
+    let mut picture = Picture::new(rt.alloc()).or_stop(&rt);
     same!(rt; due(&picture), Some(20));
     same!(rt; read(&picture, 0xff40), 0x91);
     same!(rt; read(&picture, 0xff47), 0xfc);
@@ -295,12 +288,11 @@ fn switched_off_and_on(rt: HostRuntime) -> Result<(), Fail> {
     same!(rt; read(&picture, 0xff41), 0x86);
     same!(rt; due(&picture), Some(20));
     same!(rt; read(&picture, 0xff46), 0xff);
-    Ok(())
 }
 
 #[test]
-fn picture_at_power_on_as_text(rt: HostRuntime) -> Result<(), Fail> {
-    let picture = Picture::new(rt.alloc())?;
+fn picture_at_power_on_as_text(rt: HostRuntime) {
+    let picture = Picture::new(rt.alloc()).or_stop(&rt);
     let mut text = Vec::new(rt.alloc());
     same!(rt; picture.write_pgm(&mut text), Ok(()));
     assert_eq!(rt; text.len(), 46093);
@@ -314,23 +306,21 @@ fn picture_at_power_on_as_text(rt: HostRuntime) -> Result<(), Fail> {
     let mut room: &mut [u8] = &mut part;
     same!(rt; picture.write_pgm(&mut room), Err(OutputFailed));
     holds!(rt; text.starts_with(&part));
-    Ok(())
 }
 
 #[test]
-fn colours_and_shades(rt: HostRuntime) -> Result<(), Fail> {
+fn colours_and_shades(rt: HostRuntime) {
     // the example of Pan Docs, "Tile Data"
     same!(rt; tile_colours(0x3c, 0x7e), [0, 2, 3, 3, 3, 3, 2, 0]);
     let mut shades = [0, 1, 2, 3, 3, 2, 1, 0, 0, 0, 1, 1, 2, 2, 3, 3, 1];
     map_shades(0x1b, &mut shades);
     same!(rt; shades, [3, 2, 1, 0, 0, 1, 2, 3, 3, 3, 2, 2, 1, 1, 0, 0, 2]);
-    Ok(())
 }
 
 // Lines of the window at WX, off or beyond the screen, and the shade of its first pixel: rows of tile 1 are of colour 1, 2, 3, 0 and so on.
 #[test]
-fn window_lines_are_counted_where_it_is_drawn(rt: HostRuntime) -> Result<(), Fail> {
-    let mut picture = off(rt.alloc())?;
+fn window_lines_are_counted_where_it_is_drawn(rt: HostRuntime) {
+    let mut picture = off(rt.alloc()).or_stop(&rt);
     for row in 0..8 {
         let colour = (row + 1) % 4;
         put(
@@ -365,5 +355,4 @@ fn window_lines_are_counted_where_it_is_drawn(rt: HostRuntime) -> Result<(), Fai
     }
     pass(&mut picture, 147 * 114);
     same!(rt; window_counter(&picture), 0);
-    Ok(())
 }

@@ -1,4 +1,4 @@
-use crate::asserting::{holds, same};
+use crate::asserting::{OrStop, holds, same};
 use script::{Move, ScriptError, read_script};
 use std::alloc::Global;
 use std::process::Abort;
@@ -110,16 +110,16 @@ fn long_script(alloc: Global, first: &[u8], newlines: usize) -> Result<Vec<u8>, 
 }
 
 #[test]
-fn has_a_most_of_bytes(rt: HostRuntime) -> Result<(), Fail> {
+fn has_a_most_of_bytes(rt: HostRuntime) {
     let alloc = rt.alloc();
-    let most = long_script(alloc, b"", 1_048_572)?;
+    let most = long_script(alloc, b"", 1_048_572).or_stop(&rt);
     accepts(&rt, alloc, &most, &[Move::Save]);
     for (first, newlines, number) in [
         ("", 1_048_573, 0),
         ("?", 1_048_572, 0),
         ("?", 1_048_571, 1),
     ] {
-        let script = long_script(alloc, first.as_bytes(), newlines)?;
+        let script = long_script(alloc, first.as_bytes(), newlines).or_stop(&rt);
         let read = read_script(alloc, &script).err();
         same!(rt;
             read,
@@ -127,14 +127,12 @@ fn has_a_most_of_bytes(rt: HostRuntime) -> Result<(), Fail> {
             "{first} and {newlines}"
         );
     }
-    Ok(())
 }
 
 #[test]
-fn says_what_is_wrong(rt: HostRuntime) -> Result<(), Fail> {
-    let line = format!(in rt.alloc(); "{}", ScriptError::Script(12))?;
+fn says_what_is_wrong(rt: HostRuntime) {
+    let line = format!(in rt.alloc(); "{}", ScriptError::Script(12)).or_stop(&rt);
     same!(rt; line.as_str(), "script line 12");
-    let memory = format!(in rt.alloc(); "{}", ScriptError::Memory)?;
+    let memory = format!(in rt.alloc(); "{}", ScriptError::Memory).or_stop(&rt);
     same!(rt; memory.as_str(), "no memory");
-    Ok(())
 }

@@ -1,9 +1,8 @@
-use crate::asserting::{holds, same};
+use crate::asserting::{OrStop, holds, same};
 use arrayvec::ArrayVec;
 use exact_text::{OutputFailed, byte_digits, word_digits, write_whole};
 use std::io::{self, Write};
 use std::process::Abort;
-use std::test::Fail;
 
 /// A writer that takes at most `most` bytes a call, and fails once `room` bytes are taken.
 #[derive(Drop)]
@@ -118,8 +117,7 @@ fn gives_digits(rt: HostRuntime) {
 }
 
 #[test]
-fn says_what_failed(rt: HostRuntime) -> Result<(), Fail> {
-    let text = format!(in rt.alloc(); "{OutputFailed}")?;
+fn says_what_failed(rt: HostRuntime) {
+    let text = format!(in rt.alloc(); "{OutputFailed}").or_stop(&rt);
     same!(rt; text.as_str(), "output failed");
-    Ok(())
 }

@@ -4,11 +4,7 @@ use Rattle.command_line.proofs.words.command.Goals as goal
 
 pub returns : goal.returns
 returns c =
-    let one = command_added _ _ _ _ _ c.in_ok-bare.ensures c.in_ok-info.ensures c.in_ok-subcommand.ensures in
-    let two = command_added _ _ _ _ _ one c.in_ok-list.ensures c.in_ok-subcommand-2.ensures in
-    let three = command_added _ _ _ _ _ two c.in_ok-step.ensures c.in_ok-subcommand-3.ensures in
-    let four = command_added _ _ _ _ _ three c.in_ok-new.ensures c.in_ok-subcommand-4.ensures in
-    let five = command_added _ _ _ _ _ four c.in_ok-play.ensures c.in_ok-subcommand-5.ensures in
-    let six = command_added _ _ _ _ _ five c.in_ok-frame.ensures c.in_ok-subcommand-6.ensures in
-    let seven = command_added _ _ _ _ _ six c.in_ok-trace.ensures c.in_ok-subcommand-7.ensures in
-    IfOk-weaker c.subcommand-8.result _ _ (λ r adds. command_added _ _ _ _ _ seven c.in_ok-stream.ensures adds) c.subcommand-8.ensures
+    let one = command_added _ _ _ _ _ c.in_ok-without_sessions.ensures c.in_ok-play.ensures c.in_ok-subcommand.ensures in
+    let two = command_added _ _ _ _ _ one c.in_ok-frame.ensures c.in_ok-subcommand-2.ensures in
+    let three = command_added _ _ _ _ _ two c.in_ok-trace.ensures c.in_ok-subcommand-3.ensures in
+    IfOk-weaker c.subcommand-4.result _ _ (λ r adds. command_added _ _ _ _ _ three c.in_ok-stream.ensures adds) c.subcommand-4.ensures
