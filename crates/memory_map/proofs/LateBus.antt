@@ -5,6 +5,7 @@ use Rattle.std.specs.Fn.{iterate}
 use Rattle.timer_unit.specs.Timer as timer
 use Rattle.picture_unit.specs.Picture.{PictureUnit, is_on}
 use Rattle.picture_unit.specs.Laws.{frame_cycle}
+use Rattle.picture_unit.specs.LatePicture as picture
 use Rattle.picture_unit.proofs.LatePicture.{quiet_position, on_kept}
 use Rattle.memory_map.specs.declared.late_timer.LateTimer.{LateTimer}
 use Rattle.memory_map.specs.LateTimer.{up_to}
@@ -65,4 +66,30 @@ consistent_now clock l b lit dark at e wram control = record {
   none_pending = λ below. absurd (omega (arith, below));
   late = omega (arith, at);
   requested = ap (λ (t : timer.TimerAndRequest). t.requested) (e ∙ not_late clock l at);
+}
+
+-- The picture unit is another one that is as quiet.
+still_quiet : (n : ℕ) (b : BusState) (p : PictureUnit) → is_on p.state ≡ is_on b.picture.picture.state → ((n : ℕ) → picture.AreQuiet n b.picture.picture.state → picture.AreQuiet n p.state)
+    → AreQuietOn n b → AreQuietOn n (with_timer_and_picture b.timer p b)
+still_quiet n b p same keeps quiet = record {
+  copy = quiet.copy;
+  timer = quiet.timer;
+  serial = quiet.serial;
+  lit = λ on. keeps n (quiet.lit (sym same ∙ on));
+  dark = λ pos off. quiet.dark pos (sym same ∙ off);
+}
+
+pub consistent_stored : (calm_until quiet_until clock : ℕ) (l : LateTimer) (b : BusState) (p : PictureUnit) → is_on p.state ≡ is_on b.picture.picture.state
+    → frame_cycle p.state ≡ frame_cycle b.picture.picture.state → ((n : ℕ) → picture.AreQuiet n b.picture.picture.state → picture.AreQuiet n p.state)
+    → IsConsistent calm_until quiet_until clock l b → IsConsistent calm_until quiet_until clock l (with_timer_and_picture b.timer p b)
+consistent_stored calm_until quiet_until clock l b p same there keeps known = record {
+  wram = known.wram;
+  control = known.control;
+  lit = λ on. known.lit (sym same ∙ on) ∙ sym there;
+  dark = λ off. known.dark (sym same ∙ off);
+  waiting = still_quiet (calm_until - 1 - clock) b p same keeps known.waiting;
+  asked = still_quiet (quiet_until - clock) b p same keeps known.asked;
+  none_pending = known.none_pending;
+  late = known.late;
+  requested = known.requested;
 }

@@ -13,16 +13,17 @@ use Rattle.picture_lines.specs.Bits.{has_bit}
 use Rattle.picture_lines.specs.Pixel.{drawn_row}
 use Rattle.picture_lines.proofs.Shades.{drawn_row-small}
 use Rattle.picture_unit.specs.declared.state.PictureState.{PictureState}
-use Rattle.picture_unit.specs.Picture.{PictureUnit, PictureAndRequests, IsLegalPicture, IsWhole, unrequested, is_on, stat_signal, advanced, entered, drawn, draws, begins_vblank, moved, taken, tick, ticks, line_registers, line_drawn, window_counter_after}
+use Rattle.picture_unit.specs.Picture.{PictureUnit, PictureAndRequests, IsLegalPicture, IsWhole, unrequested, is_on, mode, is_source, stat_signal, advanced, entered, drawn, draws, begins_vblank, moved, taken, tick, ticks, line_registers, line_drawn, window_counter_after}
 use Rattle.picture_unit.specs.Laws.{frame_cycle}
-use Rattle.picture_unit.specs.LatePicture.{bare, state_after, AreQuiet, up_to, moment, IsLate, line_drawn_next, rise}
+use Rattle.picture_unit.specs.LatePicture.{bare, state_after, AreQuiet, up_to, moment, IsLate, line_drawn_next, begins_line, begins_mode_2, begins_mode_0, NoneBefore}
 use Rattle.picture_unit.specs.PictureJump as picture_jump
 use Rattle.picture_unit.specs.PictureJump.{next_entry, next_change, skipped}
 use Rattle.picture_unit.specs.declared.region.PictureRegion.{PictureRegion}
 use Rattle.picture_unit.specs.declared.region.PictureRegion.TheVariants.{Vram, Oam}
+use Rattle.picture_unit.specs.Registers.{register_stored}
 use Rattle.picture_unit.specs.Stores.{region_of, byte_read, is_vram_closed, is_oam_closed, oam_copied, oam_written, vram_written}
 use Rattle.picture_unit.proofs.Kept.{same_written}
-use Rattle.picture_unit.proofs.Quiet.{stands_still, stays_on, stays_on_skipped, after_change, by_line, before_line_end, requests_none}
+use Rattle.picture_unit.proofs.Quiet.{stands_still, stays_on, stays_on_skipped, after_change}
 use Rattle.std.proofs.lemmas.Bool.{cases_lt}
 use Rattle.picture_unit.proofs.Settled.{bool_cases, tick_settles}
 use Rattle.picture_unit.proofs.LateLines.{whole_set}
@@ -546,7 +547,7 @@ module _ (n y : ℕ) (s : PictureUnit) where
       ∙ slice_get-get_or (slice_set rows y (drawn_row by vram oam)) y [] (omega (arith, within, length-set rows y (drawn_row by vram oam)))
       ∙ ap Some (get_or-set_same rows y (drawn_row by vram oam) [] within ∙ sym drawing)
 
--- ---- M-cycles of lines while STAT enables no mode
+-- ---- M-cycles with which no source begins
 
 tick_registers : (d : PictureAndRequests) → registers (tick d).picture.state ≡ registers d.picture.state
 unfolding taken line_drawn
@@ -571,35 +572,73 @@ unfolding begins_vblank
 elsewhere p (inl before) = grind (arith, nat_tests, before)
 elsewhere p (inr after) = grind (arith, nat_tests, after)
 
-no_bit : (stat : ℕ) → stat ≡ 0 → has_bit stat 6 ≡ false
-unfolding has_bit
-no_bit stat e = rw e refl
+-- a state at another place of the frame
+abbrev at_place : PictureState → (ly m_cycle : ℕ) → PictureState
+at_place p ly m_cycle = record p { ly = ly; m_cycle = m_cycle }
 
-and_none : (a b : Bool) → b ≡ false → (a && b) ≡ false
-and_none true b e = e
-and_none false b e = refl
+-- a source that STAT enables begins
+abbrev begins : PictureState → Bool
+begins p = begins_line p || (begins_mode_2 p || begins_mode_0 p)
 
-other_line : (q : PictureState) → q.stat % 64 ≡ 0 → q.m_cycle ≡ 0 → (frame_cycle q < rise q) ⊎ (rise q < frame_cycle q) → stat_signal q ≡ false
-other_line q none first misses =
-    by_line q none
-    ∙ and_none (is_on q) (has_bit q.stat 6 && q.ly == q.lyc) (elim (bool_cases (q.stat == 0)) [
-      | inl e ↦ ap (λ (b : Bool). b && q.ly == q.lyc) (no_bit q.stat (grind (arith, nat_tests, e)))
-      | inr e ↦
-          let at : rise q ≡ 114 * q.lyc = ap (λ (b : Bool). cond b 0 (114 * q.lyc)) e in
-          and_none (has_bit q.stat 6) (q.ly == q.lyc) (elim misses [
-            | inl before ↦ let lt : 114 * q.ly < 114 * q.lyc = omega (arith, before, at, first) in grind (arith, nat_tests, lt)
-            | inr after ↦ let lt : 114 * q.lyc < 114 * q.ly = omega (arith, after, at, first) in grind (arith, nat_tests, lt)
-          ])
-    ])
+-- The signal does not rise within a line,
+no_rise_inside : (p : PictureState) → p.m_cycle + 1 < 114 → begins (at_place p p.ly (p.m_cycle + 1)) ≡ false
+    → (stat_signal (at_place p p.ly (p.m_cycle + 1)) && not (stat_signal p)) ≡ false
+unfolding begins_line begins_mode_2 begins_mode_0 stat_signal is_source mode is_on
+no_rise_inside p few none = grind (arith, nat_tests, few, none)
 
-no_rise : (s t : Bool) → s ≡ t → (s && not t) ≡ false
-no_rise true true e = refl
-no_rise false t e = refl
-no_rise true false e = cc
+-- nor with the next one, if that is not line 144.
+no_rise_first : (p : PictureState) → p.m_cycle ≡ 113 → (p.ly < 143) ⊎ (143 < p.ly) → begins (at_place p (p.ly + 1) 0) ≡ false
+    → (stat_signal (at_place p (p.ly + 1) 0) && not (stat_signal p)) ≡ false
+unfolding begins_line begins_mode_2 begins_mode_0 stat_signal is_source mode is_on
+no_rise_first p last (inl visible) none = grind (arith, nat_tests, last, visible, none)
+no_rise_first p last (inr blank) none = grind (arith, nat_tests, last, blank, none)
 
-stays_in_line : (p : PictureState) → ((advanced p).m_cycle == 0) ≡ false → (advanced p).ly ≡ p.ly
+-- where the next M-cycle is
+next_place : (p : PictureState) → p.m_cycle < 114 → frame_cycle p + 1 < 17556
+    → ((p.m_cycle + 1 < 114) × (((advanced p).ly ≡ p.ly) × ((advanced p).m_cycle ≡ p.m_cycle + 1)))
+    ⊎ ((p.m_cycle ≡ 113) × (((advanced p).ly ≡ p.ly + 1) × ((advanced p).m_cycle ≡ 0)))
 unfolding advanced
-stays_in_line p e = grind (arith, nat_tests, e)
+next_place p few within =
+    elim (bool_cases (p.m_cycle == 113)) [
+      | inl e ↦
+          let last : p.m_cycle ≡ 113 = grind (arith, nat_tests, e) in
+          let more : (p.ly == 153) ≡ false = grind (arith, nat_tests, last, within) in
+          inr (last, (grind (arith, nat_tests, e, more), grind (arith, nat_tests, e)))
+      | inr e ↦ inl (grind (arith, nat_tests, e, few), (grind (arith, nat_tests, e), grind (arith, nat_tests, e)))
+    ]
+
+no_rise_next : (p : PictureState) (ly m_cycle : ℕ) → ly ≡ (advanced p).ly → m_cycle ≡ (advanced p).m_cycle → p.m_cycle < 114 → frame_cycle p + 1 < 17556
+    → (frame_cycle p + 1 < 16416) ⊎ (16416 < frame_cycle p + 1) → begins (at_place p ly m_cycle) ≡ false → (stat_signal (at_place p ly m_cycle) && not (stat_signal p)) ≡ false
+no_rise_next p ly m_cycle line cycle few within misses none =
+    elim (next_place p few within) [
+      | inl (inside, (l, c)) ↦
+          let e = line ∙ l in
+          let f = cycle ∙ c in
+          ap (λ (k : ℕ). stat_signal (at_place p k m_cycle) && not (stat_signal p)) e ∙ ap (λ (k : ℕ). stat_signal (at_place p p.ly k) && not (stat_signal p)) f
+          ∙ no_rise_inside p inside (sym (ap (λ (k : ℕ). begins (at_place p k m_cycle)) e ∙ ap (λ (k : ℕ). begins (at_place p p.ly k)) f) ∙ none)
+      | inr (last, (l, c)) ↦
+          let e = line ∙ l in
+          let f = cycle ∙ c in
+          let other : (p.ly < 143) ⊎ (143 < p.ly) = elim misses [
+            | inl before ↦ inl (omega (arith, before, last))
+            | inr after ↦ inr (omega (arith, after, last))
+          ] in
+          ap (λ (k : ℕ). stat_signal (at_place p k m_cycle) && not (stat_signal p)) e ∙ ap (λ (k : ℕ). stat_signal (at_place p (p.ly + 1) k) && not (stat_signal p)) f
+          ∙ no_rise_first p last other (sym (ap (λ (k : ℕ). begins (at_place p k m_cycle)) e ∙ ap (λ (k : ℕ). begins (at_place p (p.ly + 1) k)) f) ∙ none)
+    ]
+
+-- the signal and what begins are of the registers and the place
+signal_there : (p q : PictureState) → registers q ≡ registers p → stat_signal q ≡ stat_signal (at_place p q.ly q.m_cycle)
+unfolding stat_signal is_source mode is_on
+signal_there p q same = ap (λ (r : PictureState). stat_signal (at_place r q.ly q.m_cycle)) same
+
+begins_there : (p q : PictureState) (ly m_cycle : ℕ) → registers q ≡ registers p → begins (at_place q ly m_cycle) ≡ begins (at_place p ly m_cycle)
+unfolding begins_line begins_mode_2 begins_mode_0
+begins_there p q ly m_cycle same = ap (λ (r : PictureState). begins (at_place r ly m_cycle)) same
+
+-- none begins with the next n M-cycles
+abbrev pub NoneBegins : ℕ → PictureState → Type 0
+NoneBegins n p = (ly m_cycle : ℕ) → m_cycle < 114 → frame_cycle p < 114 * ly + m_cycle → 114 * ly + m_cycle ≤ frame_cycle p + n → begins (at_place p ly m_cycle) ≡ false
 
 signal-advanced : (p : PictureState) → (advanced p).signal ≡ p.signal
 unfolding advanced
@@ -622,19 +661,9 @@ signal-drawn s = elim (draws s.state) as (λ b. (cond b (line_drawn s) s).state.
   | false ↦ refl
 ]
 
--- the signal of a line does not depend on anything but the registers and LY
-same_line : (p q : PictureState) → p.stat % 64 ≡ 0 → registers q ≡ registers p → q.ly ≡ p.ly → stat_signal q ≡ stat_signal p
-unfolding is_on
-same_line p q none same line =
-    let none' : q.stat % 64 ≡ 0 = ap (λ (r : PictureState). r.stat % 64) same ∙ none in
-    by_line q none'
-    ∙ ap (λ (r : PictureState). is_on r && (has_bit r.stat 6 && q.ly == r.lyc)) same
-    ∙ ap (λ (k : ℕ). is_on p && (has_bit p.stat 6 && k == p.lyc)) line
-    ∙ sym (by_line p none)
-
-module _ (d : PictureAndRequests) (n : ℕ) (on : is_on d.picture.state ≡ true) (none : d.picture.state.stat % 64 ≡ 0) (settled : stat_signal d.picture.state ≡ d.picture.state.signal)
+module _ (d : PictureAndRequests) (n : ℕ) (on : is_on d.picture.state ≡ true) (settled : stat_signal d.picture.state ≡ d.picture.state.signal)
     (ly : d.picture.state.ly < 154) (m_cycle : d.picture.state.m_cycle < 114) (within : frame_cycle d.picture.state + suc n < 17556)
-    (misses : Misses (frame_cycle d.picture.state) (suc n) 16416) (no_line : Misses (frame_cycle d.picture.state) (suc n) (rise d.picture.state)) where
+    (misses : Misses (frame_cycle d.picture.state) (suc n) 16416) (none : NoneBegins (suc n) d.picture.state) where
   one_on : frame_cycle (tick d).picture.state ≡ frame_cycle d.picture.state + 1
   one_on =
       let e = frame_cycle-tick d on ly m_cycle in
@@ -661,43 +690,95 @@ module _ (d : PictureAndRequests) (n : ℕ) (on : is_on d.picture.state ≡ true
       let q = (drawn (with_state next d.picture)).state in
       let same : registers q ≡ registers p = registers-drawn (with_state next d.picture) ∙ registers-entered a ∙ registers-advanced p in
       let was : q.signal ≡ p.signal = signal-drawn (with_state next d.picture) ∙ signal-entered a ∙ signal-advanced p in
-      let none' : q.stat % 64 ≡ 0 = ap (λ (r : PictureState). r.stat % 64) same ∙ none in
       let line : q.ly ≡ a.ly = ly-drawn (with_state next d.picture) ∙ ly-entered a in
       let cycle : q.m_cycle ≡ a.m_cycle = m_cycle-drawn (with_state next d.picture) ∙ m_cycle-entered a in
-      let same_rise : rise q ≡ rise p = ap (λ (r : PictureState). rise r) same in
       let at : frame_cycle q ≡ frame_cycle p + 1 = frame_cycle-drawn (with_state next d.picture) ∙ next_at in
+      let few : q.m_cycle < 114 = subst (λ (k : ℕ). k < 114) (sym cycle) (m_cycle-advanced p m_cycle) in
+      let beyond : (frame_cycle p + 1 < 16416) ⊎ (16416 < frame_cycle p + 1) = missed (frame_cycle p) n 16416 (frame_cycle p + 1) refl misses in
       let quiet : (stat_signal q && not q.signal) ≡ false =
-      elim (bool_cases (a.m_cycle == 0)) [
-        | inl first ↦
-            let zero_cycle : q.m_cycle ≡ 0 = cycle ∙ grind (arith, nat_tests, first) in
-            ap (λ (b : Bool). b && not q.signal) (other_line q none' zero_cycle (missed (frame_cycle p) n (rise q) (frame_cycle q) at (subst (λ (k : ℕ). Misses (frame_cycle p) (suc n) k) (sym same_rise) no_line)))
-        | inr inside ↦ no_rise (stat_signal q) q.signal (same_line p q none same (line ∙ stays_in_line p inside) ∙ settled ∙ sym was)
-      ] in
+      ap (λ (b : Bool). stat_signal q && not b) (was ∙ sym settled) ∙ ap (λ (b : Bool). b && not (stat_signal p)) (signal_there p q same)
+      ∙ no_rise_next p q.ly q.m_cycle line cycle m_cycle (omega (arith, within)) beyond (none q.ly q.m_cycle few (omega (arith, at)) (omega (arith, at))) in
       ap (λ b. (cond b (taken (moved d)) d).stat) on ∙ ap (λ (b : Bool). d.stat || b) quiet ∙ or-false d.stat
 
-pub no_requests : (n : ℕ) (d : PictureAndRequests) → is_on d.picture.state ≡ true → d.picture.state.stat % 64 ≡ 0 → stat_signal d.picture.state ≡ d.picture.state.signal
+no_requests : (n : ℕ) (d : PictureAndRequests) → is_on d.picture.state ≡ true → stat_signal d.picture.state ≡ d.picture.state.signal
     → d.picture.state.ly < 154 → d.picture.state.m_cycle < 114 → frame_cycle d.picture.state + n < 17556
-    → Misses (frame_cycle d.picture.state) n 16416 → Misses (frame_cycle d.picture.state) n (rise d.picture.state)
+    → Misses (frame_cycle d.picture.state) n 16416 → NoneBegins n d.picture.state
     → ((iterate tick n d).vblank ≡ d.vblank) × ((iterate tick n d).stat ≡ d.stat)
-no_requests zero d on none settled ly m_cycle within misses no_line = (refl, refl)
-no_requests (suc n) d on none settled ly m_cycle within misses no_line =
-    let at = one_on d n on none settled ly m_cycle within misses no_line in
+no_requests zero d on settled ly m_cycle within misses none = (refl, refl)
+no_requests (suc n) d on settled ly m_cycle within misses none =
+    let at = one_on d n on settled ly m_cycle within misses none in
     let on' = stays_on d (tick d) on refl in
-    let same_rise : rise (tick d).picture.state ≡ rise d.picture.state = ap (λ (r : PictureState). rise r) (tick_registers d) in
     let rest =
-    no_requests n (tick d) on' (ap (λ (r : PictureState). r.stat % 64) (tick_registers d) ∙ none) (tick_settles d on')
+    no_requests n (tick d) on' (tick_settles d on')
     (subst (λ (k : ℕ). k < 154) (sym (ly-tick d on)) (ly-advanced d.picture.state ly))
     (subst (λ (k : ℕ). k < 114) (sym (m_cycle-tick d on)) (m_cycle-advanced d.picture.state m_cycle))
     (omega (arith, at, within)) (miss_more (frame_cycle d.picture.state) n 16416 (frame_cycle (tick d).picture.state) at misses)
-    (subst (λ (k : ℕ). Misses (frame_cycle (tick d).picture.state) n k) (sym same_rise) (miss_more (frame_cycle d.picture.state) n (rise d.picture.state) (frame_cycle (tick d).picture.state) at no_line)) in
-    (rest.0 ∙ vblank_stays d n on none settled ly m_cycle within misses no_line, rest.1 ∙ stat_stays d n on none settled ly m_cycle within misses no_line)
+    (λ l c few after before. begins_there d.picture.state (tick d).picture.state l c (tick_registers d) ∙ none l c few (omega (arith, at, after)) (omega (arith, at, before))) in
+    (rest.0 ∙ vblank_stays d n on settled ly m_cycle within misses none, rest.1 ∙ stat_stays d n on settled ly m_cycle within misses none)
 
--- VBlank does not begin, nor line LYC if that is a source
-pub quiet_for_lines : (n : ℕ) (p : PictureState) → IsLegalPicture p → is_on p ≡ true → p.stat % 64 ≡ 0 → stat_signal p ≡ p.signal → frame_cycle p + n < 17556
-    → Misses (frame_cycle p) n 16416 → Misses (frame_cycle p) n (rise p) → AreQuiet n p
+-- where no source begins: STAT does not enable it,
+pub line_off : (p : PictureState) (ly m_cycle : ℕ) → p.stat / 64 % 2 ≡ 0 → begins_line (at_place p ly m_cycle) ≡ false
+unfolding begins_line has_bit
+line_off p ly m_cycle off = grind (arith, nat_tests, off)
+
+pub mode_2_off : (p : PictureState) (ly m_cycle : ℕ) → p.stat / 32 % 2 ≡ 0 → begins_mode_2 (at_place p ly m_cycle) ≡ false
+unfolding begins_mode_2 has_bit
+mode_2_off p ly m_cycle off = grind (arith, nat_tests, off)
+
+pub mode_0_off : (p : PictureState) (ly m_cycle : ℕ) → p.stat / 8 % 2 ≡ 0 → begins_mode_0 (at_place p ly m_cycle) ≡ false
+unfolding begins_mode_0 has_bit
+mode_0_off p ly m_cycle off = grind (arith, nat_tests, off)
+
+-- or it is another place
+pub not_line : (p : PictureState) (ly m_cycle : ℕ) → (m_cycle ≡ 0 → (ly < p.lyc) ⊎ (p.lyc < ly)) → begins_line (at_place p ly m_cycle) ≡ false
+unfolding begins_line
+not_line p ly m_cycle other =
+    elim (bool_cases (m_cycle == 0)) [
+      | inl e ↦ elim (other (grind (arith, nat_tests, e))) [
+        | inl before ↦ grind (arith, nat_tests, e, before)
+        | inr after ↦ grind (arith, nat_tests, e, after)
+      ]
+      | inr e ↦ grind (arith, nat_tests, e)
+    ]
+
+pub not_mode_2 : (p : PictureState) (ly m_cycle : ℕ) → (m_cycle ≡ 0 → 144 ≤ ly) → begins_mode_2 (at_place p ly m_cycle) ≡ false
+unfolding begins_mode_2
+not_mode_2 p ly m_cycle other =
+    elim (bool_cases (m_cycle == 0)) [
+      | inl e ↦ let below = other (grind (arith, nat_tests, e)) in grind (arith, nat_tests, e, below)
+      | inr e ↦ grind (arith, nat_tests, e)
+    ]
+
+pub not_mode_0 : (p : PictureState) (ly m_cycle : ℕ) → (m_cycle ≡ 63 → 144 ≤ ly) → begins_mode_0 (at_place p ly m_cycle) ≡ false
+unfolding begins_mode_0
+not_mode_0 p ly m_cycle other =
+    elim (bool_cases (m_cycle == 63)) [
+      | inl e ↦ let below = other (grind (arith, nat_tests, e)) in grind (arith, nat_tests, e, below)
+      | inr e ↦ grind (arith, nat_tests, e)
+    ]
+
+or_none : (a b c : Bool) → a ≡ false → b ≡ false → c ≡ false → (a || (b || c)) ≡ false
+or_none false false false e f g = refl
+or_none true b c e f g = e
+or_none false true c e f g = f
+or_none false false true e f g = g
+
+-- Neither VBlank begins, nor a source that STAT enables: those behind `now` and before `next`.
+pub quiet_before_source : (next : ℕ) (p : PictureState) → IsLegalPicture p → is_on p ≡ true → stat_signal p ≡ p.signal → frame_cycle p < next → next ≤ 17556
+    → (frame_cycle p < 16416 → next ≤ 16416) → NoneBefore begins_line (frame_cycle p) next p → NoneBefore begins_mode_2 (frame_cycle p) next p → NoneBefore begins_mode_0 (frame_cycle p) next p
+    → AreQuiet (next - 1 - frame_cycle p) p
 unfolding unrequested
-quiet_for_lines n p legal on none settled within misses no_line =
-    let still = no_requests n (unrequested (bare p)) on none settled legal.ly legal.m_cycle within misses no_line in record {
+quiet_before_source next p legal on settled ahead in_frame vblank line mode_2 mode_0 =
+    let n = next - 1 - frame_cycle p in
+    let within : frame_cycle p + n < 17556 = omega (arith, ahead, in_frame) in
+    let misses : Misses (frame_cycle p) n 16416 = elim (cases_lt (frame_cycle p) 16416) [
+      | inl before ↦ let le = vblank before in inl (omega (arith, le, ahead))
+      | inr after ↦ inr (omega (arith, after))
+    ] in
+    let none : NoneBegins n p = λ l c few after before.
+    let lt : 114 * l + c < next = omega (arith, before, ahead) in
+    or_none _ _ _ (line l c few after lt) (mode_2 l c few after lt) (mode_0 l c few after lt) in
+    let still = no_requests n (unrequested (bare p)) on settled legal.ly legal.m_cycle within misses none in record {
       legal = λ _. legal;
       on = λ _. on;
       frame = λ _. within;
@@ -705,28 +786,115 @@ quiet_for_lines n p legal on none settled within misses no_line =
       stat = λ _. still.1;
     }
 
--- before the next entry
-entry_is_change : (p : PictureState) → 0 < p.stat % 64 → next_change p ≡ next_entry p
-unfolding next_change
-entry_is_change p some = grind (arith, nat_tests, some)
+-- ---- a register is written that the signal does not depend on
 
-pub quiet_before_entry : (n : ℕ) (p : PictureState) → IsLegalPicture p → is_on p ≡ true → stat_signal p ≡ p.signal → 0 < p.stat % 64 → n < next_entry p → AreQuiet n p
-quiet_before_entry n p legal on settled some lt =
-    let lt' : n < next_change p = subst (λ (k : ℕ). n < k) (sym (entry_is_change p some)) lt in
-    let still = requests_none n (bare p) on lt' settled in
-    let line = before_line_end p n legal.m_cycle lt' in record {
-      legal = λ _. legal;
-      on = λ _. on;
-      frame = λ _. omega (arith, line, legal.ly);
-      vblank = λ _. still.0;
-      stat = λ _. still.1;
+-- what the requests depend on
+abbrev timing : PictureState → PictureState
+timing p = record p { scy = 0; scx = 0; bgp = 0; obp0 = 0; obp1 = 0; wy = 0; wx = 0; window_counter = 0; seen = false }
+
+abbrev timed : PictureAndRequests → PictureAndRequests
+timed d = record d { picture = bare (timing d.picture.state) }
+
+timing-advanced : (p : PictureState) → timing (advanced p) ≡ timing (advanced (timing p))
+unfolding advanced
+timing-advanced p = elim (p.m_cycle == 113) as (λ b. timing (cond b (record p { m_cycle = 0; ly = cond (p.ly == 153) 0 (p.ly + 1) }) (record p { m_cycle = p.m_cycle + 1 }))
+    ≡ timing (cond b (record (timing p) { m_cycle = 0; ly = cond (p.ly == 153) 0 (p.ly + 1) }) (record (timing p) { m_cycle = p.m_cycle + 1 }))) [
+      | true ↦ refl
+      | false ↦ refl
+    ]
+
+timing-entered : (p : PictureState) → timing (entered p) ≡ timing p
+unfolding entered
+timing-entered p = elim (p.m_cycle == 0) as (λ b. timing (cond b (record p { window_counter = cond (p.ly == 0) 0 p.window_counter; seen = (nat_lt 0 p.ly && p.seen) || (nat_lt p.ly 144 && p.wy == p.ly) }) p) ≡ timing p) [
+  | true ↦ refl
+  | false ↦ refl
+]
+
+timing-drawn : (s : PictureUnit) → timing (drawn s).state ≡ timing s.state
+unfolding drawn line_drawn
+timing-drawn s = elim (draws s.state) as (λ b. timing (cond b (line_drawn s) s).state ≡ timing s.state) [
+  | true ↦ refl
+  | false ↦ refl
+]
+
+-- what an M-cycle leaves, if it comes to this
+abbrev requested_at : Bool → Bool → PictureState → PictureAndRequests
+requested_at v l p = record { picture = bare (record p { signal = stat_signal p }); vblank = v || begins_vblank p; stat = l || (stat_signal p && not p.signal) }
+
+timed-moved : (d : PictureAndRequests) → timed (taken (moved d)) ≡ requested_at d.vblank d.stat (timing (advanced (timing d.picture.state)))
+unfolding moved taken stat_signal is_source mode is_on begins_vblank
+timed-moved d =
+    let next = entered (advanced d.picture.state) in
+    let placed = timing-entered (advanced d.picture.state) ∙ timing-advanced d.picture.state in
+    ap (λ (q : PictureState). record (requested_at d.vblank d.stat q) { vblank = d.vblank || begins_vblank (timing next) }) (timing-drawn (with_state next d.picture))
+    ∙ ap (λ (q : PictureState). requested_at d.vblank d.stat q) placed
+
+timed-tick : (d : PictureAndRequests) → timed (tick d) ≡ timed (tick (timed d))
+unfolding tick is_on
+timed-tick d =
+    let p = d.picture.state in
+    let both : timed (taken (moved d)) ≡ timed (taken (moved (timed d))) = timed-moved d ∙ sym (timed-moved (timed d)) in
+    elim (is_on p) as (λ b. timed (cond b (taken (moved d)) d) ≡ timed (cond b (taken (moved (timed d))) (timed d))) [
+      | true ↦ both
+      | false ↦ refl
+    ]
+
+abbrev timed_tick : PictureAndRequests → PictureAndRequests
+timed_tick d = timed (tick d)
+
+stored_if : (b : Bool) (p q r : PictureState) → timing q ≡ timing p → timing r ≡ timing p → timing (cond b q r) ≡ timing p
+stored_if true p q r e f = e
+stored_if false p q r e f = f
+
+timing-stored : (address value : ℕ) (p : PictureState) → timing (register_stored address value p) ≡ timing p
+unfolding register_stored
+timing-stored address value p =
+    stored_if (address == 0xFF42) p _ _ refl
+    (stored_if (address == 0xFF43) p _ _ refl
+    (stored_if (address == 0xFF47) p _ _ refl
+    (stored_if (address == 0xFF48) p _ _ refl
+    (stored_if (address == 0xFF49) p _ _ refl
+    (stored_if (address == 0xFF4A) p _ _ refl
+    (stored_if (address == 0xFF4B) p _ _ refl refl))))))
+
+ticks_stored : (n address value : ℕ) (p : PictureState) → timed (ticks n (bare (register_stored address value p))) ≡ timed (ticks n (bare p))
+unfolding unrequested
+ticks_stored n address value p =
+    iterate-along tick timed_tick timed timed-tick n (unrequested (bare (register_stored address value p)))
+    ∙ ap (λ (q : PictureState). iterate timed_tick n (unrequested (bare q))) (timing-stored address value p)
+    ∙ sym (iterate-along tick timed_tick timed timed-tick n (unrequested (bare p)))
+
+pub on_stored : (address value : ℕ) (p : PictureState) → is_on (register_stored address value p) ≡ is_on p
+unfolding is_on
+on_stored address value p = ap is_on (timing-stored address value p)
+
+pub frame_cycle-stored : (address value : ℕ) (p : PictureState) → frame_cycle (register_stored address value p) ≡ frame_cycle p
+frame_cycle-stored address value p = ap (λ (q : PictureState). frame_cycle q) (timing-stored address value p)
+
+-- The same M-cycles are quiet.
+pub quiet_stored : (n address value : ℕ) (p : PictureState) → (0 < n → IsLegalPicture (register_stored address value p)) → AreQuiet n p → AreQuiet n (register_stored address value p)
+quiet_stored n address value p legal quiet =
+    let same = ticks_stored n address value p in record {
+      legal = legal;
+      on = λ pos. on_stored address value p ∙ quiet.on pos;
+      frame = λ pos. let lt = quiet.frame pos in let e = frame_cycle-stored address value p in omega (arith, lt, e);
+      vblank = λ pos. ap (λ (d : PictureAndRequests). d.vblank) same ∙ quiet.vblank pos;
+      stat = λ pos. ap (λ (d : PictureAndRequests). d.stat) same ∙ quiet.stat pos;
     }
 
-pub entry_in_line : (n : ℕ) (p : PictureState) → IsLegalPicture p → n < next_entry p → frame_cycle p + n < 17556
-unfolding next_entry
-entry_in_line n p legal lt =
-    let line : p.m_cycle + n < 114 = grind (arith, nat_tests, lt, legal.m_cycle) in
-    omega (arith, line, legal.ly)
+pub late_stored : (now until n address value : ℕ) (s t : PictureUnit) → IsLate now until s → t.state ≡ register_stored address value (up_to now s).state → n ≡ frame_cycle t.state
+    → IsWhole t.state t.oam t.rows → IsLate (moment n t) until t
+late_stored now until n address value s t late same e whole =
+    let p = (up_to now s).state in
+    let caught_up : moment n t ≡ frame_cycle t.state = moment_now n t e in
+    let here : moment n t ≡ now = caught_up ∙ ap (λ (q : PictureState). frame_cycle q) same ∙ frame_cycle-stored address value p ∙ position now until s late in
+    let quiet : AreQuiet (until - now) t.state =
+    subst (λ (q : PictureState). AreQuiet (until - now) q) (sym same) (quiet_stored (until - now) address value p (λ _. subst (λ (q : PictureState). IsLegalPicture q) same whole.legal) late.coming) in record {
+      whole = whole;
+      late = omega (arith, caught_up);
+      passed = none_quiet (moment n t - frame_cycle t.state) t.state (omega (arith, caught_up));
+      coming = rw here (subst (λ (q : PictureState). AreQuiet (until - now) q) (sym (ap (λ (u : PictureUnit). u.state) (at_once now t (sym here ∙ caught_up)))) quiet);
+    }
 
 pub region_kept : (now : ℕ) (s : PictureUnit) (region : PictureRegion) → region_of (up_to now s) region ≡ region_of s region
 unfolding region_of

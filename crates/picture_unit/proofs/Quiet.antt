@@ -208,31 +208,6 @@ pub ticks_when_off : (n : ℕ) (p : PictureState) (s : PictureUnit) → p ≡ s.
 unfolding unrequested
 ticks_when_off n p s same off = stands_still n (unrequested s) (ap is_on (sym same) ∙ off)
 
--- M-cycles before the next change request nothing, once the signal was taken as it is
-
-pub before_line_end : (p : PictureState) (n : ℕ) → p.m_cycle < 114 → n < next_change p → p.m_cycle + n < 114
-unfolding next_entry next_change
-before_line_end p n legal h = grind (arith, nat_tests)
-
-no_rise : (b : Bool) → (b && not b) ≡ false
-no_rise true = refl
-no_rise false = refl
-
-quiet_ticks : (n : ℕ) (s : PictureUnit) → is_on s.state ≡ true → n < next_change s.state → stat_signal s.state ≡ s.state.signal →
-    unrequested (record s { state = record s.state { m_cycle = s.state.m_cycle + n } }) ≡ ticks n s
-unfolding unrequested skipped later taken
-quiet_ticks zero s on lt settled = let e : s.state.m_cycle + 0 ≡ s.state.m_cycle = omega arith in rw e refl
-quiet_ticks (suc n) s on lt settled =
-    let same : stat_signal (record s.state { m_cycle = s.state.m_cycle + suc n }) ≡ s.state.signal = keeps_signal s.state (suc n) lt ∙ settled in
-    sym (skips (suc n) (unrequested s) on lt ∙ rw (same, no_rise s.state.signal) refl)
-
-pub requests_none : (n : ℕ) (s : PictureUnit) → is_on s.state ≡ true → n < next_change s.state → stat_signal s.state ≡ s.state.signal →
-    ((ticks n s).vblank ≡ false) × ((ticks n s).stat ≡ false)
-unfolding unrequested
-requests_none n s on lt settled =
-    let e = sym (quiet_ticks n s on lt settled) in
-    (ap (λ (d : PictureAndRequests). d.vblank) e, ap (λ (d : PictureAndRequests). d.stat) e)
-
 -- the state by another name
 pub skips_before : (n : ℕ) (p : PictureState) (s : PictureUnit) (e : PictureAndRequests) → p ≡ s.state → is_on p ≡ true → n < next_change p → e ≡ skipped n (unrequested s) → e ≡ ticks n s
 unfolding unrequested

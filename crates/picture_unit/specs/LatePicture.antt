@@ -1,5 +1,6 @@
 -- The picture unit, which is given its M-cycles late.
-use Rattle.std.specs.Prelude.{◌≡◌, ℕ, ◌+◌, ◌-◌, ◌*◌, ◌/◌, ◌%◌, ◌<◌, ◌≤◌, true, false, ◌&&◌, ◌==◌, [], Option, Some, None, if◌then◌else◌}
+use Rattle.std.specs.Prelude.{◌≡◌, ℕ, ◌+◌, ◌-◌, ◌*◌, ◌/◌, ◌%◌, ◌<◌, ◌≤◌, Bool, true, false, ◌&&◌, ◌==◌, nat_lt, [], Option, Some, None, if◌then◌else◌}
+use Rattle.picture_lines.specs.Bits.{has_bit}
 use Rattle.picture_lines.specs.declared.registers.LineRegisters.{LineRegisters}
 use Rattle.picture_unit.specs.declared.state.PictureState.{PictureState}
 use Rattle.picture_unit.specs.Picture.{PictureUnit, IsLegalPicture, IsWhole, is_on, advanced, entered, draws, line_registers, ticks}
@@ -37,9 +38,21 @@ pub record IsLate (now quiet_until : ℕ) (s : PictureUnit) : Type 0 where
   pub passed : AreQuiet (now - frame_cycle s.state) s.state
   pub coming : AreQuiet (quiet_until - now) (up_to now s).state
 
--- the M-cycle of the frame in which the signal may rise with the entry to line LYC: 0 where STAT does not enable this
-abbrev pub rise : PictureState → ℕ
-rise p = if p.stat == 0 then 0 else 114 * p.lyc
+-- With this M-cycle a source of the STAT signal begins that STAT enables: line LYC,
+unfoldable pub begins_line : PictureState → Bool
+begins_line p = has_bit p.stat 6 && (p.m_cycle == 0 && p.ly == p.lyc)
+
+-- mode 2,
+unfoldable pub begins_mode_2 : PictureState → Bool
+begins_mode_2 p = has_bit p.stat 5 && (p.m_cycle == 0 && nat_lt p.ly 144)
+
+-- mode 0. Mode 1 begins with VBlank.
+unfoldable pub begins_mode_0 : PictureState → Bool
+begins_mode_0 p = has_bit p.stat 3 && (p.m_cycle == 63 && nat_lt p.ly 144)
+
+-- That source begins with none of the M-cycles of the frame behind `now` and before `next`.
+abbrev pub NoneBefore : (PictureState → Bool) → (now next : ℕ) → PictureState → Type 0
+NoneBefore begins now next p = (ly m_cycle : ℕ) → m_cycle < 114 → now < 114 * ly + m_cycle → 114 * ly + m_cycle < next → begins (record p { ly = ly; m_cycle = m_cycle }) ≡ false
 
 -- the same state at another M-cycle of the frame
 abbrev pub at_cycle : ℕ → PictureState → PictureState

@@ -44,9 +44,10 @@ impl Picture {
     ghost use Rattle.exact_text.specs.Written.{AppendsProperPrefix};
     ghost use Rattle.picture_unit.specs.Picture.{unrequested, is_on, picture_at_power_on, IsLegalPicture};
     ghost use Rattle.picture_unit.specs.PictureJump.{next_entry};
-    ghost use Rattle.picture_unit.specs.Registers.{register_value, register_written};
+    ghost use Rattle.picture_unit.specs.Registers.{register_value, register_written, register_stored};
     ghost use Rattle.picture_unit.specs.Stores.{is_vram_closed, is_oam_closed, byte_read, vram_written, oam_written, oam_copied};
     ghost use Rattle.picture_unit.specs.Pgm.{picture_text};
+    ghost use Rattle.picture_unit.specs.LatePicture.{AreQuiet};
 
     /// The picture unit when the machine is switched on: LCDC 91, BGP FC, OBP0 and OBP1 FF, the
     /// other registers, VRAM, OAM and all shades 0, at the beginning of line 0. Refused if there is
@@ -151,7 +152,23 @@ impl Picture {
 
     /// Writes a register, and answers whether that requests the STAT interrupt. LY and every other
     /// address ignore it.
+    #[tactic(auto, unfolding(crate::specs::Registers::register_written, crate::specs::Picture::unrequested))]
     pub fn write_register(&mut self, address: u16, value: u8) -> bool
+        ensures picture { self.new
+            ≡ (register_written address value (unrequested self.old)).picture }
+        ensures stat { result ≡ (register_written address value (unrequested self.old)).stat }
+    {
+        match address {
+            0xff40 | 0xff41 | 0xff45 => self.write_signal_register(address, value),
+            _ => {
+                self.store_register(address, value);
+                false
+            }
+        }
+    }
+
+    // LCDC, STAT or LYC is written: the signal is taken, and how long the M-cycles are quiet has to be found anew.
+    fn write_signal_register(&mut self, address: u16, value: u8) -> bool
         ensures picture { self.new
             ≡ (register_written address value (unrequested self.old)).picture }
         ensures stat { result ≡ (register_written address value (unrequested self.old)).stat }
@@ -161,6 +178,17 @@ impl Picture {
         self.frame_cycle = self.prompt.frame_cycle();
         self.quiet_until = 0;
         requested
+    }
+
+    /// Writes a register that only holds what was written: SCY, SCX, BGP, OBP0, OBP1, WY or WX. What was quiet stays so. Every other
+    /// address ignores it.
+    pub fn store_register(&mut self, address: u16, value: u8)
+        ensures stored { self.new ≡ record self.old { state = register_stored address value self.old.state } }
+        ensures quiet { (n : ℕ) → AreQuiet n self.old.state → AreQuiet n self.new.state }
+    {
+        self.prompt.pass_to(self.frame_cycle);
+        self.prompt.store_register(address, value);
+        self.frame_cycle = self.prompt.frame_cycle();
     }
 
     /// Writes the picture as plain PGM: `P2`, `160 144`, `3`, then each row as five lines of 32

@@ -41,7 +41,7 @@ impl Model for PromptPicture {
 
 impl PromptPicture {
     ghost use Rattle.picture_unit.specs.Picture.{unrequested, is_on, stat_signal, taken, picture_at_power_on};
-    ghost use Rattle.picture_unit.specs.Registers.{register_written, lcdc_written, stat_written, lyc_written, switched_off, switched_on};
+    ghost use Rattle.picture_unit.specs.Registers.{register_written, register_stored, lcdc_written, stat_written, lyc_written, switched_off, switched_on};
     ghost use Rattle.picture_unit.specs.Stores.{byte_read, vram_written, oam_written, oam_copied};
 
     /// The picture unit when the machine is switched on: LCDC 91, BGP FC, OBP0 and OBP1 FF, the
@@ -151,10 +151,17 @@ impl PromptPicture {
             0xff41 => self.write_stat(value),
             0xff45 => self.write_lyc(value),
             _ => {
-                self.state.store_register(address, value);
+                self.store_register(address, value);
                 false
             }
         }
+    }
+
+    /// Writes a register that only holds what was written. Every other address ignores it.
+    pub(crate) fn store_register(&mut self, address: u16, value: u8)
+        ensures { self.new ≡ record self.old { state = register_stored address value self.old.state } }
+    {
+        self.state.store_register(address, value);
     }
 
     #[tactic(auto, unfolding(crate::specs::Picture::unrequested, crate::specs::Picture::taken))]

@@ -54,7 +54,7 @@ impl PictureState {
     ghost use Rattle.picture_unit.specs.Picture.{IsLegalPicture, is_on, mode, stat_signal, advanced, entered, begins_vblank, draws, drawn, line_registers, state_at_power_on};
     ghost use Rattle.picture_unit.specs.Stores.{is_vram_closed, is_oam_closed};
     ghost use Rattle.picture_unit.specs.Laws.{frame_cycle};
-    ghost use Rattle.picture_unit.specs.LatePicture.{bare, state_after, at_cycle, line_drawn_next, rise, AreQuiet};
+    ghost use Rattle.picture_unit.specs.LatePicture.{bare, state_after, at_cycle, line_drawn_next, begins_line, begins_mode_2, begins_mode_0, NoneBefore, AreQuiet};
     ghost use Rattle.picture_unit.specs.PictureJump.{next_entry, next_change};
     ghost use Rattle.picture_unit.specs.Registers.{stat_value, register_value, register_stored};
 
@@ -249,8 +249,8 @@ impl PictureState {
         Some(by)
     }
 
-    /// A number of M-cycles in which nothing is requested and the frame does not end: where STAT enables no mode, up to line LYC, if
-    /// it enables that, to VBlank or to the end of the frame; else up to the next entry.
+    /// A number of M-cycles in which nothing is requested and the frame does not end: up to the one with which a source begins that STAT
+    /// enables, to VBlank or to the end of the frame.
     pub(crate) fn quiet(&self) -> u16
         requires { IsLegalPicture self.now }
         ensures quiet { AreQuiet result self.now }
@@ -259,39 +259,62 @@ impl PictureState {
         if !self.is_on() || self.stat_signal() != self.signal {
             return 0;
         }
-        if self.stat % 64 == 0 {
-            return self.quiet_for_lines();
-        }
-        u16::from(self.next_entry() - 1)
-    }
-
-    // The same where no mode is enabled.
-    fn quiet_for_lines(&self) -> u16
-        requires legal { IsLegalPicture self.now }
-        requires on { is_on self.now ≡ true }
-        requires settled { stat_signal self.now ≡ self.now.signal }
-        requires no_mode { self.now.stat % 64 ≡ 0 }
-        ensures quiet { AreQuiet result self.now }
-        ensures frame { frame_cycle self.now + result < 17556 }
-    {
         let now = self.frame_cycle();
-        let rise = self.rise();
-        let end = if self.ly < 144 { 16_415 } else { 17_555 };
-        if rise <= now || rise > end {
-            return end - now;
-        }
-        rise - 1 - now
+        let source = self
+            .line_begins(now)
+            .min(self.mode_2_begins())
+            .min(self.mode_0_begins());
+        source.min(self.vblank_or_end()) - 1 - now
     }
 
-    // The M-cycle of the frame in which line LYC is entered, if STAT enables that source.
-    fn rise(&self) -> u16
-        ensures { result ≡ rise self.now }
+    // The M-cycle of the frame with which line LYC begins: one behind the frame if STAT does not enable that source, or the line has
+    // begun before.
+    fn line_begins(&self, now: u16) -> u16
+        requires legal { IsLegalPicture self.now }
+        requires now { now ≡ frame_cycle self.now }
+        ensures ahead { now < result }
+        ensures first { NoneBefore begins_line now result self.now }
     {
-        if self.stat == 0 {
-            0
-        } else {
-            114 * u16::from(self.lyc)
+        let at = 114 * u16::from(self.lyc);
+        if self.stat / 64 % 2 == 0 || at <= now {
+            return 17_556;
         }
+        at
+    }
+
+    // The same for the next mode 2.
+    fn mode_2_begins(&self) -> u16
+        requires legal { IsLegalPicture self.now }
+        ensures ahead { frame_cycle self.now < result }
+        ensures first { NoneBefore begins_mode_2 (frame_cycle self.now) result self.now }
+    {
+        if self.stat / 32 % 2 == 0 || self.ly >= 143 {
+            return 17_556;
+        }
+        114 * (u16::from(self.ly) + 1)
+    }
+
+    // The same for the next mode 0.
+    fn mode_0_begins(&self) -> u16
+        requires legal { IsLegalPicture self.now }
+        ensures ahead { frame_cycle self.now < result }
+        ensures first { NoneBefore begins_mode_0 (frame_cycle self.now) result self.now }
+    {
+        if self.stat / 8 % 2 == 0 || self.ly >= 144 {
+            return 17_556;
+        }
+        let at = 114 * u16::from(self.ly) + 63;
+        if self.m_cycle < 63 { at } else { at + 114 }
+    }
+
+    // The M-cycle of the frame with which VBlank begins, or behind that the end of the frame.
+    fn vblank_or_end(&self) -> u16
+        requires { IsLegalPicture self.now }
+        ensures ahead { frame_cycle self.now < result }
+        ensures within { result ≤ 17556 }
+        ensures vblank { frame_cycle self.now < 16416 → result ≤ 16416 }
+    {
+        if self.ly < 144 { 16_416 } else { 17_556 }
     }
 
     /// How many M-cycles away the next line, mode 3 or mode 0 is.

@@ -1,7 +1,7 @@
 ghost use Rattle.std.specs.Prelude.{◌≡◌};
 ghost use Rattle.std.specs.Prelude.{◌%◌};
 ghost use Rattle.timer_unit.specs.Timer.{with_counter_and_tac};
-ghost use Rattle.picture_unit.specs.Registers.{register_written as picture_register_written};
+ghost use Rattle.picture_unit.specs.Registers.{register_written as picture_register_written, register_stored};
 ghost use Rattle.memory_map.specs.Joypad.{joypad_set, select_bits};
 ghost use Rattle.memory_map.specs.Bus.{register_value, register_written, interrupt_flag, with_interrupt_flag, pending_interrupts, acknowledged};
 
@@ -155,7 +155,18 @@ impl Bus {
         self.timer.write_tma(self.clock, value);
     }
 
+    #[tactic(auto, unfolding(picture_unit::specs::Registers::register_written))]
     fn write_picture(&mut self, address: u16, value: u8)
+        ensures { self.new ≡ record self.old { picture = picture_register_written address value self.old.picture } }
+    {
+        match address {
+            0xff40 | 0xff41 | 0xff45 => self.write_signal_register(address, value),
+            _ => self.store_in_picture(address, value),
+        }
+    }
+
+    // LCDC, STAT or LYC, each of which may change the STAT signal.
+    fn write_signal_register(&mut self, address: u16, value: u8)
         ensures { self.new ≡ record self.old { picture = picture_register_written address value self.old.picture } }
     {
         self.calm_until = 0;
@@ -164,5 +175,17 @@ impl Bus {
         let clock = clock_of(&self.picture);
         self.timer.settle(self.clock, clock);
         self.clock = clock;
+    }
+
+    // A register that only holds what was written: what is quiet or calm stays so.
+    fn store_in_picture(&mut self, address: u16, value: u8)
+        ensures { self.new ≡ record self.old {
+          picture = record self.old.picture {
+            picture =
+                record self.old.picture.picture { state = register_stored address value self.old.picture.picture.state };
+          };
+        } }
+    {
+        self.picture.store_register(address, value);
     }
 }

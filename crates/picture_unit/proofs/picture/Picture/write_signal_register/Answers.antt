@@ -2,7 +2,7 @@ use Rattle.std.proofs.Common.{◌≡◌, ap, ◌∙◌}
 use Rattle.picture_unit.specs.Picture.{PictureUnit, unrequested}
 use Rattle.picture_unit.specs.Registers.{register_written}
 use Rattle.picture_unit.proofs.LatePicture.{to_the_moment, prompt_now}
-use Rattle.picture_unit.proofs.picture.Picture.write_register.Goals as goal
+use Rattle.picture_unit.proofs.picture.Picture.write_signal_register.Goals as goal
 
 pub returns-clause-picture : goal.returns-clause-picture
 returns-clause-picture c =

@@ -9,7 +9,7 @@ use Rattle.memory_map.specs.contracts.bus.Bus.{the_view}
 use Rattle.memory_map.proofs.LateTimers.{settled}
 use Rattle.memory_map.proofs.LateBus.{consistent_now}
 use Rattle.memory_map.proofs.PictureWrites.{register_written-pending}
-use Rattle.memory_map.proofs.bus.Bus.write_picture.Goals as goal
+use Rattle.memory_map.proofs.bus.Bus.write_signal_register.Goals as goal
 
 pub invariant_of-self : goal.invariant_of-self
 invariant_of-self c =
