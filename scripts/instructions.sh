@@ -14,7 +14,7 @@ each() {
     many=$(count "$1" "$2" "$(($3 * 2))")
     echo "$2: $(((many - few) / $3)) instructions a $4"
 }
-for rom in busy scrolling halting; do
+for rom in busy scrolling raster halting; do
     each frames "$rom" 10 frame
 done
 for call in run_steps run_until; do

@@ -1,4 +1,4 @@
-//! Whole frames of the machine on three small ROMs.
+//! Whole frames of the machine on four small ROMs.
 
 use crate::best::best_of;
 use crate::rom::cartridge;
@@ -37,6 +37,17 @@ const SCROLLING: [(usize, &[u8]); 3] = [
     ),
 ];
 
+/// Halts until each line's interrupt by mode 0, and scrolls the line after it by its number.
+const RASTER: [(usize, &[u8]); 2] = [
+    (0x48, &[0xf5, 0xf0, 0x44, 0xe0, 0x43, 0xf1, 0xd9]),
+    (
+        0x100,
+        &[
+            0x3e, 0x08, 0xe0, 0x41, 0x3e, 0x02, 0xe0, 0xff, 0xfb, 0x76, 0x18, 0xfd,
+        ],
+    ),
+];
+
 /// Halts until each VBlank interrupt.
 const HALTING: [(usize, &[u8]); 2] = [
     (0x40, &[0xd9]),
@@ -67,6 +78,7 @@ fn time_rom(rt: &HostRuntime, what: &str, parts: &[(usize, &[u8])]) -> io::Resul
 pub(crate) fn time(rt: &HostRuntime) -> io::Result<()> {
     time_rom(rt, "busy loop", &BUSY)?;
     time_rom(rt, "scrolling with window and 40 objects", &SCROLLING)?;
+    time_rom(rt, "an interrupt in each line", &RASTER)?;
     time_rom(rt, "halting", &HALTING)
 }
 
@@ -82,6 +94,7 @@ pub(crate) fn play(rt: &HostRuntime, name: &str, frames: u32) -> io::Result<()> 
     match name {
         "busy" => play_rom(rt, &BUSY, frames),
         "scrolling" => play_rom(rt, &SCROLLING, frames),
+        "raster" => play_rom(rt, &RASTER, frames),
         _ => play_rom(rt, &HALTING, frames),
     }
 }

@@ -52,8 +52,8 @@ fn main(rt: HostRuntime) -> io::Result<()> {
 }
 
 fn usage(rt: &HostRuntime) -> io::Result<()> {
-    println!(rt; "bench frames: frames a second of three small ROMs")?;
-    println!(rt; "bench frames ROM COUNT: plays busy, scrolling or halting once")?;
+    println!(rt; "bench frames: frames a second of four small ROMs")?;
+    println!(rt; "bench frames ROM COUNT: plays busy, scrolling, raster or halting once")?;
     println!(rt;
         "bench steps CALL COUNT: steps of the busy loop, once, by run_steps or run_until with 8 breakpoints"
     )?;
