@@ -5,23 +5,27 @@ PROGRAM := crates/gbkeep_program
 SOURCES := crates.txt $(shell find crates -name out -prune -o -type f \( -name '*.rt' -o -name '*.antt' \) -print)
 
 help:
-	@echo 'Times are of two processors.'
-	@echo 'make run             runs the program on a small ROM, before any proof (a minute)'
-	@echo 'make run ARGS="..."  runs it on other words, as ARGS="info data/rom.gb", over files of $(PROGRAM)'
-	@echo 'make build           proves the program and leaves it at bin/gbkeep (20 minutes from nothing)'
-	@echo 'make install         puts bin/gbkeep, its man page and its completion below PREFIX (PREFIX=$(PREFIX))'
-	@echo 'make check           while editing: proves what changed, seconds a crate (CRATE=name for one crate)'
-	@echo 'make edits           tries every wrong body, 10 to 40 s each (CRATE=name for one crate)'
-	@echo 'make bench           proves the benchmarks: times, instructions a frame, device calls (20 minutes from nothing)'
-	@echo 'make compare         compares the program with a second one, in Python, on random ROMs (SECONDS=20 a kind)'
-	@echo 'make hostile         gives the program damaged files and wrong scripts, kills it, and looks what is left (SECONDS=20 a kind)'
-	@echo 'make fuzz            of these the random ROMs, scripts and save files, for SECONDS=20 in all, another seed each time'
-	@echo 'make strace          compares each write and sync of the save file with a second writer (needs strace)'
-	@echo 'make demo            plays a minute of the demo cartridge and leaves bin/demo.sav, bin/demo.pgm and bin/demo.png (a second)'
-	@echo 'make play            plays a cartridge in a window (CART=examples/demo/demo.gb SAVE=bin/demo.sav; needs python3-pygame)'
-	@echo 'make test-window     plays the demo by real keys in a window of its own and kills it (half a minute; needs xvfb, xdotool, python3-pygame)'
-	@echo 'make memory          refuses each allocation of the program and of the calls that take memory, in turn (20 seconds once both are built; needs a C compiler)'
-	@echo 'make test            the gate: proves everything from nothing, runs the tests and programs (one to two hours)'
+	@echo 'To have it:'
+	@echo '  make build           proves the program and leaves it at bin/gbkeep, with a line a crate (from nothing: 20 minutes on two idle'
+	@echo '                       processors; 82 minutes, of 88 processor minutes, were seen on four busy ones)'
+	@echo '  make demo            plays a minute of examples/demo and leaves bin/demo.sav, bin/demo.pgm and bin/demo.png (a second)'
+	@echo '  make play            plays a cartridge in a window (CART=examples/demo/demo.gb SAVE=bin/play-demo.sav; needs python3-pygame)'
+	@echo '  make install         puts program, window, tools, man page and completion below PREFIX (PREFIX=$(PREFIX))'
+	@echo '  make dist            leaves a tarball and two Debian packages in dist (needs dpkg-deb)'
+	@echo '  make run             tries the program on a small ROM before any proof (a minute, each time; about 50 frames a second;'
+	@echo '                       ARGS="info data/rom.gb": on other words, over files of $(PROGRAM))'
+	@echo
+	@echo 'To change it (times are of two idle processors):'
+	@echo '  make check           proves what changed, seconds a crate (CRATE=name for one crate)'
+	@echo '  make edits           tries every wrong body, 10 to 40 s each (CRATE=name for one crate)'
+	@echo '  make test            the gate: proves everything from nothing, runs the tests and programs (docs/CONTRIBUTING.md says how long)'
+	@echo '  make bench           proves the benchmarks: times, instructions a frame, device calls (20 minutes from nothing)'
+	@echo '  make compare         compares the program with a second one, in Python, on random ROMs (SECONDS=20 a kind)'
+	@echo '  make hostile         gives the program damaged files and wrong scripts, kills it, and looks at what is left (SECONDS=20 a kind)'
+	@echo '  make fuzz            gives it random ROMs, scripts and save files alone, from another seed each time (SECONDS=20 in all)'
+	@echo '  make strace          compares each write and sync of the save file with a second writer (needs strace)'
+	@echo '  make memory          refuses each allocation in turn (20 seconds once both programs are built; needs a C compiler)'
+	@echo '  make test-window     plays the demo by real keys in a window of its own and kills it (a minute; needs xvfb, xdotool, python3-pygame)'
 
 ARGS ?= step data/rom.gb 2
 
@@ -29,16 +33,23 @@ run:
 	@cd $(PROGRAM) && $(RT) try -- $(ARGS)
 
 bin/gbkeep: $(SOURCES)
-	cd $(PROGRAM) && $(RT) run -- --help > /dev/null
+	@RT=$(RT) python3 -B scripts/build.py
 	mkdir -p bin
 	cp $(PROGRAM)/out/gbkeep_program $@
 
 build: bin/gbkeep
 
+# each is installed as gbkeep-NAME
+TOOLS := window script rest png
+
 install: bin/gbkeep
 	install -D -m 755 bin/gbkeep $(DESTDIR)$(PREFIX)/bin/gbkeep
 	install -D -m 644 docs/gbkeep.1 $(DESTDIR)$(PREFIX)/share/man/man1/gbkeep.1
 	install -D -m 644 completions/gbkeep.bash $(DESTDIR)$(PREFIX)/share/bash-completion/completions/gbkeep
+	install -d $(DESTDIR)$(PREFIX)/share/gbkeep
+	install -m 755 $(TOOLS:%=players/%.py) $(DESTDIR)$(PREFIX)/share/gbkeep
+	install -m 644 players/faults.py players/gbkeep.py players/timed_game.py $(DESTDIR)$(PREFIX)/share/gbkeep
+	for tool in $(TOOLS); do ln -sf ../share/gbkeep/$$tool.py $(DESTDIR)$(PREFIX)/bin/gbkeep-$$tool; done
 
 check:
 ifdef CRATE
@@ -77,18 +88,20 @@ strace: bin/gbkeep
 
 demo: bin/gbkeep
 	rm -f bin/demo.sav
-	bin/gbkeep new examples/demo/demo.gb bin/demo.sav 284
+	bin/gbkeep new examples/demo/demo.gb bin/demo.sav
 	bin/gbkeep play examples/demo/demo.gb bin/demo.sav examples/demo/tour.txt
 	bin/gbkeep frame examples/demo/demo.gb bin/demo.sav bin/demo.pgm
-	python3 -B scripts/png.py bin/demo.pgm bin/demo.png
+	python3 -B players/png.py bin/demo.pgm bin/demo.png
 
 # the Python that has pygame: Debian's, where another one comes first
 PYTHON ?= $(shell python3 -c 'import pygame' > /dev/null 2>&1 && echo python3 || echo /usr/bin/python3)
 CART ?= examples/demo/demo.gb
-SAVE ?= bin/demo.sav
 
 play: bin/gbkeep
-	$(PYTHON) -B players/window.py $(CART) $(SAVE)
+	$(PYTHON) -B players/window.py "$(CART)" "$(or $(SAVE),bin/play-$$(basename "$(CART)" .gb).sav)"
+
+dist: bin/gbkeep
+	RT=$(RT) python3 -B scripts/dist.py
 
 test-window: bin/gbkeep
 	$(PYTHON) -B players/test_window.py bin/gbkeep
@@ -98,12 +111,17 @@ memory: bin/gbkeep
 	python3 -B scripts/second_storage/refused_memory.py bin/gbkeep crates/refused_memory/out/refused_memory
 
 test:
+	RT=$(RT) python3 -B scripts/dist.py begins
 	RT=$(RT) sh scripts/opened_has_no_append.sh
 	python3 -B scripts/front_door.py
 	python3 -B scripts/refusals.py
 	$(RT) ci
+	python3 -B scripts/front_door.py $(PROGRAM)/out/gbkeep_program
+	python3 -B players/test_players.py $(PROGRAM)/out/gbkeep_program
 	python3 -B scripts/second_storage/hostile.py $(PROGRAM)/out/gbkeep_program 4 1
+	python3 -B scripts/second_storage/traced.py $(PROGRAM)/out/gbkeep_program 2 1 crates/failed_syncs/out/failed_syncs
 	python3 -B examples/demo/check.py $(PROGRAM)/out/gbkeep_program
 	python3 -B scripts/second_storage/refused_memory.py $(PROGRAM)/out/gbkeep_program crates/refused_memory/out/refused_memory
+	RT=$(RT) python3 -B scripts/dist.py passed $(PROGRAM)/out/gbkeep_program
 
-.PHONY: help run build install check edits bench compare hostile fuzz strace demo play test-window memory test
+.PHONY: help build demo play install dist run check edits test bench compare hostile fuzz strace memory test-window

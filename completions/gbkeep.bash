@@ -1,12 +1,15 @@
-# bash completion of gbkeep: a command, then files
+# bash completion of gbkeep: a command, then its files
 _gbkeep() {
-    local word=${COMP_WORDS[COMP_CWORD]}
+    local word=${COMP_WORDS[COMP_CWORD]} commands='info list step new play frame stream trace'
+    COMPREPLY=()
     if [ "$COMP_CWORD" -eq 1 ]; then
-        COMPREPLY=($(compgen -W 'info list step new play frame stream trace help --help --version' -- "$word"))
+        COMPREPLY=($(compgen -W "$commands help --help --version" -- "$word"))
         return
     fi
     case ${COMP_WORDS[1]}.$COMP_CWORD in
-        *.2 | play.[34] | frame.[34] | new.3 | stream.3 | trace.3) COMPREPLY=($(compgen -f -- "$word")) ;;
+        help.2) COMPREPLY=($(compgen -W "$commands" -- "$word")) ;;
+        # with no answer of ours readline completes the names of files, and keeps those with spaces whole
+        info.2 | list.2 | step.2 | new.[23] | play.[234] | frame.[234] | stream.[23] | trace.[23]) compopt -o default 2> /dev/null ;;
     esac
 }
-complete -o filenames -F _gbkeep gbkeep
+complete -F _gbkeep gbkeep

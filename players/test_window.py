@@ -1,10 +1,11 @@
 #!/usr/bin/env python3
-"""Plays the demo cartridge in the window with real key events, on a display of its own, and kills it in the middle of play.
+"""Plays the demo cartridge in the window with real key events, on a display of its own, and kills it in the middle of play. Then it looks at
+what the window shows: a pause, a saved picture, running fast, a fault, a notice about the clock; and ends it by Ctrl-C.
 
 usage: test_window.py [GBKEEP [PICTURE]]    PICTURE: where a picture of the whole window goes, as PNG
 
 It needs Debian's packages xvfb, xdotool and python3-pygame, and installs nothing. The status is 1 where the window does not show the game, where
-what its title told as saved is gone after a SIGKILL, or where the score of a second before is."""
+what its title told as saved is gone after a SIGKILL, where the score of a second before is, or where any of the others is not shown."""
 import os
 import re
 import select
@@ -22,9 +23,15 @@ HERE = Path(__file__).resolve().parent
 DEMO = HERE.parent / 'examples/demo'
 sys.path.insert(0, str(DEMO))
 sys.path.insert(0, str(HERE))
+from assemble import Assembler
 from check import glyphs, status_line
+from gbkeep import HEIGHT, WIDTH, Game
+from png import chunk
+from test_players import CLOCK
 
 SCALE = 3
+# those of window.py, darkest first; the letters that it draws have others between them
+COLOURS = [(0x0f, 0x38, 0x0f), (0x30, 0x62, 0x30), (0x8b, 0xac, 0x0f), (0xe0, 0xf8, 0xd0)]
 
 
 def needs():
@@ -35,38 +42,24 @@ def needs():
         sys.exit("test_window.py needs Debian's " + ', '.join(missing))
 
 
-def pixels_of(png):
-    """The rows of a PNG of 8 bits a channel, as lists of colours."""
-    data, at, packed = png.read_bytes(), 8, b''
-    while at < len(data):
-        size, kind = struct.unpack('>I4s', data[at:at + 8])
-        body = data[at + 8:at + 8 + size]
-        if kind == b'IHDR':
-            width, height, _, colour = struct.unpack('>IIBB', body[:10])
-        elif kind == b'IDAT':
-            packed += body
-        at += 12 + size
-    channels, rows, before = {2: 3, 6: 4}[colour], [], bytes(width * 4)
-    raw, step = zlib.decompress(packed), 1 + width * channels
-    for y in range(height):
-        kind, row = raw[y * step], bytearray(raw[y * step + 1:(y + 1) * step])
-        for x in range(len(row)):
-            left, up = (row[x - channels] if x >= channels else 0), before[x]
-            corner = before[x - channels] if x >= channels else 0
-            guess = left + up - corner
-            nearest = min((abs(guess - left), 0, left), (abs(guess - up), 1, up), (abs(guess - corner), 2, corner))[2]
-            row[x] = (row[x] + (0, left, up, (left + up) // 2, nearest)[kind]) & 255
-        before = bytes(row)
-        rows.append([tuple(row[x:x + 3]) for x in range(0, len(row), channels)])
-    return rows
+def as_pgm(shades):
+    return ' '.join(['P2', '160', '144', '3', *map(str, shades)])
+
+
+def shades_of(png):
+    """The shades of a PNG that png.py makes."""
+    data = png.read_bytes()
+    raw, step = zlib.decompressobj().decompress(data[data.index(b'IDAT') + 4:]), 1 + WIDTH * SCALE
+    return [raw[y * SCALE * step + 1 + x * SCALE] // 85 for y in range(HEIGHT) for x in range(WIDTH)]
 
 
 class Screen:
-    """A display of its own."""
+    """A display of its own, whose pixels can be read."""
 
-    def __init__(self):
+    def __init__(self, room):
+        self.pixels = Path(room) / 'Xvfb_screen0'
         reader, writer = os.pipe()
-        self.process = subprocess.Popen(['Xvfb', '-displayfd', str(writer), '-screen', '0', '800x600x24', '-nolisten', 'tcp'],
+        self.process = subprocess.Popen(['Xvfb', '-displayfd', str(writer), '-screen', '0', '800x600x24', '-fbdir', room, '-nolisten', 'tcp'],
                                         pass_fds=[writer], stdout=subprocess.DEVNULL, stderr=subprocess.DEVNULL)
         os.close(writer)
         if not select.select([reader], [], [], 20)[0]:
@@ -80,13 +73,21 @@ class Screen:
         for name in names:
             self.do(kind, name)
 
+    def shot(self, left, top, width, height):
+        """The rows of a part of the screen, as lists of colours. (The file is an X window dump: a head of big words, and four bytes a pixel.)"""
+        data = self.pixels.read_bytes()
+        head = struct.unpack('>25I', data[:100])
+        start, line = head[0] + 12 * head[19], head[12]
+        return [[tuple(data[at:at + 3][::-1]) for at in range(start + y * line + 4 * left, start + y * line + 4 * (left + width), 4)]
+                for y in range(top, top + height)]
+
 
 class Player:
     """A window that is open."""
 
-    def __init__(self, screen, gbkeep, save):
+    def __init__(self, screen, gbkeep, save, cart=DEMO / 'demo.gb'):
         self.screen, self.save = screen, save
-        self.process = subprocess.Popen([sys.executable, HERE / 'window.py', '--gbkeep', gbkeep, DEMO / 'demo.gb', save], env=screen.env,
+        self.process = subprocess.Popen([sys.executable, '-B', HERE / 'window.py', '--gbkeep', gbkeep, cart, save], env=screen.env,
                                         start_new_session=True, stdout=subprocess.PIPE, stderr=subprocess.STDOUT, text=True)
         self.window = self.wait(lambda: screen.do('search', '--class', 'gbkeep').split(), 'no window came up')[0]
         screen.do('windowfocus', self.window)
@@ -100,29 +101,53 @@ class Player:
             if self.process.poll() is not None:
                 sys.exit(f'{or_else}: {self.process.stdout.read()}')
             time.sleep(0.05)
-        sys.exit(or_else)
+        sys.exit(f'{or_else}; the title is {self.title()!r}')
+
+    def title(self):
+        return self.screen.do('getwindowname', self.window).strip()
+
+    def until_titled(self, words):
+        self.wait(lambda: words in self.title(), f'the title never had {words!r}')
 
     def saved(self):
-        found = re.search(r', (\d+) saved', self.screen.do('getwindowname', self.window))
+        found = re.search(r', (\d+) saved', self.title())
+        return int(found[1]) if found else 0
+
+    def speed(self):
+        """Of a hundred: 100 is as fast as a Game Boy."""
+        found = re.search(r': (\d+)%, ', self.title())
         return int(found[1]) if found else 0
 
     def until_saved(self, count):
         return self.wait(lambda: self.saved() >= count and self.saved(), f'{count} inputs were never saved')
 
+    def pixels(self):
+        place = dict(line.split('=') for line in self.screen.do('getwindowgeometry', '--shell', self.window).split())
+        return self.screen.shot(int(place['X']), int(place['Y']), WIDTH * SCALE, HEIGHT * SCALE)
+
+    def has_words(self):
+        """Something is written over the picture, or in its place. (Before the first picture the window is black.)"""
+        colours = {colour for row in self.pixels() for colour in row}
+        return COLOURS[3] in colours and not colours <= set(COLOURS)
+
+    def until_words(self, there, what):
+        self.wait(lambda: self.has_words() == there, f'{what}: {"nothing is" if there else "something is still"} written in the window')
+
+    def shades(self):
+        """The picture in the window."""
+        rows = self.pixels()
+        return [COLOURS.index(rows[y * SCALE][x * SCALE]) for y in range(HEIGHT) for x in range(WIDTH)]
+
     def picture(self):
-        """What the window shows, by its key S."""
+        """The picture that the key S leaves."""
         before = set(self.save.parent.glob('*.png'))
         self.screen.keys('key', 's')
         made = self.wait(lambda: set(self.save.parent.glob('*.png')) - before, 'S left no picture').pop()
         time.sleep(0.1)
-        rows = pixels_of(made)
-        colours = sorted({colour for row in rows for colour in row})
-        shades = {colour: colours.index(colour) for colour in colours}
-        values = [str(shades[rows[y * SCALE][x * SCALE]]) for y in range(144) for x in range(160)]
-        return ' '.join(['P2', '160', '144', '3', *values])
+        return shades_of(made)
 
     def score(self, known):
-        found = re.match(r'SCORE (\d\d)', status_line(self.picture(), known))
+        found = re.match(r'SCORE (\d\d)', status_line(as_pgm(self.picture()), known))
         return int(found[1]) if found else sys.exit('the window shows no score')
 
     def processor_seconds(self):
@@ -141,6 +166,17 @@ class Player:
         os.killpg(self.process.pid, signal.SIGKILL)
         self.process.wait()
 
+    def close(self):
+        """Ends it as a session does that ends: it saves, and says nothing."""
+        self.process.terminate()
+        self.ended(0, '')
+
+    def ended(self, status, output):
+        """It ends so, and prints that."""
+        printed = self.process.communicate(timeout=20)[0]
+        if (self.process.returncode, printed) != (status, output):
+            sys.exit(f'the window ended with status {self.process.returncode} and {printed!r}, and not {status} and {output!r}')
+
 
 def sweep(screen, rows):
     """Walks over the field, up, and then row by row down."""
@@ -157,46 +193,123 @@ def sweep(screen, rows):
         screen.keys('keyup', 'Down')
 
 
+def leave_picture(player, path):
+    rows = b''.join(b'\0' + bytes(part for colour in row for part in colour) for row in player.pixels())
+    head = struct.pack('>IIBBBBB', WIDTH * SCALE, HEIGHT * SCALE, 8, 2, 0, 0, 0)
+    Path(path).write_bytes(b'\x89PNG\r\n\x1a\n' + chunk(b'IHDR', head) + chunk(b'IDAT', zlib.compress(rows, 9)) + chunk(b'IEND', b''))
+
+
+def play_and_kill(open_window, screen, save, picture):
+    known = glyphs((DEMO / 'demo.asm').read_text())
+    player = open_window(save)
+    player.until_saved(60)
+    start, spent, first = time.monotonic(), player.processor_seconds(), player.saved()
+    sweep(screen, 7)
+    score = player.score(known)
+    passed, load = time.monotonic() - start, player.processor_seconds() - spent
+    player.until_words(False, 'two seconds after a picture')
+    if picture:
+        leave_picture(player, picture)
+    told = player.until_saved(player.saved() + 60)
+    print(f'{(player.saved() - first) / (time.monotonic() - start):.1f} frames a second, {100 * load / passed:.0f} % of a processor, score {score}')
+    if score == 0:
+        sys.exit('no coin was taken: the keys do not reach the game')
+    told = player.until_saved(told + 60)
+    screen.keys('keydown', 'Right')
+    time.sleep(0.4)
+    player.kill()
+    screen.keys('keyup', 'Right')
+    player = open_window(save)
+    resumed = player.until_saved(told)
+    again = player.score(known)
+    if again < score:
+        sys.exit(f'the score was {score} and saved, and is {again}')
+    player.close()
+    print(f'killed at {told} saved inputs, resumed at {resumed}: score {again}')
+
+
+def look(open_window, screen, save, gbkeep):
+    """What the keys and the faults show."""
+    player = open_window(save)
+    player.until_titled('GBKEEP DEMO: ')
+    player.until_saved(60)
+    player.until_words(False, 'in play')
+    screen.keys('key', 'p')
+    player.until_titled('GBKEEP DEMO: paused, ')
+    player.until_words(True, 'in a pause')
+    screen.keys('key', 'p')
+    player.until_words(False, 'after a pause')
+    screen.keys('keydown', 'Tab')
+    player.until_words(True, 'while it runs fast')
+    player.wait(lambda: player.speed() > 150, 'the title never told a greater speed')
+    screen.keys('keyup', 'Tab')
+    player.wait(lambda: 0 < player.speed() < 150, 'the title still tells a greater speed')
+    player.until_words(False, 'after it ran fast')
+    shades = player.picture()
+    player.until_words(True, 'after a picture')
+    player.until_words(False, 'two seconds after a picture')
+    if len(set(shades)) < 3:
+        sys.exit('the picture has no shades')
+    before = player.saved()
+    os.killpg(player.process.pid, signal.SIGINT)
+    player.ended(0, '')
+    with Game(DEMO / 'demo.gb', save, gbkeep) as held:
+        if held.resumed < before:
+            sys.exit(f'Ctrl-C lost inputs: {held.resumed}, and {before} were saved')
+        player = open_window(save)
+        player.until_titled('gbkeep: device failed')
+        player.until_words(True, 'after a fault')
+        time.sleep(3)
+        if not player.has_words() or player.process.poll() is not None:
+            sys.exit('the fault does not stay')
+        screen.keys('key', 'x')
+        player.ended(1, 'gbkeep: device failed\n')
+    print('shown: pause, fast, picture, fault; Ctrl-C saves and ends')
+
+
+def look_at_clock(open_window, screen, room, gbkeep):
+    """A game with a clock that something else has played."""
+    cart, save = room / 'clock.gb', room / 'clock.sav'
+    cart.write_bytes(Assembler().assemble(CLOCK))
+    with Game(cart, save, gbkeep) as game:
+        game.frames(0, 10)
+    player = open_window(save, cart)
+    player.until_words(True, 'without SAVE.time')
+    screen.keys('key', 'x')
+    player.until_saved(60)
+    player.until_words(False, 'after a key')
+    player.close()
+    with Game(cart, save, gbkeep) as game:
+        game.frames(0, 300)
+    player = open_window(save, cart)
+    player.until_words(True, 'after a play without the window')
+    screen.keys('key', 'x')
+    player.until_titled('CLOCK: ')
+    player.until_saved(370)
+    player.close()
+    print('shown: what the clock is given')
+
+
 def main():
     needs()
     gbkeep = Path(sys.argv[1] if len(sys.argv) > 1 else HERE.parent / 'bin/gbkeep').resolve()
-    known = glyphs((DEMO / 'demo.asm').read_text())
-    screen = Screen()
     players = []
-    try:
-        with tempfile.TemporaryDirectory(prefix='window-') as room:
-            save = Path(room) / 'demo.sav'
-            player = Player(screen, gbkeep, save)
-            players.append(player)
-            player.until_saved(60)
-            start, spent, first = time.monotonic(), player.processor_seconds(), player.saved()
-            sweep(screen, 7)
-            score = player.score(known)
-            passed, load = time.monotonic() - start, player.processor_seconds() - spent
-            told = player.until_saved(player.saved() + 60)
-            print(f'{(player.saved() - first) / (time.monotonic() - start):.1f} frames a second, {100 * load / passed:.0f} % of a processor, score {score}')
-            if len(sys.argv) > 2:
-                shutil.copy(sorted(save.parent.glob('*.png'))[-1], sys.argv[2])
-            if score == 0:
-                sys.exit('no coin was taken: the keys do not reach the game')
-            told = player.until_saved(told + 60)
-            screen.keys('keydown', 'Right')
-            time.sleep(0.4)
-            player.kill()
-            screen.keys('keyup', 'Right')
-            player = Player(screen, gbkeep, save)
-            players.append(player)
-            resumed = player.until_saved(told)
-            again = player.score(known)
-            if again < score:
-                sys.exit(f'the score was {score} and saved, and is {again}')
-            player.screen.do('windowclose', player.window)
-            print(f'killed at {told} saved inputs, taken up at {resumed}: score {again}')
-    finally:
-        for player in players:
-            if player.process.poll() is None:
-                player.kill()
-        screen.process.kill()
+    with tempfile.TemporaryDirectory(prefix='window-') as folder:
+        room, screen = Path(folder), Screen(folder)
+
+        def open_window(save, *cart):
+            players.append(Player(screen, gbkeep, save, *cart))
+            return players[-1]
+        try:
+            play_and_kill(open_window, screen, room / 'demo.sav', sys.argv[2] if len(sys.argv) > 2 else None)
+            look(open_window, screen, room / 'look.sav', gbkeep)
+            look_at_clock(open_window, screen, room, gbkeep)
+        finally:
+            for player in players:
+                if player.process.poll() is None:
+                    player.kill()
+            screen.process.kill()
+            screen.process.wait()
     return 0
 
 

@@ -1,46 +1,346 @@
-"""Fails where a command or a fault of the program stands in its sources and not in README, COMMANDS, man page and completion.
+"""Compares whole tables: what the sources say that the program has, and what README, COMMANDS, man page, completion, `make help` and the player's
+tools say of it. Then it deletes each row of each table, in turn and on a copy, and wants each deletion to be seen.
 
-usage: front_door.py, at the top of the repository"""
-import re, sys
+usage: front_door.py             at the top of the repository
+       front_door.py GBKEEP      this too: runs each command block as it stands, in a copy of the clone, and compares what it prints;
+                                 compares the program's helps; installs it all below a folder; completes a name with a space in a shell"""
+import definitions, functools, os, pty, re, select, shutil, subprocess, sys, tempfile, time
+from pathlib import Path
 
-
-def text(path):
-    with open(path) as file:
-        return file.read()
-
-
+FAULT_FILES = ['crates/cartridge/src/error.rt', 'crates/sector_device/src/device.rt', 'crates/script/src/error.rt', 'crates/session/src/error.rt',
+               'crates/streaming/src/error.rt']
+FAULT_LINES, COMMANDS, LINES = 'crates/gbkeep/src/fault.rt', 'crates/command_line/specs/Commands.antt', 'crates/script/specs/Line.antt'
+README, MANUAL, MAN, COMPLETION, MAKE, TOOLS = 'README.md', 'docs/COMMANDS.md', 'docs/gbkeep.1', 'completions/gbkeep.bash', 'Makefile', 'players/faults.py'
+WORDS, ARCHITECTURE = 'crates/command_line/src/words.rt', 'docs/ARCHITECTURE.md'
 # a library's answers: the program stops at the call that breaks a session, and saves before 3,200 inputs are unsaved
 NOT_OF_THE_PROGRAM = {'broken, open it again', 'save first'}
+OPTIONS = {'--help', '--version', '-h', '-V', '--'}
 
 
-def faults():
-    """The texts of faults, as far as they are fixed: before a number."""
-    found = set()
-    for path, at in (('crates/cartridge/src/error.rt', ''), ('crates/sector_device/src/device.rt', ''), ('crates/script/src/error.rt', ''),
-                     ('crates/session/src/error.rt', ''), ('crates/gbkeep/src/error.rt', '')):
-        found |= set(re.findall(r'#\[error\("([^"]+)"', text(path)))
-    found |= set(re.findall(r'"gbkeep: ([^"{]+)\\n"', text('crates/gbkeep/src/fault.rt')))
-    return {re.sub(r'\W*\{.*', '', one).strip(', ') for one in found} - {''} - NOT_OF_THE_PROGRAM
+# ---- what the sources have
+
+def faults_of(texts):
+    """The lines after `gbkeep: `, with N for a number and XX for two hexadecimal digits."""
+    found = {one for path in FAULT_FILES for one in re.findall(r'#\[error\("([^"]+)"', texts[path])}
+    found |= set(re.findall(r'"gbkeep: ([^"]+?)(?:\\n)?"', texts[FAULT_LINES]))
+    damaged = {one for one in re.findall(r'enum Damage \{(.*?)^\}', texts['crates/session/src/error.rt'], re.S | re.M)
+               for one in re.findall(r'#\[error\("([^"]+)"', one)}
+    found = {one for one in found - damaged if not one.startswith('{')}
+    found = (found - {'damaged {0}'}) | {f'damaged {one}' for one in damaged if 'damaged {0}' in found}
+    return {re.sub(r'\{\w+\}', 'N', re.sub(r'\{\d:02X\}', 'XX', one)) for one in found} - NOT_OF_THE_PROGRAM
 
 
-def commands():
-    return set(re.findall(r'"(\w+)" => \1\(values\)', text('crates/command_line/src/lib.rt')))
+def commands_of(texts):
+    """Each command with its operands and the ranges of its numbers."""
+    found = {}
+    for name, made in re.findall(r'^(\w+) = (.*\(codes "\1"\).*|over_save \(codes "\w+"\))$', texts[COMMANDS], re.M):
+        operands = ['CART'] + ['SAVE'] * ('over_save' in made) + re.findall(r'\((?:operand|number|optional_number) \(codes "(\w+)"\)', made)
+        optional = re.findall(r'\(optional_number \(codes "(\w+)"\)', made)
+        ranges = [f'{int(least):,} to {int(most):,}' for least, most in re.findall(r'\) (\d+) (\d+)\)', made)]
+        found[name] = (tuple(f'[{one}]' if one in optional else one for one in operands), tuple(ranges))
+    return found
 
 
-# what the program prints beside its commands
-OPTIONS = {'--help', '--version'}
+def lines_of(texts):
+    """The names of a script's lines."""
+    return set(re.findall(r'name \(codes "(\w+)"\)', texts[LINES]))
+
+
+# ---- what the documents have
+
+def rows(text, heading):
+    """The rows of the table below a head, each as its line and its cells."""
+    head = re.search(r'^\| %s.*\n\|[-|]+\|\n((?:\|.*\n)+)' % re.escape(heading), text, re.M)
+    return [(line, [cell.strip() for cell in line.strip('|').split(' | ')]) for line in head[1].splitlines()] if head else []
+
+
+def code(cell):
+    return re.findall(r'`([^`]+)`', cell)
+
+
+def entries(text, section):
+    """The entries of a section of the man page, each as its text and its head without fonts."""
+    part = re.search(r'^\.SH %s\n(.*?)(?=^\.SH|\Z)' % section, text, re.S | re.M)
+    for entry in re.findall(r'^\.TP\n(?:(?!\.TP).*\n)+', part[1] if part else '', re.M):
+        yield entry, plain(entry.split('\n')[1])
+
+
+def plain(line):
+    line = re.sub(r'^\.[A-Z]+ |\\f[BIR]|"', '', line)
+    return re.sub(' +', ' ', line.replace('\\-', '-')).strip()
+
+
+def synopsis(text):
+    part = re.search(r'^\.SH SYNOPSIS\n(.*?)(?=^\.SH)', text, re.S | re.M)
+    return [(line + '\n', plain(line).removeprefix('gbkeep ')) for line in part[1].splitlines() if line.startswith('\\fBgbkeep')] if part else []
+
+
+@functools.lru_cache(None)
+def completed(script, *words):
+    """What the completion answers for the last of these words."""
+    asked = '%s\nCOMP_WORDS=(%s) COMP_CWORD=%d; _gbkeep; printf "%%s\\n" "${COMPREPLY[@]}"' % (script, ' '.join(map(repr, words)), len(words) - 1)
+    return tuple(sorted(subprocess.run(['bash', '-c', asked], capture_output=True, text=True).stdout.split()))
+
+
+def advice_of(texts):
+    """The table of the player's tools."""
+    space = {}
+    exec(texts[TOOLS], space)
+    return space['FAULTS']
+
+
+def helps(texts):
+    """The targets that `make help` lists."""
+    return re.findall(r"^\t@echo '  make ([\w-]+)", texts[MAKE], re.M)
+
+
+# ---- the comparison
+
+def compared(place, what, got, wanted):
+    """What is missing, too much or twice."""
+    got, wanted = list(got), set(wanted)
+    wrong = [f'{place} lacks the {what} {one!r}' for one in sorted(wanted - set(got), key=str)]
+    wrong += [f'{place} has the {what} {one!r}, which is not there' for one in sorted(set(got) - wanted, key=str)]
+    return wrong + [f'{place} has the {what} {one!r} twice' for one in sorted(set(got), key=str) if got.count(one) > 1]
+
+
+def differences(texts):
+    commands, faults, wrong = commands_of(texts), faults_of(texts), []
+    heads = {' '.join([name, *operands]) for name, (operands, _) in commands.items()}
+    table = advice_of(texts)
+    wrong += compared(TOOLS, 'fault', {re.sub(r'\b0$', 'N', fault) for fault, *_ in table}, faults)
+    manual = rows(texts[MANUAL], 'Line after')
+    wrong += compared(MANUAL, 'command', [code(cells[0])[0] for _, cells in rows(texts[MANUAL], 'Command')], heads)
+    wrong += [f'{MANUAL} does not say {span!r} of {cells[0]}' for _, cells in rows(texts[MANUAL], 'Command')
+              for span in commands.get(code(cells[0])[0].split()[0], ((), ()))[1] if f'({span}' not in cells[1]]
+    wrong += compared(MANUAL, 'row of a fault', [tuple(cells) for _, cells in manual],
+                      {(f'`{fault}`' + (f', of `{of}`' if of else ''), means, advice) for fault, of, means, advice in table})
+    wrong += compared(MANUAL, 'line of a script', [code(one)[0].split()[0] for _, cells in rows(texts[MANUAL], 'Line | Means') for one in cells[:1]], lines_of(texts))
+    wrong += compared(MANUAL, 'line of a stream', [one.split()[0] for _, cells in rows(texts[MANUAL], 'Line | Answer') for one in code(cells[0])],
+                      lines_of(texts) | {'picture'})
+    wrong += compared(README, 'command', [one for _, cells in rows(texts[README], 'Command') for one in code(cells[0])], heads)
+    wrong += compared(MAN, 'synopsis', [line for _, line in synopsis(texts[MAN]) if not line.startswith('-')], heads)
+    wrong += compared(MAN, 'command', [head for _, head in entries(texts[MAN], 'COMMANDS')], heads)
+    wrong += compared(MAN, 'option', [one for _, head in entries(texts[MAN], 'OPTIONS') for one in re.findall(r'--?\w*', head)], OPTIONS)
+    wrong += compared(MAN, 'line of a script', [head.split()[0] for _, head in entries(texts[MAN], 'SCRIPTS')], lines_of(texts))
+    wrong += compared(MAN, 'fault', [one for _, head in entries(texts[MAN], 'DIAGNOSTICS') for one in parted(head)], faults)
+    words = {*commands, 'help', '--help', '--version'}
+    wrong += compared(COMPLETION, 'first word', completed(texts[COMPLETION], 'gbkeep', ''), words)
+    wrong += compared(COMPLETION, 'word after help', completed(texts[COMPLETION], 'gbkeep', 'help', ''), commands)
+    wrong += compared(MAKE, 'target in its help', helps(texts), set(re.search(r'^\.PHONY: (.*)$', texts[MAKE], re.M)[1].split()) - {'help'})
+    for place, (start, end) in (('play', ('SCRIPT_LINES', ';')), ('stream', ('STREAM_LINES', ';'))):
+        help_text = re.search(r'const %s: &str = "(.*?)"%s' % (start, end), texts[WORDS], re.S)
+        wrong += compared(f'help of {place}', 'line', re.findall(r'^  (\w+)', help_text[1] if help_text else '', re.M),
+                          lines_of(texts) | ({'picture'} if place == 'stream' else set()))
+    wrong += walks(texts[ARCHITECTURE])
+    if len(texts[README].splitlines()) >= 100:
+        wrong.append(f'{README} has 100 lines or more')
+    return wrong
+
+
+@functools.lru_cache(None)
+def counted():
+    """How many files of definitions the main theorem needs."""
+    known = definitions.files()
+    order = definitions.closure(definitions.cited(*definitions.HEADLINE), known)
+    lines = sum(len(known[module].read_text().splitlines()) for module in order)
+    return f'{len(order)} of {len(known)} files of definitions, {lines:,} lines'
+
+
+@functools.lru_cache(None)
+def source(path):
+    path = Path('crates', path)
+    return path.read_text() if path.exists() else ''
+
+
+def walks(text):
+    """What ARCHITECTURE says of functions and definitions that is not so."""
+    counts = counted()
+    wrong = [] if counts in ' '.join(text.split()) else [f'{ARCHITECTURE} does not count {counts}']
+    steps = [cells for function in re.findall(r'^\| Function .*\n\|[-|]+\|\n((?:\|.*\n)+)', text, re.M) for cells in
+             (line.strip('|').split(' | ') for line in function.splitlines())]
+    wrong += [f'{ARCHITECTURE}: no function {name} in {path}' for names, file, _ in steps for name in code(names) for path in code(file)
+              if not re.search(r'\bfn %s\b' % name, source(path))]
+    named = re.findall(r'`(\w+/specs/\w+\.antt)`', text)
+    wrong += [f'{ARCHITECTURE}: no {path}' for path in named if not Path('crates', path).exists()]
+    return wrong + ([] if len(steps) > 20 else [f'{ARCHITECTURE} has no walks'])
+
+
+def parted(head):
+    """The faults of an entry: `too small, N sectors needed` is one, and several may stand in a row."""
+    return [head] if head.startswith('too small') else head.split(', ')
+
+
+def deletions(texts):
+    """Each row of each table, as (path, what to delete, what is left there)."""
+    for path in (README, MANUAL):
+        for heading in ('Command', 'Line after', 'Line | Means', 'Line | Answer'):
+            for line, _ in rows(texts[path], heading):
+                yield path, line + '\n', ''
+    for line, _ in synopsis(texts[MAN]):
+        if '--' not in line:
+            yield MAN, line, ''
+    for section in ('COMMANDS', 'OPTIONS', 'SCRIPTS', 'DIAGNOSTICS'):
+        for entry, _ in entries(texts[MAN], section):
+            yield MAN, entry, ''
+    for name in commands_of(texts):
+        yield COMPLETION, f'{name} ' if f'{name} ' in texts[COMPLETION] else name, ''
+        yield COMMANDS, re.search(r'^%s = .*\n' % name, texts[COMMANDS], re.M)[0], ''
+    for path in FAULT_FILES:
+        for line in re.findall(r'^ *#\[error\("[^"{][^"]*"\)\]\n', texts[path], re.M):
+            # a line that another crate's table has too is not gone
+            if sum(texts[other].count(line.strip()) for other in FAULT_FILES) == 1 and not re.search('|'.join(NOT_OF_THE_PROGRAM), line):
+                text = re.search(r'"(.*)"', line)[1]
+                if f'gbkeep: {text}' not in texts[FAULT_LINES] and f'gbkeep: {re.sub(r"{.*", "", text)}' not in texts[FAULT_LINES]:
+                    yield path, line, ''
+    for entry in re.findall(r"^    \('.*?'\),\n|^    \('[^\n]*\n     '[^\n]*'\),\n", texts[TOOLS], re.M):
+        yield TOOLS, entry, ''
+    for line in re.findall(r"^\t@echo '  make .*\n", texts[MAKE], re.M):
+        yield MAKE, line, ''
+    for line in re.findall(r'^  (?:frame|frames|seconds|save|picture) .*$', texts[WORDS], re.M):
+        yield WORDS, line, ''
+    for line in re.findall(r'^\| `\w+`.*\| `\S+\.rt` \|.*$', texts[ARCHITECTURE], re.M):
+        yield ARCHITECTURE, line, re.sub(r'^\| `(\w+)`', r'| `\1x`', line)
+
+
+# ---- what the program does
+
+def blocks(text):
+    """The command blocks of a page: each a list of commands with the lines that they print."""
+    for block in re.findall(r'^```sh\n(.*?)^```', text, re.S | re.M):
+        commands = []
+        for line in block.splitlines():
+            if line.startswith('#'):
+                commands[-1][1].append(line[2:])
+            else:
+                commands.append((line, []))
+        yield commands
+
+
+def examples(text):
+    """The commands of the man page's examples."""
+    part = re.search(r'^\.SH EXAMPLES\n(.*?)(?=^\.SH|\Z)', text, re.S | re.M)
+    found = re.search(r'^\.nf\n(.*?)^\.fi', part[1] if part else '', re.S | re.M)
+    return [plain(line).replace('\\\\', '\\') for line in found[1].splitlines()] if found else []
+
+
+def shell(room, line, **more):
+    done = subprocess.run(['bash', '-c', line], cwd=room, stdout=subprocess.PIPE, stderr=subprocess.STDOUT, text=True, timeout=300, **more)
+    return done.returncode, done.stdout
+
+
+def clone(room, program):
+    """What of the clone the blocks need, with this program at bin/gbkeep."""
+    for path in ('README.md', 'Makefile', 'crates.txt', 'examples', 'players', 'docs', 'completions'):
+        copy = shutil.copytree if os.path.isdir(path) else shutil.copy
+        copy(path, os.path.join(room, path))
+    os.makedirs(os.path.join(room, 'bin'))
+    os.makedirs(os.path.join(room, 'crates'))
+    shutil.copy(program, os.path.join(room, 'bin/gbkeep'))
+    os.utime(os.path.join(room, 'bin/gbkeep'))
+
+
+def run_blocks(program, texts):
+    wrong, count = [], 0
+    for page in (README, MANUAL):
+        for block in blocks(texts[page]):
+            with tempfile.TemporaryDirectory(prefix='front-') as room:
+                clone(room, program)
+                for line, wanted in block:
+                    count += 1
+                    if line.startswith('make ') and not line.startswith('make demo'):
+                        status, got = shell(room, f'make -n {line[5:]}')
+                        wrong += [f'{page}: {line}: {got}'] if status != 0 else []
+                    else:
+                        got = shell(room, line)[1]
+                        if not line.startswith('make ') and [one.rstrip() for one in got.splitlines()] != wanted:
+                            wrong.append(f'{page}: {line}\nprints\n{got}and not\n' + '\n'.join(wanted))
+    with tempfile.TemporaryDirectory(prefix='front-') as room:
+        clone(room, program)
+        path = dict(os.environ, PATH=f'{room}/bin:{os.environ["PATH"]}')
+        for line in examples(texts[MAN]):
+            count += 1
+            status, got = shell(room, line, env=path)
+            wrong += [f'{MAN}: {line}: {got}'] if status != 0 else []
+        if not examples(texts[MAN]):
+            wrong.append(f'{MAN} has no examples')
+        wrong += installed(room)
+        wrong += completes_names(room, texts)
+    return wrong, count
+
+
+def run_helps(program, texts):
+    """The program's helps against the tables."""
+    wrong, commands = [], commands_of(texts)
+
+    def said(*words):
+        return subprocess.run([program, *words], capture_output=True, text=True).stdout
+    listed = re.findall(r'^  (\w+) ', re.search(r'Commands:\n(.*?)\n\n', said('--help'), re.S)[1], re.M)
+    wrong += compared('gbkeep --help', 'command', listed, {*commands, 'help'})
+    for name, (operands, _) in commands.items():
+        usage = re.search(r'^Usage: gbkeep (.*)$', said(name, '--help'), re.M)[1]
+        if usage.replace('<', '').replace('>', '') != ' '.join([name, *operands]):
+            wrong.append(f'gbkeep {name} --help has the usage {usage!r}')
+    for name, lines in (('play', lines_of(texts)), ('stream', lines_of(texts) | {'picture'})):
+        for words in ((name, '--help'), ('help', name)):
+            text = said(*words)
+            wrong += [f'gbkeep {" ".join(words)} does not show the line {line!r}' for line in sorted(lines) if not re.search(rf'^  {line} ', text, re.M)]
+    return wrong
+
+
+def installed(room):
+    """`make install`, and each tool that it installs."""
+    status, got = shell(room, 'make install PREFIX=inst')
+    wrong = [f'make install: {got}'] if status != 0 else []
+    for path in ('bin/gbkeep', 'bin/gbkeep-window', 'bin/gbkeep-script', 'bin/gbkeep-rest', 'share/man/man1/gbkeep.1',
+                 'share/bash-completion/completions/gbkeep', 'share/gbkeep/gbkeep.py'):
+        if not os.path.exists(os.path.join(room, 'inst', path)):
+            wrong.append(f'make install leaves no {path}')
+    played = shell(room, "printf 'A 3\\n' > few.txt; inst/bin/gbkeep-script play examples/demo/demo.gb few.sav few.txt; inst/bin/gbkeep-rest examples/demo/demo.gb few.sav few.txt")
+    if played != (0, 'resumed 0\nsaved 3\nresumed 3\n'):
+        wrong.append(f'the installed tools print {played}')
+    return wrong
+
+
+def completes_names(room, texts):
+    """Types the beginning of a name with a space and Tab in a shell."""
+    shutil.copy('examples/demo/demo.gb', os.path.join(room, 'A Game.gb'))
+    child, terminal = pty.fork()
+    if child == 0:
+        os.chdir(room)
+        os.execvpe('bash', ['bash', '--norc', '--noprofile', '-i'], dict(os.environ, PS1='', TERM='dumb', INPUTRC='/dev/null'))
+    got = b''
+    os.write(terminal, b'source completions/gbkeep.bash; gbkeep() { printf "<%s>" "$@"; echo; }; echo rea""dy\n')
+    typed, until = False, time.monotonic() + 20
+    while time.monotonic() < until and b'<info><A Game.gb>' not in got:
+        if not typed and b'ready' in got:
+            typed = True
+            os.write(terminal, b'gbkeep info A\t')
+            time.sleep(0.5)
+            os.write(terminal, b'\n')
+        if select.select([terminal], [], [], 0.1)[0]:
+            got += os.read(terminal, 4096)
+    os.write(terminal, b'exit\n')
+    os.close(terminal)
+    os.waitpid(child, 0)
+    return [] if b'<info><A Game.gb>' in got else [f'a name with a space is not completed: {got!r}']
 
 
 def main():
-    missing = []
-    for path, wanted in (('README.md', commands()), ('docs/COMMANDS.md', commands() | faults() | OPTIONS),
-                         ('docs/gbkeep.1', commands() | faults() | OPTIONS), ('completions/gbkeep.bash', commands() | OPTIONS)):
-        there = re.sub(r'\\f[BIR]|`', '', text(path))
-        missing += ['%s lacks %r' % (path, one) for one in sorted(wanted) if one not in there]
-    if not commands() or not faults():
-        missing.append('the sources show no commands or no faults')
-    print('\n'.join(missing) if missing else 'front door: %d commands, %d faults' % (len(commands()), len(faults())))
-    return 1 if missing else 0
+    texts = {path: Path(path).read_text() for path in [README, MANUAL, MAN, COMPLETION, MAKE, TOOLS, COMMANDS, LINES, FAULT_LINES, WORDS, ARCHITECTURE, *FAULT_FILES]}
+    wrong, seen = differences(texts), 0
+    for path, piece, left in deletions(texts) if not wrong else []:
+        seen += 1
+        if not differences({**texts, path: texts[path].replace(piece, left, 1)}):
+            wrong.append(f'{path}: nobody sees that {piece.strip()!r} is gone')
+    done = f'{len(commands_of(texts))} commands, {len(faults_of(texts))} faults, {seen} deletions seen'
+    if len(sys.argv) > 1 and not wrong:
+        program = os.path.abspath(sys.argv[1])
+        wrong, count = run_blocks(program, texts)
+        wrong += run_helps(program, texts)
+        done += f', {count} commands of the pages run'
+    print('\n'.join(wrong) if wrong else f'front door: {done}')
+    return 1 if wrong else 0
 
 
 if __name__ == '__main__':

@@ -1,7 +1,7 @@
 ; A small game for the Game Boy: walk over the field and collect coins before the time of a minute is over.
 ; It shows a background, a window, objects by DMA, the joypad, the VBlank interrupt and banked cartridge RAM: the best
 ; score with a check sum is kept in RAM bank 0, the frames and minutes that were played in RAM bank 1.
-; Buttons: arrows to walk, Start for a new round.
+; Buttons: arrows to walk, Start for a new round. Once a round is over, PRESS START stands in the middle of the field.
 
 joypad  equ $ff00
 flags   equ $ff0f
@@ -125,6 +125,8 @@ begin_round: xor a
         ld [player_x], a
         ld [player_y], a
         call throw
+        ld hl, field
+        call say
         jp show
 
 walk:   ld hl, player_x
@@ -224,7 +226,9 @@ count_time: ld a, [left]
         sub 1
         daa
         ld [left], a
-        ret
+        ret nz
+        ld hl, over             ; the round is over
+        jp say
 
 read_keys: ld a, $20
         ldh [joypad], a
@@ -382,6 +386,15 @@ put:    ld [hl+], a
         jr nz, row
         ret
 
+say:    ld de, $9903            ; in the middle of the field
+        ld b, over_end - over
+letter: ld a, [hl+]
+        ld [de], a
+        inc e
+        dec b
+        jr nz, letter
+        ret
+
 clear:  xor a
 fill:   ld [hl+], a
         dec b
@@ -413,14 +426,19 @@ letter_o equ 14
 letter_r equ 15
 letter_s equ 16
 letter_t equ 17
-grass   equ 18
-flower  equ 19
-wall    equ 20
-player  equ 21
-coin    equ 22
+letter_a equ 18
+letter_p equ 19
+grass   equ 20
+flower  equ 21
+wall    equ 22
+player  equ 23
+coin    equ 24
 
 line:   db letter_s, letter_c, letter_o, letter_r, letter_e, blank, 0, 0, blank, letter_b, letter_e, letter_s, letter_t, blank, 0, 0
         db blank, letter_t, 0, 0
+over:   db blank, letter_p, letter_r, letter_e, letter_s, letter_s, blank, letter_s, letter_t, letter_a, letter_r, letter_t, blank
+over_end:
+field:  db grass, grass, grass, flower, grass, grass, grass, flower, grass, grass, grass, flower, grass
 
 tiles:  tile "..###...", ".#...#..", ".#..##..", ".#.#.#..", ".##..#..", ".#...#..", "..###...", "........"
         tile "...#....", "..##....", "...#....", "...#....", "...#....", "...#....", "..###...", "........"
@@ -440,6 +458,8 @@ tiles:  tile "..###...", ".#...#..", ".#..##..", ".#.#.#..", ".##..#..", ".#...#
         tile ".####...", ".#...#..", ".#...#..", ".####...", ".#.#....", ".#..#...", ".#...#..", "........"
         tile "..####..", ".#......", ".#......", "..###...", ".....#..", ".....#..", ".####...", "........"
         tile ".#####..", "...#....", "...#....", "...#....", "...#....", "...#....", "...#....", "........"
+        tile "..###...", ".#...#..", ".#...#..", ".#####..", ".#...#..", ".#...#..", ".#...#..", "........"
+        tile ".####...", ".#...#..", ".#...#..", ".####...", ".#......", ".#......", ".#......", "........"
         tile "........", "........", "..-.....", "........", "........", ".....-..", "........", "........"
         tile "........", "...-....", "..-+-...", "...-....", "...+....", "..++....", "........", "........"
         tile "++++++++", "+-------", "+-------", "########", "++++++++", "---+----", "---+----", "########"

@@ -7,9 +7,11 @@ usage: hostile.py GBKEEP SECONDS [SEED]       each kind for so many seconds, fro
 Kinds: saves (random games, damaged in random places), scripts (random scripts, some of them wrong), bytes (arbitrary bytes as ROM,
 save file and script), kills (a play is killed at a random moment, and taken up again), holds (a save file that another process
 holds), places (no plain file, no room or no leave where one is wanted), pipes (an output that nobody reads to its end, or that has no
-room), shrinks (a save file that another process cuts while it is played), names (OUT is SAVE by another name), closed (a standard
-stream is closed), streams (lines as they come, whole, in pieces, wrong ones, pictures, and a kill). The status is 1 where anything differs, where gbkeep dies by a signal, or where it takes longer than 10 seconds."""
-import fcntl, os, random, resource, shutil, signal, subprocess, sys, tempfile, time
+room), shrinks (a save file that another process cuts while it is played), names (OUT is SAVE or CART by another name), closed (a standard
+stream is closed, also in a root without /dev), streams (lines as they come, whole, in pieces, wrong ones, pictures, and a kill), injected (a
+system call fails, is cut short, or is the last; needs strace). The status is 1 where anything differs, where gbkeep dies by a signal, or where
+it takes longer than 10 seconds."""
+import fcntl, os, random, re, resource, shutil, signal, subprocess, sys, tempfile, time
 import save_files as ref
 from save_files import get, put
 
@@ -356,10 +358,10 @@ def gone(path):
         os.remove(path)
 
 
-def with_room(most):
-    """Files end there, as on a full disk."""
+def with_room(most, handler=signal.SIG_IGN):
+    """Files end there: a write behind it fails, or by the default handler, as a shell starts a program, ends the program."""
     def limit():
-        signal.signal(signal.SIGXFSZ, signal.SIG_IGN)
+        signal.signal(signal.SIGXFSZ, handler)
         resource.setrlimit(resource.RLIMIT_FSIZE, (most, most))
     return {'preexec_fn': limit}
 
@@ -431,8 +433,38 @@ def other_files(seed, image):
         refuses('places', seed, image, 'file failed', 'info', path)
     for path in (folder, os.path.join(folder, 'missing', 'out.pgm'), os.path.join(CART, 'out.pgm')):
         refuses('places', seed, image, 'file failed', 'frame', CART, SAVE, path)
-    refuses('places', seed, image, 'rom length 8388609', 'play', '/dev/zero', SAVE, SCRIPT)
-    refuses('places', seed, image, 'script line 0', 'play', CART, SAVE, '/dev/zero')
+    pipe = os.path.join(ROOM, 'pipe')
+    gone(pipe)
+    os.mkfifo(pipe)
+    for path in ('/dev/zero', '/dev/null', pipe):
+        for words in (('info', path), ('step', path, '1'), ('list', path, '0', '1'), ('play', path, SAVE, SCRIPT), ('play', CART, SAVE, path),
+                      ('frame', path, SAVE, OUT), ('trace', path, SAVE, '1'), ('stream', path, SAVE), ('new', path, SAVE, '300')):
+            refuses('places', seed, image, 'file failed', *words)
+    refuses('places', seed, image, 'file failed', 'frame', CART, SAVE, pipe)
+    gone(pipe)
+    for words in (('play', folder, folder, SCRIPT), ('frame', folder, folder, OUT), ('trace', folder, folder, '1'), ('stream', folder, folder)):
+        refuses('places', seed, image, 'file failed', *words)
+    large = os.path.join(ROOM, 'large')
+    put(large, rnd_bytes(600000))
+    refuses('places', seed, image, 'script line 0', 'play', CART, SAVE, large)
+    gone(large)
+
+
+def rnd_bytes(size):
+    return b'frame\n' * (size // 3)
+
+
+def sizes(seed):
+    """A SAVE of more than 65,536 sectors is refused by its size alone, before it is read."""
+    great = os.path.join(ROOM, 'great.save')
+    for size in (1 << 30, 65537 * 512):
+        with open(great, 'wb') as file:
+            file.truncate(size)
+        start = time.time()
+        got = gbkeep('play', CART, great, SCRIPT)
+        if got != (1, b'', line('device size %d' % size)) or time.time() - start > 2:
+            differs('places', seed, 'a SAVE of %d bytes: %r in %.1f s' % (size, got, time.time() - start))
+    gone(great)
 
 
 def links(rnd, seed, image, cart):
@@ -449,6 +481,46 @@ def links(rnd, seed, image, cart):
     gone(SAVE)
     gone(target)
     put(SAVE, image)
+
+
+def interrupted_new(rnd, seed, image):
+    """Where the size of files is limited `new` ends by a signal, and the next `new` takes up what it leaves. What else stands there stays."""
+    other = os.path.join(ROOM, 'other.save')
+    words = ['new', CART, other, str(len(image) // 512)]
+    got = gbkeep(*words, **with_room(rnd.choice([0, 512, len(image) - 1]), signal.SIG_DFL))
+    if got != (-signal.SIGXFSZ, b'', b'') or gbkeep(*words) != (0, b'begun 0\n', b''):
+        differs('places', seed, 'new where the size of files is limited: %r' % (got,))
+    made = get(other)
+    first = 2 + (len(made) // 512 - 2) // 2
+    blob = (first + 32) * 512
+    unfinished = bytes(blob) + made[blob:blob + rnd.choice([0, 512, 5120])]
+    unfinished += bytes(len(made) - len(unfinished))
+    for left, taken in ((b'', True), (bytes(len(made)), True), (unfinished, True), (made, False), (b'x', False), (bytes(len(made) - 512), False),
+                        (bytes(len(made) - 1) + b'x', False), (bytes(600) + b'x' + bytes(len(made) - 601), False), (bytes(len(made) + 512), False),
+                        (bytes(512) + made[512:1024] + bytes(len(made) - 1024), False)):
+        put(other, left)
+        got = gbkeep(*words)
+        want = (0, b'begun 0\n', b'') if taken else (1, b'', line('device failed'))
+        if got != want or get(other) != (made if taken else left):
+            differs('places', seed, 'new where %d bytes stand, %d of them zeros: %r' % (len(left), left.count(0), got))
+    with open(other, 'wb') as held:
+        fcntl.flock(held, fcntl.LOCK_EX)
+        refuses('places', seed, image, 'device failed', *words)
+        if get(other) != b'':
+            differs('places', seed, 'an empty file that is held was taken')
+    gone(other)
+
+
+def small_disk(seed, image):
+    """On a file system that has no room for all sectors `new` is refused, and leaves nothing."""
+    if os.geteuid() != 0 or not shutil.which('unshare'):
+        return
+    disk = os.path.join(ROOM, 'disk')
+    os.makedirs(disk, exist_ok=True)
+    text = 'mount -t tmpfs -o size=%d none "$1" || exit 9; "$2" new "$3" "$1/game.save" %d; echo "$?" "$(ls "$1")"' % (len(image) * 7 // 8 // 4096 * 4096, len(image) // 512)
+    done = subprocess.run(['unshare', '--mount', 'sh', '-c', text, 'sh', disk, GB, CART], capture_output=True, timeout=10)
+    if done.returncode == 0 and (done.stdout, done.stderr) != (b'1 \n', line('device failed')):
+        differs('places', seed, 'new on a small disk: %r' % ((done.stdout, done.stderr),))
 
 
 def full_disk(rnd, seed, image, cart):
@@ -481,6 +553,9 @@ def places(rnd, seed):
     no_leave(seed, image)
     other_files(seed, image)
     links(rnd, seed, image, cart)
+    sizes(seed)
+    interrupted_new(rnd, seed, image)
+    small_disk(seed, image)
     full_disk(rnd, seed, image, cart)
 
 
@@ -534,19 +609,25 @@ def shrinks(rnd, seed):
 
 
 def names(rnd, seed):
-    """OUT is SAVE, whatever it is called: it is refused before it is emptied."""
+    """OUT is SAVE or CART, whatever it is called: it is refused before it is emptied."""
     cart, image = a_game(rnd)
+    rom = get(CART)
     soft, hard = os.path.join(ROOM, 'soft'), os.path.join(ROOM, 'hard')
-    gone(soft), gone(hard)
-    os.symlink(SAVE, soft), os.link(SAVE, hard)
-    for path in (SAVE, os.path.join(ROOM, '.', 'game.save'), ROOM + '//game.save', soft, hard):
-        put(SAVE, image)
-        refuses('names', seed, image, 'file failed', 'frame', CART, SAVE, path)
+    for kept in (SAVE, CART):
+        gone(soft), gone(hard)
+        os.symlink(kept, soft), os.link(kept, hard)
+        name = os.path.basename(kept)
+        for path in (kept, os.path.join(ROOM, '.', name), ROOM + '//' + name, soft, hard):
+            put(SAVE, image)
+            refuses('names', seed, image, 'file failed', 'frame', CART, SAVE, path)
+            if get(CART) != rom:
+                return differs('names', seed, 'CART is lost by OUT %s' % path)
     gone(soft), gone(hard)
 
 
 def closed(rnd, seed):
     """A standard stream is closed: no line gets into SAVE or OUT in its place, and the game is there."""
+    bare(rnd, seed)
     cart, image = a_game(rnd)
     put(SCRIPT, b'')
     gbkeep('play', CART, SAVE, SCRIPT)
@@ -565,6 +646,48 @@ def closed(rnd, seed):
                 picture = get(OUT) if os.path.exists(OUT) else b''
                 if done.returncode not in (0, 1) or not whole or picture[:2] not in (b'', b'P2'):
                     differs('closed', seed, '%s without streams %s: status %d, roots %r, picture %r' % (words[0], streams, done.returncode, roots, picture[:12]))
+
+
+def bare_root():
+    """A folder with gbkeep, what it loads, and no /dev."""
+    root = os.path.join(ROOM, 'root')
+    if not os.path.exists(root):
+        os.makedirs(root)
+        listed = subprocess.run(['ldd', GB], capture_output=True).stdout.decode()
+        for path in re.findall(r'(/\S+) \(0x', listed):
+            os.makedirs(root + os.path.dirname(path), exist_ok=True)
+            shutil.copy(path, root + path)
+        shutil.copy(GB, root + '/gbkeep')
+    return root
+
+
+def bare(rnd, seed):
+    """The same in a root without /dev; and one that can't be read either, where nothing is done."""
+    if os.geteuid() != 0:
+        return
+    root = bare_root()
+    cart, image = a_game(rnd)
+    put(root + '/rom.gb', get(CART))
+    put(root + '/moves.script', b'frame 01\n' * 3)
+    for mode, streams in ((0o755, (1,)), (0o755, (0, 1, 2)), (0o755, (2,)), (0o711, (1,)), (0o711, (0, 1, 2))):
+        def enter():
+            os.chroot(root)
+            os.chdir('/')
+            for stream in streams:
+                os.close(stream)
+            if mode == 0o711:
+                os.setuid(65534)
+        put(root + '/game.save', image)
+        os.chmod(root + '/game.save', 0o666)
+        os.chmod(root, mode)
+        for _ in range(3):
+            done = subprocess.run(['/gbkeep', 'play', '/rom.gb', '/game.save', '/moves.script'], executable='/gbkeep', stdin=subprocess.DEVNULL,
+                                  stdout=subprocess.DEVNULL, stderr=subprocess.DEVNULL, preexec_fn=enter, timeout=10)
+        left = get(root + '/game.save')
+        roots = [left[at:at + 8] for at in (0, 512)]
+        if done.returncode not in (0, 1) or any(root not in (bytes(8), b'GBKPROOT') for root in roots) or mode == 0o711 and left != image:
+            differs('closed', seed, 'in a root without /dev, mode %o, without streams %s: status %d, roots %r' % (mode, streams, done.returncode, roots))
+    os.chmod(root, 0o755)
 
 
 # ---- lines as they come
@@ -672,8 +795,16 @@ def streams(rnd, seed):
         differs('streams', seed, 'another picture')
 
 
+def injected(rnd, seed):
+    if not shutil.which('strace'):
+        print('there is no strace: no call is made to fail')
+        return
+    import injected as kind
+    kind.injected(rnd, seed)
+
+
 KINDS = {'saves': saves, 'scripts': scripts, 'bytes': arbitrary, 'kills': kills, 'holds': holds, 'places': places, 'pipes': pipes,
-         'shrinks': shrinks, 'names': names, 'closed': closed, 'streams': streams}
+         'shrinks': shrinks, 'names': names, 'closed': closed, 'streams': streams, 'injected': injected}
 
 
 def run(kind, seconds, first):
@@ -706,6 +837,7 @@ def main(words):
 
 
 if __name__ == '__main__':
+    sys.modules['hostile'] = sys.modules['__main__']
     try:
         sys.exit(main(sys.argv[2:]))
     finally:

@@ -1,10 +1,11 @@
 """Looks from outside at what gbkeep does to a save file, and compares each write and each sync with what save_files.py would write.
 
-usage: traced.py GBKEEP [GAMES [SEED]]
+usage: traced.py GBKEEP [GAMES [SEED [FAILED_SYNCS]]]    FAILED_SYNCS is the built crate failed_syncs
 
 It needs Debian's package strace. No clause can say that the program's file calls are those that a FileDevice notes: this shows that each write has the
 offset and the bytes that the second writer has (but for the snapshots of machines that were given inputs, which have their places and lengths), in its
-order, and that each sync of the record is an fsync of the file, before any line that tells of it goes out."""
+order, and that each sync of the record is an fsync of the file, before any line that tells of it goes out. `new`, `play`, `stream` and `frame` are
+followed. Of a device that has had a sync fail it shows that each later one fails too, without a call of the file."""
 import os, random, re, shutil, subprocess, sys, tempfile
 sys.argv, words = sys.argv[:1], sys.argv[1:]
 import hostile
@@ -37,6 +38,13 @@ class Recorded(ref.Game):
         self.note([generation % 2])
         self.calls.append('sync')
 
+    def create(self):
+        self.note(range(len(self.image) // 512))
+        # the file, its entry in the folder, and the log as it is opened
+        self.calls += ['sync', 'sync of the folder', 'sync']
+        self.begin(1, 0, None)
+        self.calls.append('begun 0\n')
+
     def resume(self):
         # one as the file is attached, and one as the log is opened
         self.calls += ['sync', 'sync']
@@ -63,14 +71,17 @@ def unescaped(text):
 
 def calls_of(trace, save):
     """What a trace shows of the save file and of standard output, in order."""
-    calls, fd, at = [], None, 0
+    calls, fd, folder, at = [], None, None, 0
+    hidden = ['"%s"' % ''.join('\\x%02x' % byte for byte in path.encode()) for path in (save, os.path.dirname(save))]
     for row in open(trace):
         found = CALL.match(row)
         if not found:
             continue
         name, words, answer = found[1], found[2], int(found[3])
-        if name == 'openat' and save.encode().hex() in words.replace('\\x', '') and answer >= 0:
+        if name == 'openat' and hidden[0] in words and answer >= 0:
             fd = answer
+        elif name == 'openat' and hidden[1] in words and answer >= 0:
+            folder = answer
         elif name in ('write', 'pwrite64') and answer >= 0:
             to, text, *rest = re.match(r'(\d+), "([^"]*)", (.*)', words).groups()
             data = unescaped(text)[:answer]
@@ -88,8 +99,14 @@ def calls_of(trace, save):
             if answer != 0:
                 sys.exit('a sync failed: ' + row)
             calls.append('sync')
+        elif name == 'fsync' and words == str(folder):
+            if answer != 0:
+                sys.exit('a sync failed: ' + row)
+            calls.append('sync of the folder')
         elif name == 'close' and words == str(fd):
             fd = None
+        elif name == 'close' and words == str(folder):
+            folder = None
     return calls
 
 
@@ -99,42 +116,70 @@ def is_same(got, want):
     return got[0] == want[0] and (len(got[1]) == 512 if want[1] is None else got[1] == want[1])
 
 
-def trace(words, save):
+def trace(words, text=b''):
     path = os.path.join(hostile.ROOM, 'trace')
     done = subprocess.run(['strace', '-f', '-o', path, '-xx', '-s', '1024', '-e', 'trace=openat,read,write,pread64,pwrite64,lseek,fsync,fdatasync,close', hostile.GB, *words],
-                          capture_output=True, timeout=60)
+                          capture_output=True, timeout=60, input=text)
     if done.returncode != 0:
         sys.exit('%s: %r' % (words, done))
-    return calls_of(path, save)
+    return calls_of(path, hostile.SAVE)
+
+
+def compare(words, want, text=b''):
+    """Compares the calls of a command with those of the second writer, and answers how many there are."""
+    got = trace(words, text)
+    for at, (one, other) in enumerate(zip(got + ['end'], want.calls + ['end'])):
+        if not is_same(one, other):
+            sys.exit('%s: call %d of %d: %r, wanted %r' % (words[0], at, len(want.calls), one, other))
+    if len(got) != len(want.calls):
+        sys.exit('%s: %d calls, wanted %d' % (words[0], len(got), len(want.calls)))
+    return len(got)
 
 
 def game(rnd):
-    cart, image = hostile.a_game(rnd)
-    scripts = [hostile.random_script(rnd, rnd.choice([30, 300, 4000])) for _ in range(3)]
-    shown = 0
-    for script in scripts:
+    rom = hostile.random_rom(rnd)
+    cart = ref.Cartridge(rom)
+    put(hostile.CART, rom)
+    hostile.gone(hostile.SAVE)
+    sectors = ref.need_of(cart.length) + rnd.choice([0, 1, 31])
+    want = Recorded(bytes(512 * sectors), cart)
+    want.create()
+    shown = compare(['new', hostile.CART, hostile.SAVE, str(sectors)], want)
+    for command in ('play', 'stream', 'frame', 'play'):
+        script = b'' if command == 'frame' else hostile.random_script(rnd, rnd.choice([30, 300, 4000]))
         put(hostile.SCRIPT, script)
         want = Recorded(get(hostile.SAVE), cart)
         want.resume()
         want.play(ref.moves_of(script))
-        got = trace(['play', hostile.CART, hostile.SAVE, hostile.SCRIPT], hostile.SAVE)
-        for at, (one, other) in enumerate(zip(got + ['end'], want.calls + ['end'])):
-            if not is_same(one, other):
-                sys.exit('call %d of %d: %r, wanted %r' % (at, len(want.calls), one, other))
-        if len(got) != len(want.calls):
-            sys.exit('%d calls, wanted %d' % (len(got), len(want.calls)))
-        shown += len(got)
+        last = {'play': [hostile.SCRIPT], 'stream': [], 'frame': [hostile.OUT]}[command]
+        shown += compare([command, hostile.CART, hostile.SAVE, *last], want, script if command == 'stream' else b'')
     return shown
 
 
+def failed_syncs(program):
+    """After a sync that failed no later one succeeds, and the file is asked for none."""
+    for first, answers, calls in ((None, b'done\ndone\n', 4), (3, b'device failed\ndevice failed\n', 3)):
+        path = os.path.join(hostile.ROOM, 'syncs')
+        how = [] if first is None else ['-e', 'inject=fsync:error=EIO:when=%d' % first]
+        done = subprocess.run(['strace', '-f', '-qq', '-o', path, '-e', 'trace=fsync', *how, program], capture_output=True, timeout=20, cwd=tempfile.mkdtemp(dir=hostile.ROOM))
+        asked = sum('fsync(' in row for row in open(path))
+        if done.stdout != answers or asked != calls:
+            sys.exit('%s: %r with %d syncs, wanted %r with %d' % (program, done.stdout, asked, answers, calls))
+
+
 def main():
-    if not words or not shutil.which('strace'):
+    if not words:
         print(__doc__)
         return 2
+    if not shutil.which('strace'):
+        print('there is no strace: no call is followed')
+        return 0
     hostile.GB = os.path.abspath(words[0])
     games, seed = int(words[1]) if len(words) > 1 else 10, int(words[2]) if len(words) > 2 else 1
     try:
         shown = sum(game(random.Random('traced-%d-%d' % (seed, number))) for number in range(games))
+        if len(words) > 3:
+            failed_syncs(os.path.abspath(words[3]))
     finally:
         shutil.rmtree(hostile.ROOM)
     print('%d games, seed %d: %d writes, syncs and lines as they should be' % (games, seed, shown))

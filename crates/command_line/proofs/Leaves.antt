@@ -1,5 +1,5 @@
 -- What a command makes of its operands, and when it refuses them.
-use Rattle.std.proofs.Common.{◌≡◌, ◌∙◌, Bool, true, false, refl, sym, ap, ap₂, List, [], ◌∷◌, Some, None, cond, subst}
+use Rattle.std.proofs.Common.{◌≡◌, ◌∙◌, Bool, true, false, refl, sym, ap, ap₂, List, [], ◌∷◌, Some, None, cond, subst, inl, inr}
 use Rattle.std.specs.Prelude.{fold}
 use Rattle.std.specs.List.{list_all}
 use Rattle.clap.specs.Faults.{check_fault, defaults_fault, level_fault, settle_fault, walk_fault}
@@ -129,6 +129,13 @@ new_fault : (first second third : Text) → leaf_fault (leaf new) (first ∷ sec
 unfolding walked walk_fault defaults_fault
 new_fault first second third = or_nothing _ ∙ or_nothing _
 
+new_unsized_fault : (first second : Text) → leaf_fault (leaf new) (first ∷ second ∷ []) ≡ []
+unfolding walked walk_fault defaults_fault
+new_unsized_fault first second = refl
+
+pub new_unsized_passes : (first second : Text) → leaf_fault (leaf new) (first ∷ second ∷ []) ≡ []
+new_unsized_passes first second = new_unsized_fault first second
+
 pub new_passes : (first second third : Text) → Accepts false (Signed (pos 1) (pos 65536)) third → leaf_fault (leaf new) (first ∷ second ∷ third ∷ []) ≡ []
 new_passes first second third h = new_fault first second third ∙ no_kinds (Signed (pos 1) (pos 65536)) third (Accepts-accepts false (Signed (pos 1) (pos 65536)) third h)
 
@@ -136,9 +143,9 @@ pub new_wants : Wants (leaf new) IsNewRow
 unfolding walked walk_fault defaults_fault
 new_wants [] none = absurd (refuses none)
 new_wants (first ∷ []) none = absurd (refuses none)
-new_wants (first ∷ second ∷ []) none = absurd (refuses none)
+new_wants (first ∷ second ∷ []) none = inr (first, second, refl, refl, refl, refl)
 new_wants (first ∷ second ∷ third ∷ []) none =
-    (first, second, third, refl, refl, refl, (refl, accepts-Accepts false (Signed (pos 1) (pos 65536)) third (kinds_of (Signed (pos 1) (pos 65536)) third (sym (new_fault first second third) ∙ none))))
+    inl (first, second, third, refl, refl, refl, (refl, accepts-Accepts false (Signed (pos 1) (pos 65536)) third (kinds_of (Signed (pos 1) (pos 65536)) third (sym (new_fault first second third) ∙ none))))
 new_wants (first ∷ second ∷ third ∷ more ∷ rest) none = absurd (refuses none)
 
 -- `play`

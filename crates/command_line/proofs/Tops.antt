@@ -25,7 +25,7 @@ use Rattle.command_line.specs.Words.{AsksFor, AskForSome, IsAnswer, IsCommand, W
 use Rattle.command_line.specs.declared.Request.{Request}
 use Rattle.command_line.specs.declared.Request.TheVariants.{Info, List as Listing, Step as Steps, New, Play, Frame, Trace, Stream}
 use Rattle.command_line.proofs.Leaves.{Wants, fault_is, leaf, leaf_fault, or_nothing, refused_without, rows_are}
-use Rattle.command_line.proofs.Leaves.{info_is_plain, info_passes, info_wants, list_is_plain, list_passes, list_wants, step_is_plain, step_passes, step_wants, new_is_plain, new_passes, new_wants, play_is_plain, play_passes, play_wants, frame_is_plain, frame_passes, frame_wants, trace_is_plain, trace_passes, trace_wants, stream_is_plain, stream_passes, stream_wants}
+use Rattle.command_line.proofs.Leaves.{info_is_plain, info_passes, info_wants, list_is_plain, list_passes, list_wants, step_is_plain, step_passes, step_wants, new_is_plain, new_passes, new_unsized_passes, new_wants, play_is_plain, play_passes, play_wants, frame_is_plain, frame_passes, frame_wants, trace_is_plain, trace_passes, trace_wants, stream_is_plain, stream_passes, stream_wants}
 use Rattle.command_line.proofs.Walks.{Classified, Fails, classify, dashes, first_fails, is_plain_rule, later_fails, option_fails, value_met}
 
 abbrev top : Shape
@@ -235,7 +235,9 @@ asked words (Listing cart address count) (number, command, within) =
     command_passes _ (leaf list) list_known list_is_plain words _ (list_passes cart.now address.now number (accepted 1 4096 count number within (omega arith))) command
 asked words (Steps cart count) (number, command, within) =
     command_passes _ (leaf step) step_known step_is_plain words _ (step_passes cart.now number (accepted 0 1000000 count number within (omega arith))) command
-asked words (New cart save sectors) (number, command, within) =
+asked words (New cart save None) command =
+    command_passes _ (leaf new) new_known new_is_plain words _ (new_unsized_passes cart.now save.now) command
+asked words (New cart save (Some sectors)) (number, command, within) =
     command_passes _ (leaf new) new_known new_is_plain words _ (new_passes cart.now save.now number (accepted 1 65536 sectors number within (omega arith))) command
 asked words (Play cart save script) command =
     command_passes _ (leaf play) play_known play_is_plain words _ (play_passes cart.now save.now script.now) command

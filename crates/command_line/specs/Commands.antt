@@ -1,6 +1,6 @@
 -- The commands as `clap` has them: what its contracts read of a command that is built. Of what `request_of` says, only the kind of an error
 -- is stated through it; `Words.antt` says which words ask for what.
-use Rattle.std.specs.Prelude.{◌≡◌, ◌⊎◌, ℕ, List, [], ◌∷◌, Option, Some, pos, codes, true, false}
+use Rattle.std.specs.Prelude.{◌≡◌, ◌⊎◌, ℕ, List, [], ◌∷◌, Option, Some, None, pos, codes, true, false}
 use Rattle.clap.specs.Words.{Accepts, App, Row, Rule, Text, app_of, first_of, new_app, new_rule, one_of, rule_of, with_rule, with_subcommand, without_minus}
 use Rattle.clap.specs.declared.builder.arg.Arg.{Arg}
 use Rattle.clap.specs.declared.builder.command.Command.{Command}
@@ -15,6 +15,10 @@ operand id = record (new_rule id) { required = true }
 -- one that is a decimal number in a range
 abbrev pub number : Text → ℕ → ℕ → Rule
 number id least most = record (operand id) { parser = Some (Signed (pos least) (pos most)) }
+
+-- such a number that may be left out
+abbrev pub optional_number : Text → ℕ → ℕ → Rule
+optional_number id least most = record (new_rule id) { parser = Some (Signed (pos least) (pos most)) }
 
 abbrev pub cart_rule : Rule
 cart_rule = operand (codes "CART")
@@ -38,7 +42,7 @@ abbrev pub step : App
 step = with_rule (over_cart (codes "step")) (number (codes "COUNT") 0 1000000)
 
 abbrev pub new : App
-new = with_rule (over_save (codes "new")) (number (codes "SECTORS") 1 65536)
+new = with_rule (over_save (codes "new")) (optional_number (codes "SECTORS") 1 65536)
 
 abbrev pub play : App
 play = with_rule (over_save (codes "play")) (operand (codes "SCRIPT"))
@@ -82,6 +86,10 @@ HasOperand rows id word = first_of id rows ≡ Some word
 abbrev pub HasNumber : List Row → Word → ℕ → ℕ → Word → Type 0
 HasNumber rows id least most word = (one_of id rows ≡ Some (without_minus word)) × Accepts false (Signed (pos least) (pos most)) word
 
+-- it was left out
+abbrev pub HasNoNumber : List Row → Word → Type 0
+HasNoNumber rows id = one_of id rows ≡ None
+
 abbrev pub IsInfoRow : List Row → List Word → Type 0
 IsInfoRow rows operands = (first : Word) × (operands ≡ first ∷ []) × HasOperand rows (codes "CART") first
 
@@ -93,9 +101,17 @@ abbrev pub IsStepRow : List Row → List Word → Type 0
 IsStepRow rows operands = (first second : Word) × (operands ≡ first ∷ second ∷ [])
     × HasOperand rows (codes "CART") first × HasNumber rows (codes "COUNT") 0 1000000 second
 
-abbrev pub IsNewRow : List Row → List Word → Type 0
-IsNewRow rows operands = (first second third : Word) × (operands ≡ first ∷ second ∷ third ∷ [])
+-- `new` with the number of its sectors, and without
+abbrev pub IsSizedRow : List Row → List Word → Type 0
+IsSizedRow rows operands = (first second third : Word) × (operands ≡ first ∷ second ∷ third ∷ [])
     × HasOperand rows (codes "CART") first × HasOperand rows (codes "SAVE") second × HasNumber rows (codes "SECTORS") 1 65536 third
+
+abbrev pub IsUnsizedRow : List Row → List Word → Type 0
+IsUnsizedRow rows operands = (first second : Word) × (operands ≡ first ∷ second ∷ [])
+    × HasOperand rows (codes "CART") first × HasOperand rows (codes "SAVE") second × HasNoNumber rows (codes "SECTORS")
+
+abbrev pub IsNewRow : List Row → List Word → Type 0
+IsNewRow rows operands = IsSizedRow rows operands ⊎ IsUnsizedRow rows operands
 
 abbrev pub IsPlayRow : List Row → List Word → Type 0
 IsPlayRow rows operands = (first second third : Word) × (operands ≡ first ∷ second ∷ third ∷ [])

@@ -40,14 +40,15 @@ abbrev pub WritesWithin : ℕ → ℕ → Word → ℕ → Type 0
 WritesWithin least most word n = Writes word n × (least ≤ n) × (n ≤ most)
 
 -- The words ask for this request. `list` prints 1 to 4,096 instructions, `step` does at most 1,000,000 steps, `new` makes a file of 1 to
--- 65,536 sectors, and `trace` prints 1 to 1,024 steps.
+-- 65,536 sectors, or of as many as the game needs where no number is given, and `trace` prints 1 to 1,024 steps.
 abbrev pub AsksFor : List Word → Request → Type 0
 AsksFor words (Info cart) = IsCommand words (codes "info") (cart.now ∷ [])
 AsksFor words (Listing cart address count) =
     (number : Word) × IsCommand words (codes "list") (cart.now ∷ address.now ∷ number ∷ []) × WritesWithin 1 4096 number count
 AsksFor words (Step cart count) =
     (number : Word) × IsCommand words (codes "step") (cart.now ∷ number ∷ []) × WritesWithin 0 1000000 number count
-AsksFor words (New cart save sectors) =
+AsksFor words (New cart save None) = IsCommand words (codes "new") (cart.now ∷ save.now ∷ [])
+AsksFor words (New cart save (Some sectors)) =
     (number : Word) × IsCommand words (codes "new") (cart.now ∷ save.now ∷ number ∷ []) × WritesWithin 1 65536 number sectors
 AsksFor words (Play cart save script) = IsCommand words (codes "play") (cart.now ∷ save.now ∷ script.now ∷ [])
 AsksFor words (Frame cart save out) = IsCommand words (codes "frame") (cart.now ∷ save.now ∷ out.now ∷ [])

@@ -3,10 +3,10 @@
 //! What `clap` answers to words that it does not understand, and its help, are its own texts.
 #![tactic(auto)]
 
-ghost use Rattle.std.specs.Prelude.{◌≡◌, ◌<◌, ◌^◌, ℕ, List, Ok, codes, map};
+ghost use Rattle.std.specs.Prelude.{◌≡◌, ◌<◌, ◌^◌, ℕ, List, None, Ok, codes, map};
 ghost use Rattle.std.specs.Option.{IsSomeAnd};
 ghost use Rattle.clap.specs.Words.{FailsBy, fault_of, found_of, rows_of, subcommand_rows_of};
-ghost use Rattle.command_line.specs.Commands.{HasNumber, HasOperand, IsFrameRow, IsInfoRow, IsListRow, IsMatched, IsRead};
+ghost use Rattle.command_line.specs.Commands.{HasNoNumber, HasNumber, HasOperand, IsFrameRow, IsInfoRow, IsListRow, IsMatched, IsRead};
 ghost use Rattle.command_line.specs.Commands.{IsNewRow, IsPlayRow, IsStepRow, IsStreamRow, IsTraceRow, gbkeep};
 ghost use Rattle.command_line.specs.Words.{IsAnswer, IsCommand, Word, WritesWithin};
 
@@ -34,11 +34,11 @@ pub enum Request<'a> {
         cart: &'a str,
         count: u32,
     },
-    /// Begins a game in a new file of `sectors` sectors, 1 to 65,536.
+    /// Begins a game in a new file of `sectors` sectors, 1 to 65,536; `None`: of as many as it needs.
     New {
         cart: &'a str,
         save: &'a str,
-        sectors: u32,
+        sectors: Option<u32>,
     },
     /// Plays a script on the game in a file.
     Play {
@@ -112,9 +112,10 @@ fn operand<'a>(values: &ArgMatches<'a>, id: &str) -> Option<&'a str>
     values.get_str(id)
 }
 
-/// A number, whose range `clap` has looked at.
+/// A number, whose range `clap` has looked at. `None`: it was left out.
 fn number(values: &ArgMatches<'_>, id: &str) -> Option<u32>
-    ensures { (least most : ℕ) (word : Word) → most < 2 ^ 32 → HasNumber (rows_of (found_of values.now)) id.now least most word
+    ensures none { HasNoNumber (rows_of (found_of values.now)) id.now → result ≡ None }
+    ensures some { (least most : ℕ) (word : Word) → most < 2 ^ 32 → HasNumber (rows_of (found_of values.now)) id.now least most word
         → IsSomeAnd result (WritesWithin least most word) }
 {
     values.get_one(id)
@@ -157,7 +158,7 @@ fn new<'a>(values: &ArgMatches<'a>) -> Option<Request<'a>>
     Some(Request::New {
         cart: operand(values, "CART")?,
         save: operand(values, "SAVE")?,
-        sectors: number(values, "SECTORS")?,
+        sectors: number(values, "SECTORS"),
     })
 }
 

@@ -11,6 +11,21 @@ const NAME: &str = "gbkeep";
 
 const VERSION: &str = "0.1.0";
 
+const SCRIPT_LINES: &str = "Lines of SCRIPT:
+  frame BB     one frame with the buttons BB: two hexadecimal digits, the sum of 01 right,
+               02 left, 04 up, 08 down, 10 A, 20 B, 40 select, 80 start
+  frames BB N  N such frames, 1 to 1,000,000
+  seconds N    N seconds pass on the cartridge's clock, 0 to 4,294,967,295
+  save         saves what is unsaved";
+
+const STREAM_LINES: &str = "Lines of the standard input:
+  frame BB     one frame with the buttons BB: two hexadecimal digits, the sum of 01 right,
+               02 left, 04 up, 08 down, 10 A, 20 B, 40 select, 80 start
+  frames BB N  N such frames, 1 to 1,000,000
+  seconds N    N seconds pass on the cartridge's clock, 0 to 4,294,967,295
+  save         saves what is unsaved, and answers saved N
+  picture      answers the picture as plain PGM, 46,093 bytes";
+
 pub(crate) fn command<'a>(alloc: Global) -> Result<Command<'a>, AllocError>
     ensures { IfOk result (Reads gbkeep) }
 {
@@ -105,12 +120,9 @@ fn over_save<'a>(alloc: Global, name: &'a str, about: &'a str) -> Result<Command
 fn new<'a>(alloc: Global) -> Result<Command<'a>, AllocError>
     ensures { IfOk result (Reads new) }
 {
-    let sectors = word(
-        alloc,
-        "SECTORS",
-        "How many sectors of 512 bytes the file has",
-    )
-    .value_parser(value_parser!(u32).range(1..=65_536));
+    let sectors = Arg::new(alloc, "SECTORS")
+        .help("How many sectors of 512 bytes the file has; as many as the game needs, if left out")
+        .value_parser(value_parser!(u32).range(1..=65_536));
     over_save(alloc, "new", "Begins a game in a new file")?.arg(sectors)
 }
 
@@ -120,8 +132,9 @@ fn play<'a>(alloc: Global) -> Result<Command<'a>, AllocError>
     over_save(
         alloc,
         "play",
-        "Takes up a game, plays a script on it and saves it",
+        "Resumes a game, plays a script on it and saves it",
     )?
+    .after_help(SCRIPT_LINES)
     .arg(word(alloc, "SCRIPT", "The file of moves, a line each"))
 }
 
@@ -131,7 +144,7 @@ fn frame<'a>(alloc: Global) -> Result<Command<'a>, AllocError>
     over_save(
         alloc,
         "frame",
-        "Takes up a game and writes its picture to a file",
+        "Resumes a game and writes its picture to a file",
     )?
     .arg(word(alloc, "OUT", "The file for the picture, as plain PGM"))
 }
@@ -145,7 +158,7 @@ fn trace<'a>(alloc: Global) -> Result<Command<'a>, AllocError>
     over_save(
         alloc,
         "trace",
-        "Takes up a game and prints its next steps, which are not saved",
+        "Resumes a game and prints its next steps, which are not saved",
     )?
     .arg(count)
 }
@@ -153,9 +166,11 @@ fn trace<'a>(alloc: Global) -> Result<Command<'a>, AllocError>
 fn stream<'a>(alloc: Global) -> Result<Command<'a>, AllocError>
     ensures { IfOk result (Reads stream) }
 {
-    over_save(
+    let lines = over_save(
         alloc,
         "stream",
-        "Takes up a game, plays the lines of the standard input as they come and saves it",
-    )
+        "Resumes a game, plays the lines of the standard input as they come and saves it",
+    )?
+    .after_help(STREAM_LINES);
+    Ok(lines)
 }

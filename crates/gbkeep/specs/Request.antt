@@ -1,5 +1,5 @@
 -- What a request wants of a ROM, and when the program has done it.
-use Rattle.std.specs.Prelude.{◌≡◌, ◌⊎◌, ◌≤◌, ℕ, List, [], codes, length, Option, IsOk, All}
+use Rattle.std.specs.Prelude.{◌≡◌, ◌⊎◌, ◌≤◌, ℕ, List, [], codes, length, Option, unwrap_or, IsOk, All}
 use Rattle.std.specs.Str.Parse.{IsNumeral, digits_value}
 use Rattle.std.specs.Io.KnownBytes.{Appends, Keeps}
 use Rattle.exact_text.specs.Written.{AppendsProperPrefix}
@@ -26,6 +26,10 @@ use Rattle.gbkeep.specs.Info.{info_of}
 use Rattle.gbkeep.specs.Playing.{moves_in}
 use Rattle.gbkeep.specs.StepLine.{line_after}
 use Rattle.gbkeep.specs.Tracing.{trace_text}
+
+-- how many sectors a new game's file has: as many as the words say, or else as many as a game of this ROM needs
+abbrev pub sectors_for : List ℕ → Option ℕ → ℕ
+sectors_for rom sectors = unwrap_or sectors (need (snapshot_length (ram_length_of rom)))
 
 -- one to four hexadecimal digits
 abbrev pub IsAddress : List ℕ → Type 0
@@ -77,7 +81,7 @@ IsDoneOn rom (Frame cart save out) old new = IsAccepted rom × IsReported [] old
 IsDoneOn rom (Trace cart save count) old new = IsAccepted rom × OfATrace rom count (Appends old new)
 IsDoneOn rom (Stream cart save) old new = ⊥
 IsDoneOn rom (New cart save sectors) old new =
-    IsAccepted rom × (need (snapshot_length (ram_length_of rom)) ≤ sectors) × Appends old new (printed (New cart save sectors) rom)
+    IsAccepted rom × (need (snapshot_length (ram_length_of rom)) ≤ sectors_for rom sectors) × Appends old new (printed (New cart save sectors) rom)
 IsDoneOn rom request old new = IsAccepted rom × HasAddress request × Appends old new (printed request rom)
 
 -- it was done, on what its file gave
@@ -104,7 +108,7 @@ HasScript request = ⊥
 -- why no game is begun or taken up to be traced, and then nothing went out; or why a play ended, and then its report was cut short
 abbrev pub IsGameRefused : Request → SessionError → Option (List ℕ) → Option (List ℕ) → Type 0
 IsGameRefused (New cart save sectors) why old new =
-    Keeps old new × ((rom : List ℕ) × IsAccepted rom × IsNewGameCause (snapshot_length (ram_length_of rom)) sectors why)
+    Keeps old new × ((rom : List ℕ) × IsAccepted rom × IsNewGameCause (snapshot_length (ram_length_of rom)) (sectors_for rom sectors) why)
 IsGameRefused (Play cart save script) why old new = (rom : List ℕ) × IsAccepted rom × OfAScript (λ moves. IsCutShort moves why old new)
 IsGameRefused (Frame cart save out) why old new = (rom : List ℕ) × IsAccepted rom × IsCutShort [] why old new
 IsGameRefused (Trace cart save count) why old new = Keeps old new × ((rom : List ℕ) × IsAccepted rom)
@@ -117,7 +121,7 @@ IsOutputRefused (Info cart) old new = (rom : List ℕ) × IsAccepted rom × Appe
 IsOutputRefused (Listing cart address count) old new =
     (rom : List ℕ) × IsAccepted rom × AppendsProperPrefix old new (printed (Listing cart address count) rom)
 IsOutputRefused (Step cart count) old new = (rom : List ℕ) × IsAccepted rom × AppendsProperPrefix old new (printed (Step cart count) rom)
-IsOutputRefused (New cart save sectors) old new = (rom : List ℕ) × IsAccepted rom × (need (snapshot_length (ram_length_of rom)) ≤ sectors)
+IsOutputRefused (New cart save sectors) old new = (rom : List ℕ) × IsAccepted rom × (need (snapshot_length (ram_length_of rom)) ≤ sectors_for rom sectors)
     × AppendsProperPrefix old new (printed (New cart save sectors) rom)
 IsOutputRefused (Play cart save script) old new = ⊥
 IsOutputRefused (Frame cart save out) old new = (rom : List ℕ) × IsAccepted rom × IsReported [] old new

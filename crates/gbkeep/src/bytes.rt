@@ -3,10 +3,9 @@
 ghost use Rattle.std.specs.Prelude.{◌≡◌, ◌⊎◌, IfErr};
 
 use crate::fault::Fault;
-use std::alloc::Global;
-use std::fs::{File, OpenOptions, TryLockError};
-use std::io;
-use std::io::Read;
+use std::fs::{self, File, OpenOptions, TryLockError};
+use std::io::{self, ErrorKind, Read};
+use std::os::unix::fs::{FileTypeExt, MetadataExt};
 use std::rt::Files;
 
 /// A ROM file is read up to this many bytes and one.
@@ -15,7 +14,7 @@ pub(crate) const MOST_ROM: u64 = 0x80_0000;
 /// A script is read up to this many bytes and one.
 pub(crate) const MOST_SCRIPT: u64 = 0x10_0000;
 
-/// The bytes of the file at this path, as `bytes_of` gives them.
+/// The bytes of the file at this path, and of a longer one the first `most` and one more.
 pub(crate) fn file_bytes<R: Files<File = File> + AllocGlobal>(
     rt: &R,
     path: &str,
@@ -23,44 +22,58 @@ pub(crate) fn file_bytes<R: Files<File = File> + AllocGlobal>(
 ) -> Result<Vec<u8>, Fault>
     ensures { IfErr result (λ fault. (fault ≡ Fault.File) ⊎ (fault ≡ Fault.Memory)) }
 {
-    let file = open_file(rt, path)?;
-    bytes_of(rt.alloc(), file, most)
-}
-
-/// Opens a file to read it.
-pub(crate) fn open_file<R: Files<File = File>>(rt: &R, path: &str) -> Result<File, Fault>
-    ensures { IfErr result (λ fault. fault ≡ Fault.File) }
-{
-    File::open(rt, path).map_err(|_| Fault::File)
-}
-
-/// The bytes of a file, and of a longer one the first `most` and one more.
-pub(crate) fn bytes_of(alloc: Global, file: File, most: u64) -> Result<Vec<u8>, Fault>
-    ensures { IfErr result (λ fault. (fault ≡ Fault.File) ⊎ (fault ≡ Fault.Memory)) }
-{
-    let mut bytes = Vec::new(alloc);
+    not_a_pipe(rt, path)?;
+    let Ok(file) = File::open(rt, path) else {
+        return Err(Fault::File);
+    };
+    let mut bytes = Vec::new(rt.alloc());
     match file.take(most.saturating_add(1)).read_to_end(&mut bytes) {
         Ok(_) => Ok(bytes),
-        Err(error) if error.kind() == io::ErrorKind::OutOfMemory => Err(Fault::Memory),
+        Err(error) if error.kind() == ErrorKind::OutOfMemory => Err(Fault::Memory),
         Err(_) => Err(Fault::File),
     }
 }
 
-/// Opens the file of a picture: makes it, or empties it. A file that another open file holds is refused as it was: so is the save file of
-/// the game, by whatever name.
-pub(crate) fn emptied_file<R: Files<File = File>>(rt: &R, path: &str) -> Result<File, Fault>
+/// Refuses what is there and no plain file: to open a pipe, or to read it, may take forever.
+pub(crate) fn not_a_pipe<R: Files<File = File>>(rt: &R, path: &str) -> Result<(), Fault>
     ensures { IfErr result (λ fault. fault ≡ Fault.File) }
 {
-    emptied(rt, path).map_err(|_| Fault::File)
+    match fs::metadata(rt, path) {
+        Ok(found) if !found.is_file() => Err(Fault::File),
+        _ => Ok(()),
+    }
 }
 
-fn emptied<R: Files<File = File>>(rt: &R, path: &str) -> io::Result<File> {
+/// Opens the file of a picture: makes it, or empties it. Refused as it was is a file that is one of those to be kept, by whatever name, or
+/// that another open file holds.
+pub(crate) fn emptied_file<R: Files<File = File>>(
+    rt: &R,
+    path: &str,
+    kept: [&str; 2],
+) -> Result<File, Fault>
+    ensures { IfErr result (λ fault. fault ≡ Fault.File) }
+{
+    emptied(rt, path, kept).map_err(|_| Fault::File)
+}
+
+fn emptied<R: Files<File = File>>(rt: &R, path: &str, kept: [&str; 2]) -> io::Result<File> {
+    // to open a pipe would wait for its reader
+    if fs::metadata(rt, path).is_ok_and(|found| found.file_type().is_fifo()) {
+        return Err(ErrorKind::InvalidInput.into());
+    }
     let file = OpenOptions::new().write(true).create(true).open(rt, path)?;
+    let found = file.metadata()?;
+    for other in kept {
+        let other = fs::metadata(rt, other)?;
+        if found.dev() == other.dev() && found.ino() == other.ino() {
+            return Err(ErrorKind::AlreadyExists.into());
+        }
+    }
     if let Err(TryLockError::WouldBlock) = file.try_lock() {
-        return Err(io::ErrorKind::WouldBlock.into());
+        return Err(ErrorKind::WouldBlock.into());
     }
     // a pipe or a terminal has no length
-    if file.metadata()?.len() > 0 {
+    if found.len() > 0 {
         file.set_len(0)?;
     }
     Ok(file)

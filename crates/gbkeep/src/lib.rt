@@ -9,6 +9,7 @@ mod bytes;
 pub mod error;
 mod fault;
 mod info;
+mod interrupted;
 mod line;
 mod listing;
 mod picture;

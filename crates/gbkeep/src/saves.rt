@@ -1,9 +1,11 @@
 //! The commands over save files.
 
+ghost use Rattle.std.specs.Prelude.{◌≡◌, unwrap_or};
 ghost use Rattle.gbkeep.specs.Program.{IsServed, IsStreamServed};
 
-use crate::bytes::{MOST_ROM, MOST_SCRIPT, bytes_of, emptied_file, file_bytes, open_file};
+use crate::bytes::{MOST_ROM, MOST_SCRIPT, emptied_file, file_bytes, not_a_pipe};
 use crate::fault::Fault;
+use crate::interrupted::new_file;
 use crate::picture::play_to_picture;
 use crate::streams::stream_play;
 use crate::trace::trace_lines;
@@ -18,13 +20,14 @@ use std::io::{Read, Write};
 use std::path::Path;
 use std::rt::Files;
 
-/// Makes a file of so many sectors and begins a game in it. Where that fails once the file is made, the file is taken away again. A game
-/// that is begun stays, also where its line can't be written.
+/// Makes a file of so many sectors, or of as many as the game needs, and begins a game in it, also where an interrupted `new` of the same
+/// words left its file. Where that fails once the file is made, the file is taken away again. A game that is begun stays, also where its
+/// line can't be written.
 pub(crate) fn new<R: Files<File = File> + AllocGlobal, O: Write>(
     rt: &R,
     cart: &str,
     save: &str,
-    sectors: u32,
+    sectors: Option<u32>,
     out: &mut O,
 ) -> Result<(), Fault>
     ensures { IsServed (Request.New cart.entry save.entry sectors) result (O.contents out.old) (O.contents out.new) }
@@ -32,10 +35,11 @@ pub(crate) fn new<R: Files<File = File> + AllocGlobal, O: Write>(
     let rom = file_bytes(rt, cart, MOST_ROM)?;
     let cartridge = Cartridge::read(rom)?;
     let need = sectors_needed(&cartridge);
-    if u64::from(sectors) < need {
+    let sectors = sectors_or(sectors, need);
+    if sectors < need {
         return Err(Fault::Session(SessionError::TooSmall { need }));
     }
-    let device = FileDevice::create(rt, Path::new(save), u64::from(sectors))?;
+    let device = new_file(rt, save, sectors, &cartridge)?;
     if let Err(refused) = new_game(rt.alloc(), device, &cartridge) {
         let _ = fs::remove_file(rt, save);
         return Err(Fault::Session(refused.why));
@@ -43,6 +47,16 @@ pub(crate) fn new<R: Files<File = File> + AllocGlobal, O: Write>(
     match write_whole(out, b"begun 0\n") {
         Ok(()) => Ok(()),
         Err(_) => Err(Fault::Output),
+    }
+}
+
+/// As many sectors as are asked for, or else as many as are needed.
+fn sectors_or(sectors: Option<u32>, need: u64) -> u64
+    ensures { result ≡ unwrap_or sectors need }
+{
+    match sectors {
+        Some(sectors) => u64::from(sectors),
+        None => need,
     }
 }
 
@@ -57,6 +71,7 @@ pub(crate) fn play<R: Files<File = File> + AllocGlobal, O: Write>(
     ensures { IsServed (Request.Play cart.entry save.entry script.entry) result (O.contents out.old) (O.contents out.new) }
 {
     let rom = file_bytes(rt, cart, MOST_ROM)?;
+    not_a_pipe(rt, script)?;
     let device = FileDevice::attach(rt, Path::new(save))?;
     let script = file_bytes(rt, script, MOST_SCRIPT)?;
     match play_to_picture(
@@ -73,7 +88,7 @@ pub(crate) fn play<R: Files<File = File> + AllocGlobal, O: Write>(
 }
 
 /// Plays an empty script, with the report on `out`, and writes the picture to a file, which is made or emptied before. It is refused where
-/// it is the save file, and where it is named as the cartridge is.
+/// it is the save file or the cartridge, by whatever name.
 pub(crate) fn frame<R: Files<File = File> + AllocGlobal, O: Write>(
     rt: &R,
     cart: &str,
@@ -85,18 +100,14 @@ pub(crate) fn frame<R: Files<File = File> + AllocGlobal, O: Write>(
 {
     let rom = file_bytes(rt, cart, MOST_ROM)?;
     let device = FileDevice::attach(rt, Path::new(save))?;
-    // emptied, it would be the end of the game; by another name than this, the device's lock keeps it
-    if picture == save || picture == cart {
-        return Err(Fault::File);
-    }
-    let mut picture = emptied_file(rt, picture)?;
+    let mut picture = emptied_file(rt, picture, [cart, save])?;
     match play_to_picture(rt.alloc(), device, rom, b"", out, Some(&mut picture)) {
         Ok(_) => Ok(()),
         Err(refused) => Err(Fault::from(refused.why)),
     }
 }
 
-/// Takes up the game in a file and prints its next steps, which are not saved. Both files are opened before either is read.
+/// Takes up the game in a file and prints its next steps, which are not saved.
 pub(crate) fn trace<R: Files<File = File> + AllocGlobal, O: Write>(
     rt: &R,
     cart: &str,
@@ -106,9 +117,8 @@ pub(crate) fn trace<R: Files<File = File> + AllocGlobal, O: Write>(
 ) -> Result<(), Fault>
     ensures { IsServed (Request.Trace cart.entry save.entry count) result (O.contents out.old) (O.contents out.new) }
 {
-    let cart = open_file(rt, cart)?;
+    let rom = file_bytes(rt, cart, MOST_ROM)?;
     let device = FileDevice::attach(rt, Path::new(save))?;
-    let rom = bytes_of(rt.alloc(), cart, MOST_ROM)?;
     match trace_lines(rt.alloc(), device, rom, count, out) {
         Ok(_) => Ok(()),
         Err(refused) => Err(Fault::from(refused.why)),

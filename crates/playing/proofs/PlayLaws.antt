@@ -8,7 +8,7 @@ use Rattle.sector_device.specs.DiskState.{DiskState}
 use Rattle.sector_device.specs.Runs.{HoldsSince}
 use Rattle.sector_device.proofs.Runs.{holds_since}
 use Rattle.sector_log.specs.Content.{content}
-use Rattle.sector_log.specs.declared.Entry.{Entry}
+use Rattle.input_entries.specs.declared.Entry.{Entry}
 use Rattle.session.specs.Calls.{IsAtRest}
 use Rattle.session.specs.Inputs.{input_of, inputs_of}
 use Rattle.session.specs.Stands.{Position, stands, further, StandsWithin}

@@ -46,7 +46,15 @@ fn reads_each_command(rt: HostRuntime) -> Result<(), Fail> {
         Some(Request::New {
             cart: "a.gb",
             save: "a.save",
-            sectors: 65_536
+            sectors: Some(65_536)
+        })
+    );
+    assert_eq!(rt;
+        request_of(alloc, ["gbkeep", "new", "a.gb", "a.save"].as_slice())?,
+        Some(Request::New {
+            cart: "a.gb",
+            save: "a.save",
+            sectors: None
         })
     );
     assert_eq!(rt;

@@ -5,3 +5,4 @@ mod Images
 mod Files
 pub mod Runs
 pub mod FailingCalls
+pub mod Looking

@@ -1,5 +1,5 @@
 -- How a run of device calls goes on, one lemma for each call.
-use Rattle.std.proofs.Common.{◌≡◌, inl, inr, ⊎_elim, ℕ, ◌≤◌, ◌<◌, ◌+◌, List, [], length, set, refl, sym, ap, ◌∙◌, subst, arith, length-set, Result, Ok, Err, ◌-◌, ◌^◌}
+use Rattle.std.proofs.Common.{◌≡◌, ◌↔◌, inl, inr, ⊎_elim, ℕ, ◌≤◌, ◌<◌, ◌+◌, List, [], length, set, refl, sym, ap, ◌∙◌, subst, arith, length-set, Result, Ok, Err, ◌-◌, ◌^◌}
 use Rattle.std.proofs.lemmas.Bool.{cases_eq, cases_lt}
 use Rattle.std.proofs.lemmas.List.{get_or-set_same, get_or-set_other, ext_get_or}
 use Rattle.std.specs.Prelude.{IsErr}
@@ -118,3 +118,9 @@ module _ {T E : Type 0} where
     grows = omega (arith, c.grows);
     cause = λ e. ⊎_elim (λ more. inl (omega arith)) (λ top. inr top) (c.cause e);
   }
+
+-- ---- honesty
+
+-- one equivalence after another
+pub both_then : {A B C : Type 0} → A ↔ B → B ↔ C → A ↔ C
+both_then p q = (λ a. q.0 (p.0 a), λ c. p.1 (q.1 c))

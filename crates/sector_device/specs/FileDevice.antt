@@ -3,7 +3,7 @@
 -- image that the last stop left. From then on the device answers no read whose bytes are not those that were found
 -- or written, so within its life it returns what was written; and its images are the sectors of the last successful sync
 -- with any subset of the later writes.
-use Rattle.std.specs.Prelude.{◌≡◌, ℕ, ◌↔◌, ◌%◌, List}
+use Rattle.std.specs.Prelude.{◌≡◌, ℕ, ◌↔◌, ◌%◌, ◌*◌, ◌≤◌, List}
 use Rattle.sector_device.specs.DiskState.{DiskState}
 use Rattle.sector_device.specs.Records.{recorded_disk}
 use Rattle.sector_device.specs.declared.file.FileDevice.{FileDevice}
@@ -19,7 +19,7 @@ pub record IsOpened (content : List (List ℕ)) (d : FileDevice) : Type 0 where
   pub moment : (file_disk d).moment ≡ 0
   pub faults : (file_disk d).faults ≡ 0
 
--- a file is refused for a failed call or because it is not whole sectors
+-- a file is refused for a failed call, or because its bytes are not whole sectors, 65,536 at most
 abbrev pub IsAttachFault : DeviceFault → Type 0
 IsAttachFault Device = Unit {0}
-IsAttachFault (SizeNotSectors n) = n % 512 ≡ 0 → ⊥
+IsAttachFault (SizeNotSectors n) = n % 512 ≡ 0 → n ≤ 512 * 65536 → ⊥

@@ -1,6 +1,7 @@
 pub mod DiskState
 pub mod Records
 pub mod Runs
+pub mod Looking
 pub mod Memory
 pub mod FileRecord
 pub mod FileDevice

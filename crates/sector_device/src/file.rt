@@ -9,10 +9,13 @@ use crate::file_record::FileRecord;
 use crate::replay::zero_sectors;
 use std::alloc::Global;
 use std::fs::{self, File, OpenOptions, TryLockError};
-use std::io;
-use std::os::unix::fs::FileExt;
+use std::io::{self, ErrorKind};
+use std::os::unix::fs::{FileExt, MetadataExt};
 use std::path::{AsPath, Path};
 use std::rt::Files;
+
+/// A file has at most this many sectors, 32 MiB.
+const MOST_SECTORS: u64 = 65_536;
 
 /// Sectors in a file. It keeps a copy of them in memory, with which each read is compared, so that a file that lost or
 /// changed what was written gives a fault and no wrong answer. It takes every fault of the file, and running out of memory, as
@@ -46,9 +49,11 @@ impl FileDevice {
     ghost use Rattle.sector_device.specs.FileRecord.{unasked, with_call};
     ghost use Rattle.sector_device.specs.declared.recorded.Recorded.TheVariants.{Write, Sync};
 
-    /// Makes a file of so many zero sectors, where nothing stands at the path, and makes it and its folder's entry durable.
-    /// Any fault is `Device`, and then no file is left behind where that can be helped. `held` is what the file then holds,
-    /// whatever the caller takes for it.
+    /// Makes a file of zero sectors, and makes it and its folder's entry durable. Every sector is written, so that a file system that
+    /// has no room for them all refuses the file and not a later write.
+    ///
+    /// Nothing may stand at the path but an empty file that nobody holds, as a call that was cut short leaves it. Any fault is `Device`,
+    /// and then no file is left behind where that can be helped. `held` is what the file then holds, whatever the caller takes for it.
     pub fn create<R: Files<File = File> + AllocGlobal>(
         rt: &R,
         path: Path<'_>,
@@ -59,16 +64,18 @@ impl FileDevice {
         ensures zero { IfOk result (λ d. (file_disk d).sectors ≡ replicate sectors (replicate 512 0)) }
         ensures fault { IfErr result (λ fault. fault ≡ DeviceFault.Device) }
     {
-        let Ok(zero) = zero_sectors(rt.alloc(), sectors as usize) else {
+        let Ok(file) = claimed_file(rt, path.path_text()) else {
             return Err(DeviceFault::Device);
         };
-        let Ok(file) = new_file(rt, path.path_text(), sectors.saturating_mul(512)) else {
+        let Ok(zero) = filled_file(rt, &file, path.path_text(), sectors) else {
+            // the file is still locked, so that what is taken away is this file
+            let _ = fs::remove_file(rt, path.path_text());
             return Err(DeviceFault::Device);
         };
         Ok(FileDevice::opened(file, zero, FileRecord::new()))
     }
 
-    /// Opens a file of whole sectors, syncs it and reads it. `held` is what the file then holds, whatever the caller takes for
+    /// Opens a file of whole sectors, 65,536 at most, syncs it and reads it. `held` is what the file then holds, whatever the caller takes for
     /// it: after a stop, one of the images of that time.
     pub fn attach<R: Files<File = File> + AllocGlobal>(
         rt: &R,
@@ -82,6 +89,9 @@ impl FileDevice {
             return Err(DeviceFault::Device);
         };
         if size % 512 != 0 {
+            return Err(DeviceFault::SizeNotSectors(size));
+        }
+        if size > 512 * MOST_SECTORS {
             return Err(DeviceFault::SizeNotSectors(size));
         }
         match read_sectors(rt.alloc(), &file, (size / 512) as usize) {
@@ -153,25 +163,65 @@ impl FileDevice {
     }
 }
 
-/// A new file of this size, durable and with a durable entry in its folder.
-fn new_file<R: Files<File = File>>(rt: &R, path: &str, size: u64) -> io::Result<File>
-    ensures { OnOk result (size < 2 ^ 63) }
-{
-    let file = File::create_new(rt, path)?;
-    if let Err(fault) = make_durable(rt, &file, path, size) {
-        let _ = fs::remove_file(rt, path);
+/// A file that is locked, empty and named by this path: a new one, or one that a call which was cut short left there.
+fn claimed_file<R: Files<File = File>>(rt: &R, path: &str) -> io::Result<File> {
+    let file = match File::create_new(rt, path) {
+        Err(fault) if fault.kind() == ErrorKind::AlreadyExists => plain_file(rt, path)?,
+        made => made?,
+    };
+    if let Err(fault) = lock_file(&file) {
+        // a file that is held belongs to whoever holds it
+        if fault.kind() != ErrorKind::WouldBlock && file.metadata()?.len() == 0 {
+            let _ = fs::remove_file(rt, path);
+        }
         return Err(fault);
     }
-    Ok(file)
+    // before it was locked it may have been filled, or taken away
+    let (held, named) = (file.metadata()?, fs::symlink_metadata(rt, path)?);
+    if held.len() == 0 && held.dev() == named.dev() && held.ino() == named.ino() {
+        Ok(file)
+    } else {
+        Err(ErrorKind::AlreadyExists.into())
+    }
 }
 
-fn make_durable<R: Files<File = File>>(rt: &R, file: &File, path: &str, size: u64) -> io::Result<()>
-    ensures { OnOk result (size < 2 ^ 63) }
+/// Opens a file that is neither a link nor anything but a file.
+fn plain_file<R: Files<File = File>>(rt: &R, path: &str) -> io::Result<File> {
+    if fs::symlink_metadata(rt, path)?.is_file() {
+        OpenOptions::new().read(true).write(true).open(rt, path)
+    } else {
+        Err(ErrorKind::AlreadyExists.into())
+    }
+}
+
+/// Fills an empty file with zero sectors, makes it durable and its entry in its folder too, and gives these sectors.
+fn filled_file<R: Files<File = File> + AllocGlobal>(
+    rt: &R,
+    file: &File,
+    path: &str,
+    sectors: u64,
+) -> io::Result<Vec<[u8; 512]>>
+    ensures zero { IfOk result (λ v. v.items ≡ replicate sectors (replicate 512 0)) }
+    ensures sized { IfOk result (λ v. IsTrue (are_sectors v.items)) }
+    ensures fits { OnOk result (512 * sectors < 2 ^ 64) }
 {
-    lock_file(file)?;
-    file.set_len(size)?;
+    file.set_len(sectors.saturating_mul(512))?;
+    let Ok(zero) = zero_sectors(rt.alloc(), sectors as usize) else {
+        return Err(ErrorKind::OutOfMemory.into());
+    };
+    write_sectors(file, &zero)?;
     file.sync_all()?;
-    sync_folder(rt, path)
+    sync_folder(rt, path)?;
+    Ok(zero)
+}
+
+fn write_sectors(file: &File, sectors: &[[u8; 512]]) -> io::Result<()>
+    requires { 512 * length sectors.now < 2 ^ 64 }
+{
+    for (at, sector) in sectors.iter().enumerate() {
+        file.write_all_at(sector, 512 * at as u64)?;
+    }
+    Ok(())
 }
 
 fn sync_folder<R: Files<File = File>>(rt: &R, path: &str) -> io::Result<()> {
@@ -185,9 +235,10 @@ fn sync_folder<R: Files<File = File>>(rt: &R, path: &str) -> io::Result<()> {
 /// Locks the file for as long as it is open, where no other open file holds a lock on it.
 fn lock_file(file: &File) -> io::Result<()> {
     match file.try_lock() {
-        Err(TryLockError::WouldBlock) => Err(io::ErrorKind::WouldBlock.into()),
+        Ok(()) => Ok(()),
         // a file system without locks: there is nothing to hold
-        Ok(()) | Err(TryLockError::Error(_)) => Ok(()),
+        Err(TryLockError::Error(fault)) if fault.kind() == ErrorKind::Unsupported => Ok(()),
+        Err(fault) => Err(fault.into()),
     }
 }
 

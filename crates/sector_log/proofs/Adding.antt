@@ -3,11 +3,13 @@ use Rattle.std.proofs.Common.{◌≡◌, ◌==◌, ◌&&◌, ℕ, zero, suc, ◌
 use Rattle.std.proofs.lemmas.List.{take_at, drop_at, take_all, take-append-drop, length-take-le, append-nil, take_more, nil_from_length}
 use Rattle.std.proofs.Math.Seq.{set-append_seam, get_or-append_seam}
 use Rattle.std.proofs.lemmas.Bool.Decides.{nat_tests}
-use Rattle.sector_log.specs.Log.{byte}
-use Rattle.sector_log.specs.Inputs.{AllFive, inputs, inputs_in, is_input, is_entry, all_input, all_entries, run_length, single, joins, joins_last, longer, with_input, with_inputs, sealed, grown}
-use Rattle.sector_log.specs.declared.Entry.{Entry}
-use Rattle.sector_log.specs.declared.StoredEntry.{StoredEntry}
-use Rattle.sector_log.proofs.Runs.{Snoc, snoc, joins_then, joins_else, joined, joined_length, length-with_inputs, inputs-append, entries-append, entries-take, entries-drop}
+use Rattle.input_entries.specs.Bytes.{byte}
+use Rattle.input_entries.specs.Inputs.{AllFive, inputs, inputs_in, is_input, is_entry, all_input, all_entries, run_length, single, joins, longer}
+use Rattle.sector_log.specs.Inputs.{joins_last, with_input, with_inputs, sealed, grown}
+use Rattle.input_entries.specs.declared.Entry.{Entry}
+use Rattle.input_entries.specs.declared.StoredEntry.{StoredEntry}
+use Rattle.input_entries.proofs.Runs.{joined, joined_length, inputs-append, entries-append, entries-take, entries-drop}
+use Rattle.sector_log.proofs.Runs.{Snoc, snoc, joins_then, joins_else, length-with_inputs}
 use Rattle.sector_log.proofs.Grown.{Whole, whole_of}
 
 pub with_inputs-append : (log : List StoredEntry) (xs ys : List Entry) → with_inputs log (xs ++ ys) ≡ with_inputs (with_inputs log xs) ys

@@ -10,11 +10,12 @@ use Rattle.sector_log.specs.declared.root.Root.{Root}
 use Rattle.sector_log.specs.Content.{chosen, last_generation, generation_in, area_length, area_start, area, blob_sectors, header_of, content_in, content_by, content, ImageContent}
 use Rattle.sector_log.specs.Calls.{HoldsPrefix, ChangesOpenLog, Adds, IsAppended}
 use Rattle.sector_log.specs.Store.{IsStored}
-use Rattle.sector_log.specs.declared.Entry.{Entry}
-use Rattle.sector_log.specs.declared.StoredEntry.{StoredEntry}
+use Rattle.input_entries.specs.declared.Entry.{Entry}
+use Rattle.input_entries.specs.declared.StoredEntry.{StoredEntry}
 use Rattle.sector_log.specs.declared.root.Version.TheVariants.{Two}
-use Rattle.sector_log.specs.Inputs.{inputs, all_input, AllFive, AreInputs, grown, sealed}
-use Rattle.sector_log.proofs.Codec.{AreCodes}
+use Rattle.input_entries.specs.Inputs.{inputs, all_input, AllFive}
+use Rattle.sector_log.specs.Inputs.{AreInputs, grown, sealed}
+use Rattle.input_entries.proofs.CodeLengths.{AreCodes}
 use Rattle.sector_log.proofs.AppendLaw.{EachOldOrNew}
 use Rattle.sector_log.proofs.Runs.{Prefix}
 use Rattle.sector_log.proofs.Grown.{sealed_sector, length-grown, law_in_area, read_back, whole_grown, inputs_grown, codes_grown}

@@ -4,9 +4,10 @@ use Rattle.std.proofs.lemmas.List.{take_all, drop_all, append-nil, take-append-l
 use Rattle.std.proofs.lemmas.Bool.{cases_lt}
 use Rattle.std.proofs.lemmas.Bool.Decides.{nat_tests}
 use Rattle.sector_log.specs.Log.{entries_at, log_from, log_sector, log_sectors}
-use Rattle.sector_log.specs.declared.StoredEntry.{StoredEntry}
+use Rattle.input_entries.specs.declared.StoredEntry.{StoredEntry}
 use Rattle.sector_log.specs.declared.root.Version.TheVariants.{Two}
-use Rattle.sector_log.proofs.Codec.{AreCodes, codes-take, codes-drop, entries_written}
+use Rattle.input_entries.proofs.CodeLengths.{AreCodes, codes-take, codes-drop}
+use Rattle.sector_log.proofs.Codec.{entries_written}
 
 -- each of these is the old one or the new one
 abbrev pub EachOldOrNew : List (List ℕ) → List (List ℕ) → List (List ℕ) → Type 0

@@ -10,14 +10,15 @@ use Rattle.sector_device.specs.DiskState.{DiskState, Settled, Throughout, sector
 use Rattle.sector_device.specs.Runs.{HoldsThroughout, HoldsSince, Mixed, WrittenUpTo}
 use Rattle.sector_device.proofs.Runs.{throughout_weaker, written_all, holds_since}
 use Rattle.sector_log.specs.Log.{log_area}
-use Rattle.sector_log.specs.Inputs.{inputs, all_input, all_entries, AllFive, AreInputs, sealed, grown, fits}
+use Rattle.input_entries.specs.Inputs.{inputs, all_input, all_entries, AllFive}
+use Rattle.sector_log.specs.Inputs.{AreInputs, sealed, grown, fits}
 use Rattle.sector_log.specs.Layout.{replaced}
 use Rattle.sector_log.specs.Calls.{HoldsPrefix, ChangesOpenLog, IsAppended, Adds}
 use Rattle.sector_log.specs.Store.{IsStored, HaveSix, StandForInputs, Kept}
-use Rattle.sector_log.specs.declared.Entry.{Entry}
-use Rattle.sector_log.specs.declared.StoredEntry.{StoredEntry}
+use Rattle.input_entries.specs.declared.Entry.{Entry}
+use Rattle.input_entries.specs.declared.StoredEntry.{StoredEntry}
 use Rattle.sector_log.specs.declared.root.Root.{Root}
-use Rattle.sector_log.proofs.Codec.{AreCodes}
+use Rattle.input_entries.proofs.CodeLengths.{AreCodes}
 use Rattle.sector_log.proofs.AppendContent.{holds_more, changes_open, same_front, same_back, rests_after, length-target, added_after, content_base}
 use Rattle.sector_log.proofs.Grown.{whole_grown, codes_grown}
 

@@ -1,18 +1,11 @@
 -- A sector's bytes, entry by entry.
-use Rattle.std.proofs.Common.{◌≡◌, ℕ, ◌+◌, ◌-◌, ◌*◌, ◌<◌, ◌≤◌, List, [], ◌∷◌, ◌++◌, length, take, drop, refl, sym, ap, ◌∙◌, arith, append_assoc, length-append}
+use Rattle.std.proofs.Common.{◌≡◌, ℕ, ◌+◌, ◌-◌, ◌*◌, ◌<◌, ◌≤◌, List, ◌++◌, length, take, drop, sym, ap, ◌∙◌, arith, append_assoc, length-append}
 use Rattle.std.proofs.lemmas.List.{take_at, drop_at, drop-replicate}
-use Rattle.std.specs.List.{flat_map}
 use Rattle.std.specs.Int.{w16, to_le_bytes}
 use lib.ListN.{replicate}
 use Rattle.sector_log.specs.Log.{log_magic}
 use Rattle.sector_log.specs.declared.root.Version.TheVariants.{Two}
 use borrow.Rule.Slice.PartMut.{put_mid}
-use Rattle.sector_log.specs.declared.StoredEntry.{StoredEntry}
-use Rattle.sector_log.proofs.Codec.{AreCodes}
-
-pub length-codes : (es : List StoredEntry) → AreCodes es → length (flat_map (λ (x : StoredEntry). x.code) es) ≡ 6 * length es
-length-codes [] are = refl
-length-codes (e ∷ es) are = omega (arith, are.0, length-codes es are.1, length-append e.code (flat_map (λ (x : StoredEntry). x.code) es))
 
 pub put_entry : (done code : List ℕ) (i k : ℕ) → length done ≡ 8 + 6 * i → length code ≡ 6 → k ≡ 6 → i < 84
     → put_mid (8 + 6 * i) k (done ++ replicate (504 - 6 * i) 0) code ≡ done ++ code ++ replicate (504 - 6 * (i + 1)) 0
@@ -23,9 +16,6 @@ put_entry done code i k size five width small =
     let less : 504 - 6 * i - k ≡ 504 - 6 * (i + 1) = omega arith in
     let back : drop k (drop at (done ++ z)) ≡ replicate (504 - 6 * (i + 1)) 0 = ap (drop k) (drop_at done z at size) ∙ drop-replicate k (504 - 6 * i) 0 ∙ ap (λ n. replicate n 0) less in
     (λ i. front i ++ (code ++ back i)) ∙ sym (append_assoc done code (replicate (504 - 6 * (i + 1)) 0))
-
-abbrev pub codes_of : List StoredEntry → List ℕ
-codes_of es = flat_map (λ (x : StoredEntry). x.code) es
 
 -- one entry more is put into a sector
 pub header_put : (index count : ℕ) (codes code codes' sector put : List ℕ) (i k : ℕ)

@@ -1,5 +1,5 @@
 -- A log sector that was written is read back.
-use Rattle.std.proofs.Common.{◌≡◌, ℕ, zero, suc, ◌-◌, ◌*◌, ◌<◌, ◌≤◌, List, [], ◌∷◌, ◌++◌, length, take, drop, true, if◌then◌else◌, refl, ap, ◌∙◌, arith, append_assoc}
+use Rattle.std.proofs.Common.{◌≡◌, ℕ, ◌-◌, ◌*◌, ◌<◌, ◌≤◌, List, [], ◌∷◌, ◌++◌, length, take, drop, true, if◌then◌else◌, refl, ap, ◌∙◌, arith, append_assoc}
 use Rattle.std.proofs.lemmas.List.{take_at, drop_at}
 use Rattle.std.proofs.lemmas.Bool.Decides.{nat_tests}
 use Rattle.std.proofs.lemmas.Nat.{from_le_bytes-to_le_bytes_2}
@@ -7,27 +7,9 @@ use Rattle.std.specs.List.{flat_map}
 use Rattle.std.specs.Int.{w16, to_le_bytes, from_le_bytes}
 use lib.ListN.{replicate}
 use Rattle.sector_log.specs.Log.{count_in, is_log_sector, entries_from, entries_at, log_sector}
-use Rattle.sector_log.specs.declared.StoredEntry.{StoredEntry}
+use Rattle.input_entries.specs.declared.StoredEntry.{StoredEntry}
 use Rattle.sector_log.specs.declared.root.Version.TheVariants.{Two}
-
--- each entry has six bytes
-abbrev pub AreCodes : List StoredEntry → Type 0
-AreCodes [] = Unit {0}
-AreCodes (e ∷ es) = (length e.code ≡ 6) × AreCodes es
-
-pub codes-take : (n : ℕ) (es : List StoredEntry) → AreCodes es → AreCodes (take n es)
-codes-take zero es are = tt
-codes-take (suc n) [] are = tt
-codes-take (suc n) (e ∷ es) are = (are.0, codes-take n es are.1)
-
-pub codes-drop : (n : ℕ) (es : List StoredEntry) → AreCodes es → AreCodes (drop n es)
-codes-drop zero es are = are
-codes-drop (suc n) [] are = tt
-codes-drop (suc n) (e ∷ es) are = codes-drop n es are.1
-
-pub codes-append : (xs ys : List StoredEntry) → AreCodes xs → AreCodes ys → AreCodes (xs ++ ys)
-codes-append [] ys a b = b
-codes-append (x ∷ xs) ys a b = (a.0, codes-append xs ys a.1 b)
+use Rattle.input_entries.proofs.CodeLengths.{AreCodes}
 
 entries_read : (es : List StoredEntry) (rest : List ℕ) → AreCodes es → entries_from Two (length es) (flat_map (λ (x : StoredEntry). x.code) es ++ rest) ≡ es
 entries_read [] rest are = refl

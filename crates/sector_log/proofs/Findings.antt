@@ -7,7 +7,7 @@ use Rattle.sector_log.specs.Content.{Body, header_of, need, area, content, conte
 use Rattle.sector_log.specs.Inputs.{counted}
 use Rattle.sector_log.specs.Reading.{IsFound}
 use Rattle.sector_log.specs.Found.{found_by, found_in, is_too_small, no_body, log_of, log_in, blob_in, Seen, seen_in, IsSound, found_with}
-use Rattle.sector_log.specs.declared.StoredEntry.{StoredEntry}
+use Rattle.input_entries.specs.declared.StoredEntry.{StoredEntry}
 use Rattle.sector_log.specs.declared.found.Header.{Header}
 use Rattle.sector_log.specs.declared.root.Root.{Root}
 use Rattle.sector_log.specs.declared.found.Found.TheVariants.{Nothing, Intact, Damaged}

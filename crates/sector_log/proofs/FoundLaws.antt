@@ -7,9 +7,10 @@ use Rattle.std.proofs.lemmas.Bool.Decides.{nat_tests}
 use Rattle.sector_device.specs.DiskState.{sector_at}
 use Rattle.sector_log.specs.Log.{log_from}
 use Rattle.sector_log.specs.Content.{ImageContent, Body, chosen, area, area_length, area_start, blob_sectors, content_by, content_in, need}
-use Rattle.sector_log.specs.Inputs.{inputs, inputs_in, all_entries, counted}
+use Rattle.input_entries.specs.Inputs.{inputs, inputs_in, all_entries}
+use Rattle.sector_log.specs.Inputs.{counted}
 use Rattle.sector_log.specs.Laws.{AFoundBlobFits, AFoundBlobHasItsLength, ALogOfInputsCountsThem}
-use Rattle.sector_log.specs.declared.StoredEntry.{StoredEntry}
+use Rattle.input_entries.specs.declared.StoredEntry.{StoredEntry}
 use Rattle.sector_log.specs.declared.root.Root.{Root}
 
 fits_by : (image : List (List ℕ)) (r : Option Root) (held : ImageContent) (body : Body) → content_by r image ≡ Some held → held.body ≡ Some body → need held.header.blob_length ≤ length image

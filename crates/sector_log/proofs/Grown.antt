@@ -1,27 +1,18 @@
 -- A log with more inputs, after any subset of the writes that make it.
-use Rattle.std.proofs.Common.{◌≡◌, inl, inr, ⊎_elim, ℕ, ◌+◌, ◌-◌, ◌*◌, ◌/◌, ◌<◌, ◌≤◌, List, [], ◌∷◌, ◌++◌, length, take, drop, Bool, if◌then◌else◌, refl, sym, ap, ◌∙◌, subst, arith, append_assoc, length-append, length-take, length-drop, ◌==◌}
+use Rattle.std.proofs.Common.{◌≡◌, inl, inr, ⊎_elim, ℕ, ◌+◌, ◌-◌, ◌*◌, ◌/◌, ◌<◌, ◌≤◌, List, [], ◌∷◌, ◌++◌, length, take, drop, sym, ap, ◌∙◌, subst, arith, append_assoc, length-append, length-take, length-drop}
 use Rattle.std.proofs.lemmas.List.{take_all, append-nil, length-take-le, take-append-drop, drop-append-le, take-append-le}
 use Rattle.std.proofs.lemmas.Bool.{cases_Bool}
-use Rattle.std.specs.Int.{w32, to_le_bytes}
-use Rattle.sector_log.specs.Log.{log_from, log_sectors, log_area, byte}
-use Rattle.sector_log.specs.Inputs.{AllFive, inputs, all_input, all_entries, AreInputs, single, longer, joins, with_input, with_inputs, sealed, grown}
-use Rattle.sector_log.specs.declared.Entry.{Entry}
-use Rattle.sector_log.specs.declared.StoredEntry.{StoredEntry}
+use Rattle.sector_log.specs.Log.{log_from, log_sectors, log_area}
+use Rattle.input_entries.specs.Inputs.{AllFive, inputs, all_input, all_entries, joins}
+use Rattle.sector_log.specs.Inputs.{AreInputs, with_input, with_inputs, sealed, grown}
+use Rattle.input_entries.specs.declared.Entry.{Entry}
+use Rattle.input_entries.specs.declared.StoredEntry.{StoredEntry}
 use Rattle.sector_log.specs.declared.root.Version.TheVariants.{Two}
-use Rattle.sector_log.proofs.Codec.{AreCodes, codes-take, codes-drop, codes-append}
+use Rattle.input_entries.proofs.CodeLengths.{AreCodes, codes-take, codes-drop, codes-append}
 use Rattle.sector_log.proofs.AppendLaw.{EachOldOrNew, append_law}
-use Rattle.sector_log.proofs.Runs.{Prefix, prefix, one_more, joins_then, joins_else, length-with_inputs, inputs-append, entries-append, entries-take, entries-drop}
-
-code_single : (e : Entry) → length e.code ≡ 5 → length (single e).code ≡ 6
-unfolding single
-code_single e size = elim (cases_Bool (byte 0 e.code == 0)) [
-  | inl holds ↦ ap (λ (t : Bool). length (if t then 0 ∷ byte 1 e.code ∷ to_le_bytes w32 1 else e.code ++ 0 ∷ [])) holds
-  | inr fails ↦ ap (λ (t : Bool). length (if t then 0 ∷ byte 1 e.code ∷ to_le_bytes w32 1 else e.code ++ 0 ∷ [])) fails ∙ omega (arith, length-append e.code (0 ∷ []), size)
-]
-
-code_longer : (s : StoredEntry) → length (longer s).code ≡ 6
-unfolding longer
-code_longer s = refl
+use Rattle.input_entries.proofs.Runs.{inputs-append, entries-append, entries-take, entries-drop}
+use Rattle.sector_log.proofs.Runs.{Prefix, prefix, one_more, joins_then, joins_else, length-with_inputs}
+use Rattle.input_entries.proofs.CodeLengths.{code_single, code_longer}
 
 pub codes-with_input : (log : List StoredEntry) (e : Entry) → AreCodes log → length e.code ≡ 5 → AreCodes (with_input log e)
 codes-with_input [] e codes size = (code_single e size, tt)

@@ -2,10 +2,8 @@ mod Adding
 mod AppendContent
 mod AppendLaw
 mod Appending
-mod Both
 mod Bytes
 mod Codec
-mod Codes
 mod ContentLaw
 mod Counting
 mod Findings
@@ -18,5 +16,4 @@ mod Parsing
 mod Places
 mod Roots
 mod Runs
-mod Standing
 pub mod Wrong

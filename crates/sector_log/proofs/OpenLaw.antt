@@ -6,24 +6,26 @@ use Rattle.std.proofs.lemmas.Bool.Decides.{nat_tests}
 use lib.ListN.{replicate}
 use Rattle.sector_device.specs.DiskState.{sector_at}
 use Rattle.sector_log.specs.Log.{is_log_sector, count_in, entries_from, entries_at, log_from, log_sector, log_sectors, log_area}
-use Rattle.sector_log.specs.Inputs.{AllFive, inputs, all_input, all_entries, with_inputs, sealed, grown, fits}
+use Rattle.input_entries.specs.Inputs.{AllFive, inputs, all_input, all_entries}
+use Rattle.sector_log.specs.Inputs.{with_inputs, sealed, grown, fits}
 use Rattle.sector_log.specs.Calls.{HoldsPrefix}
 use Rattle.sector_log.specs.Content.{chosen, last_generation, header_of, area, area_length, area_start, content_by}
 use Rattle.sector_log.specs.Laws.{EndsOpen, AnyWritten, ExtendsBy, IsOpenEnded, IsInAppend}
 use Rattle.sector_log.specs.declared.root.Root.{Root}
 use Rattle.sector_log.proofs.ContentLaw.{chosen_same}
 use Rattle.std.specs.List.{flat_map}
-use Rattle.sector_log.specs.declared.Entry.{Entry}
-use Rattle.sector_log.specs.declared.StoredEntry.{StoredEntry}
+use Rattle.input_entries.specs.declared.Entry.{Entry}
+use Rattle.input_entries.specs.declared.StoredEntry.{StoredEntry}
 use Rattle.sector_log.specs.declared.root.Version.TheVariants.{Two}
-use Rattle.sector_log.proofs.Codec.{AreCodes, codes-drop}
+use Rattle.input_entries.proofs.CodeLengths.{AreCodes, codes-drop}
 use Rattle.sector_log.proofs.AppendLaw.{EachOldOrNew, CutOf, log_full, log_last, open_sector, blank_law}
 use Rattle.sector_log.proofs.AppendContent.{each_from_index, body_is}
 use Rattle.sector_log.proofs.Appending.{codes_of_six, fits_means}
 use Rattle.sector_log.proofs.Grown.{codes-with_inputs, length-grown}
 use Rattle.sector_log.proofs.Looking.{drop_take, few_sectors, area_size}
 use Rattle.sector_log.proofs.Parsing.{length-entries_from}
-use Rattle.sector_log.proofs.Runs.{Prefix, prefix, length-with_inputs, inputs-append, entries-append, entries-take, entries-drop}
+use Rattle.input_entries.proofs.Runs.{inputs-append, entries-append, entries-take, entries-drop}
+use Rattle.sector_log.proofs.Runs.{Prefix, prefix, length-with_inputs}
 
 blank_all : (n index : ℕ) (olds : List (List ℕ)) → length olds ≡ n → ((k : ℕ) → k < n → sector_at olds k ≡ replicate 512 0) → olds ≡ log_sectors n index []
 blank_all zero index [] size blank = refl

@@ -3,7 +3,8 @@ use Rattle.std.proofs.Common.{◌≡◌, ◌==◌, ◌&&◌, ◌%◌, ◌-◌, S
 use Rattle.std.proofs.lemmas.List.{drop-drop}
 use Rattle.std.proofs.lemmas.Bool.{cases_Bool}
 use Rattle.sector_log.specs.Content.{is_valid_root, root_in, root_front, version_in}
-use Rattle.sector_log.specs.Log.{begins_with, zeros, stored, width, entries_of_full_sector, count_in, is_log_sector, entries_from, entries_at}
+use Rattle.input_entries.specs.Bytes.{begins_with, zeros}
+use Rattle.sector_log.specs.Log.{stored, width, entries_of_full_sector, count_in, is_log_sector, entries_from, entries_at}
 use Rattle.sector_log.specs.declared.root.Version.{Version}
 use Rattle.sector_log.specs.declared.root.Version.TheVariants.{One, Two}
 

@@ -4,7 +4,7 @@ use Rattle.std.proofs.lemmas.List.{length-take-le, get_or_append_left, get_or-ap
 use Rattle.sector_device.specs.DiskState.{sector_at}
 use Rattle.sector_log.specs.Layout.{replaced}
 use Rattle.sector_log.specs.Log.{log_sector, log_sectors, log_area, padded, blob_area, fresh_area}
-use Rattle.sector_log.specs.declared.StoredEntry.{StoredEntry}
+use Rattle.input_entries.specs.declared.StoredEntry.{StoredEntry}
 
 pub length-log_sectors : (n index : ℕ) (entries : List StoredEntry) → length (log_sectors n index entries) ≡ n
 length-log_sectors zero index entries = refl

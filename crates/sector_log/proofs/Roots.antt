@@ -8,7 +8,7 @@ use lib.ListN.{replicate}
 use Rattle.sector_device.specs.DiskState.{sector_at}
 use Rattle.sector_log.specs.declared.root.Root.{Root}
 use Rattle.sector_log.specs.declared.root.Version.TheVariants.{Two}
-use Rattle.sector_log.specs.Log.{zeros}
+use Rattle.input_entries.specs.Bytes.{zeros}
 use Rattle.sector_log.specs.Store.{Fits}
 use Rattle.sector_log.specs.Content.{root_bytes, root_in, is_valid_root, root_at}
 

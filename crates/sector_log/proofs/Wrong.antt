@@ -3,10 +3,11 @@ use Rattle.std.proofs.Common.{◌≡◌, ◌&&◌, inl, inr, ℕ, suc, ◌+◌, 
 use Rattle.std.proofs.Math.Seq.{drop-cons}
 use Rattle.std.proofs.lemmas.Bool.{cases_Bool}
 use Rattle.std.proofs.lemmas.Bool.Decides.{nat_tests}
-use Rattle.sector_log.specs.Inputs.{is_entry, inputs_in, inputs, all_entries, wrong_from}
+use Rattle.input_entries.specs.Inputs.{is_entry, inputs_in, inputs, all_entries}
+use Rattle.sector_log.specs.Inputs.{wrong_from}
 use Rattle.sector_log.specs.Laws.{ALogOfInputsHasNoneWrong}
-use Rattle.sector_log.specs.declared.StoredEntry.{StoredEntry}
-use Rattle.sector_log.proofs.Counting.{own_count, some_inputs}
+use Rattle.input_entries.specs.declared.StoredEntry.{StoredEntry}
+use Rattle.input_entries.proofs.Meanings.{own_count, some_inputs}
 
 abbrev goes_on : ℕ → StoredEntry → Bool
 goes_on before s = is_entry s && nat_le (before + length (inputs_in s)) 216000

@@ -1,26 +1,15 @@
 -- What the calls of a log make of a device, by the content of its images.
 use Rattle.std.specs.Prelude.{◌≡◌, ◌⊎◌, ◌++◌, ◌^◌, ◌+◌, ◌-◌, ◌/◌, ◌≤◌, ◌<◌, ℕ, List, length, take, Option, Some, Bool, true, false}
-use Rattle.sector_device.specs.DiskState.{DiskState, Settled, NoNewImage, NoLostImage, next_count, sector_at}
-use Rattle.sector_device.specs.Runs.{HoldsSince}
+use Rattle.sector_device.specs.DiskState.{DiskState, Settled, next_count, sector_at}
 use Rattle.sector_log.specs.Content.{ImageContent, area_start, content, generation_in, new_generation, need, Holds}
-use Rattle.sector_log.specs.Inputs.{inputs, AreInputs}
+use Rattle.input_entries.specs.Inputs.{inputs}
+use Rattle.sector_log.specs.Inputs.{AreInputs}
 use Rattle.sector_log.specs.Sizes.{entries_per_sector, log_sectors_per_area}
-use Rattle.sector_log.specs.declared.Entry.{Entry}
-use Rattle.sector_log.specs.declared.StoredEntry.{StoredEntry}
+use Rattle.input_entries.specs.declared.Entry.{Entry}
+use Rattle.input_entries.specs.declared.StoredEntry.{StoredEntry}
 use Rattle.sector_log.specs.declared.found.Header.{Header}
 use Rattle.sector_log.specs.declared.fault.LogFault.{LogFault}
 use Rattle.sector_log.specs.declared.fault.LogFault.TheVariants.{Memory, Device, TooSmall, Worn, LogFull, Broken}
-
--- ---- looking
-
--- Nothing was written: reads give what they gave, and no image came that did not stand before. The sync may have left one
--- image alone; else none was lost.
-pub record HasLooked (old now : DiskState) : Type 0 where
-  pub honest : now.honest
-  pub sectors : now.sectors ≡ old.sectors
-  pub images : NoNewImage old now
-  pub since : HoldsSince old now old.image
-  pub kept : NoLostImage old now ⊎ Settled now
 
 -- ---- a new generation
 

@@ -4,9 +4,10 @@ use Rattle.std.specs.List.{flat_map}
 use Rattle.std.specs.Int.{w32, w64, from_le_bytes, to_le_bytes}
 use lib.ListN.{replicate}
 use Rattle.sector_device.specs.DiskState.{sector_at}
-use Rattle.sector_log.specs.Log.{begins_with, zeros, log_from}
+use Rattle.input_entries.specs.Bytes.{begins_with, zeros}
+use Rattle.sector_log.specs.Log.{log_from}
 use Rattle.sector_log.specs.Sizes.{log_sectors_per_area}
-use Rattle.sector_log.specs.declared.StoredEntry.{StoredEntry}
+use Rattle.input_entries.specs.declared.StoredEntry.{StoredEntry}
 use Rattle.sector_log.specs.declared.found.Header.{Header}
 use Rattle.sector_log.specs.declared.root.Version.{Version}
 use Rattle.sector_log.specs.declared.root.Version.TheVariants.{One, Two}

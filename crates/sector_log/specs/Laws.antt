@@ -5,11 +5,12 @@ use Rattle.sector_device.specs.DiskState.{IsSized, sector_at}
 use Rattle.sector_log.specs.Log.{log_from, log_area}
 use Rattle.sector_log.specs.Calls.{HoldsPrefix}
 use Rattle.sector_log.specs.Content.{ImageContent, Body, content, generation_in, chosen, area, area_start, area_length, blob_sectors, need}
-use Rattle.sector_log.specs.Inputs.{inputs, all_input, AllFive, AreInputs, grown, fits, counted, first_wrong}
+use Rattle.input_entries.specs.Inputs.{inputs, all_input, AllFive}
+use Rattle.sector_log.specs.Inputs.{AreInputs, grown, fits, counted, first_wrong}
 use Rattle.sector_log.specs.Sizes.{entries_per_sector, log_sectors_per_area}
 use Rattle.sector_log.specs.Store.{HaveSix}
-use Rattle.sector_log.specs.declared.Entry.{Entry}
-use Rattle.sector_log.specs.declared.StoredEntry.{StoredEntry}
+use Rattle.input_entries.specs.declared.Entry.{Entry}
+use Rattle.input_entries.specs.declared.StoredEntry.{StoredEntry}
 use Rattle.sector_log.specs.declared.root.Root.{Root}
 use Rattle.sector_log.specs.declared.root.Version.TheVariants.{Two}
 

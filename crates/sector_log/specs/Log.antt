@@ -1,23 +1,13 @@
 -- The log of an area: sectors of entries, each with its index in the log, in two versions.
-use Rattle.std.specs.Prelude.{◌==◌, ◌&&◌, ◌++◌, ◌+◌, ◌-◌, ◌*◌, ◌/◌, ℕ, zero, suc, List, [], ◌∷◌, length, take, drop, slice_index_or, Bool, true, false, if◌then◌else◌, nat_le, nat_lt}
-use Rattle.std.specs.List.{flat_map, list_all}
+use Rattle.std.specs.Prelude.{◌==◌, ◌&&◌, ◌++◌, ◌+◌, ◌-◌, ◌*◌, ◌/◌, ℕ, zero, suc, List, [], ◌∷◌, length, take, drop, Bool, if◌then◌else◌, nat_le, nat_lt}
+use Rattle.std.specs.List.{flat_map}
 use Rattle.std.specs.Int.{w16, to_le_bytes, from_le_bytes}
 use lib.ListN.{replicate}
+use Rattle.input_entries.specs.Bytes.{begins_with, byte, zeros}
 use Rattle.sector_log.specs.Sizes.{entries_per_sector, entries_per_old_sector, log_sectors_per_area}
-use Rattle.sector_log.specs.declared.StoredEntry.{StoredEntry}
+use Rattle.input_entries.specs.declared.StoredEntry.{StoredEntry}
 use Rattle.sector_log.specs.declared.root.Version.{Version}
 use Rattle.sector_log.specs.declared.root.Version.TheVariants.{One, Two}
-
-abbrev pub begins_with : List ℕ → List ℕ → Bool
-begins_with [] bytes = true
-begins_with (x ∷ xs) [] = false
-begins_with (x ∷ xs) (b ∷ bytes) = x == b && begins_with xs bytes
-
-abbrev pub byte : ℕ → List ℕ → ℕ
-byte at bytes = slice_index_or bytes at 0
-
-abbrev pub zeros : List ℕ → Bool
-zeros bytes = list_all (λ b. b == 0) bytes
 
 -- "GBL1" and "GBL2"
 abbrev pub log_magic : Version → List ℕ

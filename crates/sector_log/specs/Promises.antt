@@ -8,7 +8,7 @@ use Rattle.sector_log.specs.Content.{content, generation_in, chosen, version_of}
 use Rattle.sector_log.specs.Found.{IsSound, seen_in, log_of}
 use Rattle.sector_log.specs.Inputs.{fits, grown}
 use Rattle.sector_log.specs.Words.{found_generation, longest_blob, seen, is_broken, entries_of, generation_of, id_of}
-use Rattle.sector_log.specs.declared.Entry.{Entry}
+use Rattle.input_entries.specs.declared.Entry.{Entry}
 use Rattle.sector_log.specs.declared.opened.Opened.{Opened}
 use Rattle.sector_log.specs.declared.root.Version.TheVariants.{Two}
 use Rattle.sector_log.specs.declared.store.Store.{Store}

@@ -1,20 +1,11 @@
 -- What reading keeps, and what an opened log keeps of what was read.
-use Rattle.std.specs.Prelude.{◌≡◌, ◌⊎◌, ℕ, List, Option, Some, None, Bool, if◌then◌else◌}
+use Rattle.std.specs.Prelude.{◌≡◌, ℕ, List, Option, Some, None, Bool, if◌then◌else◌}
 use Rattle.std.proofs.Props.{props}
-use Rattle.sector_device.specs.DiskState.{DiskState, Settled, Throughout, Remembers, NoNewImage, NoLostImage}
+use Rattle.sector_device.specs.DiskState.{DiskState, Settled}
 use Rattle.sector_log.specs.Content.{chosen, content}
 use Rattle.sector_log.specs.Found.{log_of, is_too_small, blob_in}
-use Rattle.sector_log.specs.declared.StoredEntry.{StoredEntry}
+use Rattle.input_entries.specs.declared.StoredEntry.{StoredEntry}
 use Rattle.sector_log.specs.declared.root.Root.{Root}
-
--- nothing was written
-pub record LooksOnly (old now : DiskState) : Type 0 where
-  pub honest : now.honest
-  pub sectors : now.sectors ≡ old.sectors
-  pub images : NoNewImage old now
-  pub kept : NoLostImage old now ⊎ Settled now
-  pub time : Throughout old now old.image
-  pub past : Remembers old now
 
 -- one image is left; it has this chosen root, and this log unless it is damaged in length
 pub record IsFound (now : DiskState) (root : Option Root) (too_small : Bool) (log : List StoredEntry) : Type 0 where

@@ -6,9 +6,9 @@ use Rattle.sector_log.specs.declared.root.Root.{Root}
 use Rattle.sector_log.specs.Content.{chosen, generation_in, area_length, area_start, blob_sectors}
 use Rattle.sector_log.specs.Layout.{replaced}
 use Rattle.sector_log.specs.Log.{log_area}
-use Rattle.sector_log.specs.Inputs.{inputs, is_entry}
+use Rattle.input_entries.specs.Inputs.{inputs, is_entry}
 use Rattle.sector_log.specs.Sizes.{log_sectors_per_area, most_entries, most_inputs}
-use Rattle.sector_log.specs.declared.StoredEntry.{StoredEntry}
+use Rattle.input_entries.specs.declared.StoredEntry.{StoredEntry}
 use Rattle.sector_log.specs.declared.root.Version.TheVariants.{Two}
 
 -- one image is left; its chosen root's area begins at `start`, holds the whole blob, and has exactly this log

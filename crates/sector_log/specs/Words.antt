@@ -3,7 +3,7 @@ use Rattle.std.specs.Prelude.{ℕ, List, Bool, if◌then◌else◌, Some, None, 
 use Rattle.sector_device.specs.declared.device.SectorDevice.{Ghosts}
 use Rattle.sector_log.specs.Content.{last_generation}
 use Rattle.sector_log.specs.Found.{Seen, found_with}
-use Rattle.sector_log.specs.declared.StoredEntry.{StoredEntry}
+use Rattle.input_entries.specs.declared.StoredEntry.{StoredEntry}
 use Rattle.sector_log.specs.declared.opened.Opened.{Opened}
 use Rattle.sector_log.specs.declared.store.Store.{Store}
 use Rattle.sector_log.specs.declared.fault.Refused.{Refused}

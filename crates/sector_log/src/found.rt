@@ -1,10 +1,11 @@
 //! What a log holds, as it was found.
 ghost use Rattle.std.specs.Prelude.{◌≡◌, ◌≤◌, ◌<◌, ◌+◌, ◌^◌, ◌&&◌, ℕ, length, Bool, if◌then◌else◌, nat_lt, nat_le};
-ghost use Rattle.sector_log.specs.Inputs.{is_run, is_seconds, run_length, is_entry, inputs_in, counted};
+ghost use Rattle.input_entries.specs.Inputs.{is_run, is_seconds, run_length, is_entry, inputs_in};
+ghost use Rattle.sector_log.specs.Inputs.{counted};
 ghost use Rattle.sector_log.specs.Sizes.{most_entries_read, most_inputs};
 
-use crate::StoredEntry;
 use crate::sizes::MOST_INPUTS;
+use input_entries::{StoredEntry, inputs_of};
 
 /// What the chosen root says.
 #[derive(Clone, Copy, Debug, PartialEq, Eq)]
@@ -37,49 +38,6 @@ pub enum Found {
     Nothing,
     Intact(Header),
     Damaged(Header, Part),
-}
-
-/// The length of a run.
-pub(crate) fn times(entry: &StoredEntry) -> u32
-    ensures { result ≡ run_length entry.now }
-{
-    let code = entry.code;
-    u32::from_le_bytes([code[2], code[3], code[4], code[5]])
-}
-
-pub(crate) fn is_run(entry: &StoredEntry) -> bool
-    ensures { result ≡ is_run entry.now }
-{
-    if entry.code[0] != 0 {
-        return false;
-    }
-    let times = times(entry);
-    if times == 0 {
-        return false;
-    }
-    times <= MOST_INPUTS
-}
-
-pub(crate) fn is_seconds(entry: &StoredEntry) -> bool
-    ensures { result ≡ is_seconds entry.now }
-{
-    if entry.code[0] != 1 {
-        return false;
-    }
-    entry.code[5] == 0
-}
-
-/// How many inputs an entry stands for; 0 if it stands for none.
-pub(crate) fn inputs_of(entry: &StoredEntry) -> u32
-    ensures { result ≡ (if is_entry entry.now then length (inputs_in entry.now) else 0) }
-{
-    if is_run(entry) {
-        return times(entry);
-    }
-    if is_seconds(entry) {
-        return 1;
-    }
-    0
 }
 
 /// The count once an entry that stands for this many inputs is added.

@@ -10,7 +10,7 @@ ghost use Rattle.sector_log.specs.declared.fault.LogFault.TheVariants.{Device};
 
 use crate::fault::LogFault;
 use crate::format::root_sector;
-use crate::root::{Root, Version, sectors_needed};
+use crate::root::{Root, Version, area_length, sectors_needed};
 use crate::writes::{fill_area, sync_once};
 use sector_device::{DeviceFault, SectorDevice};
 
@@ -100,7 +100,7 @@ pub(crate) fn begin_generation<D: SectorDevice>(
         base,
         blob_length: blob.len() as u32,
     };
-    let area = (count - 2) / 2;
+    let area = area_length(count);
     let start = if root.generation % 2 == 0 {
         2
     } else {

@@ -1,7 +1,8 @@
 //! Reading what is on a device.
 ghost use Rattle.std.specs.Prelude.{◌≡◌, ◌⊎◌, IfOk, IfErr};
 ghost use Rattle.sector_device.specs.DiskState.{HasAnswered};
-ghost use Rattle.sector_log.specs.Calls.{HasLooked, faults_after};
+ghost use Rattle.sector_device.specs.Looking.{HasLooked};
+ghost use Rattle.sector_log.specs.Calls.{faults_after};
 ghost use Rattle.sector_log.specs.Promises.{HasOpened};
 ghost use Rattle.sector_log.specs.Words.{device_under, left_by_open};
 ghost use Rattle.sector_log.specs.declared.fault.LogFault.TheVariants.{Memory, Device};

@@ -1,36 +1,14 @@
 //! What the bytes of sectors say.
 ghost use Rattle.std.specs.Prelude.{◌≡◌, ◌==◌, ◌≤◌, ◌<◌, ◌+◌, ◌*◌, ◌++◌, length, take, drop, Some, None, Bool, true, false, if◌then◌else◌, vec_capacity};
-ghost use Rattle.sector_log.specs.Log.{begins_with, zeros, stored, width, entries_of_full_sector, count_in, is_log_sector, entries_at};
+ghost use Rattle.input_entries.specs.Bytes.{begins_with, zeros};
+ghost use Rattle.sector_log.specs.Log.{stored, width, entries_of_full_sector, count_in, is_log_sector, entries_at};
 ghost use Rattle.sector_log.specs.Sizes.{entries_per_old_sector};
 ghost use Rattle.sector_log.specs.Content.{is_valid_root, root_in, root_front, version_in, newer};
 ghost use Rattle.std.specs.Int.{w16, w32, w64, from_le_bytes};
 
-use crate::StoredEntry;
 use crate::root::{Root, Version};
 use crate::sizes::{ENTRIES_PER_OLD_SECTOR, ENTRIES_PER_SECTOR};
-
-fn begins_with(magic: &[u8], bytes: &[u8]) -> bool
-    requires { length magic.now ≤ length bytes.now }
-    ensures { result ≡ begins_with magic.now bytes.now }
-{
-    for (i, byte) in magic.iter().enumerate() {
-        if bytes[i] != *byte {
-            return false;
-        }
-    }
-    true
-}
-
-pub(crate) fn is_zeros(bytes: &[u8]) -> bool
-    ensures { result ≡ zeros bytes.now }
-{
-    for byte in bytes {
-        if *byte != 0 {
-            return false;
-        }
-    }
-    true
-}
+use input_entries::{StoredEntry, begins_with, is_zeros};
 
 fn u64_at(sector: &[u8; 512], at: usize) -> u64
     requires { at + 8 ≤ 512 }

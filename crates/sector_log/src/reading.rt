@@ -5,12 +5,13 @@ ghost use Rattle.sector_log.specs.Log.{log_from};
 ghost use Rattle.std.specs.List.{flat_map};
 ghost use Rattle.sector_log.specs.Content.{root_at, newer, chosen, content};
 ghost use Rattle.sector_log.specs.Found.{blob_in};
-ghost use Rattle.sector_log.specs.Reading.{LooksOnly, IsFound};
+ghost use Rattle.sector_device.specs.Looking.{LooksOnly};
+ghost use Rattle.sector_log.specs.Reading.{IsFound};
 ghost use Rattle.sector_log.specs.Sizes.{log_sectors_per_area, most_entries_read};
 
 use crate::StoredEntry;
 use crate::parse::{newer, parse_root, read_entries};
-use crate::root::{Root, Version};
+use crate::root::{Root, Version, area_length};
 use crate::sizes::LOG_SECTORS_PER_AREA;
 use crate::writes::sync_once;
 use sector_device::{DeviceFault, SectorDevice};
@@ -102,7 +103,7 @@ pub(crate) fn look<D: SectorDevice>(
             too_small: false,
         });
     };
-    let area = (count - 2) / 2;
+    let area = area_length(count);
     if area < LOG_SECTORS_PER_AREA + (root.blob_length as u64 + 511) / 512 {
         return Ok(Finding {
             root: Some(root),
@@ -182,7 +183,7 @@ pub(crate) fn look_blob<D: SectorDevice>(
     if count < 2 {
         return Ok(false);
     }
-    let area = (count - 2) / 2;
+    let area = area_length(count);
     if area < LOG_SECTORS_PER_AREA + (size + 511) / 512 {
         return Ok(false);
     }

@@ -1,5 +1,5 @@
 //! The root of a generation.
-ghost use Rattle.std.specs.Prelude.{◌≡◌};
+ghost use Rattle.std.specs.Prelude.{◌≡◌, ◌≤◌, ◌-◌, ◌/◌};
 ghost use Rattle.sector_log.specs.Content.{last_generation, need};
 
 use crate::sizes::LOG_SECTORS_PER_AREA;
@@ -38,4 +38,12 @@ pub fn sectors_needed(blob_length: u32) -> u64
     ensures { result ≡ need blob_length }
 {
     2 + 2 * (LOG_SECTORS_PER_AREA + (blob_length as u64 + 511) / 512)
+}
+
+/// The sectors of each of the two areas of a device with this many sectors.
+pub(crate) fn area_length(count: u64) -> u64
+    requires { 2 ≤ count }
+    ensures { result ≡ (count - 2) / 2 }
+{
+    (count - 2) / 2
 }

@@ -4,7 +4,8 @@ ghost use Rattle.sector_device.specs.DiskState.{HasAnswered};
 ghost use Rattle.sector_device.specs.Runs.{HoldsSince};
 ghost use Rattle.sector_log.specs.Calls.{HoldsPrefix, ChangesOpenLog, IsAppendCause, HasOldOrNewContent, IsReplaceCause, faults_after};
 ghost use Rattle.sector_log.specs.Store.{IsStored, Kept, kept_prop, StoredUnlessBroken, stored_prop};
-ghost use Rattle.sector_log.specs.Inputs.{inputs, all_input, fits};
+ghost use Rattle.input_entries.specs.Inputs.{inputs, all_input};
+ghost use Rattle.sector_log.specs.Inputs.{fits};
 ghost use Rattle.sector_log.specs.Sizes.{log_sectors_per_area, most_entries_read};
 ghost use Rattle.sector_log.specs.declared.fault.LogFault.TheVariants.{Device, Broken};
 

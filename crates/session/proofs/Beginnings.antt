@@ -15,10 +15,11 @@ use Rattle.snapshot.specs.Table.{kind_of_image}
 use Rattle.sector_device.specs.DiskState.{DiskState}
 use Rattle.sector_device.specs.Runs.{HoldsSince}
 use Rattle.sector_device.proofs.Runs.{throughout_then, remembers_then, holds_since}
-use Rattle.sector_log.specs.Calls.{HasLooked, HasBegun, HasOldOrNewContent}
+use Rattle.sector_device.specs.Looking.{HasLooked}
+use Rattle.sector_log.specs.Calls.{HasBegun, HasOldOrNewContent}
 use Rattle.sector_log.specs.Content.{content, new_generation}
 use Rattle.sector_log.specs.Found.{log_of}
-use Rattle.sector_log.specs.declared.StoredEntry.{StoredEntry}
+use Rattle.input_entries.specs.declared.StoredEntry.{StoredEntry}
 use Rattle.sector_log.specs.declared.fault.LogFault.{LogFault}
 use Rattle.sector_log.specs.declared.fault.LogFault.TheVariants.{Memory as LogMemory, Device as LogDevice}
 use Rattle.session.specs.Beginning.{session_fault}

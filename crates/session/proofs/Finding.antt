@@ -14,8 +14,9 @@ use Rattle.snapshot.proofs.Machines.{machine_back, encoded_legal}
 use Rattle.sector_device.specs.DiskState.{IsSized}
 use Rattle.sector_log.specs.Content.{ImageContent, Body, content, need}
 use Rattle.sector_log.specs.Found.{Seen, seen_in, found_in, found_by, log_of, blob_in, blob_by}
-use Rattle.sector_log.specs.Inputs.{inputs, counted, first_wrong}
-use Rattle.sector_log.specs.declared.StoredEntry.{StoredEntry}
+use Rattle.input_entries.specs.Inputs.{inputs}
+use Rattle.sector_log.specs.Inputs.{counted, first_wrong}
+use Rattle.input_entries.specs.declared.StoredEntry.{StoredEntry}
 use Rattle.sector_log.specs.declared.found.Header.{Header}
 use Rattle.sector_log.specs.declared.found.Found.{Found}
 use Rattle.sector_log.specs.declared.found.Found.TheVariants.{Nothing, Intact, Damaged as DamagedLog}

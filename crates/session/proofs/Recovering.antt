@@ -4,8 +4,9 @@ use Rattle.machine.specs.Machine.{MachineState}
 use Rattle.snapshot.specs.Encoding.{encoded}
 use Rattle.snapshot.specs.Legal.{IsMachineOf, IsLegalSnapshot}
 use Rattle.snapshot.proofs.Machines.{encoded_legal}
-use Rattle.sector_log.specs.Inputs.{inputs, counted, first_wrong}
-use Rattle.sector_log.specs.declared.StoredEntry.{StoredEntry}
+use Rattle.input_entries.specs.Inputs.{inputs}
+use Rattle.sector_log.specs.Inputs.{counted, first_wrong}
+use Rattle.input_entries.specs.declared.StoredEntry.{StoredEntry}
 use Rattle.sector_log.proofs.FoundLaws.{counts_inputs}
 use Rattle.sector_log.proofs.Wrong.{none_wrong}
 use Rattle.session.specs.Recovery.{IsLogCause, IsRebuildCause}

@@ -7,9 +7,10 @@ use Rattle.std.proofs.lemmas.Nat.{from_le_bytes-to_le_bytes_4}
 use Rattle.machine.specs.Machine.{MachineState, after, applied}
 use Rattle.machine.specs.declared.input.Input.{Input}
 use Rattle.machine.specs.declared.input.Input.TheVariants.{Frame, Seconds}
-use Rattle.sector_log.specs.Inputs.{frame, seconds, is_entry, inputs_in, inputs, wrong_from}
-use Rattle.sector_log.specs.declared.Entry.{Entry}
-use Rattle.sector_log.specs.declared.StoredEntry.{StoredEntry}
+use Rattle.input_entries.specs.Inputs.{frame, seconds, is_entry, inputs_in, inputs}
+use Rattle.sector_log.specs.Inputs.{wrong_from}
+use Rattle.input_entries.specs.declared.Entry.{Entry}
+use Rattle.input_entries.specs.declared.StoredEntry.{StoredEntry}
 use Rattle.session.specs.Inputs.{input_of, inputs_of, logged}
 use Rattle.session.proofs.StandsLaws.{after_none, after_one, logged_append}
 

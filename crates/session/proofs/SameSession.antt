@@ -8,9 +8,9 @@ use Rattle.machine.specs.Machine.{MachineState}
 use Rattle.snapshot.specs.Encoding.{snapshot_length}
 use Rattle.sector_device.specs.declared.device.SectorDevice.{Ghosts}
 use Rattle.sector_log.specs.Content.{need}
-use Rattle.sector_log.specs.Inputs.{is_input}
+use Rattle.input_entries.specs.Inputs.{is_input}
 use Rattle.sector_log.specs.Words.{device_of as device_of_store, is_broken as is_broken_store, id_of, entries_of}
-use Rattle.sector_log.specs.declared.Entry.{Entry}
+use Rattle.input_entries.specs.declared.Entry.{Entry}
 use Rattle.sector_log.specs.declared.store.Store.{Store}
 use Rattle.session.specs.Calls.{most_unsaved}
 use Rattle.session.specs.Resting.{IsOfItsRom, RestsUnlessBroken}

@@ -18,9 +18,10 @@ use Rattle.sector_device.proofs.Runs.{holds_since}
 use Rattle.sector_log.specs.Calls.{IsAppended, HoldsPrefix}
 use Rattle.sector_log.specs.Content.{content, new_generation}
 use Rattle.sector_log.specs.Found.{log_of}
-use Rattle.sector_log.specs.Inputs.{is_input, grown}
-use Rattle.sector_log.specs.declared.Entry.{Entry}
-use Rattle.sector_log.specs.declared.StoredEntry.{StoredEntry}
+use Rattle.input_entries.specs.Inputs.{is_input}
+use Rattle.sector_log.specs.Inputs.{grown}
+use Rattle.input_entries.specs.declared.Entry.{Entry}
+use Rattle.input_entries.specs.declared.StoredEntry.{StoredEntry}
 use Rattle.session.specs.Calls.{IsAtRest, IsSaved}
 use Rattle.session.specs.Inputs.{input_of, inputs_of}
 use Rattle.session.specs.Resting.{IsOfItsRom, Rests}

@@ -19,8 +19,9 @@ use Rattle.snapshot.specs.Legal.{IsMachineOf, IsLegalSnapshot}
 use Rattle.snapshot.specs.declared.field.SnapshotField.{SnapshotField}
 use Rattle.snapshot.proofs.Machines.{machine_back, encoded_legal}
 use Rattle.sector_log.specs.Content.{Body}
-use Rattle.sector_log.specs.Inputs.{inputs, counted, first_wrong, AreInputs}
-use Rattle.sector_log.specs.declared.Entry.{Entry}
+use Rattle.input_entries.specs.Inputs.{inputs}
+use Rattle.sector_log.specs.Inputs.{counted, first_wrong, AreInputs}
+use Rattle.input_entries.specs.declared.Entry.{Entry}
 use Rattle.sector_log.specs.declared.found.Header.{Header}
 use Rattle.sector_log.proofs.FoundLaws.{counts_inputs}
 use Rattle.sector_log.proofs.Wrong.{none_wrong}

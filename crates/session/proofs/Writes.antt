@@ -8,9 +8,10 @@ use Rattle.sector_device.proofs.Runs.{throughout_weaker}
 use Rattle.sector_log.specs.Calls.{HoldsPrefix, HasOldOrNewContent, HasBegun, IsAppended}
 use Rattle.sector_log.specs.Content.{content, new_generation}
 use Rattle.sector_log.specs.Found.{log_of}
-use Rattle.sector_log.specs.Inputs.{is_input, all_input, grown}
-use Rattle.sector_log.specs.declared.Entry.{Entry}
-use Rattle.sector_log.specs.declared.StoredEntry.{StoredEntry}
+use Rattle.input_entries.specs.Inputs.{is_input, all_input}
+use Rattle.sector_log.specs.Inputs.{grown}
+use Rattle.input_entries.specs.declared.Entry.{Entry}
+use Rattle.input_entries.specs.declared.StoredEntry.{StoredEntry}
 use Rattle.session.specs.Writing.{HoldsWritten, IsWritten}
 
 pub inputs_listed : (entries : List Entry) → list_all is_input entries ≡ true → all_input entries

@@ -8,7 +8,7 @@ use Rattle.sector_log.specs.Content.{ImageContent, content, generation_in, new_g
 use Rattle.sector_log.specs.Calls.{Adds}
 use Rattle.sector_log.specs.Found.{log_of}
 use Rattle.sector_log.specs.Inputs.{grown}
-use Rattle.sector_log.specs.declared.Entry.{Entry}
+use Rattle.input_entries.specs.declared.Entry.{Entry}
 use Rattle.session.specs.declared.error.SessionError.{SessionError}
 use Rattle.session.specs.declared.error.SessionError.TheVariants.{Memory, Device, NoSession, TooSmall, OtherCartridge, Damaged, Worn, Broken, SaveFirst, CountFull, Output}
 use Rattle.session.specs.Inputs.{inputs_of}

@@ -3,10 +3,10 @@ use Rattle.std.specs.Prelude.{◌==◌, List, map, take, drop, if◌then◌else�
 use Rattle.std.specs.Int.{w32, from_le_bytes}
 use Rattle.machine.specs.declared.input.Input.{Input}
 use Rattle.machine.specs.declared.input.Input.TheVariants.{Frame, Seconds}
-use Rattle.sector_log.specs.declared.Entry.{Entry}
-use Rattle.sector_log.specs.declared.StoredEntry.{StoredEntry}
-use Rattle.sector_log.specs.Inputs.{frame, seconds, inputs}
-use Rattle.sector_log.specs.Log.{byte}
+use Rattle.input_entries.specs.declared.Entry.{Entry}
+use Rattle.input_entries.specs.declared.StoredEntry.{StoredEntry}
+use Rattle.input_entries.specs.Inputs.{frame, seconds, inputs}
+use Rattle.input_entries.specs.Bytes.{byte}
 
 -- 00 and the buttons, or 01 and the seconds
 abbrev pub entry_of : Input → Entry

@@ -7,7 +7,7 @@ use Rattle.snapshot.specs.Encoding.{encoded}
 use Rattle.snapshot.specs.Legal.{IsMachineOf}
 use Rattle.sector_log.specs.Calls.{Adds}
 use Rattle.sector_log.specs.Content.{ImageContent, new_generation}
-use Rattle.sector_log.specs.declared.Entry.{Entry}
+use Rattle.input_entries.specs.declared.Entry.{Entry}
 use Rattle.session.specs.Inputs.{inputs_of, entry_of, input_of}
 use Rattle.session.specs.Stands.{Position, stands, further}
 

@@ -7,8 +7,8 @@ use Rattle.snapshot.specs.Table.{kind_of_image}
 use Rattle.sector_device.specs.DiskState.{DiskState}
 use Rattle.sector_log.specs.Content.{content}
 use Rattle.sector_log.specs.Found.{log_of}
-use Rattle.sector_log.specs.declared.Entry.{Entry}
-use Rattle.sector_log.specs.declared.StoredEntry.{StoredEntry}
+use Rattle.input_entries.specs.declared.Entry.{Entry}
+use Rattle.input_entries.specs.declared.StoredEntry.{StoredEntry}
 use Rattle.session.specs.Calls.{IsAtRest}
 
 -- kind, motor and length of RAM are those that its ROM asks for

@@ -10,7 +10,8 @@ use Rattle.snapshot.specs.Encoding.{snapshot_length}
 use Rattle.snapshot.specs.Table.{is_legal, table_of}
 use Rattle.snapshot.specs.Reading.{machine_in}
 use Rattle.sector_log.specs.Content.{ImageContent, Body, content}
-use Rattle.sector_log.specs.Inputs.{inputs, counted, first_wrong}
+use Rattle.input_entries.specs.Inputs.{inputs}
+use Rattle.sector_log.specs.Inputs.{counted, first_wrong}
 use Rattle.sector_log.specs.declared.found.Header.{Header}
 use Rattle.session.specs.Inputs.{logged}
 

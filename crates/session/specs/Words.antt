@@ -2,8 +2,8 @@
 use Rattle.std.specs.Prelude.{◌≡◌, ℕ, List, Bool, Result, Ok, Err}
 use Rattle.sector_device.specs.declared.device.SectorDevice.{Ghosts}
 use Rattle.sector_log.specs.Words.{device_of as device_of_store, is_broken as is_broken_store, entries_of, generation_of}
-use Rattle.sector_log.specs.declared.Entry.{Entry}
-use Rattle.sector_log.specs.declared.StoredEntry.{StoredEntry}
+use Rattle.input_entries.specs.declared.Entry.{Entry}
+use Rattle.input_entries.specs.declared.StoredEntry.{StoredEntry}
 use Rattle.machine.specs.Machine.{MachineState}
 use Rattle.session.specs.declared.error.Refused.{Refused}
 use Rattle.session.specs.declared.session.Session.{Session}

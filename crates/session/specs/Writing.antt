@@ -5,8 +5,8 @@ use Rattle.sector_log.specs.Calls.{HoldsPrefix, HasBegun, IsAppended}
 use Rattle.sector_log.specs.Content.{content, new_generation}
 use Rattle.sector_log.specs.Found.{log_of}
 use Rattle.sector_log.specs.Inputs.{grown}
-use Rattle.sector_log.specs.declared.Entry.{Entry}
-use Rattle.sector_log.specs.declared.StoredEntry.{StoredEntry}
+use Rattle.input_entries.specs.declared.Entry.{Entry}
+use Rattle.input_entries.specs.declared.StoredEntry.{StoredEntry}
 
 -- where they fit, the old content with a prefix of the entries behind its log; else the old content or the new one
 abbrev pub HoldsWritten : (fits : Bool) → (old : List (List ℕ)) → List Entry → (id : List ℕ) → (all : ℕ) → (blob : List ℕ) → List (List ℕ) → Type 0

@@ -1,6 +1,6 @@
 //! Inputs as entries of a log.
 ghost use Rattle.std.specs.Prelude.{◌≡◌, true};
-ghost use Rattle.sector_log.specs.Inputs.{is_input};
+ghost use Rattle.input_entries.specs.Inputs.{is_input};
 ghost use Rattle.session.specs.Inputs.{entry_of, input_of};
 
 use machine::Input;

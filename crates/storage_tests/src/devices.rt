@@ -163,6 +163,36 @@ fn a_file_of_other_size_is_refused(rt: HostRuntime) {
 }
 
 #[test]
+fn a_file_of_too_many_sectors_is_refused(rt: HostRuntime) {
+    let path = "many.save";
+    fs::write(&rt, path, "").or_stop(&rt);
+    let file = OpenOptions::new().write(true).open(&rt, path).or_stop(&rt);
+    file.set_len(512 * 65_537).or_stop(&rt);
+    same!(rt;
+        FileDevice::attach(&rt, Path::new(path)).err(),
+        Some(DeviceFault::SizeNotSectors(512 * 65_537))
+    );
+    fs::remove_file(&rt, path).or_stop(&rt);
+}
+
+#[test]
+fn an_empty_file_that_nobody_holds_is_made_a_device(rt: HostRuntime) {
+    let path = "empty.save";
+    fs::write(&rt, path, "").or_stop(&rt);
+    let mut device = FileDevice::create(&rt, Path::new(path), 3).or_stop(&rt);
+    same!(rt; three(&rt, &mut device).or_stop(&rt), [0, 0, 0]);
+    same!(rt; fs::metadata(&rt, path).or_stop(&rt).len(), 1536);
+    fs::write(&rt, path, "").or_stop(&rt);
+    same!(rt;
+        FileDevice::create(&rt, Path::new(path), 3).err(),
+        Some(DeviceFault::Device)
+    );
+    same!(rt; fs::metadata(&rt, path).or_stop(&rt).len(), 0);
+    fs::remove_file(&rt, path).or_stop(&rt);
+}
+
+/// The file is made before its length is set, and taken away when that fails.
+#[test]
 fn a_length_that_is_too_great_leaves_no_file(rt: HostRuntime) {
     let path = "great.save";
     match FileDevice::create(&rt, Path::new(path), u64::MAX) {

@@ -7,3 +7,5 @@ mod asserting;
 mod devices;
 #[cfg(test)]
 mod logs;
+#[cfg(test)]
+mod recordings;

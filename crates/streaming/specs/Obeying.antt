@@ -5,7 +5,7 @@ use Rattle.machine.specs.Machine.{MachineState, after}
 use Rattle.machine.specs.declared.input.Input.{Input}
 use Rattle.sector_device.specs.DiskState.{DiskState}
 use Rattle.sector_device.specs.declared.device.SectorDevice.{Ghosts}
-use Rattle.sector_log.specs.declared.Entry.{Entry}
+use Rattle.input_entries.specs.declared.Entry.{Entry}
 use Rattle.session.specs.Calls.{faults_after}
 use Rattle.session.specs.Stands.{Position}
 use Rattle.session.specs.Words.{machine_of, pending_of, acknowledged_of}

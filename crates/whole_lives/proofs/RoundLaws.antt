@@ -10,7 +10,7 @@ use Rattle.sector_device.specs.RecordLaws.{counts_last, only_last, reads_image}
 use Rattle.sector_device.specs.Runs.{HoldsSince}
 use Rattle.sector_device.specs.declared.memory.MemoryDevice.{MemoryDevice}
 use Rattle.sector_log.specs.Content.{content, generation_in}
-use Rattle.sector_log.specs.declared.Entry.{Entry}
+use Rattle.input_entries.specs.declared.Entry.{Entry}
 use Rattle.session.specs.Calls.{StandsAsBefore, faults_after}
 use Rattle.session.specs.Inputs.{inputs_of}
 use Rattle.session.specs.Stands.{Position, stands}

@@ -1,7 +1,8 @@
 use Rattle.std.proofs.Common.{rules, ◌≡◌, ◌≤◌, ◌<◌, ◌+◌, ◌*◌, ◌/◌, ◌++◌, ◌∷◌, [], length, take, drop, get_or, vec_capacity, ap, sym, ◌∙◌, subst, arith}
 use Rattle.std.proofs.lemmas.List.{take_more, take_all}
-use Rattle.sector_log.specs.declared.Entry.{Entry}
-use Rattle.sector_log.specs.Inputs.{AllFive, all_entries, inputs, with_input, with_inputs, grown}
+use Rattle.input_entries.specs.declared.Entry.{Entry}
+use Rattle.input_entries.specs.Inputs.{AllFive, all_entries, inputs}
+use Rattle.sector_log.specs.Inputs.{with_input, with_inputs, grown}
 use Rattle.sector_log.proofs.Adding.{five-append, input_at, entries_here, few_here, within_here, room_here, next_here, grown_by}
 use Rattle.sector_log.proofs.entries.add_inputs.Goals as goal
 

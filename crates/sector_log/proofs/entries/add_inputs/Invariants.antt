@@ -1,5 +1,6 @@
 use Rattle.std.proofs.Common.{◌≡◌, ◌≤◌, ◌++◌, take, drop, vec_capacity}
-use Rattle.sector_log.specs.Inputs.{with_inputs, AllFive}
+use Rattle.input_entries.specs.Inputs.{AllFive}
+use Rattle.sector_log.specs.Inputs.{with_inputs}
 use Rattle.sector_log.proofs.entries.add_inputs.Given as goal
 
 abbrev pub invariant-loop-input : goal.invariant-loop-input

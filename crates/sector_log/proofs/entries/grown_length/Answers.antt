@@ -1,8 +1,9 @@
 use Rattle.std.proofs.Common.{◌≡◌, ◌+◌, ◌++◌, length, take, drop, List, [], Option, Some, get_or, refl, sym, ap, ◌∙◌, subst, arith, length-append, length-take, length-drop}
 use Rattle.std.proofs.lemmas.List.{take_all}
-use Rattle.sector_log.specs.declared.Entry.{Entry}
-use Rattle.sector_log.specs.declared.StoredEntry.{StoredEntry}
-use Rattle.sector_log.specs.Inputs.{single, with_input, with_inputs, sealed, grown}
+use Rattle.input_entries.specs.declared.Entry.{Entry}
+use Rattle.input_entries.specs.declared.StoredEntry.{StoredEntry}
+use Rattle.input_entries.specs.Inputs.{single}
+use Rattle.sector_log.specs.Inputs.{with_input, with_inputs, sealed, grown}
 use Rattle.sector_log.proofs.Adding.{Like, like_none, like_begins, like_goes, like_ends, step, grown_by}
 use Rattle.sector_log.proofs.entries.grown_length.Goals as goal
 use Rattle.sector_log.proofs.entries.grown_length.Goals.{then-count-eq0, else-count-eq0, then-not-joins_last, else-not-joins_last}
@@ -34,7 +35,7 @@ loop-input-preserved c =
           record {
             count = omega (arith, w.count-is, c.loop-input.invariant.count, r.0, ap length next);
             like = (λ (l : List StoredEntry) (n : l ≡ with_input w_log e) (o : Option StoredEntry) (is : o ≡ Some (single e)). subst (Like o) (sym n) (subst (λ x. Like x (with_input w_log e)) (sym is) r.1))
-                (with_inputs (drop (sealed log) log) (take (i + 1) es)) next c.if-not-joins_last.last (w.last-is ∙ ap Some w.single.ensures);
+                (with_inputs (drop (sealed log) log) (take (i + 1) es)) next c.if-not-joins_last.last (w.last-is ∙ ap Some w.single.ensures.is);
             bound = omega (arith, w.count-is, c.loop-input.invariant.bound);
           }
       | else-not-joins_last w ↦

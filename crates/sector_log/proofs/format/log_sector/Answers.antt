@@ -1,8 +1,9 @@
 use Rattle.std.proofs.Common.{◌≡◌, ◌+◌, ◌-◌, ◌*◌, ◌++◌, ◌∷◌, [], length, take, get_or, ap, ◌∙◌, arith, rules, length-append, List, ℕ}
-use Rattle.sector_log.specs.declared.StoredEntry.{StoredEntry}
+use Rattle.input_entries.specs.declared.StoredEntry.{StoredEntry}
 use Rattle.std.proofs.lemmas.List.{take_more, append-nil}
 use Rattle.std.proofs.lemmas.List.Concat.{flat_map-append}
-use Rattle.sector_log.proofs.Bytes.{header_put, codes_of}
+use Rattle.input_entries.proofs.CodeLengths.{codes_of}
+use Rattle.sector_log.proofs.Bytes.{header_put}
 use Rattle.sector_log.proofs.format.log_sector.Goals as goal
 
 pub loop-i-preserved : goal.loop-i-preserved

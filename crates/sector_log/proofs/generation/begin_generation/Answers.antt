@@ -10,7 +10,7 @@ pub returns-in-Err-clause-moments : goal.returns-in-Err-clause-moments
 returns-in-Err-clause-moments g c = λ honest settled was.
     let old = g.D.SectorDevice.disk c.args.device.now in
     let root : Root = root_after c.args.last c.args.id c.args.base (length c.args.blob.now) in
-    let areas : (c.count-count.result - 2) / 2 ≡ area_length old.sectors = ap (λ n. (n - 2) / 2) c.count-count.ensures in
+    let areas : c.area_length-area.result ≡ area_length old.sectors = c.area_length-area.ensures ∙ ap (λ n. (n - 2) / 2) c.count-count.ensures in
     let slot : ((root.generation % 2 ≡ 0) × (c.if-root-eq0.start ≡ 2)) ⊎ ((root.generation % 2 ≡ 1) × (c.if-root-eq0.start ≡ 2 + area_length old.sectors)) =
     elim c.if-root-eq0.branch [
       | then-root-eq0 w ↦ inl (w.if-root-eq0.true, w.start-is)
@@ -25,7 +25,7 @@ pub returns-in-Ok-clause-moments : goal.returns-in-Ok-clause-moments
 returns-in-Ok-clause-moments g c = λ honest settled was.
     let old = g.D.SectorDevice.disk c.args.device.now in
     let root : Root = root_after c.args.last c.args.id c.args.base (length c.args.blob.now) in
-    let areas : (c.count-count.result - 2) / 2 ≡ area_length old.sectors = ap (λ n. (n - 2) / 2) c.count-count.ensures in
+    let areas : c.area_length-area.result ≡ area_length old.sectors = c.area_length-area.ensures ∙ ap (λ n. (n - 2) / 2) c.count-count.ensures in
     let slot : ((root.generation % 2 ≡ 0) × (c.if-root-eq0.start ≡ 2)) ⊎ ((root.generation % 2 ≡ 1) × (c.if-root-eq0.start ≡ 2 + area_length old.sectors)) =
     elim c.if-root-eq0.branch [
       | then-root-eq0 w ↦ inl (w.if-root-eq0.true, w.start-is)
@@ -40,7 +40,7 @@ pub returns-in-Ok-clause-stored : goal.returns-in-Ok-clause-stored
 returns-in-Ok-clause-stored g c = λ honest settled was.
     let old = g.D.SectorDevice.disk c.args.device.now in
     let root : Root = root_after c.args.last c.args.id c.args.base (length c.args.blob.now) in
-    let areas : (c.count-count.result - 2) / 2 ≡ area_length old.sectors = ap (λ n. (n - 2) / 2) c.count-count.ensures in
+    let areas : c.area_length-area.result ≡ area_length old.sectors = c.area_length-area.ensures ∙ ap (λ n. (n - 2) / 2) c.count-count.ensures in
     let slot : ((root.generation % 2 ≡ 0) × (c.if-root-eq0.start ≡ 2)) ⊎ ((root.generation % 2 ≡ 1) × (c.if-root-eq0.start ≡ 2 + area_length old.sectors)) =
     elim c.if-root-eq0.branch [
       | then-root-eq0 w ↦ inl (w.if-root-eq0.true, w.start-is)
@@ -55,7 +55,7 @@ pub returns-in-Ok-clause-begun : goal.returns-in-Ok-clause-begun
 returns-in-Ok-clause-begun g c = λ honest settled was.
     let old = g.D.SectorDevice.disk c.args.device.now in
     let root : Root = root_after c.args.last c.args.id c.args.base (length c.args.blob.now) in
-    let areas : (c.count-count.result - 2) / 2 ≡ area_length old.sectors = ap (λ n. (n - 2) / 2) c.count-count.ensures in
+    let areas : c.area_length-area.result ≡ area_length old.sectors = c.area_length-area.ensures ∙ ap (λ n. (n - 2) / 2) c.count-count.ensures in
     let slot : ((root.generation % 2 ≡ 0) × (c.if-root-eq0.start ≡ 2)) ⊎ ((root.generation % 2 ≡ 1) × (c.if-root-eq0.start ≡ 2 + area_length old.sectors)) =
     elim c.if-root-eq0.branch [
       | then-root-eq0 w ↦ inl (w.if-root-eq0.true, w.start-is)

@@ -3,7 +3,8 @@ use Rattle.sector_log.specs.Content.{chosen, last_generation, content}
 use Rattle.sector_log.specs.Found.{blob_in, seen_in}
 use Rattle.sector_log.specs.Words.{seen}
 use Rattle.sector_log.proofs.Findings.{seen_is, sound_with}
-use Rattle.sector_log.proofs.Looking.{looked_then, found_looked, settled_looked, has_looked}
+use Rattle.sector_device.proofs.Looking.{looked_then, settled_looked, has_looked}
+use Rattle.sector_log.proofs.Looking.{found_looked}
 use Rattle.sector_log.proofs.opening.open_log.Goals as goal
 
 pub invariant_of-result-clause-found : goal.invariant_of-result-clause-found

@@ -1,7 +1,7 @@
 use Rattle.std.proofs.Common.{rules, ◌≡◌, ◌==◌, ◌%◌, ℕ, List, Some, true, length, take, drop, length-drop, sym, ap, ◌∙◌, arith}
 use Rattle.std.proofs.lemmas.Bool.Decides.{nat_tests}
 use Rattle.std.proofs.lemmas.List.{take_all}
-use Rattle.sector_log.specs.Log.{begins_with, zeros}
+use Rattle.input_entries.specs.Bytes.{begins_with, zeros}
 use Rattle.sector_log.specs.Content.{root_in, root_front, version_in}
 use Rattle.sector_log.proofs.Parsing.{no_zeros, is_valid}
 use Rattle.sector_log.proofs.parse.parse_root.Goals as goal

@@ -1,6 +1,6 @@
 use Rattle.std.proofs.Common.{◌≡◌, ◌==◌, ◌+◌, ◌-◌, ◌*◌, ◌++◌, ◌∷◌, List, [], length, take, drop, refl, sym, ap, ◌∙◌, arith, length-append, append_assoc}
 use Rattle.sector_log.specs.Log.{stored, width, entries_from, entries_at}
-use Rattle.sector_log.specs.declared.StoredEntry.{StoredEntry}
+use Rattle.input_entries.specs.declared.StoredEntry.{StoredEntry}
 use Rattle.sector_log.proofs.Parsing.{chunk_at, few_fill, length-entries_from, entries_more, entries_by_count}
 use Rattle.sector_log.proofs.parse.read_entries.Goals as goal
 

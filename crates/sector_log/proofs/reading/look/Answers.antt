@@ -3,7 +3,8 @@ use Rattle.sector_device.specs.DiskState.{Settled}
 use Rattle.sector_log.specs.Log.{log_from}
 use Rattle.sector_log.specs.Content.{chosen, area_length, area_start}
 use Rattle.sector_log.specs.Reading.{IsFound}
-use Rattle.sector_log.proofs.Looking.{looked_synced, looked_then, nothing_chosen, settled_looked, enough_sectors, found_short, found_log}
+use Rattle.sector_device.proofs.Looking.{looked_synced, looked_then, settled_looked}
+use Rattle.sector_log.proofs.Looking.{nothing_chosen, enough_sectors, found_short, found_log}
 use Rattle.sector_log.proofs.reading.look.Goals as goal
 
 pub returns-then-area-root-clause-found : goal.returns-then-area-root-clause-found
@@ -17,7 +18,7 @@ returns-then-area-root-clause-found g c = λ honest.
     let size : length s2.sectors ≡ length s1.sectors = ap length looked.sectors in
     let many : 2 ≤ length s2.sectors = omega (arith, many1, size) in
     let is : chosen s2.sectors ≡ Some c.in-Some.root = ap chosen looked.sectors ∙ enough_sectors s1.sectors many1 ∙ sym (c.in_ok-chosen.ensures.root sync.goes.honest) ∙ c.in-Some.is in
-    let area : area_length s2.sectors ≡ (c.count-count.result - 2) / 2 = ap (λ n. (n - 2) / 2) (size ∙ sym c.count-count.ensures) in
+    let area : area_length s2.sectors ≡ c.area_length-area.result = ap (λ n. (n - 2) / 2) (size ∙ sym c.count-count.ensures) ∙ sym c.area_length-area.ensures in
     subst (λ l. IsFound s2 (Some c.in-Some.root) true l) (sym c.requires.empty) (found_short s2 c.in-Some.root settled many is (omega (arith, area, c.if-area-root.true)))
 
 pub returns-in_err-read_log-clause-looked : goal.returns-in_err-read_log-clause-looked
@@ -46,8 +47,8 @@ returns-clause-found g c = λ honest.
     let size : length s3.sectors ≡ length s1.sectors = ap length last.sectors ∙ ap length looked.sectors in
     let many : 2 ≤ length s3.sectors = omega (arith, many1, size) in
     let is : chosen s3.sectors ≡ Some root = ap chosen last.sectors ∙ ap chosen looked.sectors ∙ enough_sectors s1.sectors many1 ∙ sym (c.in_ok-chosen.ensures.root sync.goes.honest) ∙ c.in-Some.is in
-    let area : area_length s3.sectors ≡ (c.count-count.result - 2) / 2 = ap (λ n. (n - 2) / 2) (size ∙ sym c.count-count.ensures) in
-    let start = 2 + root.generation % 2 * ((c.count-count.result - 2) / 2) in
+    let area : area_length s3.sectors ≡ c.area_length-area.result = ap (λ n. (n - 2) / 2) (size ∙ sym c.count-count.ensures) ∙ sym c.area_length-area.ensures in
+    let start = 2 + root.generation % 2 * c.area_length-area.result in
     let at : start ≡ area_start root.generation s3.sectors = ap (λ n. 2 + root.generation % 2 * n) (sym area) in
     let log : log_from root.version 0 (take 32 (drop start s3.sectors)) ≡ c.read_log.new.log.items = ap (λ l. log_from root.version 0 (take 32 (drop start l))) last.sectors ∙ c.in_ok-read_log.ensures.log looked.honest in
     found_log s3 root start c.read_log.new.log.items settled many is (omega (arith, area, c.if-area-root.false)) at log

@@ -1,8 +1,9 @@
 use Rattle.std.proofs.Common.{rules, ◌≡◌, ◌<◌, ◌+◌, ◌-◌, ◌*◌, ◌++◌, ℕ, List, length, take, drop, sym, ap, ◌∙◌, arith, append_assoc, length-append, length-take}
-use Rattle.sector_log.proofs.Both.{both_then}
+use Rattle.sector_device.proofs.Runs.{both_then}
 use Rattle.std.specs.List.{flat_map}
 use Rattle.sector_device.specs.DiskState.{sector_at}
-use Rattle.sector_log.proofs.Looking.{looked_read, looked_then, blob_next}
+use Rattle.sector_device.proofs.Looking.{looked_read, looked_then}
+use Rattle.sector_log.proofs.Looking.{blob_next}
 use Rattle.sector_log.proofs.reading.read_blob.Goals as goal
 
 pub loop-index-preserved : goal.loop-index-preserved

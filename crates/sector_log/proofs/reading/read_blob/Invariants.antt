@@ -1,6 +1,6 @@
 use Rattle.std.proofs.Common.{◌≡◌, ◌↔◌, ◌≤◌, ◌*◌, ◌-◌, ◌++◌, length, take, drop, vec_capacity, min}
 use Rattle.std.specs.List.{flat_map}
-use Rattle.sector_log.specs.Reading.{LooksOnly}
+use Rattle.sector_device.specs.Looking.{LooksOnly}
 use Rattle.sector_log.proofs.reading.read_blob.Given as goal
 
 abbrev pub invariant-loop-index : goal.invariant-loop-index

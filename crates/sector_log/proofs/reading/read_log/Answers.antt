@@ -1,8 +1,9 @@
 use Rattle.std.proofs.Common.{◌≡◌, ◌+◌, take, drop, sym, ap, ◌∙◌, arith}
-use Rattle.sector_log.proofs.Both.{both_then}
+use Rattle.sector_device.proofs.Runs.{both_then}
 use Rattle.sector_device.specs.DiskState.{sector_at}
 use Rattle.sector_log.specs.Log.{log_from}
-use Rattle.sector_log.proofs.Looking.{looked_read, looked_then, log_stops, log_goes, log_ends}
+use Rattle.sector_device.proofs.Looking.{looked_read, looked_then}
+use Rattle.sector_log.proofs.Looking.{log_stops, log_goes, log_ends}
 use Rattle.sector_log.proofs.reading.read_log.Goals as goal
 
 pub returns-then-not-read_entries-clause-log : goal.returns-then-not-read_entries-clause-log

@@ -1,6 +1,6 @@
 use Rattle.std.proofs.Common.{◌≡◌, ◌↔◌, ◌≤◌, ◌*◌, ◌++◌, length, take, drop, vec_capacity}
 use Rattle.sector_log.specs.Log.{log_from}
-use Rattle.sector_log.specs.Reading.{LooksOnly}
+use Rattle.sector_device.specs.Looking.{LooksOnly}
 use Rattle.sector_log.proofs.reading.read_log.Given as goal
 
 abbrev pub invariant-loop-index : goal.invariant-loop-index

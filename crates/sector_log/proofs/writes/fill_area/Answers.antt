@@ -1,5 +1,5 @@
 use Rattle.std.proofs.Common.{◌≡◌, ◌≤◌, ◌<◌, ◌+◌, length, sym, ◌∙◌, subst, arith}
-use Rattle.sector_log.proofs.Both.{both_then}
+use Rattle.sector_device.proofs.Runs.{both_then}
 use Rattle.sector_device.specs.DiskState.{sector_at}
 use Rattle.sector_device.specs.Runs.{WrittenUpTo}
 use Rattle.sector_device.proofs.Runs.{has_written, mixed_set, written_more, written_all}

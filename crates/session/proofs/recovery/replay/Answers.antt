@@ -1,8 +1,9 @@
 use Rattle.std.proofs.Common.{◌≡◌, ◌+◌, ℕ, List, [], drop, length, get_or, ap, sym, ◌∙◌, arith}
 use Rattle.std.proofs.lemmas.List.{drop_all}
 use Rattle.machine.specs.Machine.{MachineState, after}
-use Rattle.sector_log.specs.Inputs.{inputs, inputs_in, wrong_from}
-use Rattle.sector_log.specs.declared.StoredEntry.{StoredEntry}
+use Rattle.input_entries.specs.Inputs.{inputs, inputs_in}
+use Rattle.sector_log.specs.Inputs.{wrong_from}
+use Rattle.input_entries.specs.declared.StoredEntry.{StoredEntry}
 use Rattle.session.specs.Inputs.{logged, inputs_of}
 use Rattle.session.proofs.StandsLaws.{after_append, after_none}
 use Rattle.session.proofs.Replaying.{next_entry}

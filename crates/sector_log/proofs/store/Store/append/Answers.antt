@@ -1,7 +1,7 @@
 use Rattle.std.proofs.Common.{rules, ◌≡◌, ◌≤◌, ◌+◌, ◌/◌, length, List, sym, ap, ◌∙◌, subst, arith}
 use Rattle.sector_device.proofs.Runs.{has_synced}
 use Rattle.std.proofs.lemmas.Bool.Decides.{nat_tests}
-use Rattle.sector_log.specs.declared.StoredEntry.{StoredEntry}
+use Rattle.input_entries.specs.declared.StoredEntry.{StoredEntry}
 use Rattle.sector_log.specs.Inputs.{grown}
 use Rattle.sector_log.proofs.Appending.{front, rests_again, added, fits_means, kept_after, count_after, nothing_grown, nothing_added, entries_of_each, log_stored}
 use Rattle.sector_log.specs.Store.{IsStored}

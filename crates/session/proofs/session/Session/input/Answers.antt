@@ -2,7 +2,7 @@ use Rattle.std.proofs.Common.{◌++◌, ◌∷◌, [], refl, sym, ap, ◌∙◌}
 use Rattle.std.specs.List.{list_all}
 use Rattle.sha2.specs.Sha256.{sha256}
 use Rattle.snapshot.specs.Encoding.{snapshot_length}
-use Rattle.sector_log.specs.Inputs.{is_input}
+use Rattle.input_entries.specs.Inputs.{is_input}
 use Rattle.sector_log.specs.Words.{device_of as device_of_store, entries_of}
 use Rattle.machine.specs.declared.input.Input.{Input}
 use Rattle.session.specs.Inputs.{inputs_of}

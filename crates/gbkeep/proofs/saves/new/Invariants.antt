@@ -1,5 +1,0 @@
-use Rattle.std.proofs.Common.{[]}
-use Rattle.gbkeep.proofs.saves.new.Given as goal
-
-abbrev pub ghost-create : goal.ghost-create
-ghost-create g a = []

@@ -1,0 +1,98 @@
+//! The file of a new game, and what an interrupted `new` leaves.
+
+ghost use Rattle.std.specs.Prelude.{◌≡◌, IfOk, IfErr, replicate};
+ghost use Rattle.sector_device.specs.FileDevice.{file_disk};
+
+use cartridge::Cartridge;
+use sector_device::{DeviceFault, FileDevice, MemoryDevice, SectorDevice};
+use session::new_game;
+use std::alloc::Global;
+use std::fs::{self, File};
+use std::path::Path;
+use std::rt::Files;
+
+/// Makes the file of a new game of the cartridge, also where an interrupted `new` of it left its own.
+pub(crate) fn new_file<R: Files<File = File> + AllocGlobal>(
+    rt: &R,
+    save: &str,
+    sectors: u64,
+    cartridge: &Cartridge,
+) -> Result<FileDevice, DeviceFault>
+    ensures zero { IfOk result (λ d. (file_disk d).sectors ≡ replicate sectors (replicate 512 0)) }
+    ensures fault { IfErr result (λ fault. fault ≡ DeviceFault.Device) }
+{
+    let created = created_file(rt, save, sectors);
+    if created.is_err() && clear_interrupted(rt, save, sectors, cartridge) {
+        return created_file(rt, save, sectors);
+    }
+    created
+}
+
+fn created_file<R: Files<File = File> + AllocGlobal>(
+    rt: &R,
+    save: &str,
+    sectors: u64,
+) -> Result<FileDevice, DeviceFault>
+    ensures zero { IfOk result (λ d. (file_disk d).sectors ≡ replicate sectors (replicate 512 0)) }
+    ensures fault { IfErr result (λ fault. fault ≡ DeviceFault.Device) }
+{
+    FileDevice::create(rt, Path::new(save), sectors)
+}
+
+/// Takes away the file at this path if it is what an interrupted `new` left there, and answers whether it did.
+fn clear_interrupted<R: Files<File = File> + AllocGlobal>(
+    rt: &R,
+    save: &str,
+    sectors: u64,
+    cartridge: &Cartridge,
+) -> bool {
+    let Ok(mut left) = FileDevice::attach(rt, Path::new(save)) else {
+        return false;
+    };
+    // held for as long as `left` is open, so that what is taken away is what was looked at
+    is_unfinished(rt.alloc(), &mut left, sectors, cartridge) && fs::remove_file(rt, save).is_ok()
+}
+
+/// Whether a device holds nothing but a part of a new game, and no root: of so many sectors each is blank, or what a new game writes there.
+fn is_unfinished<D: SectorDevice>(
+    alloc: Global,
+    left: &mut D,
+    sectors: u64,
+    cartridge: &Cartridge,
+) -> bool {
+    if left.count() != sectors {
+        return false;
+    }
+    let Some(mut whole) = whole_game(alloc, sectors, cartridge) else {
+        return false;
+    };
+    for at in 0..left.count() {
+        if !is_part(left, &mut whole, at) {
+            return false;
+        }
+    }
+    true
+}
+
+/// A device that holds a new game of the cartridge.
+fn whole_game(alloc: Global, sectors: u64, cartridge: &Cartridge) -> Option<MemoryDevice> {
+    let sectors = sectors as usize;
+    // room for each sector to be written, and for the syncs
+    let device = MemoryDevice::new(alloc, sectors, sectors.saturating_add(8)).ok()?;
+    match new_game(alloc, device, cartridge) {
+        Ok(session) => Some(session.into_device()),
+        Err(_) => None,
+    }
+}
+
+/// Whether a sector is blank, or, if it is no root's, the same in both.
+fn is_part<D: SectorDevice, E: SectorDevice>(left: &mut D, whole: &mut E, at: u64) -> bool {
+    let (mut one, mut other) = ([0; 512], [0; 512]);
+    if at >= left.count() || at >= whole.count() {
+        return false;
+    }
+    if left.read(at, &mut one).is_err() || whole.read(at, &mut other).is_err() {
+        return false;
+    }
+    one == [0; 512] || at > 1 && one == other
+}

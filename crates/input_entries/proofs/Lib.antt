@@ -1,0 +1,4 @@
+pub mod CodeLengths
+pub mod Meanings
+pub mod Runs
+pub mod ShortLists

@@ -1,0 +1,7 @@
+mod Appending
+mod Beginning
+mod Growing
+mod Images
+mod ListBytes
+mod ListLaw
+mod Turns

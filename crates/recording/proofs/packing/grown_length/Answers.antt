@@ -1,0 +1,32 @@
+use Rattle.std.proofs.Common.{rules, ◌<◌, ◌^◌, [], length, take, ap, ◌∙◌, subst, arith}
+use Rattle.std.proofs.lemmas.List.{take_all}
+use Rattle.input_entries.specs.declared.Entry.{Entry}
+use Rattle.input_entries.specs.Inputs.{AllFive}
+use Rattle.recording.specs.Growing.{with_inputs, last_of}
+use Rattle.recording.proofs.Growing.{next_input, five_more}
+use Rattle.recording.proofs.packing.grown_length.Goals as goal
+
+pub overflow_add-count : goal.overflow_add-count
+overflow_add-count c =
+    let long : length c.args.more.now < 2 ^ 63 = search rules in
+    omega (arith, long, c.loop-input.invariant.few, c.grow-count.ensures.few, c.loop-input-test.true)
+
+pub loop-input-preserved : goal.loop-input-preserved
+loop-input-preserved c =
+    let es = c.args.more.now in
+    let i = c.loop-input.input-index in
+    let d : Entry = record { code = [] } in
+    let next = next_input c.args.entries.now es i d c.loop-input-test.true in
+    let grown = c.grow-count.ensures.grown (with_inputs c.args.entries.now (take i es)) c.loop-input.invariant.last in
+    record {
+      count = omega (arith, ap length next, grown.1, c.loop-input.invariant.count);
+      last = ap last_of next ∙ grown.0;
+      few = omega (arith, c.loop-input.invariant.few, c.grow-count.ensures.few);
+      five = five_more es i d c.loop-input-test.true c.loop-input.invariant.five c.grow-count.ensures.five;
+    }
+
+pub returns-clause-five : goal.returns-clause-five
+returns-clause-five c = subst AllFive (take_all c.loop-input.input-index c.args.more.now c.loop-input-test.false) c.loop-input.invariant.five
+
+pub returns-clause-length : goal.returns-clause-length
+returns-clause-length c = c.loop-input.invariant.count ∙ ap (λ l. length (with_inputs c.args.entries.now l)) (take_all c.loop-input.input-index c.args.more.now c.loop-input-test.false)

@@ -1,0 +1,9 @@
+pub mod Calls
+pub mod Format
+pub mod Growing
+pub mod Promises
+pub mod Recorded
+pub mod Sizes
+pub mod Words
+-- what only the code needs
+pub mod Keeping

@@ -1,8 +1,0 @@
-use Rattle.std.proofs.Common.{◌≡◌, replicate, refl, rules}
-use Rattle.sector_device.proofs.Calls.{zero_sectors}
-use Rattle.sector_device.proofs.file.FileDevice.create.Goals as goal
-
-pub opened-requires-clause-sized : goal.opened-requires-clause-sized
-opened-requires-clause-sized g c =
-    let same : c.in-Ok.zero.items ≡ replicate c.args.sectors (replicate 512 0) = search rules in
-    rw same (zero_sectors c.args.sectors (replicate 512 0) refl)

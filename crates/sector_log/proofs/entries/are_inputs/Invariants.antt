@@ -1,6 +1,0 @@
-use Rattle.std.proofs.Common.{◌↔◌, drop}
-use Rattle.sector_log.specs.Inputs.{all_input}
-use Rattle.sector_log.proofs.entries.are_inputs.Given as goal
-
-abbrev pub invariant-loop-entry : goal.invariant-loop-entry
-invariant-loop-entry l = all_input l.entries ↔ all_input (drop l.entry-index l.entries)

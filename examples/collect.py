@@ -1,0 +1,18 @@
+#!/usr/bin/env python3
+"""Walks over the demo's field by Python, and leaves a picture of it.
+
+usage: collect.py SAVE PNG"""
+import sys
+from pathlib import Path
+
+HERE = Path(__file__).resolve().parent
+sys.path[:0] = [str(HERE.parent / 'players'), '/usr/share/gbkeep']
+from gbkeep import DOWN, LEFT, RIGHT, Game
+
+with Game(HERE / 'demo/demo.gb', sys.argv[1]) as game:
+    game.frames(0, 60)
+    for row in range(6):
+        game.frames((RIGHT, LEFT)[row % 2], 70)
+        game.frames(DOWN, 4)
+    Path(sys.argv[2]).write_bytes(game.picture().png())
+    print('saved', game.save())

@@ -1,0 +1,209 @@
+"""Plays a game from Python, by `gbkeep stream`:
+
+    from gbkeep import A, START, Game
+
+    with Game('examples/demo/demo.gb', 'bin/example.sav') as game:
+        game.frames(START, 4)
+        game.frames(A, 60)
+        picture = game.picture()
+        print(picture.shade(80, 72), game.save())
+
+What is given goes to the program at once and in order. `save` and `picture` wait for their answer; nothing else does. When the block ends,
+also by an exception, what is unsaved is saved. A refusal of the program is raised as `Refused`.
+
+It needs no package beside Python's own. examples/collect.py is a whole example."""
+import os
+import select
+import shutil
+import signal
+import subprocess
+from dataclasses import dataclass
+from pathlib import Path
+
+from faults import explained
+from png import png_of
+
+RIGHT, LEFT, UP, DOWN, A, B, SELECT, START = (1 << bit for bit in range(8))
+WIDTH, HEIGHT = 160, 144
+PICTURE_HEAD = b'P2\n160 144\n3\n'
+PICTURE_BYTES = 46_093
+MOST_FRAMES, MOST_SECONDS = 1_000_000, 0xffff_ffff
+# what a pipe takes at once when it takes anything
+PIECE = 4096
+
+
+class Refused(Exception):
+    """The program refused a command. `line` is its line; `means` and `advice` say what docs/COMMANDS.md says of it."""
+
+    def __init__(self, line, command):
+        super().__init__(line)
+        self.line = line
+        self.means, self.advice = explained(line, command) or ('', '')
+
+
+@dataclass(frozen=True)
+class Header:
+    """What `gbkeep info` says of a cartridge."""
+    title: str
+    kind: int
+    sectors: int
+
+    def has_clock(self):
+        return self.kind in (0x0f, 0x10)
+
+
+class Picture:
+    """160 by 144 shades, 0 (darkest) to 3 (lightest), in `shades`, row by row."""
+
+    def __init__(self, pgm):
+        self.shades = pgm[len(PICTURE_HEAD)::2].translate(bytes(byte - 48 & 3 for byte in range(256)))
+
+    def shade(self, x, y):
+        return self.shades[y * WIDTH + x]
+
+    def png(self, scale=3):
+        """The picture as PNG, in four greys: what `png.py` makes of what `gbkeep frame` writes."""
+        return png_of(self.shades, WIDTH, HEIGHT, scale)
+
+
+def find_program():
+    """What the variable GBKEEP names; else `bin/gbkeep` of the clone, or beside what is installed; else the first on the search path."""
+    here = Path(__file__).resolve().parent
+    beside = (here.parent if here.name == 'players' else here.parent.parent) / 'bin/gbkeep'
+    return os.environ.get('GBKEEP') or (str(beside) if beside.exists() else shutil.which('gbkeep') or str(beside))
+
+
+def run(program, command, *words):
+    """Runs a command to its end, and answers what it printed."""
+    done = subprocess.run([program, command, '--', *words], capture_output=True, text=True, errors='replace')
+    if done.returncode != 0:
+        raise Refused(done.stderr.strip() or f'the program ended with status {done.returncode}', command)
+    return done.stdout
+
+
+def header_of(cart, program=None):
+    fields = dict(line.split(' ', 1) for line in run(str(program or find_program()), 'info', str(cart)).splitlines())
+    return Header(fields['title'][1:-1].strip(), int(fields['type'].split()[0], 16), int(fields['sectors']))
+
+
+def begin(cart, save, program=None):
+    """Begins a game in a new file, of as many sectors as it needs."""
+    run(str(program or find_program()), 'new', str(cart), str(save))
+
+
+class Game:
+    """The game in SAVE, which is begun where there is none. `count` is how many inputs it has been given, `saved` how many of them are saved."""
+
+    def __init__(self, cart, save, program=None):
+        program = str(program or find_program())
+        if not os.path.lexists(save):
+            begin(cart, save, program)
+        # a Ctrl-C is for the caller: the program goes on, and saves what is unsaved when it is closed
+        self.process = subprocess.Popen([program, 'stream', '--', str(cart), str(save)], stdin=subprocess.PIPE, stdout=subprocess.PIPE,
+                                        stderr=subprocess.PIPE, bufsize=0, preexec_fn=lambda: signal.signal(signal.SIGINT, signal.SIG_IGN))
+        self.input, self.output = self.process.stdin.fileno(), self.process.stdout.fileno()
+        self.unread, self.pictures, self.saved, self.resumed = b'', [], None, None
+        while self.resumed is None:
+            self._take()
+        self.count = self.saved = self.resumed
+
+    def frame(self, buttons=0):
+        """One frame with these buttons, a sum of RIGHT, LEFT, UP, DOWN, A, B, SELECT and START."""
+        self.frames(buttons, 1)
+
+    def frames(self, buttons, count):
+        """So many frames with these buttons."""
+        if not 0 <= buttons <= 255 or count < 0:
+            raise ValueError(f'no frames: {buttons}, {count}')
+        while count > 0:
+            times = min(count, MOST_FRAMES)
+            self._give(f'frames {buttons:02x} {times}\n')
+            self.count, count = self.count + times, count - times
+
+    def seconds(self, count):
+        """So many seconds pass on the cartridge's clock: one input."""
+        if not 0 <= count <= MOST_SECONDS:
+            raise ValueError(f'no seconds: {count}')
+        self._give(f'seconds {count}\n')
+        self.count += 1
+
+    def save(self):
+        """Saves what is unsaved, and answers the count of inputs: no power cut can lose them from then on."""
+        self._give('save\n')
+        while self.saved < self.count:
+            self._take()
+        return self.saved
+
+    def picture(self):
+        """The picture of the machine as it is now."""
+        self._give('picture\n')
+        while not self.pictures:
+            self._take()
+        return Picture(self.pictures.pop(0))
+
+    def close(self):
+        """Saves what is unsaved and ends the program; the count of inputs that are saved is in `saved`."""
+        if self.process.stdin.closed:
+            return
+        self.process.stdin.close()
+        while self._takes_more():
+            pass
+        self._end(of_itself=False)
+
+    def __enter__(self):
+        return self
+
+    def __exit__(self, kind, value, trace):
+        try:
+            self.close()
+        except Refused:
+            if kind is None:
+                raise
+
+    def _give(self, text):
+        """Gives lines, and takes the answers that come meanwhile: else each side might wait for the other to read."""
+        left = text.encode()
+        while left:
+            readable, writable, _ = select.select([self.output], [self.input], [])
+            if readable:
+                self._take()
+            if writable:
+                try:
+                    left = left[os.write(self.input, left[:PIECE]):]
+                except BrokenPipeError:
+                    self._end()
+
+    def _take(self):
+        """Waits for some of the answers."""
+        if not self._takes_more():
+            self._end()
+
+    def _takes_more(self):
+        """Takes some of the answers. False: the program has closed its output."""
+        some = os.read(self.output, 1 << 16)
+        self.unread += some
+        while True:
+            is_picture = self.unread.startswith(PICTURE_HEAD[:1])
+            length = PICTURE_BYTES if is_picture else self.unread.find(b'\n') + 1
+            if length == 0 or len(self.unread) < length:
+                return bool(some)
+            answer, self.unread = self.unread[:length], self.unread[length:]
+            if is_picture:
+                self.pictures.append(answer)
+                continue
+            word, _, count = answer.partition(b' ')
+            if word == b'resumed':
+                self.resumed = int(count)
+            elif word == b'saved':
+                self.saved = int(count)
+
+    def _end(self, of_itself=True):
+        """Waits for the program's end. A program that ends of itself has refused."""
+        if not self.process.stdin.closed:
+            self.process.stdin.close()
+        line = self.process.stderr.read().decode(errors='replace').strip()
+        status = self.process.wait()
+        self.process.stdout.close()
+        self.process.stderr.close()
+        if of_itself or status != 0:
+            raise Refused(line or f'the program ended with status {status}', 'stream')

@@ -1,0 +1,344 @@
+#!/usr/bin/env python3
+"""Tries the player's tools on the program: the module, friendly scripts, the rest of a script, the clock by a clock that is not real.
+
+usage: test_players.py GBKEEP
+
+It needs nothing but Python. The status is 1 at the first difference."""
+import os
+import random
+import shutil
+import subprocess
+import sys
+import tempfile
+from pathlib import Path
+
+HERE = Path(__file__).resolve().parent
+DEMO = HERE.parent / 'examples/demo'
+sys.path.insert(0, str(HERE))
+sys.path.insert(0, str(DEMO))
+from assemble import Assembler
+from gbkeep import A, LEFT, RIGHT, START, Game, Refused, begin, header_of, run
+from png import png_of
+from rest import rest_of
+from script import Wrong, friendly_line, friendly_move, friendly_moves, inputs_of, own_lines, own_moves
+from timed_game import INPUTS_BETWEEN, TimedGame
+
+CART = DEMO / 'demo.gb'
+# shows the clock's seconds, minutes, hours and low byte of the days as bits, in the first four rows of each tile
+CLOCK = '''
+        org $100
+        jp start
+        org $134
+        db "CLOCK"
+        org $147
+        db $10, $00, $02
+        org $150
+start:  di
+        ld a, $0a
+        ld [$0000], a
+        ld a, $0c               ; the clock runs
+        ld [$4000], a
+        xor a
+        ld [$a000], a
+        inc a
+        ldh [$ffff], a
+again:  xor a                   ; VBlank ends the halt, and nothing is called
+        ldh [$ff0f], a
+        halt
+        nop
+        xor a
+        ld [$6000], a
+        inc a
+        ld [$6000], a
+        ld hl, $8000
+        ld b, 8
+each:   ld a, b
+        ld [$4000], a
+        ld a, [$a000]
+        ld [hl+], a
+        ld [hl+], a
+        inc b
+        ld a, b
+        cp 12
+        jr nz, each
+        jr again
+'''
+
+
+def expect(what, got, wanted):
+    if got != wanted:
+        sys.exit(f'{what}: {got!r}, and not {wanted!r}')
+
+
+def refusal(call):
+    try:
+        call()
+    except (Refused, Wrong, ValueError) as error:
+        return str(error)
+    return None
+
+
+class Room:
+    """A folder with a program, for one test."""
+
+    def __init__(self, program, folder):
+        self.program, self.folder = program, Path(folder)
+
+    def path(self, name):
+        return self.folder / name
+
+    def save(self, name, cart=CART):
+        path = self.path(name)
+        path.unlink(missing_ok=True)
+        begin(cart, path, self.program)
+        return path
+
+    def write(self, name, text):
+        self.path(name).write_bytes(text if isinstance(text, bytes) else text.encode())
+        return self.path(name)
+
+    def tool(self, tool, *words):
+        """What a tool of the player's prints."""
+        done = subprocess.run([sys.executable, '-B', tool, *words], capture_output=True, text=True, env=dict(os.environ, GBKEEP=self.program))
+        return done.stdout + done.stderr
+
+    def frame(self, save, cart=CART):
+        """The picture that `gbkeep frame` writes, and the count that it reports."""
+        told = run(self.program, 'frame', str(cart), str(save), str(self.path('out.pgm')))
+        return self.path('out.pgm').read_text(), int(told.split()[1])
+
+
+def test_game(room):
+    save = room.path('game.sav')
+    with Game(CART, save, room.program) as game:
+        expect('a new game', (game.resumed, game.count, game.saved), (0, 0, 0))
+        game.frames(A, 3300)
+        game.frame(RIGHT | START)
+        game.seconds(5)
+        picture = game.picture()
+        expect('3,200 are saved of themselves', (game.count, game.saved), (3302, 3200))
+        expect('a save', game.save(), 3302)
+        for _ in range(30_000):
+            game._give('save\n')
+        game.frames(LEFT, 7)
+    expect('closing saves', game.saved, 3309)
+    with Game(CART, save, room.program) as game:
+        expect('resumed', game.resumed, 3309)
+        picture = game.picture()
+    pgm, count = room.frame(save)
+    expect('frame counts', count, 3309)
+    expect('frame and picture', [int(word) for word in pgm.split()[4:]], list(picture.shades))
+    expect('a shade', picture.shade(7, 3), int(pgm.split()[4 + 3 * 160 + 7]))
+    subprocess.run([sys.executable, HERE / 'png.py', room.path('out.pgm'), room.path('out.png')], check=True)
+    expect('png.py and png', room.path('out.png').read_bytes() == picture.png() == png_of(picture.shades, 160, 144), True)
+    shown = room.tool(HERE.parent / 'examples/collect.py', room.path('collect.sav'), room.path('collect.png'))
+    expect('the example', (shown, room.path('collect.png').read_bytes()[:4]), ('saved 504\n', b'\x89PNG'))
+
+
+def test_refusals(room):
+    save = room.save('refused.sav')
+    other = room.write('other.gb', bytes(32768))
+    expect('another ROM', refusal(lambda: Game(other, save, room.program)), 'gbkeep: other cartridge')
+    expect('no ROM', refusal(lambda: Game(room.path('none.gb'), save, room.program)), 'gbkeep: file failed')
+    with Game(CART, save, room.program) as game:
+        refused = None
+        try:
+            Game(CART, save, room.program)
+        except Refused as held:
+            refused = held
+        expect('held', (refused.line, 'another `gbkeep` has it open' in refused.means, refused.advice[:9]), ('gbkeep: device failed', True, 'end the o'))
+        game.frames(A, 10)
+        refused = refusal(lambda: [game._give('frame zz\n'), game.picture()])
+        expect('a wrong line', refused, 'gbkeep: script line 2')
+    with Game(CART, save, room.program) as game:
+        expect('what came before a wrong line', game.resumed, 10)
+    try:
+        with Game(CART, save, room.program) as game:
+            game.frames(A, 5)
+            raise KeyError
+    except KeyError:
+        pass
+    with Game(CART, save, room.program) as game:
+        expect('an exception loses nothing', game.resumed, 15)
+
+
+def test_slots(room):
+    """A copy of SAVE, made while nothing has it open, is a save slot."""
+    save, slot = room.path('slots.sav'), room.path('slot.sav')
+    with Game(CART, save, room.program) as game:
+        game.frames(RIGHT, 200)
+        before = game.picture().shades
+    shutil.copy(save, slot)
+    with Game(CART, save, room.program) as game:
+        game.frames(LEFT, 300)
+        after = game.picture().shades
+    with Game(CART, slot, room.program) as game:
+        expect('a slot', (game.resumed, game.picture().shades == before, before == after), (200, True, False))
+
+
+def test_friendly(room):
+    room.write('more.txt', 'start 4 # a round\r\nmark round\n')
+    text = room.write('friendly.txt', '''# a comment
+\tA+right  60\t# held
+wait 30\r
+SELECT+b
+  include more.txt
+seconds 3600
+mark end
+save
+frames 11 7
+frame 80
+a 2500000
+''')
+    moves = friendly_moves(text)
+    expect('moves', moves, [('frames', 0x11, 60), ('frames', 0, 30), ('frames', 0x60, 1), ('frames', 0x80, 4), ('mark', 'round'), ('seconds', 3600),
+                            ('mark', 'end'), ('save',), ('frames', 0x11, 7), ('frames', 0x80, 1), ('frames', 0x10, 2500000)])
+    own = '\n'.join(own_lines(moves))
+    expect('own', own.split('\n')[-4:], ['frame 80', 'frames 10 1000000', 'frames 10 1000000', 'frames 10 500000'])
+    expect('inputs', sum(map(inputs_of, own_moves(own.encode()))), sum(map(inputs_of, moves)))
+    expect('marks', room.tool(HERE / 'script.py', 'marks', text), 'round 95\nend 96\n')
+    expect('own', room.tool(HERE / 'script.py', 'own', text), own + '\n')
+    back = [friendly_move(friendly_line(move).split()) for move in own_moves(own.encode())]
+    expect('there and back', back, own_moves(own.encode()))
+    for line, why in (('jump', "'jump' is no move and no button"), ('A+fire 3', "'fire' is no button"), ('A 0', '0 is not from 1 to'),
+                      ('wait x', "'x' is no decimal number"), ('A 1 2', "'2' is one word too many"), ('include wrong.txt', 'it includes itself'),
+                      ('include none.txt', 'No such file')):
+        wrong = refusal(lambda: friendly_moves(room.write('wrong.txt', '\n' + line)))
+        expect(line, why in wrong and ('line 2' in wrong or 'itself' in wrong), True)
+
+
+def test_check(room):
+    """`script.py check` refuses what `gbkeep play` refuses, at the same line."""
+    for text, why in ((b'save\nframe 00\r\n', 'line 2: ends in a carriage return'), (b'\n\nframe\t00', 'line 3: has a tab'), (b'frame 0', "'0' is not two"),
+                      (b'frames 00 0', '0 is not from 1 to 1000000'), (b'seconds 4294967296', 'is not from 0 to'), (b' save', 'begins with a space'),
+                      (b'save ', 'ends in a space'), (b'frame  00', 'two spaces'), (b'frames 00', "'frames' has 1 words after it, and takes 2"),
+                      (b'seconds 00000000001', 'more than ten digits'), (b'# x', 'has a comment'), (b'jump', "'jump' is no move"),
+                      (b'\n' * 1048577, 'line 0: the script has 1048577 bytes')):
+        got = refusal(lambda: own_moves(text))
+        expect(f'why {text[:20]!r} is wrong', why in got, True)
+    rnd, save, seen = random.Random(1), room.save('check.sav'), set()
+    words = ['frame', 'frames', 'seconds', 'save', '00', '1f', 'FF', '0', '3', '7', '00000000003', '1000001', '4294967296', '-1', '+1', '\r', '\t', '#', '', 'é', 'x']
+    for _ in range(150):
+        lines = [rnd.choice(['save', 'frame 00', 'frames 01 3', 'seconds 7', '']) for _ in range(rnd.randrange(4))]
+        if rnd.random() < 0.8:
+            lines.insert(rnd.randrange(len(lines) + 1), ' '.join(rnd.choice(words) for _ in range(rnd.randrange(1, 5))))
+        script = room.write('random.script', '\n'.join(lines))
+        played = subprocess.run([room.program, 'play', CART, save, script], capture_output=True, text=True)
+        wrong = refusal(lambda: own_moves(script.read_bytes()))
+        told = 'gbkeep: script ' + wrong.partition(':')[0] if wrong else ''
+        expect(f'{lines}', told, played.stderr.strip())
+        seen.add(bool(wrong))
+    expect('right and wrong scripts', seen, {False, True})
+
+
+def test_rest(room):
+    rnd, moves = random.Random(2), []
+    for _ in range(60):
+        moves.append(rnd.choice([('frames', rnd.randrange(256), rnd.randrange(1, 90)), ('seconds', rnd.randrange(9)), ('save',)]))
+    whole = sum(map(inputs_of, moves))
+    for count in [0, whole] + [rnd.randrange(whole) for _ in range(40)]:
+        first = []
+        for move in moves:
+            left = count - sum(map(inputs_of, first))
+            if inputs_of(move) > left:
+                first += [('frames', move[1], left)] if left > 0 else []
+                break
+            first.append(move)
+        expect(f'the rest after {count}', [one for move in [*first, *rest_of(moves, count)] for one in [move[:2]] * inputs_of(move)],
+               [one for move in moves for one in [move[:2]] * inputs_of(move)])
+    expect('too much', refusal(lambda: rest_of(moves, whole + 2)), 'SAVE has 2 inputs more than SCRIPT')
+    script, save, other = room.write('whole.script', '\n'.join(own_lines(moves))), room.save('rest.sav'), room.save('whole.sav')
+    part = room.write('part.script', '\n'.join(own_lines(moves[:31])) + '\nframes 00 1\n')
+    moves[31:31] = [('frames', 0, 30)]
+    script.write_text('\n'.join(own_lines(moves)))
+    run(room.program, 'play', str(CART), str(save), str(part))
+    told = room.tool(HERE / 'rest.py', CART, save, script)
+    expect('rest.py', told.split('\n')[-2], f'saved {whole + 30}')
+    again = room.tool(HERE / 'rest.py', CART, save, script)
+    expect('nothing is left', again, f'resumed {whole + 30}\n')
+    long = room.tool(HERE / 'script.py', 'play', CART, other, room.write('long.script', '# a comment\n' * 100_000 + script.read_text()))
+    expect('script.py play', long.split('\n')[-2], f'saved {whole + 30}')
+    expect('the same picture', room.frame(save), room.frame(other))
+
+
+def clock_shown(game):
+    """The clock as the cartridge shows it: seconds, minutes, hours, days."""
+    game.frames(0, 3)
+    picture = game.picture()
+    return tuple(sum((picture.shade(x, y) == 0) << 7 - x for x in range(8)) for y in range(4))
+
+
+def test_clock(room):
+    cart, now = room.write('clock.gb', Assembler().assemble(CLOCK)), [1_000_000.5]
+    save, clock = room.path('clock.sav'), room.path('clock.sav.time')
+
+    def opened():
+        return TimedGame(cart, save, room.program, lambda: now[0])
+
+    with opened() as game:
+        expect('a new game', (game.notice, game.keep()), (None, 0))
+        now[0] += 5.2
+        game.keep()
+        expect('five seconds', clock_shown(game), (5, 0, 0, 0))
+        now[0] += 0.9
+        kept = game.keep()
+    expect('SAVE.time', clock.read_text(), f'{kept} 1000006\n')
+    # what `trace` and `frame` do to the file changes nothing
+    room.frame(save, cart)
+    run(room.program, 'trace', str(cart), str(save), '3')
+    os.utime(save)
+    now[0] += 3600
+    with opened() as game:
+        expect('an hour away', (game.notice, clock_shown(game)), (None, (6, 0, 1, 0)))
+        game.keep()
+    # the power was cut between SAVE and SAVE.time
+    with Game(cart, save, room.program) as game:
+        game.frames(0, INPUTS_BETWEEN)
+    now[0] += 60
+    with opened() as game:
+        expect('cut between', (game.notice, clock_shown(game)), (None, (6, 1, 1, 0)))
+        game.keep()
+    shutil.copy(save, room.path('older.sav'))
+    # played by something else
+    run(room.program, 'play', str(cart), str(save), str(room.write('long.script', 'frames 00 500')))
+    now[0] += 60
+    with opened() as game:
+        expect('played without it', ('played without the window' in game.notice, '60 seconds' in game.notice, clock_shown(game)), (True, True, (6, 2, 1, 0)))
+        game.keep()
+    with opened() as game:
+        expect('told once', game.notice, None)
+    shutil.copy(room.path('older.sav'), save)
+    with opened() as game:
+        expect('an older copy', ('older copy' in game.notice, clock_shown(game)), (True, (6, 1, 1, 0)))
+    now[0] -= 1000
+    with opened() as game:
+        expect('set back', ('set back' in game.notice, clock_shown(game)), (True, (6, 1, 1, 0)))
+        now[0] += 2
+        game.keep()
+        expect('on from there', clock_shown(game), (8, 1, 1, 0))
+    clock.unlink()
+    now[0] += 50
+    with opened() as game:
+        expect('no SAVE.time', ('no SAVE.time' in game.notice, clock_shown(game)), (True, (8, 1, 1, 0)))
+    with TimedGame(CART, room.path('none.sav'), room.program, lambda: now[0]) as game:
+        now[0] += 100
+        game.frame()
+        expect('a cartridge without a clock', (game.keep(), room.path('none.sav.time').exists()), (1, False))
+    size = lambda cart, path: (path.stat().st_size, header_of(cart, room.program).sectors * 512)
+    expect('as many sectors as it needs', *size(cart, save))
+    expect('as many sectors as it needs', *size(CART, room.save('size.sav')))
+    expect('header', (header_of(cart, room.program).title, header_of(CART, room.program).sectors), ('CLOCK', 284))
+
+
+def main():
+    if len(sys.argv) != 2:
+        sys.exit(__doc__)
+    tests = [test_game, test_refusals, test_slots, test_friendly, test_check, test_rest, test_clock]
+    with tempfile.TemporaryDirectory(prefix='players-') as folder:
+        for test in tests:
+            test(Room(os.path.abspath(sys.argv[1]), folder))
+    print(f"player's tools: {len(tests)} tests")
+
+
+if __name__ == '__main__':
+    main()
