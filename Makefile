@@ -11,7 +11,8 @@ help:
 	@echo '  make demo            plays a minute of examples/demo and leaves bin/demo.sav, bin/demo.pgm and bin/demo.png (a second)'
 	@echo '  make play            plays a cartridge in a window (CART=examples/demo/demo.gb SAVE=bin/play-demo.sav; needs python3-pygame)'
 	@echo '  make install         puts program, window, tools, man page and completion below PREFIX (PREFIX=$(PREFIX))'
-	@echo '  make dist            leaves a tarball and two Debian packages in dist (needs dpkg-deb)'
+	@echo '  make libretro        leaves bin/gbkeep_libretro.so, a core for RetroArch and its kind (needs a C compiler and retroarch-dev)'
+	@echo '  make dist            leaves a tarball and Debian packages in dist (needs dpkg-deb)'
 	@echo '  make run             tries the program on a small ROM before any proof (a minute, each time; about 50 frames a second;'
 	@echo '                       ARGS="info data/rom.gb": on other words, over files of $(PROGRAM))'
 	@echo
@@ -26,6 +27,7 @@ help:
 	@echo '  make strace          compares each write and sync of the save file with a second writer (needs strace)'
 	@echo '  make memory          refuses each allocation in turn (20 seconds once both programs are built; needs a C compiler)'
 	@echo '  make test-window     plays the demo by real keys in a window of its own and kills it (a minute; needs xvfb, xdotool, python3-pygame)'
+	@echo '  make test-libretro   plays the demo by the core, kills it, and compares its pictures (half a minute; needs what make libretro needs)'
 
 ARGS ?= step data/rom.gb 2
 
@@ -40,7 +42,7 @@ bin/gbkeep: $(SOURCES)
 build: bin/gbkeep
 
 # each is installed as gbkeep-NAME
-TOOLS := window script rest png
+TOOLS := window script rest movie film png
 
 install: bin/gbkeep
 	install -D -m 755 bin/gbkeep $(DESTDIR)$(PREFIX)/bin/gbkeep
@@ -100,11 +102,24 @@ CART ?= examples/demo/demo.gb
 play: bin/gbkeep
 	$(PYTHON) -B players/window.py "$(CART)" "$(or $(SAVE),bin/play-$$(basename "$(CART)" .gb).sav)"
 
+CC ?= cc
+LIBRETRO ?= /usr/include/libretro-common
+
+bin/gbkeep_libretro.so: players/libretro/gbkeep_libretro.c players/libretro/faults_h.py players/faults.py
+	mkdir -p bin/libretro
+	python3 -B players/libretro/faults_h.py > bin/libretro/faults.h
+	$(CC) -std=c11 -O2 -Wall -Wextra -fPIC -shared -Ibin/libretro -I$(LIBRETRO) -o $@ players/libretro/gbkeep_libretro.c
+
+libretro: bin/gbkeep_libretro.so
+
 dist: bin/gbkeep
 	RT=$(RT) python3 -B scripts/dist.py
 
 test-window: bin/gbkeep
 	$(PYTHON) -B players/test_window.py bin/gbkeep
+
+test-libretro: bin/gbkeep bin/gbkeep_libretro.so
+	python3 -B players/libretro/test_libretro.py bin/gbkeep bin/gbkeep_libretro.so
 
 memory: bin/gbkeep
 	cd crates/refused_memory && $(RT) run > /dev/null
@@ -124,4 +139,4 @@ test:
 	python3 -B scripts/second_storage/refused_memory.py $(PROGRAM)/out/gbkeep_program crates/refused_memory/out/refused_memory
 	RT=$(RT) python3 -B scripts/dist.py passed $(PROGRAM)/out/gbkeep_program
 
-.PHONY: help build demo play install dist run check edits test bench compare hostile fuzz strace memory test-window
+.PHONY: help build demo play install libretro dist run check edits test bench compare hostile fuzz strace memory test-window test-libretro

@@ -7,9 +7,11 @@ It needs nothing but Python. The status is 1 at the first difference."""
 import os
 import random
 import shutil
+import struct
 import subprocess
 import sys
 import tempfile
+import zipfile
 from pathlib import Path
 
 HERE = Path(__file__).resolve().parent
@@ -17,7 +19,9 @@ DEMO = HERE.parent / 'examples/demo'
 sys.path.insert(0, str(HERE))
 sys.path.insert(0, str(DEMO))
 from assemble import Assembler
+from film import HEAD as FILM_HEAD
 from gbkeep import A, LEFT, RIGHT, START, Game, Refused, begin, header_of, run
+from movie import bk2_frames, bk2_of, frames_of, log_frames, moves_of, vbm_frames
 from png import png_of
 from rest import rest_of
 from script import Wrong, friendly_line, friendly_move, friendly_moves, inputs_of, own_lines, own_moves
@@ -330,10 +334,66 @@ def test_clock(room):
     expect('header', (header_of(cart, room.program).title, header_of(CART, room.program).sectors), ('CLOCK', 284))
 
 
+def vbm_of(buttons, starts=0, controllers=1, system=0, more=b''):
+    """A VisualBoyAdvance movie of these frames: A B Select Start Right Left Up Down as bits 0 to 7, resets above them."""
+    head = struct.pack('<4sIIII4B', b'VBM\x1a', 1, 0, len(buttons), 0, starts, controllers, system, 0)
+    return head + bytes(60 - len(head)) + struct.pack('<I', 256) + bytes(192) + struct.pack(f'<{len(buttons)}H', *buttons) + more
+
+
+def test_movies(room):
+    rnd = random.Random(3)
+    frames = [buttons for _ in range(40) for buttons in [rnd.randrange(256)] * rnd.choice([1, 1, 2, 30])]
+    expect('moves of frames', list(frames_of(moves_of(frames))), frames)
+    movie = room.write('there.bk2', bk2_of(frames, 'a game'))
+    expect('there and back', bk2_frames(movie), frames)
+    script = room.tool(HERE / 'movie.py', 'script', movie)
+    expect('its script', list(frames_of(own_moves(script.encode()))), frames)
+    made = room.path('made.bk2')
+    expect('a movie of a script', room.tool(HERE / 'movie.py', 'bk2', room.write('movie.script', script + 'save\n'), made), '')
+    expect('its frames', bk2_frames(made), frames)
+    expect('nothing is replaced', 'File exists' in room.tool(HERE / 'movie.py', 'bk2', room.path('movie.script'), made), True)
+    # another order of the keys, a console's keys and a tilt before them
+    key = 'LogKey:#Power|#Tilt X|Tilt Y|#P1 A|P1 B|P1 Up|P1 Down|P1 Left|P1 Right|P1 Start|P1 Select|\n'
+    expect('another log', log_frames(key + '|.|    0,   -3,|AB......|\n|.|    0,    0,|..U.L.S.|\n'), [0x30, 0x86])
+    expect('right, left, up, down of VisualBoyAdvance', vbm_frames(vbm_of([0x10, 0x20, 0x40, 0x80, 1, 2, 4, 8])), [1, 2, 4, 8, 0x10, 0x20, 0x40, 0x80])
+    expect('a script of it', room.tool(HERE / 'movie.py', 'script', room.write('old.vbm', vbm_of([0, 0, 0x11]))), 'frames 00 2\nframe 11\n')
+
+    def packed(header, log='LogKey:#A|Reset|\n|..|'):
+        path = room.path('refused.bk2')
+        with zipfile.ZipFile(path, 'w') as file:
+            file.writestr('Header.txt', header)
+            file.writestr('Input Log.txt', log)
+        return path
+    for call, why in ((lambda: bk2_frames(packed('Platform NES')), 'of another machine: NES'), (lambda: bk2_frames(packed('StartsFromSavestate 1')), 'from a saved state'),
+                      (lambda: bk2_frames(packed('StartsFromSaveRam True')), 'from a battery file'), (lambda: bk2_frames(packed('', 'LogKey:#A|Reset|\n|.r|')), 'line 2: Reset is pressed'),
+                      (lambda: bk2_frames(packed('', 'LogKey:#A|#P2 A|\n|.|A|')), 'P2 A is pressed'), (lambda: bk2_frames(packed('', '|.|')), 'no LogKey'),
+                      (lambda: bk2_frames(packed('', 'LogKey:#A|B|\n|.|')), 'nothing for B'), (lambda: bk2_frames(CART), 'no BizHawk movie'),
+                      (lambda: vbm_frames(vbm_of([0], starts=1)), 'from a saved state'), (lambda: vbm_frames(vbm_of([0], starts=2)), 'from a battery file'),
+                      (lambda: vbm_frames(vbm_of([0], system=2)), 'another machine: GBC'), (lambda: vbm_frames(vbm_of([0], controllers=3)), 'other players'),
+                      (lambda: vbm_frames(vbm_of([0, 0x800])), 'frame 2: a reset'), (lambda: vbm_frames(vbm_of([0, 0])[:-1]), 'cut short'),
+                      (lambda: vbm_frames(b'VBM'), 'cut short'), (lambda: list(frames_of([('seconds', 3)])), 'has no clock')):
+        expect(f'refused: {why}', why in (refusal(call) or ''), True)
+
+
+def test_film(room):
+    script, film = room.write('film.txt', 'wait 20\nstart 4\nseconds 1\nsave\nright 16\n'), room.path('film.y4m')
+    expect('a film', room.tool(HERE / 'film.py', '--from', '11', '--to', '30', CART, script, film), '')
+    data = film.read_bytes()
+    expect('its size', (data[:len(FILM_HEAD)], len(data)), (FILM_HEAD, len(FILM_HEAD) + 20 * (6 + 160 * 144)))
+    with Game(CART, room.path('film.sav'), room.program) as game:
+        game.frames(0, 20)
+        game.frames(START, 4)
+        game.frames(RIGHT, 6)
+        shades = game.picture().shades
+    expect('its last picture', data[-160 * 144:], bytes(16 + 73 * shade for shade in shades))
+    expect('on a pipe', subprocess.run([sys.executable, '-B', HERE / 'film.py', '--to', '2', CART, script, '-'], capture_output=True,
+                                       env=dict(os.environ, GBKEEP=room.program)).stdout[:len(FILM_HEAD) + 6], FILM_HEAD + b'FRAME\n')
+
+
 def main():
     if len(sys.argv) != 2:
         sys.exit(__doc__)
-    tests = [test_game, test_refusals, test_slots, test_friendly, test_check, test_rest, test_clock]
+    tests = [test_game, test_refusals, test_slots, test_friendly, test_check, test_rest, test_clock, test_movies, test_film]
     with tempfile.TemporaryDirectory(prefix='players-') as folder:
         for test in tests:
             test(Room(os.path.abspath(sys.argv[1]), folder))

@@ -1,4 +1,4 @@
-"""Leaves in dist/ what somebody without the toolchain needs: a tarball, two Debian packages, their sums, and what is known of how they were made.
+"""Leaves in dist/ what somebody without the toolchain needs: a tarball, Debian packages, their sums, and what is known of how they were made.
 
 usage: dist.py                 makes dist/ of bin/gbkeep and the clone
        dist.py begins          the gate begins: what an earlier one has left is gone
@@ -20,6 +20,7 @@ from pathlib import Path
 RT = os.environ.get('RT', 'rt')
 GATE, BEGUN = Path('bin/gate_passed'), Path('bin/gate_begun')
 DIST, PROGRAM = Path('dist'), Path('bin/gbkeep')
+CORE, HEADER = Path('bin/gbkeep_libretro.so'), Path('/usr/include/libretro-common/libretro.h')
 VERSION = re.search(r'VERSION: &str = "(.*)"', Path('crates/command_line/src/words.rt').read_text())[1]
 MAINTAINER = 'gbkeep <gbkeep@localhost>'
 NO_LICENCE = 'No licence is given yet: ask before you copy, change or pass on gbkeep.\n'
@@ -115,6 +116,20 @@ def parts(whole, folder, *names):
     return folder
 
 
+def core(folder, machine, date):
+    """The package of the libretro core, where it can be built; answers whether it was."""
+    compiler = os.environ.get('CC', 'cc')
+    if not shutil.which(compiler) or not HEADER.exists():
+        return False
+    subprocess.run(['make', '-s', 'libretro'], check=True)
+    put(folder, f'usr/lib/{said(compiler, "-print-multiarch")}/libretro/{CORE.name}', CORE.read_bytes())
+    put(folder, f'usr/share/libretro/info/{CORE.stem}.info', Path(f'players/libretro/{CORE.stem}.info').read_bytes())
+    debian(folder, 'gbkeep-libretro', date, f'Architecture: {machine}\nDepends: gbkeep (= {VERSION}), libc6\nEnhances: retroarch, kodi\n'
+           'Description: libretro core for gbkeep\n'
+           ' RetroArch, Kodi and other front ends play a game of gbkeep by it: it starts the\n proved program on a save file in the front end\'s save folder.\n')
+    return True
+
+
 def main():
     if not shutil.which('dpkg-deb'):
         sys.exit('dist.py needs dpkg-deb')
@@ -144,7 +159,10 @@ def main():
         debian(window, 'gbkeep-window', date, f'Architecture: all\nDepends: gbkeep (= {VERSION}), python3 (>= 3.9), python3-pygame\n'
                "Description: window and player's tools for gbkeep\n"
                ' gbkeep-window plays a game of gbkeep by keyboard. gbkeep-script reads scripts\n that are easier to write, gbkeep-rest goes on with a'
-               ' script where a save file\n stands, and gbkeep-png makes a PNG of a picture.\n')
+               ' script where a save file\n stands, gbkeep-movie reads and writes movies of other emulators, gbkeep-film\n makes a film of a script, and gbkeep-png a PNG of a'
+               ' picture.\n')
+        if not core(Path(room) / 'core', machine, date):
+            print('without the libretro core: that needs a C compiler and retroarch-dev')
     sums = ''.join(f'{sum_of(path)}  {path.name}\n' for path in sorted(DIST.iterdir()))
     (DIST / 'SHA256SUMS').write_text(sums)
     print(about + sums, end='')

@@ -1,3 +1,4 @@
+//! What words the program understands.
 use command_line::{Request, request_of};
 use std::alloc::Global;
 use std::test::Fail;

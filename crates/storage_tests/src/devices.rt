@@ -1,3 +1,4 @@
+//! Devices in memory and in files.
 use crate::asserting::{OrStop, holds, same};
 use sector_device::{DeviceFault, FileDevice, MemoryDevice, SectorDevice};
 use std::fs::{self, OpenOptions};

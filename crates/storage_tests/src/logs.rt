@@ -1,3 +1,4 @@
+//! Logs and generations: their bytes, their refusals, and what a cut leaves.
 use crate::asserting::{OrStop, holds, same};
 use sector_device::{MemoryDevice, SectorDevice};
 use sector_log::{

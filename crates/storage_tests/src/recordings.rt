@@ -1,3 +1,4 @@
+//! Recordings: their bytes, their refusals, and what a cut leaves.
 use crate::asserting::{OrStop, holds, same};
 use input_entries::{Entry, are_inputs};
 use recording::{Recording, RecordingFault, create_recording, open_recording};

@@ -1,3 +1,4 @@
+//! Controllers: banks, RAM and the clock.
 use crate::asserting::{OrStop, holds, same};
 use bank_controllers::{Banks, BanksState, ClockRegisters};
 use cartridge::{Cartridge, Controller};

@@ -1,3 +1,4 @@
+//! Cartridges that are read and refused.
 use crate::asserting::{OrStop, holds, same};
 use cartridge::{Cartridge, Controller};
 use std::alloc::Global;

@@ -1,3 +1,4 @@
+//! Lines of the picture.
 ghost use Rattle.std.specs.Prelude.{◌≡◌};
 
 use crate::asserting::{OrStop, holds};

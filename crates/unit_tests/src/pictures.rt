@@ -1,3 +1,4 @@
+//! The picture unit: time, registers, stores and pictures.
 use crate::asserting::{OrStop, holds, same};
 use picture_unit::{
     OutputFailed, Picture, PictureRegion, PictureRequests, PictureState, map_shades, tile_colours,

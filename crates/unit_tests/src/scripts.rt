@@ -1,3 +1,4 @@
+//! Scripts that are read and refused.
 use crate::asserting::{OrStop, holds, same};
 use script::{Move, ScriptError, read_script};
 use std::alloc::Global;

@@ -1,3 +1,4 @@
+//! Texts that are written whole or cut short.
 use crate::asserting::{OrStop, holds, same};
 use arrayvec::ArrayVec;
 use exact_text::{OutputFailed, byte_digits, word_digits, write_whole};

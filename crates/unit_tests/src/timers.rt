@@ -1,3 +1,4 @@
+//! The timer and the serial port.
 use crate::asserting::same;
 use timer_unit::{Requests, Serial, SerialState, Timer, TimerState};
 
