@@ -130,6 +130,7 @@ test:
 	RT=$(RT) sh scripts/opened_has_no_append.sh
 	python3 -B scripts/front_door.py
 	python3 -B scripts/refusals.py
+	python3 -B scripts/definitions.py public
 	$(RT) ci
 	python3 -B scripts/front_door.py $(PROGRAM)/out/gbkeep_program
 	python3 -B players/test_players.py $(PROGRAM)/out/gbkeep_program

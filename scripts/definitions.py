@@ -1,7 +1,8 @@
 """Prints the definitions that a reader has to believe for the main theorem: the files of specs/ that the contract of `whole_lives::live` cites, and
-those that these import, each behind those that it stands on, with its lines.
+those that these import, each after those that it stands on, with its lines.
 
 usage: definitions.py [CRATE FUNCTION]    at the top of the repository; another function's
+       definitions.py public              finds each public function whose contract cites what only the code needs, and fails if there is one
 
 Of the toolchain's own definitions none is listed. A name that a contract cites is found by its file's `ghost use`."""
 import re
@@ -22,6 +23,8 @@ def imports(text, at):
     found = {}
     for crate, module, names in re.findall(at + r' Rattle\.(\w+)\.specs\.(\w+)\.\{([^}]*)\}', text):
         found.setdefault((crate, module), set()).update(name.split(' as ')[-1].strip() for name in names.split(','))
+    for crate, module, name in re.findall(at + r' Rattle\.(\w+)\.specs\.(\w+) as (\w+)', text):
+        found.setdefault((crate, module), set()).add(name)
     return found
 
 
@@ -37,7 +40,7 @@ def cited(crate, function):
 
 
 def closure(modules, known):
-    """These and all that they import, each behind those that it imports."""
+    """These and all that they import, each after those that it imports."""
     order = []
 
     def add(module):
@@ -62,8 +65,30 @@ def only_the_code(known):
     return found & set(known)
 
 
+def public_functions():
+    """Each public function, as (path, name), with the modules of specs/ that its contract cites."""
+    for path in sorted(Path('crates').glob('*/src/**/*.rt')):
+        text = path.read_text()
+        used = imports(text, 'ghost use')
+        for name, contract in re.findall(r'^ *pub fn (\w+)(.*?)^ *\{', text, re.S | re.M):
+            words = set(re.findall(r'[\w⟨⟩◌]+', contract))
+            yield path, name, [module for module, names in used.items() if names & words]
+
+
+def check_public(known):
+    """Prints each public function whose contract stands on what only the code needs; whether there is one."""
+    below, found = only_the_code(known), False
+    for path, name, modules in public_functions():
+        for module in [module for module in closure(modules, known) if module in below]:
+            print(f'{path}: {name} stands on {known[module]}')
+            found = True
+    return found
+
+
 def main():
     known = files()
+    if sys.argv[1:] == ['public']:
+        sys.exit(check_public(known))
     order = closure(cited(*(sys.argv[1:3] if len(sys.argv) == 3 else HEADLINE)), known)
     lines = {module: len(known[module].read_text().splitlines()) for module in order}
     for module in order:

@@ -5,7 +5,7 @@ use Rattle.std.proofs.lemmas.Bool.Decides.{nat_tests}
 use Rattle.std.proofs.lemmas.List.{get_or-set_same, get_or-set_other}
 use Rattle.std.proofs.Math.Nat.{mod-lt}
 use Rattle.cartridge.specs.declared.controller.Controller.{Controller}
-use Rattle.cartridge.specs.declared.controller.Controller.TheVariants.{Plain, Mbc1, Mbc2, Mbc3, Mbc3Clock, Mbc5}
+use Rattle.cartridge.specs.declared.controller.Controller.TheVariants.{NoMbc, Mbc1, Mbc2, Mbc3, Mbc3Clock, Mbc5}
 use Rattle.bank_controllers.specs.declared.state.BanksState.{BanksState}
 use Rattle.bank_controllers.specs.State.{first_rom_bank, last_rom_bank, last_ram_bank}
 use Rattle.bank_controllers.specs.Writes.{from_one, mbc1_written, register_written_by, register_written}
@@ -150,7 +150,7 @@ abbrev IsByteOf : (ℕ → Place) → List ℕ → Place → Type 0
 IsByteOf at ram p = (i : ℕ) × (i < length ram) × (p ≡ at i)
 
 abbrev IsRamOf : Controller → List ℕ → Place → Type 0
-IsRamOf Plain ram p = IsByteOf Ram ram p
+IsRamOf NoMbc ram p = IsByteOf Ram ram p
 IsRamOf Mbc1 ram p = IsByteOf Ram ram p
 IsRamOf Mbc2 ram p = IsByteOf HalfByte ram p
 IsRamOf Mbc3 ram p = IsByteOf Ram ram p
@@ -165,7 +165,7 @@ bank_byte ram n offset whole some within =
 
 shown_ram : (k : Controller) (b : CartridgeState) (offset : ℕ) → IsLegalRam k b.ram → IsRamShown k b → offset < 8192 →
     IsRamOf k b.ram (if is_ram_enabled k b.state then in_enabled_ram k (length b.ram) b.state offset else Nowhere)
-shown_ram Plain b offset legal shown within = bank_byte b.ram 0 offset legal shown within
+shown_ram NoMbc b offset legal shown within = bank_byte b.ram 0 offset legal shown within
 shown_ram Mbc1 b offset legal shown within = rw shown.1 (bank_byte b.ram (if b.state.mode then b.state.ram_bank else 0) offset legal shown.0 within)
 shown_ram Mbc2 b offset legal shown within = rw shown (offset % 512, omega (arith, legal.0), refl)
 shown_ram Mbc3 b offset legal shown within =
@@ -177,7 +177,7 @@ shown_ram Mbc3Clock b offset legal shown within =
 shown_ram Mbc5 b offset legal shown within = rw shown.1 (bank_byte b.ram b.state.ram_bank offset legal shown.0 within)
 
 reads_by_kind : (k : Controller) (b : CartridgeState) (a value : ℕ) → 0x8000 ≤ a → IsRamOf k b.ram (place_of b a) → read_at (written a value b) a ≡ kept_of k value
-reads_by_kind Plain b a value above at = from_ram b a value at.0 above at.2 at.1
+reads_by_kind NoMbc b a value above at = from_ram b a value at.0 above at.2 at.1
 reads_by_kind Mbc1 b a value above at = from_ram b a value at.0 above at.2 at.1
 reads_by_kind Mbc2 b a value above at = from_half_byte b a value at.0 above at.2 at.1
 reads_by_kind Mbc3 b a value above at = from_ram b a value at.0 above at.2 at.1
@@ -186,7 +186,7 @@ reads_by_kind Mbc5 b a value above at = from_ram b a value at.0 above at.2 at.1
 
 beside_by_kind : (k : Controller) (b : CartridgeState) (a value other : ℕ) → 0x8000 ≤ a → IsRamOf k b.ram (place_of b a) → IsRamOf k b.ram (place_of b other)
     → place_of b other ≢ place_of b a → read_at (written a value b) other ≡ read_at b other
-beside_by_kind Plain b a value other above at there apart = beside_ram b a value at.0 above other there.0 at.2 there.2 (λ same. apart (there.2 ∙ same ∙ sym at.2))
+beside_by_kind NoMbc b a value other above at there apart = beside_ram b a value at.0 above other there.0 at.2 there.2 (λ same. apart (there.2 ∙ same ∙ sym at.2))
 beside_by_kind Mbc1 b a value other above at there apart = beside_ram b a value at.0 above other there.0 at.2 there.2 (λ same. apart (there.2 ∙ same ∙ sym at.2))
 beside_by_kind Mbc2 b a value other above at there apart = beside_half_byte b a value at.0 above other there.0 at.2 there.2 (λ same. apart (there.2 ∙ same ∙ sym at.2))
 beside_by_kind Mbc3 b a value other above at there apart = beside_ram b a value at.0 above other there.0 at.2 there.2 (λ same. apart (there.2 ∙ same ∙ sym at.2))

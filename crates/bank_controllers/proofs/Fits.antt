@@ -7,7 +7,7 @@ use Rattle.std.proofs.lemmas.Bool.Decides.{nat_tests}
 use Rattle.std.proofs.lemmas.List.Elements.{All-get_or}
 use Rattle.std.proofs.Math.Nat.{mod-lt}
 use Rattle.cartridge.specs.declared.controller.Controller.{Controller}
-use Rattle.cartridge.specs.declared.controller.Controller.TheVariants.{Plain, Mbc1, Mbc2, Mbc3, Mbc3Clock, Mbc5}
+use Rattle.cartridge.specs.declared.controller.Controller.TheVariants.{NoMbc, Mbc1, Mbc2, Mbc3, Mbc3Clock, Mbc5}
 use Rattle.bank_controllers.specs.declared.clock.ClockRegister.{ClockRegister}
 use Rattle.bank_controllers.specs.declared.state.BanksState.{BanksState}
 use Rattle.bank_controllers.specs.declared.window.Window.{Window}
@@ -63,7 +63,7 @@ clock_fits kind ram select clock =
     (fits_if kind ram (select == 11) _ _ clock (fits_if kind ram (select == 12) _ _ clock tt))))
 
 open_fits : (kind : Controller) (ram : List ℕ) (s : BanksState) → IsLegalRam kind ram → WindowFits kind ram (open_window kind (length ram) s)
-open_fits Plain ram s legal = ram_bank_fits Plain ram 0 (λ e. cc) legal
+open_fits NoMbc ram s legal = ram_bank_fits NoMbc ram 0 (λ e. cc) legal
 open_fits Mbc1 ram s legal = ram_bank_fits Mbc1 ram (if s.mode then s.ram_bank else 0) (λ e. cc) legal
 open_fits Mbc2 ram s legal = (legal.0, legal.1, refl)
 open_fits Mbc3 ram s legal = fits_if Mbc3 ram (nat_lt s.ram_bank 8) _ _ (ram_bank_fits Mbc3 ram s.ram_bank (λ e. cc) legal) tt

@@ -11,7 +11,7 @@ use Rattle.cartridge.specs.Accepted.{IsAccepted}
 use Rattle.cartridge.specs.Controllers.{ram_of, coded_ram}
 use Rattle.cartridge.specs.Header.{controller_of, ram_code_of, ram_length_of}
 use Rattle.cartridge.specs.declared.controller.Controller.{Controller}
-use Rattle.cartridge.specs.declared.controller.Controller.TheVariants.{Plain, Mbc1, Mbc2, Mbc3, Mbc3Clock, Mbc5}
+use Rattle.cartridge.specs.declared.controller.Controller.TheVariants.{NoMbc, Mbc1, Mbc2, Mbc3, Mbc3Clock, Mbc5}
 use Rattle.bank_controllers.specs.declared.clock.ClockRegisters.{ClockRegisters}
 use Rattle.bank_controllers.specs.declared.clock.ClockRegister.{ClockRegister}
 use Rattle.bank_controllers.specs.declared.clock.ClockRegister.TheVariants.{Seconds, Minutes, Hours, DayLow, DayHigh}
@@ -153,7 +153,7 @@ keeps_mbc5 rumble address value s small legal =
     (legal_if Mbc5 rumble (nat_lt address 0x6000) _ _ (with_ram_bank Mbc5 rumble (if rumble then value % 8 else value % 16) s (rumble_bank rumble value) legal) legal)))
 
 keeps_by : (k : Controller) (rumble : Bool) (address value : ℕ) (s : BanksState) → value < 256 → IsLegalBanks k rumble s → IsLegalBanks k rumble (register_written_by k rumble address value s)
-keeps_by Plain rumble address value s small legal = legal
+keeps_by NoMbc rumble address value s small legal = legal
 keeps_by Mbc1 rumble address value s small legal = keeps_mbc1 rumble address value s legal
 keeps_by Mbc2 rumble address value s small legal = keeps_mbc2 rumble address value s legal
 keeps_by Mbc3 rumble address value s small legal = keeps_mbc3_banks Mbc3 rumble address value s refl refl refl refl legal
@@ -239,7 +239,7 @@ seconds_without_clock n b none =
     iterate-still second b (ap (λ v. cond v next b) none) n
 
 pub no_clock : (k : Controller) → k ≢ Mbc3Clock → has_clock k ≡ false
-no_clock Plain other = refl
+no_clock NoMbc other = refl
 no_clock Mbc1 other = refl
 no_clock Mbc2 other = refl
 no_clock Mbc3 other = refl
@@ -252,7 +252,7 @@ zero_clock : (k : Controller) → IsClockOf k clock_at_power_on
 zero_clock k = (λ e. record { seconds = omega arith; minutes = omega arith; hours = omega arith; day_low = omega arith; day_high = omega arith; unused = omega arith }, λ e. refl)
 
 first_bank : (k : Controller) → (first_rom_bank k ≤ rom_bank_at_power_on k) × (rom_bank_at_power_on k ≤ last_rom_bank k)
-first_bank Plain = (lit≤ tt, lit≤ tt)
+first_bank NoMbc = (lit≤ tt, lit≤ tt)
 first_bank Mbc1 = (lit≤ tt, lit≤ tt)
 first_bank Mbc2 = (lit≤ tt, lit≤ tt)
 first_bank Mbc3 = (lit≤ tt, lit≤ tt)
@@ -277,7 +277,7 @@ whole_set : (ram : List ℕ) (i value : ℕ) → length ram ≡ 8192 * (length r
 whole_set ram i value whole = simp length-set whole
 
 pub ram_set-legal : (k : Controller) (ram : List ℕ) (i value : ℕ) → (k ≡ Mbc2 → value < 16) → IsLegalRam k ram → IsLegalRam k (set ram i value)
-ram_set-legal Plain ram i value small legal = whole_set ram i value legal
+ram_set-legal NoMbc ram i value small legal = whole_set ram i value legal
 ram_set-legal Mbc1 ram i value small legal = whole_set ram i value legal
 ram_set-legal Mbc2 ram i value small legal = (simp length-set legal.0, All-set (λ v. v < 16) ram i value (small refl) legal.1)
 ram_set-legal Mbc3 ram i value small legal = whole_set ram i value legal
@@ -335,7 +335,7 @@ whole_zeros : (n : ℕ) → Whole n → Whole (length {A = ℕ} (replicate n 0))
 whole_zeros n whole = subst Whole (sym (length-replicate n 0)) whole
 
 ram_zeros : (k : Controller) (code : ℕ) → IsLegalRam k (replicate (unwrap_or (ram_of k code) 0) 0)
-ram_zeros Plain code = whole_zeros _ (coded_whole code)
+ram_zeros NoMbc code = whole_zeros _ (coded_whole code)
 ram_zeros Mbc1 code = whole_zeros _ (coded_whole code)
 ram_zeros Mbc2 code = (length-replicate {A = ℕ} 512 0, All-replicate (λ v. v < 16) 512 0 (omega arith))
 ram_zeros Mbc3 code = whole_zeros _ (coded_whole code)

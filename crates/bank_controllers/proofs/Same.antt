@@ -3,7 +3,7 @@ use Rattle.std.proofs.Common.{◌≡◌, ◌∙◌, ℕ, zero, suc, ◌/◌, ◌
 use Rattle.std.specs.Prelude.{nat_lt, ◌==◌, ◌&&◌, if◌then◌else◌}
 use Rattle.std.specs.Fn.{iterate}
 use Rattle.cartridge.specs.declared.controller.Controller.{Controller}
-use Rattle.cartridge.specs.declared.controller.Controller.TheVariants.{Plain, Mbc1, Mbc2, Mbc3, Mbc3Clock, Mbc5}
+use Rattle.cartridge.specs.declared.controller.Controller.TheVariants.{NoMbc, Mbc1, Mbc2, Mbc3, Mbc3Clock, Mbc5}
 use Rattle.bank_controllers.specs.declared.state.BanksState.{BanksState}
 use Rattle.bank_controllers.specs.State.{has_clock}
 use Rattle.bank_controllers.specs.Writes.{register_written_by, register_written}
@@ -26,7 +26,7 @@ kind_if k true s t first second = first
 kind_if k false s t first second = second
 
 kept_by : (k : Controller) (rumble : Bool) (address value : ℕ) (s : BanksState) → (register_written_by k rumble address value s).kind ≡ s.kind
-kept_by Plain rumble address value s = refl
+kept_by NoMbc rumble address value s = refl
 kept_by Mbc1 rumble address value s =
     kind_if s.kind (nat_lt address 0x2000) _ _ refl (kind_if s.kind (nat_lt address 0x4000) _ _ refl (kind_if s.kind (nat_lt address 0x6000) _ _ refl refl))
 kept_by Mbc2 rumble address value s = kind_if s.kind (nat_lt address 0x4000) _ _ (kind_if s.kind (address / 256 % 2 == 0) _ _ refl refl) refl

@@ -2,7 +2,7 @@
 use Rattle.std.proofs.Common.{◌≡◌, ℕ, Bool, true, false, refl, sym}
 use Rattle.std.specs.Prelude.{nat_lt, ◌==◌, if◌then◌else◌}
 use Rattle.cartridge.specs.declared.controller.Controller.{Controller}
-use Rattle.cartridge.specs.declared.controller.Controller.TheVariants.{Plain, Mbc1, Mbc2, Mbc3, Mbc3Clock, Mbc5}
+use Rattle.cartridge.specs.declared.controller.Controller.TheVariants.{NoMbc, Mbc1, Mbc2, Mbc3, Mbc3Clock, Mbc5}
 use Rattle.bank_controllers.specs.declared.state.BanksState.{BanksState}
 use Rattle.bank_controllers.specs.declared.window.Window.{Window}
 use Rattle.bank_controllers.specs.Places.{Place, in_ram_bank, in_clock, in_enabled_ram, is_ram_enabled, in_ram}
@@ -23,7 +23,7 @@ of_clock select offset =
     (place_if (select == 11) _ _ _ _ offset refl (place_if (select == 12) _ _ _ _ offset refl refl))))
 
 of_enabled : (k : Controller) (ram : ℕ) (s : BanksState) (offset : ℕ) → place_in (open_window k ram s) offset ≡ in_enabled_ram k ram s offset
-of_enabled Plain ram s offset = of_ram_bank ram 0 offset
+of_enabled NoMbc ram s offset = of_ram_bank ram 0 offset
 of_enabled Mbc1 ram s offset = of_ram_bank ram (if s.mode then s.ram_bank else 0) offset
 of_enabled Mbc2 ram s offset = refl
 of_enabled Mbc3 ram s offset = place_if (nat_lt s.ram_bank 8) _ _ _ _ offset (of_ram_bank ram s.ram_bank offset) refl

@@ -4,7 +4,7 @@ use Rattle.std.specs.Option.{unwrap_or}
 use Rattle.std.specs.List.{All}
 use Rattle.cartridge.specs.Header.{controller_of, has_rumble, ram_length_of}
 use Rattle.cartridge.specs.declared.controller.Controller.{Controller}
-use Rattle.cartridge.specs.declared.controller.Controller.TheVariants.{Plain, Mbc1, Mbc2, Mbc3, Mbc3Clock, Mbc5}
+use Rattle.cartridge.specs.declared.controller.Controller.TheVariants.{NoMbc, Mbc1, Mbc2, Mbc3, Mbc3Clock, Mbc5}
 use Rattle.bank_controllers.specs.declared.clock.ClockRegister.{ClockRegister}
 use Rattle.bank_controllers.specs.declared.state.BanksState.{BanksState}
 use Rattle.bank_controllers.specs.Clock.{clock_second, register_of, with_register}
@@ -73,7 +73,7 @@ second b = if has_clock b.state.kind then record b { state = record b.state { cl
 
 -- RAM comes in whole banks of 8 KiB, or is MBC2's 512 half bytes
 abbrev pub IsLegalRam : Controller → List ℕ → Type 0
-IsLegalRam Plain ram = length ram ≡ 8192 * (length ram / 8192)
+IsLegalRam NoMbc ram = length ram ≡ 8192 * (length ram / 8192)
 IsLegalRam Mbc1 ram = length ram ≡ 8192 * (length ram / 8192)
 IsLegalRam Mbc2 ram = (length ram ≡ 512) × All (λ value. value < 16) ram
 IsLegalRam Mbc3 ram = length ram ≡ 8192 * (length ram / 8192)
@@ -100,5 +100,5 @@ cartridge_at_power_on image = record {
   rom = image;
   ram = replicate (ram_length_of image) 0;
   rumble = has_rumble image;
-  state = state_at_power_on (unwrap_or (controller_of image) Plain);
+  state = state_at_power_on (unwrap_or (controller_of image) NoMbc);
 }

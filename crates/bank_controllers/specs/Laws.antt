@@ -1,7 +1,7 @@
 -- Laws of cartridges that public functions state.
 use Rattle.std.specs.Prelude.{◌≡◌, ◌≢◌, ℕ, ◌+◌, ◌-◌, ◌*◌, ◌%◌, ◌<◌, ◌≤◌, true, List, [], ◌∷◌, length}
 use Rattle.cartridge.specs.declared.controller.Controller.{Controller}
-use Rattle.cartridge.specs.declared.controller.Controller.TheVariants.{Plain, Mbc1, Mbc2, Mbc3, Mbc3Clock, Mbc5}
+use Rattle.cartridge.specs.declared.controller.Controller.TheVariants.{NoMbc, Mbc1, Mbc2, Mbc3, Mbc3Clock, Mbc5}
 use Rattle.bank_controllers.specs.Places.{Rom}
 use Rattle.bank_controllers.specs.CartridgeState.{CartridgeState, IsLegalCartridge, place_of, read_at, written}
 
@@ -39,7 +39,7 @@ Mbc1NeverShowsFourBanks = (b : CartridgeState) (writes : List Write) →
 
 -- A000-BFFF show RAM: it is there, it is enabled, and no register of a clock is selected
 abbrev pub IsRamShown : Controller → CartridgeState → Type 0
-IsRamShown Plain b = 8192 ≤ length b.ram
+IsRamShown NoMbc b = 8192 ≤ length b.ram
 IsRamShown Mbc1 b = (8192 ≤ length b.ram) × (b.state.ram_enabled ≡ true)
 IsRamShown Mbc2 b = b.state.ram_enabled ≡ true
 IsRamShown Mbc3 b = (8192 ≤ length b.ram) × (b.state.ram_enabled ≡ true) × (b.state.ram_bank < 8)
@@ -48,7 +48,7 @@ IsRamShown Mbc5 b = (8192 ≤ length b.ram) × (b.state.ram_enabled ≡ true)
 
 -- what a read gives of a value that RAM took: MBC2 keeps four bits, and the upper ones read 1
 abbrev pub kept_of : Controller → ℕ → ℕ
-kept_of Plain value = value
+kept_of NoMbc value = value
 kept_of Mbc1 value = value
 kept_of Mbc2 value = 0xF0 + value % 16
 kept_of Mbc3 value = value

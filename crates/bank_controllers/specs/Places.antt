@@ -2,7 +2,7 @@
 -- Every bank number counts modulo the banks that are present.
 use Rattle.std.specs.Prelude.{ℕ, ◌+◌, ◌*◌, ◌/◌, ◌%◌, Bool, true, ◌==◌, nat_lt, if◌then◌else◌}
 use Rattle.cartridge.specs.declared.controller.Controller.{Controller}
-use Rattle.cartridge.specs.declared.controller.Controller.TheVariants.{Plain, Mbc1, Mbc2, Mbc3, Mbc3Clock, Mbc5}
+use Rattle.cartridge.specs.declared.controller.Controller.TheVariants.{NoMbc, Mbc1, Mbc2, Mbc3, Mbc3Clock, Mbc5}
 use Rattle.bank_controllers.specs.declared.clock.ClockRegister.{ClockRegister}
 use Rattle.bank_controllers.specs.declared.clock.ClockRegister.TheVariants.{Seconds, Minutes, Hours, DayLow, DayHigh}
 use Rattle.bank_controllers.specs.declared.state.BanksState.{BanksState}
@@ -19,7 +19,7 @@ pub data Place : Type 0 where
 
 -- at 0000-3FFF
 abbrev pub low_bank_of : Controller → BanksState → ℕ
-low_bank_of Plain s = 0
+low_bank_of NoMbc s = 0
 low_bank_of Mbc1 s = if s.mode then 32 * s.ram_bank else 0
 low_bank_of Mbc2 s = 0
 low_bank_of Mbc3 s = 0
@@ -28,7 +28,7 @@ low_bank_of Mbc5 s = 0
 
 -- at 4000-7FFF
 abbrev pub high_bank_of : Controller → BanksState → ℕ
-high_bank_of Plain s = 1
+high_bank_of NoMbc s = 1
 high_bank_of Mbc1 s = 32 * s.ram_bank + s.rom_bank
 high_bank_of Mbc2 s = s.rom_bank
 high_bank_of Mbc3 s = s.rom_bank
@@ -51,7 +51,7 @@ high_start rom s = rom_bank_start rom (high_bank_of s.kind s)
 abbrev pub in_ram_bank : (ram n offset : ℕ) → Place
 in_ram_bank ram n offset = if nat_lt ram 8192 then Nowhere else Ram (8192 * (n % (ram / 8192)) + offset)
 
--- 0 to 7 select a RAM bank, and nothing answers beyond the clock's registers (fixed profile)
+-- 0 to 7 select a RAM bank on every MBC3, and there is nothing beyond the clock's registers (fixed profile)
 abbrev pub in_mbc3 : (ram select offset : ℕ) → Place
 in_mbc3 ram select offset = if nat_lt select 8 then in_ram_bank ram select offset else Nowhere
 
@@ -65,7 +65,7 @@ in_clock select =
 
 -- at this distance from A000, of enabled RAM; MBC2 has 512 half bytes, again and again
 abbrev pub in_enabled_ram : Controller → (ram : ℕ) → BanksState → (offset : ℕ) → Place
-in_enabled_ram Plain ram s offset = in_ram_bank ram 0 offset
+in_enabled_ram NoMbc ram s offset = in_ram_bank ram 0 offset
 in_enabled_ram Mbc1 ram s offset = in_ram_bank ram (if s.mode then s.ram_bank else 0) offset
 in_enabled_ram Mbc2 ram s offset = HalfByte (offset % 512)
 in_enabled_ram Mbc3 ram s offset = in_mbc3 ram s.ram_bank offset
@@ -74,7 +74,7 @@ in_enabled_ram Mbc5 ram s offset = in_ram_bank ram s.ram_bank offset
 
 -- RAM without controller is always enabled (fixed profile)
 abbrev pub is_ram_enabled : Controller → BanksState → Bool
-is_ram_enabled Plain s = true
+is_ram_enabled NoMbc s = true
 is_ram_enabled Mbc1 s = s.ram_enabled
 is_ram_enabled Mbc2 s = s.ram_enabled
 is_ram_enabled Mbc3 s = s.ram_enabled

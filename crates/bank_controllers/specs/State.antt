@@ -2,13 +2,13 @@
 -- its pages on each controller.
 use Rattle.std.specs.Prelude.{◌≡◌, ℕ, ◌≤◌, Bool, true, false, if◌then◌else◌}
 use Rattle.cartridge.specs.declared.controller.Controller.{Controller}
-use Rattle.cartridge.specs.declared.controller.Controller.TheVariants.{Plain, Mbc1, Mbc2, Mbc3, Mbc3Clock, Mbc5}
+use Rattle.cartridge.specs.declared.controller.Controller.TheVariants.{NoMbc, Mbc1, Mbc2, Mbc3, Mbc3Clock, Mbc5}
 use Rattle.bank_controllers.specs.declared.clock.ClockRegisters.{ClockRegisters}
 use Rattle.bank_controllers.specs.declared.state.BanksState.{BanksState}
 use Rattle.bank_controllers.specs.Clock.{IsLegalClock, clock_at_power_on}
 
 abbrev pub first_rom_bank : Controller → ℕ
-first_rom_bank Plain = 0
+first_rom_bank NoMbc = 0
 first_rom_bank Mbc1 = 1
 first_rom_bank Mbc2 = 1
 first_rom_bank Mbc3 = 1
@@ -16,7 +16,7 @@ first_rom_bank Mbc3Clock = 1
 first_rom_bank Mbc5 = 0
 
 abbrev pub last_rom_bank : Controller → ℕ
-last_rom_bank Plain = 0
+last_rom_bank NoMbc = 0
 last_rom_bank Mbc1 = 31
 last_rom_bank Mbc2 = 15
 last_rom_bank Mbc3 = 127
@@ -25,7 +25,7 @@ last_rom_bank Mbc5 = 511
 
 -- of MBC5 with a rumble motor, bit 3 is the motor's
 abbrev pub last_ram_bank : Controller → Bool → ℕ
-last_ram_bank Plain rumble = 0
+last_ram_bank NoMbc rumble = 0
 last_ram_bank Mbc1 rumble = 3
 last_ram_bank Mbc2 rumble = 0
 last_ram_bank Mbc3 rumble = 15
@@ -34,7 +34,7 @@ last_ram_bank Mbc5 rumble = if rumble then 7 else 15
 
 -- RAM without controller is always enabled (fixed profile)
 abbrev pub has_ram_enable : Controller → Bool
-has_ram_enable Plain = false
+has_ram_enable NoMbc = false
 has_ram_enable Mbc1 = true
 has_ram_enable Mbc2 = true
 has_ram_enable Mbc3 = true
@@ -43,7 +43,7 @@ has_ram_enable Mbc5 = true
 
 -- MBC1's banking mode, and whether the latch of a clock is armed
 abbrev pub has_mode : Controller → Bool
-has_mode Plain = false
+has_mode NoMbc = false
 has_mode Mbc1 = true
 has_mode Mbc2 = false
 has_mode Mbc3 = false
@@ -51,7 +51,7 @@ has_mode Mbc3Clock = true
 has_mode Mbc5 = false
 
 abbrev pub has_clock : Controller → Bool
-has_clock Plain = false
+has_clock NoMbc = false
 has_clock Mbc1 = false
 has_clock Mbc2 = false
 has_clock Mbc3 = false
@@ -74,7 +74,7 @@ pub record IsLegalBanks (controller : Controller) (rumble : Bool) (s : BanksStat
   pub latched : IsClockOf controller s.latched
 
 abbrev pub rom_bank_at_power_on : Controller → ℕ
-rom_bank_at_power_on Plain = 0
+rom_bank_at_power_on NoMbc = 0
 rom_bank_at_power_on Mbc1 = 1
 rom_bank_at_power_on Mbc2 = 1
 rom_bank_at_power_on Mbc3 = 1

@@ -2,7 +2,7 @@
 -- gives the places of `Places.antt`.
 use Rattle.std.specs.Prelude.{ℕ, ◌+◌, ◌*◌, ◌/◌, ◌%◌, ◌==◌, nat_lt, if◌then◌else◌}
 use Rattle.cartridge.specs.declared.controller.Controller.{Controller}
-use Rattle.cartridge.specs.declared.controller.Controller.TheVariants.{Plain, Mbc1, Mbc2, Mbc3, Mbc3Clock, Mbc5}
+use Rattle.cartridge.specs.declared.controller.Controller.TheVariants.{NoMbc, Mbc1, Mbc2, Mbc3, Mbc3Clock, Mbc5}
 use Rattle.bank_controllers.specs.declared.clock.ClockRegister.TheVariants.{Seconds, Minutes, Hours, DayLow, DayHigh}
 use Rattle.bank_controllers.specs.declared.state.BanksState.{BanksState}
 use Rattle.bank_controllers.specs.declared.window.Window.{Window}
@@ -26,7 +26,7 @@ clock_shown select =
 
 -- of enabled RAM
 abbrev pub open_window : Controller → ℕ → BanksState → Window
-open_window Plain ram s = ram_bank_shown ram 0
+open_window NoMbc ram s = ram_bank_shown ram 0
 open_window Mbc1 ram s = ram_bank_shown ram (if s.mode then s.ram_bank else 0)
 open_window Mbc2 ram s = HalfBytes
 open_window Mbc3 ram s = mbc3_shown ram s.ram_bank

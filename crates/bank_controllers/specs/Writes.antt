@@ -1,7 +1,7 @@
 -- What a write of a value below 8000 does to the registers.
 use Rattle.std.specs.Prelude.{ℕ, ◌+◌, ◌*◌, ◌/◌, ◌%◌, Bool, true, false, ◌&&◌, ◌==◌, nat_lt, if◌then◌else◌}
 use Rattle.cartridge.specs.declared.controller.Controller.{Controller}
-use Rattle.cartridge.specs.declared.controller.Controller.TheVariants.{Plain, Mbc1, Mbc2, Mbc3, Mbc3Clock, Mbc5}
+use Rattle.cartridge.specs.declared.controller.Controller.TheVariants.{NoMbc, Mbc1, Mbc2, Mbc3, Mbc3Clock, Mbc5}
 use Rattle.bank_controllers.specs.declared.state.BanksState.{BanksState}
 
 -- RAM is enabled by a low half byte A and disabled by any other, on all four controllers (fixed profile)
@@ -53,7 +53,7 @@ mbc5_written rumble address value s =
     (if nat_lt address 0x6000 then record s { ram_bank = if rumble then value % 8 else value % 16 } else s)))
 
 abbrev pub register_written_by : Controller → Bool → ℕ → ℕ → BanksState → BanksState
-register_written_by Plain rumble address value s = s
+register_written_by NoMbc rumble address value s = s
 register_written_by Mbc1 rumble address value s = mbc1_written address value s
 register_written_by Mbc2 rumble address value s = mbc2_written address value s
 register_written_by Mbc3 rumble address value s = mbc3_banks_written address value s

@@ -1,3 +1,5 @@
+//! A cartridge in the machine.
+
 ghost use Rattle.std.specs.Prelude.{◌≡◌, ◌+◌, ◌*◌, ◌<◌, ◌≤◌, ◌/◌, length, replicate, IfOk};
 
 use crate::state::BanksState;

@@ -1,3 +1,5 @@
+//! The clock of MBC3.
+
 ghost use Rattle.std.specs.Prelude.{◌≡◌, ◌<◌, ◌≤◌, nat_lt, if◌then◌else◌};
 ghost use Rattle.bank_controllers.specs.ClockJump.{value_after, passed_on};
 

@@ -1,3 +1,5 @@
+//! The registers of a bank controller.
+
 ghost use Rattle.std.specs.Prelude.{◌≡◌};
 
 use crate::clock::{ClockRegister, ClockRegisters};
@@ -70,7 +72,7 @@ impl BanksState {
         ensures { result ≡ register_written rumble address value self }
     {
         match self.kind {
-            Controller::Plain => self,
+            Controller::NoMbc => self,
             Controller::Mbc1 => self.mbc1_written(address, value),
             Controller::Mbc2 => self.mbc2_written(address, value),
             Controller::Mbc3 => self.mbc3_banks_written(address, value),
@@ -187,7 +189,7 @@ impl BanksState {
         ensures { result ≡ high_bank_of self.kind self }
     {
         match self.kind {
-            Controller::Plain => 1,
+            Controller::NoMbc => 1,
             Controller::Mbc1 => 32 * usize::from(self.ram_bank) + usize::from(self.rom_bank),
             _ => usize::from(self.rom_bank),
         }
@@ -200,7 +202,7 @@ fn first_bank(kind: Controller) -> u16
     ensures { result ≡ rom_bank_at_power_on kind }
 {
     match kind {
-        Controller::Plain => 0,
+        Controller::NoMbc => 0,
         _ => 1,
     }
 }

@@ -1,3 +1,5 @@
+//! What A000 to BFFF shows.
+
 ghost use Rattle.std.specs.Prelude.{◌≡◌};
 ghost use Rattle.bank_controllers.specs.Window.{ram_bank_shown, clock_shown, open_window, window_of};
 
@@ -23,7 +25,7 @@ impl Window {
     pub(crate) fn of(state: BanksState, ram: usize) -> Window
         ensures { result ≡ window_of ram state }
     {
-        if state.kind != Controller::Plain && !state.ram_enabled {
+        if state.kind != Controller::NoMbc && !state.ram_enabled {
             return Window::Shut;
         }
         opened(state, ram)
@@ -34,7 +36,7 @@ fn opened(state: BanksState, ram: usize) -> Window
     ensures { result ≡ open_window state.kind ram state }
 {
     match state.kind {
-        Controller::Plain => ram_bank(0, ram),
+        Controller::NoMbc => ram_bank(0, ram),
         Controller::Mbc1 if state.mode => ram_bank(state.ram_bank, ram),
         Controller::Mbc1 => ram_bank(0, ram),
         Controller::Mbc2 => Window::HalfBytes,

@@ -47,11 +47,11 @@ fn draw_frame(tiles: &mut TileMemory, oam: &[u8; 160], lcdc: u8, scroll: u8) -> 
     sum
 }
 
-fn draw_frame_plainly(vram: &[u8; 8192], oam: &[u8; 160], lcdc: u8, scroll: u8) -> u32 {
+fn draw_frame_by_definition(vram: &[u8; 8192], oam: &[u8; 160], lcdc: u8, scroll: u8) -> u32 {
     let mut sum = 0;
     let mut row = [0; 160];
     for line in 0..144 {
-        registers(line % 8, lcdc, scroll).draw_plainly(vram, oam, &mut row);
+        registers(line % 8, lcdc, scroll).draw_by_definition(vram, oam, &mut row);
         sum = sum_of(&row, line, sum);
     }
     sum
@@ -92,7 +92,7 @@ fn time_kind(
     let plain = best_of(rt, ROUNDS, || {
         let mut sum: u32 = 0;
         for frame in 0..FRAMES {
-            sum = sum.wrapping_add(draw_frame_plainly(vram, oam, lcdc, (frame % 256) as u8));
+            sum = sum.wrapping_add(draw_frame_by_definition(vram, oam, lcdc, (frame % 256) as u8));
         }
         Ok(sum)
     })?;

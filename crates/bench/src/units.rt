@@ -3,7 +3,7 @@
 ghost use Rattle.std.specs.Prelude.{◌<◌};
 
 use crate::best::best_of;
-use picture_unit::Picture;
+use picture_unit::LatePicture;
 use std::io;
 use timer_unit::{Serial, Timer};
 
@@ -13,7 +13,7 @@ const PICTURE_CYCLES: u32 = 1_053_360;
 
 const CYCLES: u32 = 6_000_000;
 
-fn steps(picture: &mut Picture, step: u32, calls: u32) -> u32 {
+fn steps(picture: &mut LatePicture, step: u32, calls: u32) -> u32 {
     let mut vblanks: u32 = 0;
     for _call in 0..calls {
         if picture.pass(step).vblank {
@@ -23,10 +23,10 @@ fn steps(picture: &mut Picture, step: u32, calls: u32) -> u32 {
     vblanks
 }
 
-fn steps_plainly(picture: &mut Picture, step: u32, calls: u32) -> u32 {
+fn steps_by_definition(picture: &mut LatePicture, step: u32, calls: u32) -> u32 {
     let mut vblanks: u32 = 0;
     for _call in 0..calls {
-        if picture.pass_plainly(step).vblank {
+        if picture.pass_by_definition(step).vblank {
             vblanks = vblanks.wrapping_add(1);
         }
     }
@@ -62,9 +62,13 @@ fn time_picture(rt: &HostRuntime, step: u32) -> io::Result<()>
     requires { 0 < step }
 {
     let calls = PICTURE_CYCLES / step;
-    let mut picture = Picture::new(rt.alloc())?;
+    let mut picture = LatePicture::new(rt.alloc())?;
     let best = best_of(rt, ROUNDS, || Ok(steps(&mut picture, step, calls)))?;
-    let plain = best_of(rt, ROUNDS, || Ok(steps_plainly(&mut picture, step, calls)))?;
+    let plain = best_of(
+        rt,
+        ROUNDS,
+        || Ok(steps_by_definition(&mut picture, step, calls)),
+    )?;
     let a_call = tenths(best.nanoseconds, calls);
     let a_plain_call = tenths(plain.nanoseconds, calls);
     let speed = u64::from(PICTURE_CYCLES) * 1000 / best.nanoseconds.max(1);

@@ -7,7 +7,7 @@ use Rattle.std.proofs.lemmas.Bool.{cases_lt}
 use Rattle.std.proofs.lemmas.Bool.Decides.{nat_tests}
 use Rattle.std.proofs.Math.Nat.{pow-suc, pow-le-pow_right}
 use Rattle.cartridge.specs.declared.controller.Controller.{Controller}
-use Rattle.cartridge.specs.declared.controller.Controller.TheVariants.{Plain, Mbc1, Mbc2, Mbc3, Mbc3Clock, Mbc5}
+use Rattle.cartridge.specs.declared.controller.Controller.TheVariants.{NoMbc, Mbc1, Mbc2, Mbc3, Mbc3Clock, Mbc5}
 use Rattle.cartridge.specs.declared.error.CartError.{CartError}
 use Rattle.cartridge.specs.declared.error.CartError.TheVariants.{Length, Kind, RamCode, TooManyBanks}
 use Rattle.cartridge.specs.Accepted.{IsAccepted, refusal_of, refusal_under}
@@ -70,7 +70,7 @@ refusal_of-accepted image is =
 
 reach : (c : Option Controller) → option_map_or most_banks_of c 0 ≤ 512
 reach None = omega arith
-reach (Some Plain) = omega arith
+reach (Some NoMbc) = omega arith
 reach (Some Mbc1) = omega arith
 reach (Some Mbc2) = omega arith
 reach (Some Mbc3) = omega arith
@@ -109,7 +109,7 @@ coded_listed code =
     (chosen (code == 0x05) _ _ (4, lit< tt, refl) (0, lit< tt, refl)))))
 
 pub ram_listed : (c : Controller) (code : ℕ) → Contains ram_lengths (unwrap_or (ram_of c code) 0)
-ram_listed Plain code = coded_listed code
+ram_listed NoMbc code = coded_listed code
 ram_listed Mbc1 code = coded_listed code
 ram_listed Mbc2 code = (1, lit< tt, refl)
 ram_listed Mbc3 code = coded_listed code

@@ -3,14 +3,14 @@
 -- that Pan Docs, "MBCs", names for each controller.
 use Rattle.std.specs.Prelude.{ℕ, [], ◌∷◌, List, ◌==◌, ◌&&◌, ◌||◌, if◌then◌else◌, nat_le, Bool, Option, Some, None}
 use Rattle.cartridge.specs.declared.controller.Controller.{Controller}
-use Rattle.cartridge.specs.declared.controller.Controller.TheVariants.{Plain, Mbc1, Mbc2, Mbc3, Mbc3Clock, Mbc5}
+use Rattle.cartridge.specs.declared.controller.Controller.TheVariants.{NoMbc, Mbc1, Mbc2, Mbc3, Mbc3Clock, Mbc5}
 
 abbrev pub is_from_to : ℕ → ℕ → ℕ → Bool
 is_from_to low high n = nat_le low n && nat_le n high
 
 abbrev pub controller_at : ℕ → Option Controller
 controller_at kind =
-    if kind == 0x00 || (kind == 0x08 || kind == 0x09) then Some Plain else
+    if kind == 0x00 || (kind == 0x08 || kind == 0x09) then Some NoMbc else
     (if is_from_to 0x01 0x03 kind then Some Mbc1 else
     (if kind == 0x05 || kind == 0x06 then Some Mbc2 else
     (if kind == 0x0F || kind == 0x10 then Some Mbc3Clock else
@@ -21,8 +21,9 @@ controller_at kind =
 abbrev pub is_rumble_kind : ℕ → Bool
 is_rumble_kind kind = is_from_to 0x1C 0x1E kind
 
+-- An MBC1 of several games is an MBC1 as any other, and an MBC3 has at most 128 banks (fixed profile).
 abbrev pub most_banks_of : Controller → ℕ
-most_banks_of Plain = 2
+most_banks_of NoMbc = 2
 most_banks_of Mbc1 = 128
 most_banks_of Mbc2 = 16
 most_banks_of Mbc3 = 128
@@ -40,7 +41,7 @@ coded_ram code =
 
 -- MBC2 has 512 half bytes of its own, whatever the code is; the code counts for every other type (fixed profile)
 abbrev pub ram_of : Controller → ℕ → Option ℕ
-ram_of Plain code = coded_ram code
+ram_of NoMbc code = coded_ram code
 ram_of Mbc1 code = coded_ram code
 ram_of Mbc2 code = Some 512
 ram_of Mbc3 code = coded_ram code

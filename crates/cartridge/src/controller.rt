@@ -6,7 +6,7 @@ ghost use Rattle.cartridge.specs.Controllers.{controller_at, most_banks_of, ram_
 #[derive(Clone, Copy, Debug, PartialEq, Eq)]
 pub enum Controller {
     /// No controller: 32 KiB of ROM and at most one bank of RAM in sight.
-    Plain,
+    NoMbc,
     Mbc1,
     Mbc2,
     /// MBC3 without its clock.
@@ -22,7 +22,7 @@ impl Controller {
         ensures { result ≡ controller_at kind }
     {
         match kind {
-            0x00 | 0x08 | 0x09 => Some(Controller::Plain),
+            0x00 | 0x08 | 0x09 => Some(Controller::NoMbc),
             0x01..=0x03 => Some(Controller::Mbc1),
             0x05 | 0x06 => Some(Controller::Mbc2),
             0x0F | 0x10 => Some(Controller::Mbc3Clock),
@@ -37,7 +37,7 @@ impl Controller {
         ensures { result ≡ most_banks_of self }
     {
         match self {
-            Controller::Plain => 2,
+            Controller::NoMbc => 2,
             Controller::Mbc1 | Controller::Mbc3 | Controller::Mbc3Clock => 128,
             Controller::Mbc2 => 16,
             Controller::Mbc5 => 512,

@@ -11,8 +11,8 @@ use Rattle.sm83_processor.specs.Rules.{Rules}
 use Rattle.sm83_processor.specs.Steps.{step_of, after_steps}
 use Rattle.sm83_processor.specs.declared.processor.Processor.{Processor}
 use Rattle.sm83_processor.specs.declared.step.Executed.{Executed}
-use Rattle.sm83_processor.specs.declared.step.What.{What}
-use Rattle.sm83_processor.specs.declared.step.What.TheVariants.{Dispatch, Wait, Ran}
+use Rattle.sm83_processor.specs.declared.step.StepKind.{StepKind}
+use Rattle.sm83_processor.specs.declared.step.StepKind.TheVariants.{Dispatch, Wait, Ran}
 use Rattle.memory_map.specs.State.{BusState}
 use Rattle.sm83_processor.proofs.Runs.{after_steps-zero, after_steps-add_one}
 use Rattle.debugger.specs.Run.{HasRun, pc_after}
@@ -39,14 +39,14 @@ keep_last-again n xs ys =
     ∙ ap (λ (k : ℕ). drop k (xs ++ ys)) places
 
 instructions_more : {M : Type 0} (rules : Rules M) (n : ℕ) (p : Processor M) →
-    instructions_in rules (suc n) p ≡ instructions_in rules n p ++ instruction_in (step_of rules (after_steps rules n p)).stepped.what
+    instructions_in rules (suc n) p ≡ instructions_in rules n p ++ instruction_in (step_of rules (after_steps rules n p)).stepped.kind
 unfolding instructions_in after_steps
 instructions_more rules zero p = append-nil _
 instructions_more rules (suc n) p =
-    ap (λ (xs : List Executed). instruction_in (step_of rules p).stepped.what ++ xs) (instructions_more rules n (step_of rules p).after)
-    ∙ sym (append_assoc (instruction_in (step_of rules p).stepped.what) _ _)
+    ap (λ (xs : List Executed). instruction_in (step_of rules p).stepped.kind ++ xs) (instructions_more rules n (step_of rules p).after)
+    ∙ sym (append_assoc (instruction_in (step_of rules p).stepped.kind) _ _)
 
-pub one_instruction : {M : Type 0} (rules : Rules M) (p : Processor M) → instructions_in rules 1 p ≡ instruction_in (step_of rules p).stepped.what
+pub one_instruction : {M : Type 0} (rules : Rules M) (p : Processor M) → instructions_in rules 1 p ≡ instruction_in (step_of rules p).stepped.kind
 unfolding instructions_in
 one_instruction rules p = append-nil _
 
@@ -64,14 +64,14 @@ history_as m b = record { machine = m; size = b.capacity; history = b.items }
 
 -- a step whose instruction, if it had one, was put into the buffer
 pub step_kept : (m n : MachineState) (b k : Buffer Executed) (seen : List Executed) →
-    instruction_in (step_of bus_rules m.processor).stepped.what ≡ seen →
+    instruction_in (step_of bus_rules m.processor).stepped.kind ≡ seen →
     n ≡ record m { processor = (step_of bus_rules m.processor).after } →
     k ≡ buffer (keep_last b.capacity (b.items ++ seen)) b.capacity →
     history_as n k ≡ after_run 1 (history_as m b)
 step_kept m n b k seen is ran kept =
     rw (one_instruction bus_rules m.processor, is, ← one_step bus_rules m.processor) (ap (λ (x : MachineState). history_as x k) ran ∙ ap (history_as _) kept)
 
-pub other_steps : (what : What) → ((seen : Executed) → what ≡ Ran seen → ⊥) → instruction_in what ≡ []
+pub other_steps : (what : StepKind) → ((seen : Executed) → what ≡ Ran seen → ⊥) → instruction_in what ≡ []
 other_steps (Dispatch vector) h = refl
 other_steps Wait h = refl
 other_steps (Ran seen) h = absurd (h seen refl)
@@ -107,10 +107,10 @@ past_more P n before here k some below = below_more (λ j. 0 < j → P j) n (λ 
 
 -- the instructions of n steps and of one more
 pub instructions_and : (n : ℕ) (p : Processor BusState) (kept : List Executed) (seen : Executed) → kept ≡ instructions_in bus_rules n p →
-    (step_of bus_rules (after_steps bus_rules n p)).stepped.what ≡ Ran seen → kept ++ seen ∷ [] ≡ instructions_in bus_rules (n + 1) p
+    (step_of bus_rules (after_steps bus_rules n p)).stepped.kind ≡ Ran seen → kept ++ seen ∷ [] ≡ instructions_in bus_rules (n + 1) p
 instructions_and n p kept seen so_far ran =
     ap (λ (xs : List Executed). xs ++ seen ∷ []) so_far
-    ∙ ap (λ (what : What). instructions_in bus_rules n p ++ instruction_in what) (sym ran)
+    ∙ ap (λ (what : StepKind). instructions_in bus_rules n p ++ instruction_in what) (sym ran)
     ∙ sym (instructions_more bus_rules n p)
     ∙ ap (λ (k : ℕ). instructions_in bus_rules k p) (sym (add-one n))
 
@@ -146,9 +146,9 @@ run_on breaks m n d e f first here next = record {
   ];
 }
 
--- a step is due, which is plain and begins at no break but where it is the first
-pub record IsGoing (breaks : List ℕ) (is_plain : Bool) (made most : ℕ) (d : DebuggerState) : Type 0 where
-  pub plain : is_plain ≡ true
+-- a step is due, which is fast and begins at no break but where it is the first
+pub record IsGoing (breaks : List ℕ) (is_fast : Bool) (made most : ℕ) (d : DebuggerState) : Type 0 where
+  pub fast : is_fast ≡ true
   pub due : made < most
   pub here : 0 < made → ¬ (Contains breaks (pc_after made d))
 

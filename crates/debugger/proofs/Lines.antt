@@ -4,7 +4,7 @@ use Rattle.std.specs.Io.KnownBytes.{Appends}
 use Rattle.exact_text.specs.Written.{AppendsProperPrefix}
 use Rattle.exact_text.proofs.Writes.{appends_nothing, appends_twice, whole_then_prefix, prefix_of_longer}
 use Rattle.machine.specs.Machine.{MachineState}
-use Rattle.debugger.specs.Listing.{line_at, address_behind, lines_from}
+use Rattle.debugger.specs.Listing.{line_at, address_after, lines_from}
 
 -- ---- any text
 
@@ -48,7 +48,7 @@ none_listed m address count old =
 
 -- what is left begins with the next line
 pub next_line : (m : MachineState) (count i here : ℕ) → i < count →
-    lines_from m here (count - i) ≡ line_at m here ++ lines_from m (address_behind m here) (count - (i + 1))
+    lines_from m here (count - i) ≡ line_at m here ++ lines_from m (address_after m here) (count - (i + 1))
 unfolding lines_from
 next_line m count i here below =
     let left : count - i ≡ suc (count - (i + 1)) = omega arith in

@@ -5,7 +5,7 @@ use Rattle.std.proofs.lemmas.List.{get_or_default}
 use Rattle.circular_buffer.proofs.Places.{slice_get-set_same, slice_get-set_other}
 use Rattle.debugger.specs.Marks.{AreMarked}
 
--- the first so many are marked
+-- the first of them are marked
 abbrev pub FirstAreMarked : List Bool → List ℕ → ℕ → Type 0
 FirstAreMarked marks breaks many = (k : ℕ) → k < many → slice_get marks (slice_index_or breaks k 0 % 256) ≡ Some true
 

@@ -7,8 +7,8 @@ use Rattle.sm83_processor.specs.Rules.{Rules}
 use Rattle.sm83_processor.specs.Steps.{step_of, after_steps}
 use Rattle.sm83_processor.specs.declared.processor.Processor.{Processor}
 use Rattle.sm83_processor.specs.declared.step.Executed.{Executed}
-use Rattle.sm83_processor.specs.declared.step.What.{What}
-use Rattle.sm83_processor.specs.declared.step.What.TheVariants.{Dispatch, Wait, Ran}
+use Rattle.sm83_processor.specs.declared.step.StepKind.{StepKind}
+use Rattle.sm83_processor.specs.declared.step.StepKind.TheVariants.{Dispatch, Wait, Ran}
 
 pub record DebuggerState : Type 0 where
   pub machine : MachineState
@@ -21,7 +21,7 @@ abbrev pub HoldsAtMost : ℕ → List Executed → Type 0
 HoldsAtMost size history = length history ≤ size
 
 -- the instruction of a step; a dispatch and a wait are none
-abbrev pub instruction_in : What → List Executed
+abbrev pub instruction_in : StepKind → List Executed
 instruction_in (Dispatch vector) = []
 instruction_in Wait = []
 instruction_in (Ran seen) = seen ∷ []
@@ -29,7 +29,7 @@ instruction_in (Ran seen) = seen ∷ []
 -- the instructions of the next n steps, the first of them first
 unfoldable pub instructions_in : {M : Type 0} → Rules M → ℕ → Processor M → List Executed
 instructions_in rules zero p = []
-instructions_in rules (suc n) p = instruction_in (step_of rules p).stepped.what ++ instructions_in rules n (step_of rules p).after
+instructions_in rules (suc n) p = instruction_in (step_of rules p).stepped.kind ++ instructions_in rules n (step_of rules p).after
 
 -- the debugger after n steps of its machine
 abbrev pub after_run : ℕ → DebuggerState → DebuggerState

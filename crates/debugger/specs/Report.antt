@@ -3,8 +3,8 @@ use Rattle.std.specs.Prelude.{ℕ, List, ◌++◌, ◌%◌, codes, slice_index}
 use Rattle.exact_text.specs.Hex.{byte_text}
 use Rattle.opcode_table.specs.Listing.{list_line}
 use Rattle.sm83_processor.specs.declared.step.Executed.{Executed}
-use Rattle.sm83_processor.specs.declared.step.What.{What}
-use Rattle.sm83_processor.specs.declared.step.What.TheVariants.{Dispatch, Wait, Ran}
+use Rattle.sm83_processor.specs.declared.step.StepKind.{StepKind}
+use Rattle.sm83_processor.specs.declared.step.StepKind.TheVariants.{Dispatch, Wait, Ran}
 
 -- an instruction as it was fetched
 abbrev pub line_seen : Executed → List ℕ
@@ -14,7 +14,7 @@ line_seen seen = list_line seen.pc (slice_index seen.bytes 0) (slice_index seen.
 abbrev pub interrupt_line : ℕ → List ℕ
 interrupt_line vector = codes "interrupt " ++ byte_text (vector % 256) ++ codes "\n"
 
-abbrev pub line_of : What → List ℕ
+abbrev pub line_of : StepKind → List ℕ
 line_of (Dispatch vector) = interrupt_line vector
 line_of Wait = codes "wait\n"
 line_of (Ran seen) = line_seen seen

@@ -11,7 +11,7 @@ use Rattle.debugger.specs.History.{DebuggerState, after_run}
 abbrev pub pc_after : ℕ → DebuggerState → ℕ
 pc_after n d = (after_steps bus_rules n d.machine.processor).registers.pc
 
--- so many steps were made, and no step but the first began at a break
+-- this many steps were made, and no step but the first began at a break
 pub record HasRun (breaks : List ℕ) (steps : ℕ) (old new : DebuggerState) : Type 0 where
   pub run : new ≡ after_run steps old
   pub past : (k : ℕ) → 0 < k → k < steps → ¬ (Contains breaks (pc_after k old))

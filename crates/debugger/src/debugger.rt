@@ -10,12 +10,12 @@ use crate::listing::write_lines;
 use crate::stop::Stop;
 use circular_buffer::HeapCircularBuffer;
 use exact_text::OutputFailed;
-use machine::{Executed, Machine, Stepped, What};
+use machine::{Executed, Machine, StepKind, Stepped};
 use std::alloc::Global;
 use std::io::Write;
 use std::marker::Model;
 
-/// How many plain steps are put into the history at once.
+/// How many fast steps are put into the history at once.
 const KEPT: usize = 256;
 
 /// What stands where no instruction was put yet.
@@ -47,7 +47,7 @@ impl Model for Debugger {
 impl Debugger {
     ghost use Rattle.memory_map.specs.BusRules.{bus_rules};
     ghost use Rattle.sm83_processor.specs.Steps.{step_of};
-    ghost use Rattle.sm83_processor.specs.Plain.{IsPlain};
+    ghost use Rattle.sm83_processor.specs.FastStep.{IsFast};
     ghost use Rattle.debugger.specs.History.{after_run};
     ghost use Rattle.debugger.specs.Listing.{lines_from};
     ghost use Rattle.debugger.specs.Run.{HasRun, IsStop};
@@ -73,7 +73,7 @@ impl Debugger {
         ensures stepped { result ≡ (step_of bus_rules self.old.machine.processor).stepped }
     {
         let stepped = self.machine.step();
-        if let What::Ran(seen) = stepped.what {
+        if let StepKind::Ran(seen) = stepped.kind {
             let _ = self.history.push_back(seen);
         }
         stepped
@@ -89,32 +89,32 @@ impl Debugger {
         prove!(self.history.len() <= self.history.capacity());
         let marks = marks_of(breaks);
         let mut kept = [NOTHING; KEPT];
-        let mut is_plain = false;
+        let mut is_fast = false;
         let mut made = 0;
         while made < limit {
             let pc = self.machine.registers().pc;
             if made > 0 && is_break(&marks, breaks, pc) {
                 return Stop::Break(pc);
             }
-            if is_plain {
-                let (more, is_more) = self.run_plainly(&marks, breaks, limit - made, &mut kept);
+            if is_fast {
+                let (more, is_more) = self.run_fast(&marks, breaks, limit - made, &mut kept);
                 made += more;
-                is_plain = is_more;
+                is_fast = is_more;
             } else {
                 let _ = self.step();
                 made += 1;
-                is_plain = self.machine.is_plain();
+                is_fast = self.machine.is_fast();
             }
         }
         Stop::Limit
     }
 
-    /// Makes plain steps, at least one, until one that is not the first would begin at a break, or may
-    /// not be plain; at most `limit`, and no more than are put into the history at once. Says how many,
-    /// and whether the next step is surely plain. The loop has the only call of `step_plainly`, so that
+    /// Makes fast steps, at least one, until one that is not the first would begin at a break, or may
+    /// not be fast; at most `limit`, and no more than are put into the history at once. Says how many,
+    /// and whether the next step is surely fast. The loop has the only call of `step_fast`, so that
     /// the code of the instructions stands in it.
     #[inline(always)]
-    fn run_plainly(
+    fn run_fast(
         &mut self,
         marks: &[bool; 256],
         breaks: &[u16],
@@ -123,24 +123,24 @@ impl Debugger {
     ) -> (u32, bool)
         requires marks { AreMarked marks.now breaks.now }
         requires some { 0 < limit }
-        requires plain { IsPlain bus_rules self.old.machine.processor }
+        requires fast { IsFast bus_rules self.old.machine.processor }
         ensures run { HasRun breaks.now result.0 self.old self.new }
         ensures some { 0 < result.0 }
         ensures most { result.0 ≤ limit }
-        ensures plain { result.1 ≡ true → IsPlain bus_rules self.new.machine.processor }
+        ensures fast { result.1 ≡ true → IsFast bus_rules self.new.machine.processor }
     {
         let most = limit.min(KEPT as u32);
         let mut made = 0;
-        let mut is_plain = true;
+        let mut is_fast = true;
         let mut is_going = true;
         while is_going {
-            is_plain = self.machine.step_plainly(&mut kept[made as usize]);
+            is_fast = self.machine.step_fast(&mut kept[made as usize]);
             made += 1;
             let pc = self.machine.registers().pc;
-            is_going = is_plain && made < most && !is_break(marks, breaks, pc);
+            is_going = is_fast && made < most && !is_break(marks, breaks, pc);
         }
         self.history.extend_from_slice(&kept[..made as usize]);
-        (made, is_plain)
+        (made, is_fast)
     }
 
     /// How many instructions the history holds: at most `size`.

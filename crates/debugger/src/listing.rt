@@ -3,7 +3,7 @@
 ghost use Rattle.std.specs.Prelude.{◌≡◌, [], ◌∷◌, OnOk, OnErr};
 ghost use Rattle.std.specs.Io.KnownBytes.{Appends};
 ghost use Rattle.exact_text.specs.Written.{AppendsProperPrefix};
-ghost use Rattle.debugger.specs.Listing.{byte_behind, line_at, address_behind, lines_from};
+ghost use Rattle.debugger.specs.Listing.{byte_after, line_at, address_after, lines_from};
 
 use exact_text::{OutputFailed, write_whole};
 use machine::Machine;
@@ -12,7 +12,7 @@ use std::io::Write;
 
 /// The three bytes from an address on; addresses wrap around.
 fn three_bytes(machine: &Machine, address: u16) -> [u8; 3]
-    ensures { result ≡ byte_behind machine.now address 0 ∷ byte_behind machine.now address 1 ∷ byte_behind machine.now address 2 ∷ [] }
+    ensures { result ≡ byte_after machine.now address 0 ∷ byte_after machine.now address 1 ∷ byte_after machine.now address 2 ∷ [] }
 {
     [
         machine.peek(address),
@@ -27,8 +27,8 @@ fn line(machine: &Machine, address: u16) -> Line
     list_line(address, three_bytes(machine, address))
 }
 
-fn address_behind(machine: &Machine, address: u16) -> u16
-    ensures { result ≡ address_behind machine.now address }
+fn address_after(machine: &Machine, address: u16) -> u16
+    ensures { result ≡ address_after machine.now address }
 {
     let length = decode(three_bytes(machine, address)).length;
     address.wrapping_add(u16::from(length))
@@ -49,7 +49,7 @@ pub(crate) fn write_lines<W: Write>(
         if let Err(fault) = write_whole(out, text.as_bytes()) {
             return Err(fault);
         }
-        address = address_behind(machine, address);
+        address = address_after(machine, address);
     }
     Ok(())
 }

@@ -6,17 +6,17 @@ ghost use Rattle.exact_text.specs.Written.{AppendsProperPrefix};
 ghost use Rattle.debugger.specs.Report.{interrupt_line, line_of};
 
 use exact_text::{OutputFailed, byte_digits, write_whole};
-use machine::{Stepped, What};
+use machine::{StepKind, Stepped};
 use opcode_table::{Line, list_line};
 use std::io::Write;
 
-fn line(what: What) -> Line
-    ensures { result.bytes ≡ line_of what }
+fn line(kind: StepKind) -> Line
+    ensures { result.bytes ≡ line_of kind }
 {
-    match what {
-        What::Ran(seen) => list_line(seen.pc, seen.bytes),
-        What::Wait => wait_line(),
-        What::Dispatch(vector) => interrupt_line(vector),
+    match kind {
+        StepKind::Ran(seen) => list_line(seen.pc, seen.bytes),
+        StepKind::Wait => wait_line(),
+        StepKind::Dispatch(vector) => interrupt_line(vector),
     }
 }
 
@@ -42,9 +42,9 @@ fn interrupt_line(vector: u16) -> Line
 /// the vector in two hexadecimal digits. Refused if a write fails or takes no byte: a proper prefix
 /// of the line went out.
 pub fn write_stepped<W: Write>(stepped: &Stepped, out: &mut W) -> Result<(), OutputFailed>
-    ensures ok { OnOk result (Appends (W.contents out.old) (W.contents out.new) (line_of stepped.now.what)) }
-    ensures err { OnErr result (AppendsProperPrefix (W.contents out.old) (W.contents out.new) (line_of stepped.now.what)) }
+    ensures ok { OnOk result (Appends (W.contents out.old) (W.contents out.new) (line_of stepped.now.kind)) }
+    ensures err { OnErr result (AppendsProperPrefix (W.contents out.old) (W.contents out.new) (line_of stepped.now.kind)) }
 {
-    let text = line(stepped.what);
+    let text = line(stepped.kind);
     write_whole(out, text.as_bytes())
 }

@@ -2,7 +2,7 @@
 use Rattle.std.specs.Prelude.{◌&&◌, ℕ, List, [], ◌++◌, codes, decimal, length, map, nat_le, if◌then◌else◌, Option, None, Some}
 use Rattle.cartridge.specs.Header.{title_of, kind_of, rom_code_of, ram_code_of, stored_checksum_of, checksum_of, banks_of, ram_length_of, controller_of}
 use Rattle.cartridge.specs.declared.controller.Controller.{Controller}
-use Rattle.cartridge.specs.declared.controller.Controller.TheVariants.{Plain, Mbc1, Mbc2, Mbc3, Mbc3Clock, Mbc5}
+use Rattle.cartridge.specs.declared.controller.Controller.TheVariants.{NoMbc, Mbc1, Mbc2, Mbc3, Mbc3Clock, Mbc5}
 use Rattle.exact_text.specs.Hex.{byte_text}
 use Rattle.snapshot.specs.Encoding.{snapshot_length}
 use Rattle.sector_log.specs.Content.{need}
@@ -12,7 +12,7 @@ abbrev pub shown : ℕ → ℕ
 shown byte = if nat_le 0x20 byte && nat_le byte 0x7E then byte else 46
 
 abbrev pub name_of : Controller → List ℕ
-name_of Plain = codes "none"
+name_of NoMbc = codes "none"
 name_of Mbc1 = codes "MBC1"
 name_of Mbc2 = codes "MBC2"
 name_of Mbc3 = codes "MBC3"

@@ -3,7 +3,7 @@ use Rattle.std.specs.Prelude.{◌≡◌, ◌⊎◌, ℕ, List, [], Option, Some,
 use Rattle.std.specs.Io.KnownBytes.{Appends, Keeps}
 use Rattle.exact_text.specs.Written.{AppendsProperPrefix}
 use Rattle.cartridge.specs.Accepted.{IsAccepted, refusal_of}
-use Rattle.machine.specs.Machine.{MachineState, after}
+use Rattle.machine.specs.Machine.{MachineState, after, picture_rows}
 use Rattle.machine.specs.declared.input.Input.{Input}
 use Rattle.picture_unit.specs.Pgm.{picture_text}
 use Rattle.script.specs.Script.{moves_of, IsRefused as IsScriptRefused}
@@ -56,7 +56,7 @@ pub record IsLastMachine (rom script : List ℕ) (old : DiskState) (machine : Ma
 pub record HasDrawn (rom script : List ℕ) (old : DiskState) (before since : Option (List ℕ)) : Type 0 where
   pub machine : MachineState
   pub is_last : IsLastMachine rom script old machine
-  pub drawn : Appends before since (picture_text machine.processor.memory.picture.picture.rows)
+  pub drawn : Appends before since (picture_text (picture_rows machine))
 
 -- what of the picture went out at a refusal: a proper prefix where that failed, else nothing
 abbrev pub HasDrawnPart : (rom script : List ℕ) → DiskState → (before since : Option (List ℕ)) → PlayError → Type 0
@@ -64,7 +64,7 @@ HasDrawnPart rom script old before since (Cart fault) = Keeps before since
 HasDrawnPart rom script old before since (Script fault) = Keeps before since
 HasDrawnPart rom script old before since (Session fault) = Keeps before since
 HasDrawnPart rom script old before since Picture =
-    (machine : MachineState) × IsLastMachine rom script old machine × AppendsProperPrefix before since (picture_text machine.processor.memory.picture.picture.rows)
+    (machine : MachineState) × IsLastMachine rom script old machine × AppendsProperPrefix before since (picture_text (picture_rows machine))
 
 -- it was not taken up, with nothing written; or it stopped on the way, with its report cut short
 abbrev pub IsPlayEnd : (rom script : List ℕ) → (old now : DiskState) → SessionError → (before since : Option (List ℕ)) → Type 0

@@ -174,7 +174,7 @@ fn name_of(controller: Controller) -> &'static str
     ensures { result.now ≡ name_of controller }
 {
     match controller {
-        Controller::Plain => "none",
+        Controller::NoMbc => "none",
         Controller::Mbc1 => "MBC1",
         Controller::Mbc2 => "MBC2",
         Controller::Mbc3 => "MBC3",

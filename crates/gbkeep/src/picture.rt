@@ -1,6 +1,7 @@
 //! From ROM and script bytes to a report, a device and a picture.
 
 ghost use Rattle.std.specs.Prelude.{◌≡◌, ◌≢◌, is_none, true, IfOk, IfErr, OnOk, OnErr};
+ghost use Rattle.machine.specs.Machine.{picture_rows};
 ghost use Rattle.std.specs.Io.KnownBytes.{Appends};
 ghost use Rattle.exact_text.specs.Written.{AppendsProperPrefix};
 ghost use Rattle.picture_unit.specs.Pgm.{picture_text};
@@ -128,10 +129,10 @@ fn picture_of<D: SectorDevice, P: Write>(
 ) -> Result<D, PlayRefused<D>>
     ensures device { left_by result ≡ device_of session }
     ensures picture { OnOk result (Appends (P.contents out.old) (P.contents out.new)
-        (picture_text (machine_of session).processor.memory.picture.picture.rows)) }
+        (picture_text (picture_rows (machine_of session)))) }
     ensures why { IfErr result (λ refused. refused.why ≡ PlayError.Picture) }
     ensures part { OnErr result (AppendsProperPrefix (P.contents out.old) (P.contents out.new)
-        (picture_text (machine_of session).processor.memory.picture.picture.rows)) }
+        (picture_text (picture_rows (machine_of session)))) }
 {
     let written = session.machine().picture().write_pgm(out);
     let device = session.into_device();

@@ -1,4 +1,4 @@
 pub mod Frames
 pub mod KeptByInputs
 pub mod Waiting
-pub mod PlainFrames
+pub mod FastFrames

@@ -5,16 +5,16 @@ use Rattle.std.specs.Fn.{iterate}
 use Rattle.std.proofs.lemmas.Bool.{cases_lt}
 use Rattle.repeated_steps.specs.NextEvent.{IsNextEvent}
 use Rattle.repeated_steps.proofs.Iterates.{iterate-suc}
-use Rattle.picture_unit.specs.PictureJump.{IsSettled}
+use Rattle.picture_unit.specs.PictureJump.{IsSteady}
 use Rattle.memory_map.specs.State.{BusState}
 use Rattle.memory_map.specs.Joypad.{p1_value}
 use Rattle.memory_map.specs.Bus.{pending_interrupts, acknowledged, read_at, register_value}
 use Rattle.memory_map.specs.Ticks.{tick, happens}
-use Rattle.memory_map.proofs.QuietTicks.{ComesAfter, bus_settles, pending_before, ticks_keep_p1}
+use Rattle.memory_map.proofs.QuietTicks.{ComesAfter, bus_is_steady, pending_before, ticks_keep_p1}
 use Rattle.sm83_processor.specs.Rules.{Rules}
 use Rattle.memory_map.specs.BusRules.{bus_rules}
 use Rattle.sm83_processor.specs.Execution.{at_pc, pushed, executed}
-use Rattle.sm83_processor.specs.Steps.{Step, step_of, passing, waited, lowest_interrupt, vector_of, dispatched, decoded_at, begun, settled, ran, dispatched_or_ran, step_unstopped}
+use Rattle.sm83_processor.specs.Steps.{Step, step_of, passing, waited, lowest_interrupt, vector_of, dispatched, decoded_at, begun, with_ime_due, ran, dispatched_or_ran, step_unstopped}
 use Rattle.machine.specs.Machine.{steps_until}
 use Rattle.machine.specs.Waiting.{Waits, within}
 use Rattle.sm83_processor.specs.declared.processor.Processor.{Processor}
@@ -57,53 +57,53 @@ until_waits (suc n) passed p le waits =
     ∙ ap (λ (s : Step BusState). steps_until bus_rules 17556 (passed + s.stepped.cycles) s.after) (sym first)
     ∙ sym (until_step bus_rules passed p (omega (arith, le)))
 
--- ---- a step leaves the STAT signal taken
+-- ---- a step leaves the STAT signal evaluated
 
-ticks_settle : (n : ℕ) (b : BusState) → 0 < n → IsSettled (iterate tick n b).picture
-ticks_settle zero b pos = absurd (omega (arith, pos))
-ticks_settle (suc n) b pos = subst (λ (c : BusState). IsSettled c.picture) (sym (iterate-suc tick n b)) (bus_settles (iterate tick n b))
+ticks_are_steady : (n : ℕ) (b : BusState) → 0 < n → IsSteady (iterate tick n b).picture
+ticks_are_steady zero b pos = absurd (omega (arith, pos))
+ticks_are_steady (suc n) b pos = subst (λ (c : BusState). IsSteady c.picture) (sym (iterate-suc tick n b)) (bus_is_steady (iterate tick n b))
 
-abbrev Settles : Step BusState → Type 0
-Settles s = IsSettled s.after.memory.picture
+abbrev IsLeftSteady : Step BusState → Type 0
+IsLeftSteady s = IsSteady s.after.memory.picture
 
-either_settles : (b : Bool) (s t : Step BusState) → Settles s → Settles t → Settles (if b then s else t)
-either_settles true s t first second = first
-either_settles false s t first second = second
+either_is_steady : (b : Bool) (s t : Step BusState) → IsLeftSteady s → IsLeftSteady t → IsLeftSteady (if b then s else t)
+either_is_steady true s t first second = first
+either_is_steady false s t first second = second
 
-passing_settles : (n : ℕ) (p : Processor BusState) → 0 < n → IsSettled (passing bus_rules n p).memory.picture
-passing_settles n p pos = ticks_settle n p.memory pos
+passing_is_steady : (n : ℕ) (p : Processor BusState) → 0 < n → IsSteady (passing bus_rules n p).memory.picture
+passing_is_steady n p pos = ticks_are_steady n p.memory pos
 
-ran_settles : (p : Processor BusState) → Settles (ran bus_rules p)
-ran_settles p =
+ran_is_steady : (p : Processor BusState) → IsLeftSteady (ran bus_rules p)
+ran_is_steady p =
     let d = decoded_at bus_rules p in
-    let done = settled p.state.ime_pending d.instr (executed bus_rules d.instr (begun d.length p)) in
-    passing_settles (ran bus_rules p).stepped.cycles done (ran-bounds bus_rules p).some
+    let done = with_ime_due p.state.ime_pending d.instr (executed bus_rules d.instr (begun d.length p)) in
+    passing_is_steady (ran bus_rules p).stepped.cycles done (ran-bounds bus_rules p).some
 
-dispatched_settles : (p : Processor BusState) → Settles (dispatched bus_rules p)
-dispatched_settles p =
+dispatched_is_steady : (p : Processor BusState) → IsLeftSteady (dispatched bus_rules p)
+dispatched_is_steady p =
     let bit = lowest_interrupt (pending_interrupts p.memory) in
     let quiet : Processor BusState = record p { state = record p.state { ime = false; ime_pending = false }; memory = acknowledged bit p.memory } in
-    passing_settles 5 (at_pc (vector_of bit) (pushed bus_rules p.registers.pc quiet)) (omega arith)
+    passing_is_steady 5 (at_pc (vector_of bit) (pushed bus_rules p.registers.pc quiet)) (omega arith)
 
-dispatched_or_ran_settles : (p : Processor BusState) → Settles (dispatched_or_ran bus_rules p)
-dispatched_or_ran_settles p = either_settles _ (dispatched bus_rules p) (ran bus_rules p) (dispatched_settles p) (ran_settles p)
+dispatched_or_ran_is_steady : (p : Processor BusState) → IsLeftSteady (dispatched_or_ran bus_rules p)
+dispatched_or_ran_is_steady p = either_is_steady _ (dispatched bus_rules p) (ran bus_rules p) (dispatched_is_steady p) (ran_is_steady p)
 
-waited_settles : (p : Processor BusState) → Settles (waited bus_rules p)
-waited_settles p = passing_settles 1 p (omega arith)
+waited_is_steady : (p : Processor BusState) → IsLeftSteady (waited bus_rules p)
+waited_is_steady p = passing_is_steady 1 p (omega arith)
 
 abbrev going_of : Processor BusState → Processor BusState
 going_of p = record p { state = record p.state { halted = false } }
 
-step_unstopped_settles : (p : Processor BusState) → Settles (step_unstopped bus_rules p)
-step_unstopped_settles p = either_settles _ (waited bus_rules p) (dispatched_or_ran bus_rules (going_of p)) (waited_settles p) (dispatched_or_ran_settles (going_of p))
+step_unstopped_is_steady : (p : Processor BusState) → IsLeftSteady (step_unstopped bus_rules p)
+step_unstopped_is_steady p = either_is_steady _ (waited bus_rules p) (dispatched_or_ran bus_rules (going_of p)) (waited_is_steady p) (dispatched_or_ran_is_steady (going_of p))
 
-pub step_settles : (p : Processor BusState) → IsSettled (step_of bus_rules p).after.memory.picture
+pub step_is_steady : (p : Processor BusState) → IsSteady (step_of bus_rules p).after.memory.picture
 unfolding step_of
-step_settles p =
+step_is_steady p =
     let on : Processor BusState = record p { state = record p.state { stopped = false } } in
     let waits = p.state.stopped && read_at p.memory 0xFF00 % 16 == 15 in
-    either_settles p.state.locked (waited bus_rules p) (if waits then waited bus_rules p else step_unstopped bus_rules on) (waited_settles p)
-    (either_settles waits (waited bus_rules p) (step_unstopped bus_rules on) (waited_settles p) (step_unstopped_settles on))
+    either_is_steady p.state.locked (waited bus_rules p) (if waits then waited bus_rules p else step_unstopped bus_rules on) (waited_is_steady p)
+    (either_is_steady waits (waited bus_rules p) (step_unstopped bus_rules on) (waited_is_steady p) (step_unstopped_is_steady on))
 
 -- ---- which processors wait
 
@@ -151,9 +151,9 @@ later_than None left k lt = tt
 later_than (Some d) left k lt = omega (arith, lt)
 
 pub halted_waits : (due : Option ℕ) (left : ℕ) (p : Processor BusState) → p.state.locked ≡ false → p.state.stopped ≡ false → p.state.halted ≡ true
-    → pending_interrupts p.memory ≡ 0 → IsNextEvent tick happens p.memory due → IsSettled p.memory.picture → Waits (within due left) p
-halted_waits due left p locked stopped halted none next settled k lt =
-    let still : pending_interrupts (iterate tick k p.memory) ≡ 0 = pending_before p.memory due k settled next (later_than due left k lt) ∙ none in
+    → pending_interrupts p.memory ≡ 0 → IsNextEvent tick happens p.memory due → IsSteady p.memory.picture → Waits (within due left) p
+halted_waits due left p locked stopped halted none next steady k lt =
+    let still : pending_interrupts (iterate tick k p.memory) ≡ 0 = pending_before p.memory due k steady next (later_than due left k lt) ∙ none in
     unlocked_step (passing bus_rules k p) locked ∙ halted_step (passing bus_rules k p) stopped halted still
 
 -- a halted processor waits while IE and IF share no bit
@@ -184,7 +184,7 @@ waits_on passed n p b le f waits =
     ap (λ (b : BusState). steps_until bus_rules 17556 (passed + n) (record p { memory = b })) f ∙ until_waits n passed p le waits
 
 pub waited_on : (now n : ℕ) (p q : Processor BusState) (b : BusState) → now + n ≤ 17556 → q ≡ (step_of bus_rules p).after → b ≡ iterate tick n q.memory →
-    (IsSettled q.memory.picture → Waits n q) → steps_until bus_rules 17556 (now + n) (record q { memory = b }) ≡ steps_until bus_rules 17556 now q
+    (IsSteady q.memory.picture → Waits n q) → steps_until bus_rules 17556 (now + n) (record q { memory = b }) ≡ steps_until bus_rules 17556 now q
 waited_on now n p q b le e f waits =
-    let settled = subst (λ (q : Processor BusState). IsSettled q.memory.picture) (sym e) (step_settles p) in
-    ap (λ (b : BusState). steps_until bus_rules 17556 (now + n) (record q { memory = b })) f ∙ until_waits n now q le (waits settled)
+    let steady = subst (λ (q : Processor BusState). IsSteady q.memory.picture) (sym e) (step_is_steady p) in
+    ap (λ (b : BusState). steps_until bus_rules 17556 (now + n) (record q { memory = b })) f ∙ until_waits n now q le (waits steady)

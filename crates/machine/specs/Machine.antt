@@ -19,6 +19,10 @@ pub record MachineState : Type 0 where
   pub processor : Processor BusState
   pub overrun : ℕ
 
+-- the 144 rows of the picture, of 160 shades each
+abbrev pub picture_rows : MachineState → List (List ℕ)
+picture_rows m = m.processor.memory.picture.picture.rows
+
 -- ---- power-on: Pan Docs, "Power-Up Sequence", column DMG
 
 -- H and C are clear where the header's checksum is 00
@@ -36,6 +40,7 @@ registers_at_power_on checksum = let some = not (checksum == 0) in record {
   pc = 0x0100;
 }
 
+-- nothing is set (fixed profile)
 abbrev pub state_at_power_on : ProcessorState
 state_at_power_on = record { ime = false; ime_pending = false; halted = false; stopped = false; locked = false; halt_bug = false }
 
@@ -46,7 +51,10 @@ start image = record {
   overrun = 0;
 }
 
--- ---- frames of 17,556 M-cycles, 154 lines of 114: Pan Docs, "Rendering"
+-- ---- frames of 154 lines of 114 M-cycles: Pan Docs, "Rendering"
+
+abbrev pub cycles_per_frame : ℕ
+cycles_per_frame = 17556
 
 -- the M-cycles of the next n steps
 unfoldable pub cycles_of_steps : {M : Type 0} → Rules M → ℕ → Processor M → ℕ
@@ -60,24 +68,24 @@ pub record Ahead (M : Type 0) : Type 0 where
 
 -- steps until 17,556 M-cycles have passed, of which `passed` have; at most k steps
 unfoldable pub steps_until : {M : Type 0} → Rules M → ℕ → ℕ → Processor M → Ahead M
-steps_until rules zero passed p = record { after = p; overrun = passed - 17556 }
+steps_until rules zero passed p = record { after = p; overrun = passed - cycles_per_frame }
 steps_until rules (suc k) passed p =
-    if nat_lt passed 17556
+    if nat_lt passed cycles_per_frame
     then steps_until rules k (passed + (step_of rules p).stepped.cycles) (step_of rules p).after
-    else record { after = p; overrun = passed - 17556 }
+    else record { after = p; overrun = passed - cycles_per_frame }
 
 -- a frame from an overrun: each step takes an M-cycle at least, so 17,556 steps are enough
 abbrev pub frame_of : {M : Type 0} → Rules M → ℕ → Processor M → Ahead M
-frame_of rules overrun p = steps_until rules 17556 overrun p
+frame_of rules overrun p = steps_until rules cycles_per_frame overrun p
 
 -- `steps` is the least number of steps with which the overrun of before and their M-cycles make 17,556 or more; the
 -- processor is after these steps, and what is more is the new overrun
 pub record IsFrame {M : Type 0} (rules : Rules M) (overrun : ℕ) (old : Processor M) (new : Ahead M) : Type 0 where
   pub steps : ℕ
-  pub enough : 17556 ≤ overrun + cycles_of_steps rules steps old
-  pub least : (k : ℕ) → k < steps → overrun + cycles_of_steps rules k old < 17556
+  pub enough : cycles_per_frame ≤ overrun + cycles_of_steps rules steps old
+  pub least : (k : ℕ) → k < steps → overrun + cycles_of_steps rules k old < cycles_per_frame
   pub reached : new.after ≡ after_steps rules steps old
-  pub excess : new.overrun ≡ overrun + cycles_of_steps rules steps old - 17556
+  pub excess : new.overrun ≡ overrun + cycles_of_steps rules steps old - cycles_per_frame
   pub few : new.overrun < 6
 
 -- ---- inputs

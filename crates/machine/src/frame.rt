@@ -1,25 +1,40 @@
 //! Frames of the processor over the bus.
 
 ghost use Rattle.std.specs.Prelude.{◌≡◌, ◌<◌, ◌≤◌, ◌+◌, ◌-◌, ◌%◌, true, false};
-ghost use Rattle.picture_unit.specs.PictureJump.{IsSettled};
+ghost use Rattle.picture_unit.specs.PictureJump.{IsSteady};
 ghost use Rattle.memory_map.specs.BusRules.{bus_rules};
 ghost use Rattle.machine.specs.Waiting.{Waits, within};
-ghost use Rattle.machine.specs.Machine.{frame_of, steps_until};
+ghost use Rattle.machine.specs.Machine.{cycles_per_frame, frame_of};
 ghost use Rattle.memory_map.specs.Quiet.{IsCalm};
-ghost use Rattle.sm83_processor.specs.Plain.{IsPlain, IsUsual};
+ghost use Rattle.sm83_processor.specs.FastStep.{IsFast, IsUsual};
 ghost use Rattle.sm83_processor.specs.Steps.{passing, step_of};
 
 use memory_map::Bus;
-use sm83_processor::{IN_FRAME, IN_HRAM, IN_LOWER_ROM, IN_UPPER_ROM, IN_WRAM, Processor, What};
+use sm83_processor::{FIRST_OWN_LOOP, Processor, StepKind};
 
 /// The M-cycles of a frame.
 const FRAME: u32 = 17_556;
 
+/// The loop of fast steps in the lower half of ROM.
+const IN_LOWER_ROM: u8 = FIRST_OWN_LOOP;
+
+/// The loop of fast steps in the upper half of ROM.
+const IN_UPPER_ROM: u8 = FIRST_OWN_LOOP + 1;
+
+/// The loop of fast steps in WRAM.
+const IN_WRAM: u8 = FIRST_OWN_LOOP + 2;
+
+/// The loop of fast steps in HRAM.
+const IN_HRAM: u8 = FIRST_OWN_LOOP + 3;
+
+/// The loop of fast steps above ROM.
+const ABOVE_ROM: u8 = FIRST_OWN_LOOP + 4;
+
 /// The address of the joypad's register P1.
 const JOYPAD: u16 = 0xff00;
 
-/// Steps until a frame's M-cycles have passed, `overrun` of which passed before, and says how
-/// many more passed.
+/// Makes steps until a frame's M-cycles have passed, `overrun` of which passed before. Returns how many
+/// more passed.
 pub(crate) fn run_frame(processor: &mut Processor<Bus>, overrun: u8) -> u8
     requires { overrun < 6 }
     ensures after { processor.new ≡ (frame_of bus_rules overrun processor.old).after }
@@ -28,188 +43,221 @@ pub(crate) fn run_frame(processor: &mut Processor<Bus>, overrun: u8) -> u8
 {
     let mut passed = u32::from(overrun);
     while passed < FRAME {
-        passed = go_on(processor, passed);
+        passed = run_some_steps(processor, passed);
     }
     (passed - FRAME) as u8
 }
 
-/// Steps in a frame of which `passed` M-cycles have passed. Says how many have passed after
-/// that.
+/// Makes steps in a frame of which `passed` M-cycles have passed, one at least. Returns how many have
+/// passed after them.
 #[inline(always)]
-fn go_on(processor: &mut Processor<Bus>, passed: u32) -> u32
-    requires { passed < 17556 }
-    ensures run { steps_until bus_rules 17556 result processor.new ≡ steps_until bus_rules 17556 passed processor.old }
+fn run_some_steps(processor: &mut Processor<Bus>, passed: u32) -> u32
+    requires { passed < cycles_per_frame }
+    ensures run { frame_of bus_rules result processor.new ≡ frame_of bus_rules passed processor.old }
     ensures more { passed < result }
-    ensures few { result < 17562 }
+    ensures few { result < cycles_per_frame + 6 }
 {
-    if processor.is_plain() {
-        return run_plain_steps(processor, passed);
+    if processor.is_fast() {
+        return run_fast_steps(processor, passed);
     }
     step_and_wait(processor, passed)
 }
 
-/// The same, while the next step is plain.
+/// Makes steps as `run_some_steps` does, as long as the next one is fast.
 #[inline(always)]
-fn run_plain_steps(processor: &mut Processor<Bus>, passed: u32) -> u32
-    requires below { passed < 17556 }
-    requires plain { IsPlain bus_rules processor.old }
-    ensures run { steps_until bus_rules 17556 result processor.new ≡ steps_until bus_rules 17556 passed processor.old }
+fn run_fast_steps(processor: &mut Processor<Bus>, passed: u32) -> u32
+    requires below { passed < cycles_per_frame }
+    requires fast { IsFast bus_rules processor.old }
+    ensures run { frame_of bus_rules result processor.new ≡ frame_of bus_rules passed processor.old }
     ensures more { passed < result }
-    ensures few { result < 17562 }
+    ensures few { result < cycles_per_frame + 6 }
 {
     let mut passed = passed;
     while passed < FRAME {
-        let (now, is_plain) = run_plain_steps_here(processor, passed);
+        let (now, is_fast) = run_fast_steps_here(processor, passed);
         passed = now;
-        if !is_plain {
+        if !is_fast {
             return passed;
         }
     }
     passed
 }
 
-/// Makes plain steps while PC stays in the lower half of ROM, in the upper half, in WRAM or in HRAM, or
-/// above ROM if it begins in none of them. Says how many M-cycles of the frame have passed after them,
-/// and whether the next step is known to be plain.
+/// Makes fast steps while PC stays in the lower half of ROM, in the upper half, in WRAM or in HRAM, or
+/// above ROM if it begins in none of them. Returns how many M-cycles of the frame have passed after
+/// them, and whether the next step is known to be fast.
 #[inline(always)]
-fn run_plain_steps_here(processor: &mut Processor<Bus>, passed: u32) -> (u32, bool)
-    requires below { passed < 17556 }
-    requires plain { IsPlain bus_rules processor.old }
-    ensures run { steps_until bus_rules 17556 result.0 processor.new ≡ steps_until bus_rules 17556 passed processor.old }
+fn run_fast_steps_here(processor: &mut Processor<Bus>, passed: u32) -> (u32, bool)
+    requires below { passed < cycles_per_frame }
+    requires fast { IsFast bus_rules processor.old }
+    ensures run { frame_of bus_rules result.0 processor.new ≡ frame_of bus_rules passed processor.old }
     ensures more { passed < result.0 }
-    ensures few { result.0 < 17562 }
-    ensures plain { result.1 ≡ true → IsPlain bus_rules processor.new }
+    ensures few { result.0 < cycles_per_frame + 6 }
+    ensures fast { result.1 ≡ true → IsFast bus_rules processor.new }
 {
     if is_there::<IN_LOWER_ROM>(processor.registers.pc) {
-        run_plain_steps_by::<IN_LOWER_ROM>(processor, passed)
+        run_fast_steps_by::<IN_LOWER_ROM>(processor, passed)
     } else if is_there::<IN_UPPER_ROM>(processor.registers.pc) {
-        run_plain_steps_by::<IN_UPPER_ROM>(processor, passed)
+        run_fast_steps_by::<IN_UPPER_ROM>(processor, passed)
     } else if is_there::<IN_WRAM>(processor.registers.pc) {
-        run_plain_steps_by::<IN_WRAM>(processor, passed)
+        run_fast_steps_by::<IN_WRAM>(processor, passed)
     } else if is_there::<IN_HRAM>(processor.registers.pc) {
-        run_plain_steps_by::<IN_HRAM>(processor, passed)
+        run_fast_steps_by::<IN_HRAM>(processor, passed)
     } else {
-        run_plain_steps_by::<IN_FRAME>(processor, passed)
+        run_fast_steps_by::<ABOVE_ROM>(processor, passed)
     }
 }
 
-/// Whether PC is where the loop of this WAY runs: where all bytes of an instruction lie in the lower
-/// half of ROM, in the upper half, in WRAM, in HRAM, or above ROM. A loop that runs only there need not
-/// ask it for each byte.
+/// Whether PC is where this loop runs: where all bytes of an instruction lie in the lower half of ROM,
+/// in the upper half, in WRAM, in HRAM, or above ROM. A loop that runs only there need not test it for
+/// each byte.
 #[inline(always)]
-fn is_there<const WAY: u8>(pc: u16) -> bool {
-    if WAY == IN_LOWER_ROM {
+fn is_there<const LOOP: u8>(pc: u16) -> bool {
+    if LOOP == IN_LOWER_ROM {
         pc < 0x3ffe
-    } else if WAY == IN_UPPER_ROM {
+    } else if LOOP == IN_UPPER_ROM {
         pc >= 0x4000 && pc < 0x7ffe
-    } else if WAY == IN_WRAM {
+    } else if LOOP == IN_WRAM {
         pc >= 0xc000 && pc < 0xdffe
-    } else if WAY == IN_HRAM {
+    } else if LOOP == IN_HRAM {
         pc >= 0xff80 && pc < 0xfffd
     } else {
         pc >= 0x8000
     }
 }
 
-/// Makes plain steps while PC is where the loop of this WAY runs, one step if it is elsewhere. Each WAY
-/// has a function of its own: in one with all loops the compiler would keep addresses in registers that
-/// each loop needs.
+/// Makes fast steps while PC is where this loop runs, and one step if it is elsewhere. Each loop has a
+/// function of its own: in one with all loops the compiler would keep addresses in registers that each
+/// loop needs.
 #[inline(never)]
-fn run_plain_steps_by<const WAY: u8>(processor: &mut Processor<Bus>, passed: u32) -> (u32, bool)
-    requires below { passed < 17556 }
-    requires plain { IsPlain bus_rules processor.old }
-    ensures run { steps_until bus_rules 17556 result.0 processor.new ≡ steps_until bus_rules 17556 passed processor.old }
+fn run_fast_steps_by<const LOOP: u8>(processor: &mut Processor<Bus>, passed: u32) -> (u32, bool)
+    requires below { passed < cycles_per_frame }
+    requires fast { IsFast bus_rules processor.old }
+    ensures run { frame_of bus_rules result.0 processor.new ≡ frame_of bus_rules passed processor.old }
     ensures more { passed < result.0 }
-    ensures few { result.0 < 17562 }
-    ensures plain { result.1 ≡ true → IsPlain bus_rules processor.new }
+    ensures few { result.0 < cycles_per_frame + 6 }
+    ensures fast { result.1 ≡ true → IsFast bus_rules processor.new }
 {
-    if !is_there::<WAY>(processor.registers.pc) {
+    if !is_there::<LOOP>(processor.registers.pc) {
         return (step_and_wait(processor, passed), false);
     }
     let mut passed = passed;
     loop {
-        let (now, is_plain) = run_calm_steps::<WAY>(processor, passed);
-        if !is_plain {
+        let (now, is_fast) = run_calm_steps::<LOOP>(processor, passed);
+        if !is_fast {
             return (now, false);
         }
-        if now >= FRAME || !is_there::<WAY>(processor.registers.pc) {
+        if now >= FRAME || !is_there::<LOOP>(processor.registers.pc) {
             return (now, true);
         }
         passed = now;
     }
 }
 
-/// Makes plain steps up to the first that the bus or the frame may not know to be calm, and that one
-/// too, or up to one behind which PC is elsewhere. Says how many M-cycles of the frame have passed after
-/// it, and whether the next step is plain.
+/// Makes fast steps up to and including the first that is not known to be calm, or after which PC is
+/// elsewhere. Returns how many M-cycles of the frame have passed after it, and whether the next step is
+/// fast.
 #[inline(always)]
-fn run_calm_steps<const WAY: u8>(processor: &mut Processor<Bus>, passed: u32) -> (u32, bool)
-    requires below { passed < 17556 }
-    requires plain { IsPlain bus_rules processor.old }
-    ensures run { steps_until bus_rules 17556 result.0 processor.new ≡ steps_until bus_rules 17556 passed processor.old }
+fn run_calm_steps<const LOOP: u8>(processor: &mut Processor<Bus>, passed: u32) -> (u32, bool)
+    requires below { passed < cycles_per_frame }
+    requires fast { IsFast bus_rules processor.old }
+    ensures run { frame_of bus_rules result.0 processor.new ≡ frame_of bus_rules passed processor.old }
     ensures more { passed < result.0 }
-    ensures few { result.0 < 17562 }
-    ensures plain { result.1 ≡ true → IsPlain bus_rules processor.new }
+    ensures few { result.0 < cycles_per_frame + 6 }
+    ensures fast { result.1 ≡ true → IsFast bus_rules processor.new }
 {
     let calm = u32::from(processor.memory.calm()).min(FRAME - passed);
     let end = passed + calm;
     let mut left = calm;
     loop {
-        let (now, fewer, is_plain, is_calm) = run_plain_step::<WAY>(processor, left, end);
+        let AfterStep {
+            now,
+            left: fewer,
+            is_fast,
+            is_calm,
+        } = run_fast_step::<LOOP>(processor, left, end);
         if !is_calm {
-            return (now, is_plain);
+            return (now, is_fast);
         }
         left = fewer;
-        if !is_there::<WAY>(processor.registers.pc) {
+        if !is_there::<LOOP>(processor.registers.pc) {
             return (end - left, true);
         }
     }
 }
 
-/// Makes a plain step before which so many M-cycles are calm, up to `end`. Says how many M-cycles of
-/// the frame have passed after it, unless all is still calm; how many are left that are calm; whether
-/// the next step is plain; and whether all is still calm.
-#[inline(always)]
-fn run_plain_step<const WAY: u8>(
-    processor: &mut Processor<Bus>,
+/// Where a frame is after a fast step.
+#[derive(Clone, Copy)]
+struct AfterStep {
+    /// How many M-cycles of the frame have passed, if not all of them were calm.
+    now: u32,
+    /// How many of the calm M-cycles are left, if all that passed were calm.
     left: u32,
-    end: u32,
-) -> (u32, u32, bool, bool)
-    requires plain { IsPlain bus_rules processor.old }
+    /// Whether the next step is known to be fast.
+    is_fast: bool,
+    /// Whether all M-cycles that passed were calm, and more are left.
+    is_calm: bool,
+}
+
+/// Makes a fast step where `left` M-cycles are known to be calm, which end with M-cycle `end` of the
+/// frame.
+#[inline(always)]
+fn run_fast_step<const LOOP: u8>(processor: &mut Processor<Bus>, left: u32, end: u32) -> AfterStep
+    requires fast { IsFast bus_rules processor.old }
     requires calm { IsCalm left processor.old.memory }
     requires within { left ≤ end }
-    requires end { end ≤ 17556 }
+    requires end { end ≤ cycles_per_frame }
     ensures after { processor.new ≡ (step_of bus_rules processor.old).after }
-    ensures now { result.3 ≡ false → result.0 ≡ end - left + (step_of bus_rules processor.old).stepped.cycles }
-    ensures plain { result.2 ≡ true → IsPlain bus_rules processor.new }
-    ensures fewer { result.3 ≡ true → (step_of bus_rules processor.old).stepped.cycles < left }
-    ensures left { result.3 ≡ true → result.1 ≡ left - (step_of bus_rules processor.old).stepped.cycles }
-    ensures still_plain { result.3 ≡ true → IsPlain bus_rules processor.new }
-    ensures calm { result.3 ≡ true → IsCalm result.1 processor.new.memory }
+    ensures now { result.is_calm ≡ false → result.now ≡ end - left + (step_of bus_rules processor.old).stepped.cycles }
+    ensures fast { result.is_fast ≡ true → IsFast bus_rules processor.new }
+    ensures fewer { result.is_calm ≡ true → (step_of bus_rules processor.old).stepped.cycles < left }
+    ensures left { result.is_calm ≡ true → result.left ≡ left - (step_of bus_rules processor.old).stepped.cycles }
+    ensures still_fast { result.is_calm ≡ true → IsFast bus_rules processor.new }
+    ensures calm { result.is_calm ≡ true → IsCalm result.left processor.new.memory }
 {
     let opcode = Bus::read(&processor.memory, processor.registers.pc);
-    let (cycles, usual, is_memory_kept) = processor.run_opcode::<WAY>(opcode);
+    let (cycles, usual, is_memory_kept) = processor.run_opcode::<LOOP>(opcode);
     if !usual {
-        pass_apart(processor, cycles as u8);
-        return (time_behind(end, left, cycles), 0, false, false);
+        pass_out_of_line(processor, cycles as u8);
+        return AfterStep {
+            now: passed_after(end, left, cycles),
+            left: 0,
+            is_fast: false,
+            is_calm: false,
+        };
     }
     let is_calm = stays_calm(&processor.memory, is_memory_kept, left);
     if !is_calm {
-        let is_plain = pass_usual(processor, cycles as u8);
-        return (time_behind(end, left, cycles), 0, is_plain, false);
+        let is_fast = pass_usual(processor, cycles as u8);
+        return AfterStep {
+            now: passed_after(end, left, cycles),
+            left: 0,
+            is_fast,
+            is_calm: false,
+        };
     }
-    // What is left is taken before it is known whether it was enough: the host does both at once.
+    // The subtraction comes before the comparison, so that the host makes both at once. It wraps if `cycles` is the greater.
     let fewer = left.wrapping_sub(cycles);
     if cycles >= left {
-        let is_plain = pass_usual(processor, cycles as u8);
-        return (time_beyond(end, fewer), 0, is_plain, false);
+        let is_fast = pass_usual(processor, cycles as u8);
+        return AfterStep {
+            now: passed_beyond(end, fewer),
+            left: 0,
+            is_fast,
+            is_calm: false,
+        };
     }
     Bus::move_on(&mut processor.memory, cycles as u8);
-    (0, fewer, true, true)
+    AfterStep {
+        now: 0,
+        left: fewer,
+        is_fast: true,
+        is_calm: true,
+    }
 }
 
-/// Whether so many M-cycles are known to be calm behind an instruction, as they were before it: surely
-/// if it kept the memory, else if the bus says so.
+/// Whether the `left` M-cycles that were calm before an instruction are known to be calm after it: they
+/// are if it kept the memory, or if the bus says so.
 #[inline(always)]
 fn stays_calm(memory: &Bus, is_kept: bool, left: u32) -> bool
     requires kept { is_kept ≡ true → IsCalm left memory.now }
@@ -221,40 +269,42 @@ fn stays_calm(memory: &Bus, is_kept: bool, left: u32) -> bool
     left <= u32::from(memory.calm())
 }
 
-/// The M-cycles of the frame that have passed behind an instruction, where so many were left up to
+/// The M-cycles of the frame that have passed after an instruction, if `left` were left up to M-cycle
 /// `end` before it.
 #[inline(always)]
-fn time_behind(end: u32, left: u32, cycles: u32) -> u32
+fn passed_after(end: u32, left: u32, cycles: u32) -> u32
     requires within { left ≤ end }
-    requires end { end ≤ 17556 }
+    requires end { end ≤ cycles_per_frame }
     requires few { cycles ≤ 6 }
     ensures { result ≡ end - left + cycles }
 {
     end - left + cycles
 }
 
-/// The same, by what is left then, which is below 0.
+/// The M-cycles of the frame that have passed after an instruction that went beyond M-cycle `end`:
+/// `fewer` is what was left then, a number below 0 that wrapped.
 #[inline(always)]
-fn time_beyond(end: u32, fewer: u32) -> u32
+fn passed_beyond(end: u32, fewer: u32) -> u32
     ensures { result ≡ (end + (4294967296 - fewer)) % 4294967296 }
 {
     end.wrapping_sub(fewer)
 }
 
+/// Lets M-cycles pass after an instruction that left the processor's usual state.
 #[inline(never)]
-fn pass_apart(processor: &mut Processor<Bus>, cycles: u8)
+fn pass_out_of_line(processor: &mut Processor<Bus>, cycles: u8)
     ensures { processor.new ≡ passing bus_rules cycles processor.old }
 {
     let _ = Bus::pass_few(&mut processor.memory, cycles);
 }
 
-/// Lets M-cycles pass behind an instruction after which the processor is in its usual state. Says
-/// whether the next step is plain.
+/// Lets M-cycles pass after an instruction that kept the processor in its usual state. Returns whether
+/// the next step is fast.
 #[inline(never)]
 fn pass_usual(processor: &mut Processor<Bus>, cycles: u8) -> bool
     requires { IsUsual processor.old.state }
     ensures after { processor.new ≡ passing bus_rules cycles processor.old }
-    ensures plain { result ≡ true → IsPlain bus_rules processor.new }
+    ensures fast { result ≡ true → IsFast bus_rules processor.new }
 {
     if Bus::pass_few(&mut processor.memory, cycles) {
         return true;
@@ -264,13 +314,13 @@ fn pass_usual(processor: &mut Processor<Bus>, cycles: u8) -> bool
 
 /// Passes the waits that are sure to come in a frame of which `passed` M-cycles have passed; if
 /// there are none, makes a step and, after a wait, passes those that are sure to follow it.
-/// Says how many M-cycles have passed after that.
+/// Returns how many M-cycles have passed after that.
 #[inline(never)]
 fn step_and_wait(processor: &mut Processor<Bus>, passed: u32) -> u32
-    requires { passed < 17556 }
-    ensures run { steps_until bus_rules 17556 result processor.new ≡ steps_until bus_rules 17556 passed processor.old }
+    requires { passed < cycles_per_frame }
+    ensures run { frame_of bus_rules result processor.new ≡ frame_of bus_rules passed processor.old }
     ensures more { passed < result }
-    ensures few { result < 17562 }
+    ensures few { result < cycles_per_frame + 6 }
 {
     let sure = sure_waits(processor, FRAME - passed);
     if sure > 1 {
@@ -279,8 +329,8 @@ fn step_and_wait(processor: &mut Processor<Bus>, passed: u32) -> u32
     }
     let stepped = processor.step();
     let now = passed + u32::from(stepped.cycles);
-    match stepped.what {
-        What::Wait => {}
+    match stepped.kind {
+        StepKind::Wait => {}
         _ => return now,
     }
     if now >= FRAME {
@@ -292,7 +342,7 @@ fn step_and_wait(processor: &mut Processor<Bus>, passed: u32) -> u32
 }
 
 /// For how many of the M-cycles that are left a halted processor is sure to wait, by what the
-/// bus knows: few if it knows little.
+/// bus knows.
 #[inline(always)]
 fn sure_waits(processor: &Processor<Bus>, left: u32) -> u32
     ensures few { result ≤ left }
@@ -304,11 +354,11 @@ fn sure_waits(processor: &Processor<Bus>, left: u32) -> u32
     u32::from(processor.memory.none_pending_for()).min(left)
 }
 
-/// For how many of the M-cycles that are left the processor is sure to wait, if the STAT signal
-/// was last evaluated at its present level.
+/// For how many of the M-cycles that are left the processor is sure to wait, if the STAT signal is
+/// steady.
 fn waits(processor: &Processor<Bus>, left: u32) -> u32
     ensures few { result ≤ left }
-    ensures waits { IsSettled processor.now.memory.picture → Waits result processor.now }
+    ensures waits { IsSteady processor.now.memory.picture → Waits result processor.now }
 {
     if processor.state.locked {
         return left;

@@ -1,3 +1,5 @@
+//! The inputs of a play session.
+
 /// An input of a play session.
 #[derive(Clone, Copy, Debug, PartialEq, Eq)]
 pub enum Input {

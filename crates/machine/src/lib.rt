@@ -14,4 +14,4 @@ pub use input::Input;
 pub use machine::Machine;
 pub use machine_without_memory::MachineWithoutMemory;
 pub use memory_map::{BusWithoutMemory, Region};
-pub use sm83_processor::{Executed, Memory, Processor, ProcessorState, Stepped, What};
+pub use sm83_processor::{Executed, Memory, Processor, ProcessorState, StepKind, Stepped};

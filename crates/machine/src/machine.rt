@@ -3,15 +3,15 @@
 ghost use Rattle.std.specs.Prelude.{◌≡◌, ◌<◌, ◌≤◌, IfOk, length, All, slice_set, true};
 ghost use Rattle.memory_map.specs.BusRules.{bus_rules};
 ghost use Rattle.sm83_processor.specs.Steps.{step_of, after_steps};
-ghost use Rattle.sm83_processor.specs.Plain.{IsPlain};
-ghost use Rattle.sm83_processor.specs.declared.step.What.{What};
+ghost use Rattle.sm83_processor.specs.FastStep.{IsFast};
+ghost use Rattle.sm83_processor.specs.declared.step.StepKind.{StepKind};
 
 use crate::frame::run_frame;
 use crate::input::Input;
 use crate::machine_without_memory::MachineWithoutMemory;
 use cartridge::Cartridge;
 use memory_map::{Bus, Region};
-use picture_unit::Picture;
+use picture_unit::LatePicture;
 use sm83_alu::{Flags, Registers};
 use sm83_processor::{Executed, Processor, ProcessorState, REPORTED, Stepped, length_of_opcode};
 use std::alloc::{AllocError, Global};
@@ -76,27 +76,27 @@ fn state_at_power_on() -> ProcessorState
 
 ghost use Rattle.machine.specs.Machine.{registers_at_power_on, state_at_power_on};
 
-/// A step that is plain: puts the instruction that ran into `ran`, before it runs, and says whether
-/// the next step is plain.
+/// A step that is fast: puts the instruction that ran into `ran`, before it runs, and says whether
+/// the next step is fast.
 #[inline(always)]
 fn run_and_report(processor: &mut Processor<Bus>, ran: &mut Executed) -> bool
-    requires { IsPlain bus_rules processor.old }
+    requires { IsFast bus_rules processor.old }
     ensures after { processor.new ≡ (step_of bus_rules processor.old).after }
-    ensures what { (step_of bus_rules processor.old).stepped.what ≡ What.Ran ran.new }
-    ensures plain { result ≡ true → IsPlain bus_rules processor.new }
+    ensures kind { (step_of bus_rules processor.old).stepped.kind ≡ StepKind.Ran ran.new }
+    ensures fast { result ≡ true → IsFast bus_rules processor.new }
 {
     let pc = processor.registers.pc;
     ran.pc = pc;
     processor.memory.read_three(pc, &mut ran.bytes);
     let opcode = ran.bytes[0];
     ran.length = length_of_opcode(opcode);
-    processor.run_plain_opcode::<REPORTED>(opcode).1
+    processor.run_fast_opcode::<REPORTED>(opcode).1
 }
 
 impl Machine {
     ghost use Rattle.memory_map.specs.Bus.{peeked};
     ghost use Rattle.memory_map.specs.Stores.{region_of, region_filled, FitsRegion};
-    ghost use Rattle.machine.specs.Machine.{start, frame_played, applied};
+    ghost use Rattle.machine.specs.Machine.{start, frame_played, applied, picture_rows};
     ghost use Rattle.machine.specs.MachineStores.{without_memory, restored, row_set, AreLegalFor};
 
     /// The machine at power-on with this cartridge. Refused if there is no memory.
@@ -123,23 +123,23 @@ impl Machine {
     }
 
     /// Whether the next step is an instruction that begins with neither `ime_pending` nor `halt_bug`: a
-    /// plain one.
+    /// fast one.
     #[inline(always)]
-    pub fn is_plain(&self) -> bool
-        ensures plain { result ≡ true → IsPlain bus_rules self.now.processor }
-        ensures every { IsPlain bus_rules self.now.processor → result ≡ true }
+    pub fn is_fast(&self) -> bool
+        ensures fast { result ≡ true → IsFast bus_rules self.now.processor }
+        ensures every { IsFast bus_rules self.now.processor → result ≡ true }
     {
-        self.processor.is_plain()
+        self.processor.is_fast()
     }
 
-    /// A plain step, faster than `step`: puts the instruction that ran into `ran`, and says whether the
-    /// next step is surely plain too. Condition: the step is plain, as `is_plain` tells.
+    /// A fast step, faster than `step`: puts the instruction that ran into `ran`, and says whether the
+    /// next step is surely fast too. Condition: the step is fast, as `is_fast` tells.
     #[inline(always)]
-    pub fn step_plainly(&mut self, ran: &mut Executed) -> bool
-        requires { IsPlain bus_rules self.old.processor }
+    pub fn step_fast(&mut self, ran: &mut Executed) -> bool
+        requires { IsFast bus_rules self.old.processor }
         ensures machine { self.new ≡ record self.old { processor = (step_of bus_rules self.old.processor).after } }
-        ensures what { (step_of bus_rules self.old.processor).stepped.what ≡ What.Ran ran.new }
-        ensures plain { result ≡ true → IsPlain bus_rules self.new.processor }
+        ensures kind { (step_of bus_rules self.old.processor).stepped.kind ≡ StepKind.Ran ran.new }
+        ensures fast { result ≡ true → IsFast bus_rules self.new.processor }
     {
         run_and_report(&mut self.processor, ran)
     }
@@ -187,7 +187,7 @@ impl Machine {
     }
 
     /// A read-only view of the picture unit.
-    pub fn picture(&self) -> &Picture
+    pub fn picture(&self) -> &LatePicture
         ensures { result.now ≡ self.now.processor.memory.picture.picture }
     {
         self.processor.memory.picture()
@@ -213,7 +213,7 @@ impl Machine {
     pub fn state(&self) -> MachineWithoutMemory
         ensures state { result ≡ without_memory self.now }
         ensures legal { AreLegalFor self.now.processor.memory.banks result }
-        ensures rows { length self.now.processor.memory.picture.picture.rows ≡ 144 }
+        ensures rows { length (picture_rows self.now) ≡ 144 }
     {
         MachineWithoutMemory {
             registers: self.processor.registers,

@@ -1,3 +1,5 @@
+//! What a snapshot holds of the machine beside its stores.
+
 use memory_map::BusWithoutMemory;
 use sm83_alu::Registers;
 use sm83_processor::ProcessorState;

@@ -1,7 +1,7 @@
 //! Worked values on the whole machine.
 use crate::asserting::{OrStop, holds, same};
 use cartridge::Cartridge;
-use machine::{Input, Machine, Region, Stepped, What};
+use machine::{Input, Machine, Region, StepKind, Stepped};
 use std::alloc::Global;
 use std::process::Abort;
 use std::test::Fail;
@@ -126,7 +126,7 @@ fn set_interrupts(machine: &mut Machine, enable: u8, flag: u8) {
 
 // The processor ran an instruction of this length that began there.
 fn has_run(stepped: &Stepped, pc: u16, length: u8) -> bool {
-    matches!(&stepped.what, What::Ran(seen) if seen.pc == pc && seen.length == length)
+    matches!(&stepped.kind, StepKind::Ran(seen) if seen.pc == pc && seen.length == length)
 }
 
 #[test]
@@ -159,7 +159,7 @@ fn a_frame_of_jumps(rt: HostRuntime) {
 // The next step dispatches the interrupt of this address, from that of the instruction behind.
 fn dispatches(rt: &impl Abort, machine: &mut Machine, to: u16, from: [u8; 2]) {
     let stepped = step(machine);
-    same!(rt; stepped.what, What::Dispatch(to));
+    same!(rt; stepped.kind, StepKind::Dispatch(to));
     same!(rt; stepped.cycles, 5);
     same!(rt; pc_of(machine), to);
     let sp = sp_of(machine);
@@ -223,7 +223,7 @@ fn an_undefined_opcode_locks(rt: HostRuntime) {
     same!(rt; first.cycles, 1);
     for _ in 0..2u32 {
         let waited = step(&mut machine);
-        same!(rt; waited.what, What::Wait);
+        same!(rt; waited.kind, StepKind::Wait);
         same!(rt; waited.cycles, 1);
     }
     same!(rt; pc_of(&machine), 0xc001);
@@ -235,7 +235,7 @@ fn a_stop_ends_with_a_button(rt: HostRuntime) {
     let _ = step(&mut machine);
     same!(rt; byte_at(&machine, 0xff04), 0x00);
     let waited = step(&mut machine);
-    same!(rt; waited.what, What::Wait);
+    same!(rt; waited.kind, StepKind::Wait);
     press(&mut machine, 0x01);
     let _ = step(&mut machine);
     same!(rt; (a_of(&machine), pc_of(&machine)), (0x02, 0xc003));

@@ -26,14 +26,14 @@ unfolding picture.drawn picture.line_drawn
 oam-drawn s = elim (picture.draws s.state) as (λ t. (cond t (picture.line_drawn s) s).oam ≡ s.oam) [ true ↦ refl | false ↦ refl ]
 
 vram-tick : (d : picture.PictureAndRequests) → (picture.tick d).picture.vram ≡ d.picture.vram
-unfolding picture.tick picture.taken picture.moved
+unfolding picture.tick picture.evaluated picture.moved
 vram-tick d =
-    elim (picture.is_on d.picture.state) as (λ t. (cond t (picture.taken (picture.moved d)) d).picture.vram ≡ d.picture.vram) [ true ↦ vram-drawn _ | false ↦ refl ]
+    elim (picture.is_on d.picture.state) as (λ t. (cond t (picture.evaluated (picture.moved d)) d).picture.vram ≡ d.picture.vram) [ true ↦ vram-drawn _ | false ↦ refl ]
 
 oam-tick : (d : picture.PictureAndRequests) → (picture.tick d).picture.oam ≡ d.picture.oam
-unfolding picture.tick picture.taken picture.moved
+unfolding picture.tick picture.evaluated picture.moved
 oam-tick d =
-    elim (picture.is_on d.picture.state) as (λ t. (cond t (picture.taken (picture.moved d)) d).picture.oam ≡ d.picture.oam) [ true ↦ oam-drawn _ | false ↦ refl ]
+    elim (picture.is_on d.picture.state) as (λ t. (cond t (picture.evaluated (picture.moved d)) d).picture.oam ≡ d.picture.oam) [ true ↦ oam-drawn _ | false ↦ refl ]
 
 -- n bytes are copied since the bus was b
 record HasCopied (n xx : ℕ) (b c : BusState) : Type 0 where

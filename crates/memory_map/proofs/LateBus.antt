@@ -1,18 +1,19 @@
--- What is known of a bus beside its value, behind quiet M-cycles and where the timer has caught up.
+-- What is known of a bus beside its value, after quiet M-cycles and where the timer has caught up.
 use Rattle.std.proofs.Common.{◌≡◌, ℕ, zero, suc, ◌+◌, ◌-◌, ◌*◌, ◌≤◌, true, false, refl, sym, ap, subst, ◌∙◌, arith}
 use Rattle.std.specs.Prelude.{length}
 use Rattle.std.specs.Fn.{iterate}
 use Rattle.timer_unit.specs.Timer as timer
 use Rattle.picture_unit.specs.Picture.{PictureUnit, is_on}
 use Rattle.picture_unit.specs.Laws.{frame_cycle}
-use Rattle.picture_unit.specs.LatePicture as picture
-use Rattle.picture_unit.proofs.LatePicture.{quiet_position, on_kept}
+use Rattle.picture_unit.specs.Quiet as picture
+use Rattle.picture_unit.proofs.LatePictures.{quiet_position, on_kept}
 use Rattle.memory_map.specs.declared.late_timer.LateTimer.{LateTimer}
 use Rattle.memory_map.specs.LateTimer.{up_to}
 use Rattle.memory_map.specs.State.{BusState, IsLegalControl}
-use Rattle.memory_map.specs.Quiet.{AreQuietOn, IsConsistent}
+use Rattle.memory_map.specs.Quiet.{AreQuietOn}
+use Rattle.memory_map.specs.Invariant.{IsConsistent}
 use Rattle.memory_map.proofs.LateTimers.{later, not_late}
-use Rattle.memory_map.proofs.QuietCycles.{gone_on, further, none_are_quiet, quiet_until_behind, pending_behind, still_requested, counter_after}
+use Rattle.memory_map.proofs.QuietCycles.{gone_on, further, none_are_quiet, quiet_until_after, pending_after, still_requested, counter_after}
 
 abbrev pub with_timer_and_picture : timer.TimerAndRequest → PictureUnit → BusState → BusState
 with_timer_and_picture t p b = record b { timer = t; picture = record b.picture { picture = p } }
@@ -24,13 +25,13 @@ moved n clock l b p e le f =
     ap (λ (q : PictureUnit). with_timer_and_picture (up_to (clock + n) l) q b) f
     ∙ ap (λ (t : timer.TimerAndRequest). with_timer_and_picture t (further n b.picture.picture) b) (later clock n l le ∙ ap (iterate timer.tick n) (sym e))
 
-requested_behind : (n : ℕ) (b : BusState) → AreQuietOn n b → (gone_on n b).timer.requested ≡ b.timer.requested
-requested_behind zero b quiet = refl
-requested_behind (suc n) b quiet = still_requested (suc n) b.timer (quiet.timer (omega arith))
+requested_after : (n : ℕ) (b : BusState) → AreQuietOn n b → (gone_on n b).timer.requested ≡ b.timer.requested
+requested_after zero b quiet = refl
+requested_after (suc n) b quiet = still_requested (suc n) b.timer (quiet.timer (omega arith))
 
-pub consistent_behind : (calm_until quiet_until clock n : ℕ) (l : LateTimer) (b c : BusState) → c ≡ gone_on n b → AreQuietOn n b → IsConsistent calm_until quiet_until clock l b
+pub consistent_after : (calm_until quiet_until clock n : ℕ) (l : LateTimer) (b c : BusState) → c ≡ gone_on n b → AreQuietOn n b → IsConsistent calm_until quiet_until clock l b
     → IsConsistent calm_until quiet_until (clock + n) l c
-consistent_behind calm_until quiet_until clock n l b c e quiet known =
+consistent_after calm_until quiet_until clock n l b c e quiet known =
     let s = b.picture.picture in
     subst (IsConsistent calm_until quiet_until (clock + n) l) (sym e) (record {
       wram = known.wram;
@@ -45,11 +46,11 @@ consistent_behind calm_until quiet_until clock n l b c e quiet known =
           let counted = counter_after n b.timer (λ pos. quiet.dark pos was) in
           let low = known.dark was in
           omega (arith, low, counted);
-      waiting = quiet_until_behind (calm_until - 1) clock n b known.waiting;
-      asked = quiet_until_behind quiet_until clock n b known.asked;
-      none_pending = λ below. pending_behind n b quiet ∙ known.none_pending (omega (arith, below));
+      waiting = quiet_until_after (calm_until - 1) clock n b known.waiting;
+      asked = quiet_until_after quiet_until clock n b known.asked;
+      none_pending = λ below. pending_after n b quiet ∙ known.none_pending (omega (arith, below));
       late = omega (arith, known.late);
-      requested = requested_behind n b quiet ∙ known.requested;
+      requested = requested_after n b quiet ∙ known.requested;
     })
 
 -- the timer has caught up, and nothing is known to be quiet

@@ -7,7 +7,7 @@ use Rattle.timer_unit.specs.Timer as timer
 use Rattle.timer_unit.specs.declared.timer.TimerState.{TimerState}
 use Rattle.timer_unit.proofs.Requested.{timer_request_added}
 use Rattle.memory_map.specs.declared.late_timer.LateTimer.{LateTimer}
-use Rattle.memory_map.specs.LateTimer.{running, up_to, settled_at}
+use Rattle.memory_map.specs.LateTimer.{running, up_to, caught_up_at}
 use Rattle.memory_map.proofs.UnitRuns.{timer_requested}
 
 -- a timer that is not late
@@ -16,8 +16,8 @@ not_late now l e =
     let none : now - l.at ≡ 0 = omega (arith, e) in
     ap (λ (k : ℕ). iterate timer.tick k (running l)) none
 
-pub settled : (now : ℕ) (l : LateTimer) (s : timer.TimerAndRequest) → l ≡ settled_at now s → up_to now l ≡ s
-settled now l s e = ap (up_to now) e ∙ not_late now (settled_at now s) refl
+pub caught_up : (now : ℕ) (l : LateTimer) (s : timer.TimerAndRequest) → l ≡ caught_up_at now s → up_to now l ≡ s
+caught_up now l s e = ap (up_to now) e ∙ not_late now (caught_up_at now s) refl
 
 -- n M-cycles later it is n M-cycles on
 pub later : (now n : ℕ) (l : LateTimer) → l.at ≤ now → up_to (now + n) l ≡ iterate timer.tick n (up_to now l)

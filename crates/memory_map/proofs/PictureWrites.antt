@@ -2,7 +2,7 @@
 use Rattle.std.proofs.Common.{◌≡◌, ℕ, Bool, true, false, refl, sym, ap, ◌∙◌}
 use Rattle.std.specs.Prelude.{◌||◌, ◌&&◌, not, ◌==◌, if◌then◌else◌}
 use Rattle.std.proofs.Math.Bool.{or-false, or_assoc}
-use Rattle.picture_unit.specs.Picture.{PictureUnit, PictureAndRequests, unrequested, taken, stat_signal}
+use Rattle.picture_unit.specs.Picture.{PictureUnit, PictureAndRequests, unrequested, evaluated, stat_signal}
 use Rattle.picture_unit.specs.Registers.{register_written, lcdc_written, stat_written, lyc_written, register_stored}
 
 -- requests that were pending before
@@ -12,27 +12,27 @@ pending v l d = record d { vblank = v || d.vblank; stat = l || d.stat }
 abbrev with_stat : Bool → PictureAndRequests → PictureAndRequests
 with_stat q d = record d { stat = q }
 
-taken-pending : (v l : Bool) (d : PictureAndRequests) → taken (pending v l d) ≡ pending v l (taken d)
-unfolding taken
-taken-pending v l d =
+evaluated-pending : (v l : Bool) (d : PictureAndRequests) → evaluated (pending v l d) ≡ pending v l (evaluated d)
+unfolding evaluated
+evaluated-pending v l d =
     let rises = stat_signal d.picture.state && not d.picture.state.signal in
-    ap (λ (q : Bool). with_stat q (taken (pending v l d))) (or_assoc l d.stat rises)
+    ap (λ (q : Bool). with_stat q (evaluated (pending v l d))) (or_assoc l d.stat rises)
 
 abbrev choice : (a n : ℕ) → Bool → Bool → Bool → PictureAndRequests → PictureAndRequests
 choice a n is_lcdc is_stat is_lyc d =
-    if is_lcdc then taken (record d { picture = lcdc_written n d.picture })
-    else if is_stat then taken (record d { picture = stat_written n d.picture })
-    else if is_lyc then taken (record d { picture = lyc_written n d.picture })
+    if is_lcdc then evaluated (record d { picture = lcdc_written n d.picture })
+    else if is_stat then evaluated (record d { picture = stat_written n d.picture })
+    else if is_lyc then evaluated (record d { picture = lyc_written n d.picture })
     else record d { picture = record d.picture { state = register_stored a n d.picture.state } }
 
 choice-pending : (a n : ℕ) (v l p q r : Bool) (d : PictureAndRequests) → choice a n p q r (pending v l d) ≡ pending v l (choice a n p q r d)
-choice-pending a n v l true q r d = taken-pending v l (record d { picture = lcdc_written n d.picture })
-choice-pending a n v l false true r d = taken-pending v l (record d { picture = stat_written n d.picture })
-choice-pending a n v l false false true d = taken-pending v l (record d { picture = lyc_written n d.picture })
+choice-pending a n v l true q r d = evaluated-pending v l (record d { picture = lcdc_written n d.picture })
+choice-pending a n v l false true r d = evaluated-pending v l (record d { picture = stat_written n d.picture })
+choice-pending a n v l false false true d = evaluated-pending v l (record d { picture = lyc_written n d.picture })
 choice-pending a n v l false false false d = refl
 
 choice-vblank : (a n : ℕ) (p q r : Bool) (d : PictureAndRequests) → (choice a n p q r d).vblank ≡ d.vblank
-unfolding taken
+unfolding evaluated
 choice-vblank a n true q r d = refl
 choice-vblank a n false true r d = refl
 choice-vblank a n false false true d = refl

@@ -12,11 +12,11 @@ use Rattle.timer_unit.specs.declared.timer.TimerState.{TimerState}
 use Rattle.timer_unit.proofs.Requested.{timer_request_added}
 use Rattle.timer_unit.proofs.SerialJump as serial_jump
 use Rattle.picture_unit.specs.Picture as picture
-use Rattle.picture_unit.specs.LatePicture as late_picture
+use Rattle.picture_unit.specs.Quiet as picture_quiet
 use Rattle.picture_unit.specs.declared.state.PictureState.{PictureState}
 use Rattle.picture_unit.proofs.Quiet.{stands_still}
-use Rattle.picture_unit.proofs.Settled.{bool_cases, both_ways}
-use Rattle.picture_unit.proofs.LatePicture.{none_quiet, fewer_quiet, rest_quiet, no_vblank, no_stat, on_kept}
+use Rattle.picture_unit.proofs.Steady.{bool_cases, both_ways}
+use Rattle.picture_unit.proofs.LatePictures.{none_quiet, fewer_quiet, rest_quiet, no_vblank, no_stat, on_kept}
 use Rattle.picture_unit.proofs.PictureLaws.{picture_ticks}
 use Rattle.memory_map.specs.State.{BusState}
 use Rattle.memory_map.specs.Bus.{pending_interrupts}
@@ -104,7 +104,7 @@ further n s = (picture.ticks n s).picture
 abbrev with_picture : picture.PictureUnit → Bool → Bool → picture.PictureAndRequests
 with_picture s v l = record { picture = s; vblank = v; stat = l }
 
-picture_goes_on : (q n : ℕ) (d : picture.PictureAndRequests) → n ≤ q → late_picture.AreQuiet q d.picture.state → iterate picture.tick n d ≡ record d { picture = further n d.picture }
+picture_goes_on : (q n : ℕ) (d : picture.PictureAndRequests) → n ≤ q → picture_quiet.AreQuiet q d.picture.state → iterate picture.tick n d ≡ record d { picture = further n d.picture }
 picture_goes_on q n d le quiet =
     let few = fewer_quiet q n d.picture le quiet in
     picture_ticks d.vblank d.stat n d.picture
@@ -118,7 +118,7 @@ stays_dark : (n : ℕ) (s : picture.PictureUnit) → picture.is_on s.state ≡ f
 unfolding picture.unrequested
 stays_dark n s off = ap (λ (d : picture.PictureAndRequests). d.picture) (stands_still n (picture.unrequested s) off)
 
-picture_passes : (q n : ℕ) (d : picture.PictureAndRequests) → n ≤ q → (picture.is_on d.picture.state ≡ true → late_picture.AreQuiet q d.picture.state)
+picture_passes : (q n : ℕ) (d : picture.PictureAndRequests) → n ≤ q → (picture.is_on d.picture.state ≡ true → picture_quiet.AreQuiet q d.picture.state)
     → iterate picture.tick n d ≡ record d { picture = further n d.picture }
 picture_passes q n d le quiet =
     elim (bool_cases (picture.is_on d.picture.state)) [
@@ -148,7 +148,7 @@ quiet_pass q (suc n) b le quiet =
     ∙ ap (λ (x : serial.SerialAndRequest). with_units (iterate timer.tick (suc n) b.timer) x (iterate picture.tick (suc n) b.picture) b) s
     ∙ ap (λ (x : picture.PictureAndRequests). with_units (iterate timer.tick (suc n) b.timer) b.serial x b) p)
 
--- what is quiet behind n quiet M-cycles
+-- what is quiet after n quiet M-cycles
 pub quiet_after : (q n : ℕ) (b : BusState) → n ≤ q → AreQuietOn q b → AreQuietOn (q - n) (gone_on n b)
 quiet_after q n b le quiet = record {
   copy = λ pos. quiet.copy (omega arith);
@@ -172,8 +172,8 @@ fewer_are_quiet q n b le quiet = record {
 }
 
 -- those up to an M-cycle of the clock, n quiet M-cycles on
-pub quiet_until_behind : (until clock n : ℕ) (b : BusState) → AreQuietOn (until - clock) b → AreQuietOn (until - (clock + n)) (gone_on n b)
-quiet_until_behind until clock n b quiet =
+pub quiet_until_after : (until clock n : ℕ) (b : BusState) → AreQuietOn (until - clock) b → AreQuietOn (until - (clock + n)) (gone_on n b)
+quiet_until_after until clock n b quiet =
     elim (cases_lt until (clock + n)) [
       | inl lt ↦ none_are_quiet (until - (clock + n)) (gone_on n b).control.dma_copied (gone_on n b).timer.timer (gone_on n b).serial.serial.cycles_left (gone_on n b).picture.picture.state (omega (arith, lt))
       | inr le ↦ let same : until - (clock + n) ≡ until - clock - n = omega arith in rw same (quiet_after (until - clock) n b (omega (arith, le)) quiet)
@@ -181,7 +181,7 @@ quiet_until_behind until clock n b quiet =
 
 -- as many as are quiet for the timer, and for the picture unit while it is on
 pub lit_quiet : (n m q copied : ℕ) (t : TimerState) (left : ℕ) (s : picture.PictureUnit) → n ≡ min m q → 160 ≤ copied → left ≡ 0
-    → (timer.ticks m t).requested ≡ false → picture.is_on s.state ≡ true → late_picture.AreQuiet q s.state → AreQuiet n copied t left s.state
+    → (timer.ticks m t).requested ≡ false → picture.is_on s.state ≡ true → picture_quiet.AreQuiet q s.state → AreQuiet n copied t left s.state
 lit_quiet n m q copied t left s e copy none still on quiet = record {
   copy = λ _. copy;
   timer = λ _. (requested_apart m n t (omega arith) still).0;
@@ -205,14 +205,14 @@ abbrev pending_with : Bool → BusState → ℕ
 pending_with r b = pending_interrupts (record b { timer = record b.timer { requested = r } })
 
 -- quiet M-cycles request nothing
-pub pending_behind : (n : ℕ) (b : BusState) → AreQuietOn n b → pending_interrupts (gone_on n b) ≡ pending_interrupts b
-pending_behind zero b quiet = refl
-pending_behind (suc n) b quiet = ap (λ (r : Bool). pending_with r b) (still_requested (suc n) b.timer (quiet.timer (omega arith)))
+pub pending_after : (n : ℕ) (b : BusState) → AreQuietOn n b → pending_interrupts (gone_on n b) ≡ pending_interrupts b
+pending_after zero b quiet = refl
+pending_after (suc n) b quiet = ap (λ (r : Bool). pending_with r b) (still_requested (suc n) b.timer (quiet.timer (omega arith)))
 
 -- before each of n M-cycles, of which all but the last are quiet, IE and IF share what they share now
 pub pending_while_quiet : (n k : ℕ) (b : BusState) → k < n → AreQuietOn (n - 1) b → pending_interrupts (iterate tick k b) ≡ pending_interrupts b
 pending_while_quiet n k b below quiet =
-    ap pending_interrupts (sym (quiet_pass (n - 1) k b (omega arith) quiet)) ∙ pending_behind k b (fewer_are_quiet (n - 1) k b (omega arith) quiet)
+    ap pending_interrupts (sym (quiet_pass (n - 1) k b (omega arith) quiet)) ∙ pending_after k b (fewer_are_quiet (n - 1) k b (omega arith) quiet)
 
 -- fewer are calm too
 pub fewer_are_calm : (n m : ℕ) (b : BusState) → m ≤ n → IsCalm n b → IsCalm m b
@@ -221,9 +221,9 @@ fewer_are_calm n m b le calm = record {
   none_pending = λ some. calm.none_pending (omega arith);
 }
 
--- what is calm behind k of them
-pub calm_behind : (n k : ℕ) (b : BusState) → k < n → IsCalm n b → IsCalm (n - k) (iterate tick k b)
-calm_behind n k b below calm =
+-- what is calm after k of them
+pub calm_after : (n k : ℕ) (b : BusState) → k < n → IsCalm n b → IsCalm (n - k) (iterate tick k b)
+calm_after n k b below calm =
     let left : n - k - 1 ≡ n - 1 - k = omega arith in record {
       quiet = rw left (subst (AreQuietOn (n - 1 - k)) (quiet_pass (n - 1) k b (omega arith) calm.quiet) (quiet_after (n - 1) k b (omega arith) calm.quiet));
       none_pending = λ some. pending_while_quiet n k b below calm.quiet ∙ calm.none_pending (omega arith);

@@ -7,8 +7,8 @@ use Rattle.repeated_steps.proofs.Iterates.{iterate-keeps}
 use Rattle.timer_unit.specs.Timer as timer
 use Rattle.timer_unit.specs.Serial as serial
 use Rattle.picture_unit.specs.Picture as picture
-use Rattle.picture_unit.specs.PictureJump.{IsSettled}
-use Rattle.picture_unit.proofs.Settled.{quiet_requests, tick_settles}
+use Rattle.picture_unit.specs.PictureJump.{IsSteady}
+use Rattle.picture_unit.proofs.Steady.{quiet_requests, tick_is_steady}
 use Rattle.memory_map.specs.Joypad.{p1_value}
 use Rattle.memory_map.specs.State.{BusState}
 use Rattle.memory_map.specs.Bus.{digit, pending_interrupts}
@@ -44,17 +44,17 @@ each b = record b { timer = timer.tick b.timer; serial = serial.tick b.serial; p
 quiet_tick : (b : BusState) → copies b ≡ false → tick b ≡ each b
 quiet_tick b e = ap (λ t. tick_picture (cond t (copied_byte (tick_serial (tick_timer b))) (tick_serial (tick_timer b)))) e
 
-pub bus_settles : (b : BusState) → IsSettled (tick b).picture
-bus_settles b = tick_settles (tick_dma (tick_serial (tick_timer b))).picture
+pub bus_is_steady : (b : BusState) → IsSteady (tick b).picture
+bus_is_steady b = tick_is_steady (tick_dma (tick_serial (tick_timer b))).picture
 
-quiet_pending : (b : BusState) → happens b ≡ false → IsSettled b.picture → pending_interrupts (tick b) ≡ pending_interrupts b
-quiet_pending b e settled =
+quiet_pending : (b : BusState) → happens b ≡ false → IsSteady b.picture → pending_interrupts (tick b) ≡ pending_interrupts b
+quiet_pending b e steady =
     let copy = left_none (copies b) (timer.signal_falls b.timer || (serial.transfer_ends b.serial || picture.is_entry b.picture)) e in
     let units = right_none (copies b) (timer.signal_falls b.timer || (serial.transfer_ends b.serial || picture.is_entry b.picture)) e in
     let t = timer_quiet b.timer (left_none (timer.signal_falls b.timer) (serial.transfer_ends b.serial || picture.is_entry b.picture) units) in
     let others = right_none (timer.signal_falls b.timer) (serial.transfer_ends b.serial || picture.is_entry b.picture) units in
     let s = serial_quiet b.serial (left_none (serial.transfer_ends b.serial) (picture.is_entry b.picture) others) in
-    let p = quiet_requests b.picture (right_none (serial.transfer_ends b.serial) (picture.is_entry b.picture) others) settled in
+    let p = quiet_requests b.picture (right_none (serial.transfer_ends b.serial) (picture.is_entry b.picture) others) steady in
     let c = b.control in
     let v' = (picture.tick b.picture).vblank in
     let l' = (picture.tick b.picture).stat in
@@ -65,19 +65,19 @@ quiet_pending b e settled =
     ∙ ap (λ (r : Bool). bits_of c.ie v' r b.timer.requested b.serial.requested c.joypad) p.1
     ∙ ap (λ (r : Bool). bits_of c.ie r b.picture.stat b.timer.requested b.serial.requested c.joypad) p.0
 
-quiet_run : (n : ℕ) (b : BusState) → IsSettled b.picture → ((k : ℕ) → k < n → happens (iterate tick k b) ≡ false) → pending_interrupts (iterate tick n b) ≡ pending_interrupts b
-quiet_run zero b settled quiet = refl
-quiet_run (suc n) b settled quiet =
-    quiet_run n (tick b) (bus_settles b) (λ k lt. quiet (suc k) (omega arith)) ∙ quiet_pending b (quiet zero (omega arith)) settled
+quiet_run : (n : ℕ) (b : BusState) → IsSteady b.picture → ((k : ℕ) → k < n → happens (iterate tick k b) ≡ false) → pending_interrupts (iterate tick n b) ≡ pending_interrupts b
+quiet_run zero b steady quiet = refl
+quiet_run (suc n) b steady quiet =
+    quiet_run n (tick b) (bus_is_steady b) (λ k lt. quiet (suc k) (omega arith)) ∙ quiet_pending b (quiet zero (omega arith)) steady
 
 abbrev pub ComesAfter : Option ℕ → ℕ → Type 0
 ComesAfter None n = Unit {0}
 ComesAfter (Some d) n = n < d
 
 -- The requests stay as they are before the next event.
-pub pending_before : (b : BusState) (due : Option ℕ) (n : ℕ) → IsSettled b.picture → IsNextEvent tick happens b due → ComesAfter due n → pending_interrupts (iterate tick n b) ≡ pending_interrupts b
-pending_before b None n settled next later = quiet_run n b settled (λ k lt. next k)
-pending_before b (Some d) n settled next later = quiet_run n b settled (λ k less. next.2 k (omega (arith, later)))
+pub pending_before : (b : BusState) (due : Option ℕ) (n : ℕ) → IsSteady b.picture → IsNextEvent tick happens b due → ComesAfter due n → pending_interrupts (iterate tick n b) ≡ pending_interrupts b
+pending_before b None n steady next later = quiet_run n b steady (λ k lt. next k)
+pending_before b (Some d) n steady next later = quiet_run n b steady (λ k less. next.2 k (omega (arith, later)))
 
 tick_keeps_p1 : (b : BusState) → p1_value (tick b).control ≡ p1_value b.control
 tick_keeps_p1 b = elim (copies b) as (λ t. p1_value (tick_picture (cond t (copied_byte (tick_serial (tick_timer b))) (tick_serial (tick_timer b)))).control ≡ p1_value b.control) [ true ↦ refl | false ↦ refl ]

@@ -53,8 +53,8 @@ acknowledged bit b =
 
 -- ---- the registers
 
--- what a register reads: unused bits of SC, TAC and IF read 1 (fixed profile); the picture unit answers for its own, and
--- FF for every other address
+-- what a register reads: unused bits of SC, TAC and IF read 1 (fixed profile); the picture unit gives its own, and FF
+-- for every other address
 unfoldable pub register_value : BusState → (address : ℕ) → ℕ
 register_value b a =
     if a == 0xFF00 then p1_value b.control
@@ -84,7 +84,8 @@ register_written a v b =
 
 -- ---- places
 
--- what is at a place, whatever mode or copy closes it
+-- What is at a place, whatever mode or copy closes it. FEA0 to FEFF read 00, and FF10 to FF3F the sound bytes as they were written
+-- (fixed profile).
 abbrev pub value_at : BusState → Place → ℕ
 value_at b (Cartridge a) = banks.read_at b.banks a
 value_at b (Vram i) = slice_index b.picture.picture.vram i
@@ -96,7 +97,7 @@ value_at b (Register a) = register_value b a
 value_at b (Hram i) = slice_index b.hram i
 value_at b InterruptEnable = b.control.ie
 
--- mode 3 closes VRAM; modes 2 and 3, and a running copy, close OAM
+-- mode 3 closes VRAM; modes 2 and 3, and a running copy, close OAM. A copy closes nothing else (fixed profile).
 abbrev pub is_closed : BusState → Place → Bool
 is_closed b (Cartridge a) = false
 is_closed b (Vram i) = is_vram_closed b.picture.picture.state
@@ -114,7 +115,7 @@ with_vram vram b = record b { picture = record b.picture { picture = record b.pi
 abbrev pub with_oam : List ℕ → BusState → BusState
 with_oam oam b = record b { picture = record b.picture { picture = record b.picture.picture { oam = oam } } }
 
--- a place that is not closed is written
+-- A place that is not closed is written. Writes to FEA0 to FEFF are ignored (fixed profile).
 abbrev pub stored_at : Place → ℕ → BusState → BusState
 stored_at (Cartridge a) v b = record b { banks = banks.written a v b.banks }
 stored_at (Vram i) v b = with_vram (slice_set b.picture.picture.vram i v) b

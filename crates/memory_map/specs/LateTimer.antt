@@ -13,5 +13,5 @@ abbrev pub up_to : ℕ → LateTimer → TimerAndRequest
 up_to now l = iterate tick (now - l.at) (running l)
 
 -- a timer that has been given all its M-cycles up to this one of the clock
-abbrev pub settled_at : ℕ → TimerAndRequest → LateTimer
-settled_at now s = record { timer = s.timer; requested = s.requested; at = now }
+abbrev pub caught_up_at : ℕ → TimerAndRequest → LateTimer
+caught_up_at now s = record { timer = s.timer; requested = s.requested; at = now }

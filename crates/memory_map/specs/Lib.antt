@@ -7,6 +7,7 @@ pub mod Ticks
 pub mod Stores
 pub mod Laws
 pub mod CopyLaws
+pub mod Quiet
 -- what only the code needs
 pub mod LateTimer
-pub mod Quiet
+pub mod Invariant

@@ -4,8 +4,8 @@ use Rattle.memory_map.specs.declared.place.Place.{Place}
 use Rattle.memory_map.specs.declared.place.Place.TheVariants.{Cartridge, Vram, Wram, Oam, Unused, Sound, Register, Hram, InterruptEnable}
 
 -- the next address; after FFFF comes 0000
-abbrev pub address_behind : ℕ → ℕ
-address_behind a = (a + 1) % 65536
+abbrev pub address_after : ℕ → ℕ
+address_after a = (a + 1) % 65536
 
 -- the place that an address names. The cartridge and the registers go by the address itself, every other place by its
 -- offset. E000-FDFF are an echo of C000-DDFF.

@@ -1,14 +1,12 @@
 -- M-cycles in which nothing is requested and no byte is copied: for the calls that pass many of them fast.
-use Rattle.std.specs.Prelude.{◌≡◌, ℕ, true, false, ◌+◌, ◌-◌, ◌*◌, ◌/◌, ◌<◌, ◌≤◌, length}
+use Rattle.std.specs.Prelude.{◌≡◌, ℕ, true, false, ◌+◌, ◌-◌, ◌/◌, ◌<◌, ◌≤◌}
 use Rattle.timer_unit.specs.Timer as timer
 use Rattle.timer_unit.specs.declared.timer.TimerState.{TimerState}
 use Rattle.picture_unit.specs.declared.state.PictureState.{PictureState}
 use Rattle.picture_unit.specs.Picture.{is_on}
-use Rattle.picture_unit.specs.Laws.{frame_cycle}
-use Rattle.picture_unit.specs.LatePicture as picture
-use Rattle.memory_map.specs.State.{BusState, IsLegalControl}
+use Rattle.picture_unit.specs.Quiet as picture
+use Rattle.memory_map.specs.State.{BusState}
 use Rattle.memory_map.specs.Bus.{pending_interrupts}
-use Rattle.memory_map.specs.declared.late_timer.LateTimer.{LateTimer}
 
 -- In the next n M-cycles, if any, no byte is copied, no transfer runs, and neither the timer nor the picture unit requests anything. While
 -- the LCD is on the frame does not end in them, and while it is off the counter of DIV does not overflow. `copied` bytes of a copy are
@@ -20,7 +18,7 @@ pub record AreQuiet (n copied : ℕ) (t : TimerState) (left : ℕ) (p : PictureS
   pub lit : is_on p ≡ true → picture.AreQuiet n p
   pub dark : 0 < n → is_on p ≡ false → t.counter / 4 + n < 16384
 
--- the same of the units of a bus
+-- the next n M-cycles of a bus are quiet
 abbrev pub AreQuietOn : ℕ → BusState → Type 0
 AreQuietOn n b = AreQuiet n b.control.dma_copied b.timer.timer b.serial.serial.cycles_left b.picture.picture.state
 
@@ -28,17 +26,3 @@ AreQuietOn n b = AreQuiet n b.control.dma_copied b.timer.timer b.serial.serial.c
 pub record IsCalm (n : ℕ) (b : BusState) : Type 0 where
   pub quiet : AreQuietOn (n - 1) b
   pub none_pending : 0 < n → pending_interrupts b ≡ 0
-
--- What is known of a bus beside its value. Its clock is the M-cycle of the frame while the LCD is on; while it is off it is so low that the
--- counter of DIV overflows first. All M-cycles before `calm_until` but the last are quiet, and IE and IF share no bit; those before
--- `quiet_until` are quiet. Both count by the clock, as does what the timer is late.
-pub record IsConsistent (calm_until quiet_until clock : ℕ) (l : LateTimer) (b : BusState) : Type 0 where
-  pub wram : length b.wram ≡ 8192
-  pub control : IsLegalControl b.control
-  pub lit : is_on b.picture.picture.state ≡ true → clock ≡ frame_cycle b.picture.picture.state
-  pub dark : is_on b.picture.picture.state ≡ false → 4 * clock ≤ b.timer.timer.counter
-  pub waiting : AreQuietOn (calm_until - 1 - clock) b
-  pub asked : AreQuietOn (quiet_until - clock) b
-  pub none_pending : clock < calm_until → pending_interrupts b ≡ 0
-  pub late : l.at ≤ clock
-  pub requested : b.timer.requested ≡ l.requested

@@ -34,7 +34,8 @@ control_at_power_on = record { ie = 0; joypad = false; buttons = 0; p1_select = 
 unfoldable pub zeros : ℕ → List ℕ
 zeros n = replicate n 0
 
--- The VBlank interrupt is requested, since IF reads E1 (Pan Docs, "Power-Up Sequence").
+-- The VBlank interrupt is requested, since IF reads E1 (Pan Docs, "Power-Up Sequence"). STAT reads 86, and the sound bytes are 00
+-- (fixed profile).
 abbrev pub bus_at_power_on : List ℕ → BusState
 bus_at_power_on image = record {
   timer = timer.unrequested timer.timer_at_power_on;

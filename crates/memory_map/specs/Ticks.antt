@@ -31,7 +31,7 @@ tick_dma b = if nat_lt b.control.dma_copied 160 then copied_byte b else b
 abbrev pub tick_picture : BusState → BusState
 tick_picture b = record b { picture = picture.tick b.picture }
 
--- the copy, then the picture unit, which sees what is copied
+-- the copy, then the picture unit, which sees OAM with what is copied so far (fixed profile)
 abbrev pub tick_dma_and_picture : BusState → BusState
 tick_dma_and_picture b = tick_picture (tick_dma b)
 

@@ -1,18 +1,24 @@
+//! All that the processor reaches by address.
+
 ghost use Rattle.std.specs.Prelude.{◌≡◌, ◌<◌, IfOk, vec_len, slice_index, if◌then◌else◌};
 
 mod clock;
+mod contents;
 mod registers;
-mod snapshot;
 
 use crate::control::Control;
 use crate::late_timer::LateTimer;
 use crate::place::Place;
 use bank_controllers::Banks;
 use cartridge::Cartridge;
-use picture_unit::Picture;
+use picture_unit::LatePicture;
 use std::alloc::{AllocError, Global};
 use std::marker::Model;
 use timer_unit::Serial;
+
+/// What `calm_until` and `quiet_until` are before a change that may end what is calm or quiet: nothing is
+/// known of the M-cycles to come until the bus finds it again.
+pub(crate) const NOTHING_KNOWN: u16 = 0;
 
 /// All that the processor reaches by address, and the units in which time passes.
 ///
@@ -24,7 +30,7 @@ pub struct Bus {
     timer: LateTimer,
     serial: Serial,
     serial_requested: bool,
-    picture: Picture,
+    picture: LatePicture,
     vblank_requested: bool,
     stat_requested: bool,
     banks: Banks,
@@ -38,14 +44,14 @@ pub struct Bus {
     // Before this M-cycle of the clock IE and IF share no bit, and up to the one before it nothing is requested and no byte copied: the
     // picture unit, which counts too, and the timer are given them late. What may end that sets it to 0.
     calm_until: u16,
-    // The same where IE and IF may share a bit: up to this M-cycle nothing is requested and no byte copied.
+    // Up to this M-cycle of the clock nothing is requested and no byte copied, where IE and IF may share a bit.
     quiet_until: u16,
 }
 
 impl Model for Bus {
     ghost use Rattle.memory_map.specs.State.{BusState};
     ghost use Rattle.memory_map.specs.LateTimer.{up_to};
-    ghost use Rattle.memory_map.specs.Quiet.{IsConsistent};
+    ghost use Rattle.memory_map.specs.Invariant.{IsConsistent};
 
     ghost Value = { BusState };
 
@@ -98,7 +104,7 @@ ghost use Rattle.memory_map.specs.State.{zeros};
 
 impl Bus {
     ghost use Rattle.memory_map.specs.State.{bus_at_power_on};
-    ghost use Rattle.memory_map.specs.Map.{place, address_behind};
+    ghost use Rattle.memory_map.specs.Map.{place, address_after};
     ghost use Rattle.std.specs.Prelude.{[], ◌∷◌};
     ghost use Rattle.memory_map.specs.Bus.{value_at, is_closed, stored_at, peeked, read_at, written, buttons_set};
 
@@ -106,7 +112,7 @@ impl Bus {
     pub fn new(alloc: Global, cartridge: &Cartridge) -> Result<Bus, AllocError>
         ensures { IfOk result (λ b. b ≡ bus_at_power_on cartridge.now) }
     {
-        let picture = Picture::new(alloc)?;
+        let picture = LatePicture::new(alloc)?;
         let banks = Banks::new(alloc, cartridge)?;
         let wram = zeros(alloc, 8192)?;
         Ok(Bus {
@@ -122,8 +128,8 @@ impl Bus {
             sound: sound_at_power_on(),
             control: Control::at_power_on(),
             clock: 0,
-            calm_until: 0,
-            quiet_until: 0,
+            calm_until: NOTHING_KNOWN,
+            quiet_until: NOTHING_KNOWN,
         })
     }
 
@@ -134,7 +140,7 @@ impl Bus {
     pub fn read(&self, address: u16) -> u8
         ensures { result ≡ read_at self.now address }
     {
-        // The lower half of ROM is asked for first, since most code runs there.
+        // The lower half of ROM comes first, since most code runs there.
         if address < 0x4000 {
             return self.banks.read(address);
         }
@@ -154,22 +160,22 @@ impl Bus {
     #[inline(always)]
     pub fn read_three(&self, address: u16, bytes: &mut [u8; 3])
         ensures { bytes.new ≡
-            read_at self.now address ∷ read_at self.now (address_behind address) ∷ read_at self.now (address_behind (address_behind address)) ∷ [] }
+            read_at self.now address ∷ read_at self.now (address_after address) ∷ read_at self.now (address_after (address_after address)) ∷ [] }
     {
-        // Within one half of ROM, so that each of the three is asked for its place no more.
+        // Where all three lie in one half of ROM, none of them is looked up in the memory map.
         if address < 0x3ffe {
             *bytes = self.three_at(address);
         } else if address >= 0x4000 && address < 0x7ffe {
             *bytes = self.three_at(address);
         } else {
-            *bytes = self.three_apart(address);
+            *bytes = self.three_out_of_line(address);
         }
     }
 
     #[inline(always)]
     fn three_at(&self, address: u16) -> [u8; 3]
         ensures { result ≡
-            read_at self.now address ∷ read_at self.now (address_behind address) ∷ read_at self.now (address_behind (address_behind address)) ∷ [] }
+            read_at self.now address ∷ read_at self.now (address_after address) ∷ read_at self.now (address_after (address_after address)) ∷ [] }
     {
         let second = address.wrapping_add(1);
         let third = second.wrapping_add(1);
@@ -177,9 +183,9 @@ impl Bus {
     }
 
     #[inline(never)]
-    fn three_apart(&self, address: u16) -> [u8; 3]
+    fn three_out_of_line(&self, address: u16) -> [u8; 3]
         ensures { result ≡
-            read_at self.now address ∷ read_at self.now (address_behind address) ∷ read_at self.now (address_behind (address_behind address)) ∷ [] }
+            read_at self.now address ∷ read_at self.now (address_after address) ∷ read_at self.now (address_after (address_after address)) ∷ [] }
     {
         self.three_at(address)
     }
@@ -251,7 +257,7 @@ impl Bus {
         ensures { self.new ≡ buttons_set buttons self.old }
     {
         let select = self.control.p1_select;
-        self.calm_until = 0;
+        self.calm_until = NOTHING_KNOWN;
         self.control.set_joypad(select, buttons);
     }
 
@@ -309,7 +315,7 @@ impl Bus {
     fn write_ie(&mut self, value: u8)
         ensures { self.new ≡ stored_at Place.InterruptEnable value self.old }
     {
-        self.calm_until = 0;
+        self.calm_until = NOTHING_KNOWN;
         self.control.ie = value;
         self.find_calm();
     }

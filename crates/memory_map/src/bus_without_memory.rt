@@ -1,3 +1,5 @@
+//! What a snapshot holds of the bus beside its stores.
+
 use bank_controllers::BanksState;
 use picture_unit::PictureState;
 use timer_unit::{SerialState, TimerState};

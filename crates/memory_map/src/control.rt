@@ -1,4 +1,6 @@
-/// The registers that belong to no unit, and the state behind them.
+//! The registers that belong to no unit.
+
+/// The registers that belong to no unit, and what they are computed from.
 #[derive(Clone, Copy, Debug, PartialEq, Eq)]
 pub struct Control {
     /// IE, all eight bits.

@@ -2,7 +2,7 @@
 
 ghost use Rattle.std.specs.Prelude.{◌≡◌, ◌%◌};
 ghost use Rattle.timer_unit.specs.Timer.{with_counter_and_tac, IsLegalTimer};
-ghost use Rattle.memory_map.specs.LateTimer.{up_to, settled_at, running};
+ghost use Rattle.memory_map.specs.LateTimer.{up_to, caught_up_at, running};
 
 use timer_unit::{Timer, TimerState};
 
@@ -29,8 +29,8 @@ impl LateTimer {
 
     /// Gives the timer the M-cycles up to this one of the clock, which from now on is counted as `at`.
     #[inline]
-    pub(crate) fn settle(&mut self, now: u16, at: u16)
-        ensures { self.new ≡ settled_at at (up_to now self.old) }
+    pub(crate) fn catch_up(&mut self, now: u16, at: u16)
+        ensures { self.new ≡ caught_up_at at (up_to now self.old) }
     {
         if self.at == now {
             self.at = at;
@@ -42,11 +42,11 @@ impl LateTimer {
     /// Gives the timer the M-cycles up to this one of the clock, which from now on is counted as `at`, and as many more.
     #[inline]
     pub(crate) fn pass(&mut self, now: u16, at: u16, cycles: u32)
-        ensures { self.new ≡ settled_at at (iterate tick cycles (up_to now self.old)) }
+        ensures { self.new ≡ caught_up_at at (iterate tick cycles (up_to now self.old)) }
     {
         let late = u32::from(now.saturating_sub(self.at));
         if cycles > 0xffff_0000 {
-            self.settle(now, at);
+            self.catch_up(now, at);
             return self.pass_all(at, cycles);
         }
         self.pass_all(at, late + cycles);
@@ -54,7 +54,7 @@ impl LateTimer {
 
     #[inline]
     fn pass_all(&mut self, now: u16, cycles: u32)
-        ensures { self.new ≡ settled_at now (iterate tick cycles (running self.old)) }
+        ensures { self.new ≡ caught_up_at now (iterate tick cycles (running self.old)) }
     {
         let requests = self.timer.pass(cycles);
         self.requested |= requests.bits != 0;
@@ -74,9 +74,9 @@ impl LateTimer {
 
     /// Requests the interrupt or withdraws the request, at this M-cycle of the clock.
     pub(crate) fn set_requested(&mut self, now: u16, requested: bool)
-        ensures { self.new ≡ settled_at now (record (up_to now self.old) { requested = requested }) }
+        ensures { self.new ≡ caught_up_at now (record (up_to now self.old) { requested = requested }) }
     {
-        self.settle(now, now);
+        self.catch_up(now, now);
         self.requested = requested;
     }
 
@@ -91,34 +91,34 @@ impl LateTimer {
 
     /// A write to DIV at this M-cycle of the clock, which from now on is counted as `at`.
     pub(crate) fn write_div(&mut self, now: u16, at: u16)
-        ensures { self.new ≡ settled_at at (with_counter_and_tac 0 (up_to now self.old).timer.tac (up_to now self.old)) }
+        ensures { self.new ≡ caught_up_at at (with_counter_and_tac 0 (up_to now self.old).timer.tac (up_to now self.old)) }
     {
-        self.settle(now, at);
+        self.catch_up(now, at);
         let requests = self.timer.write_div();
         self.requested |= requests.bits != 0;
     }
 
     /// A write to TIMA at this M-cycle of the clock.
     pub(crate) fn write_tima(&mut self, now: u16, value: u8)
-        ensures { self.new ≡ settled_at now (record (up_to now self.old) { timer = record (up_to now self.old).timer { tima = value } }) }
+        ensures { self.new ≡ caught_up_at now (record (up_to now self.old) { timer = record (up_to now self.old).timer { tima = value } }) }
     {
-        self.settle(now, now);
+        self.catch_up(now, now);
         self.timer.write_tima(value);
     }
 
     /// A write to TMA at this M-cycle of the clock.
     pub(crate) fn write_tma(&mut self, now: u16, value: u8)
-        ensures { self.new ≡ settled_at now (record (up_to now self.old) { timer = record (up_to now self.old).timer { tma = value } }) }
+        ensures { self.new ≡ caught_up_at now (record (up_to now self.old) { timer = record (up_to now self.old).timer { tma = value } }) }
     {
-        self.settle(now, now);
+        self.catch_up(now, now);
         self.timer.write_tma(value);
     }
 
     /// A write to TAC at this M-cycle of the clock.
     pub(crate) fn write_tac(&mut self, now: u16, value: u8)
-        ensures { self.new ≡ settled_at now (with_counter_and_tac (up_to now self.old).timer.counter (value % 8) (up_to now self.old)) }
+        ensures { self.new ≡ caught_up_at now (with_counter_and_tac (up_to now self.old).timer.counter (value % 8) (up_to now self.old)) }
     {
-        self.settle(now, now);
+        self.catch_up(now, now);
         let requests = self.timer.write_tac(value);
         self.requested |= requests.bits != 0;
     }

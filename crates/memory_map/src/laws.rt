@@ -1,3 +1,5 @@
+//! Laws of the definitions. The functions do nothing: the contract of each is a law.
+
 ghost use Rattle.memory_map.specs.Laws.{EachRowIsMapped};
 
 /// Law: the place of an address is that of its row in the table of the memory map. The call does

@@ -1,3 +1,5 @@
+//! The memory map: the place that each address names.
+
 ghost use Rattle.std.specs.Prelude.{◌≡◌};
 
 /// What an address names: the cartridge or a register by the address itself, every other store by

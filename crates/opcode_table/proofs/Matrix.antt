@@ -69,9 +69,9 @@ rows_cc =
     (λ b c. refl) & (λ b c. refl) & (λ b c. refl) & (λ b c. refl) & signed (codes "LD HL,SP") 2 3 3 & (λ b c. refl) & (λ b c. refl) & (λ b c. refl) &
     (λ b c. refl) & (λ b c. refl) & (λ b c. refl) & (λ b c. refl) & tt
 
-behind_cb : AreCbRowsFrom 0x00 cb_rows
+after_cb : AreCbRowsFrom 0x00 cb_rows
 unfolding instruction_of loads_and_steps jumps_and_stack bit_instruction operand8_text register16_text stack_register16_text indirect_text condition_text operation_text accumulator_text shift_text cb_rows cb_operands
-behind_cb =
+after_cb =
     ((λ c. refl) & (λ c. refl) & (λ c. refl) & (λ c. refl) & (λ c. refl) & (λ c. refl) & (λ c. refl) & (λ c. refl) & tt) &
     ((λ c. refl) & (λ c. refl) & (λ c. refl) & (λ c. refl) & (λ c. refl) & (λ c. refl) & (λ c. refl) & (λ c. refl) & tt) &
     ((λ c. refl) & (λ c. refl) & (λ c. refl) & (λ c. refl) & (λ c. refl) & (λ c. refl) & (λ c. refl) & (λ c. refl) & tt) &
@@ -115,5 +115,5 @@ each_has_its_row = record {
   from_80 = rows_80;
   from_c0 = rows_c0;
   from_cc = rows_cc;
-  behind_cb = behind_cb;
+  after_cb = after_cb;
 }

@@ -17,7 +17,7 @@ choice-defined : (t : Bool) (i j : Instr) → is_undefined i ≡ false → is_un
 choice-defined true i j first second = first
 choice-defined false i j first second = second
 
--- each of the four groups behind CB is defined
+-- each of the four groups after CB is defined
 bit_instruction-defined : (x z y : ℕ) → is_undefined (bit_instruction x z y) ≡ false
 unfolding bit_instruction
 bit_instruction-defined x z y =

@@ -113,13 +113,13 @@ with_operands b c (k ∷ text) =
 abbrev pub decoded_row : (opcode b c : ℕ) → OpcodeRow
 decoded_row opcode b c = let d = decoded_of opcode b c in row (text_of d.instr) d.length d.cycles d.cycles_taken
 
--- the rows are those of the opcodes from this one on, whatever bytes stand behind
+-- the rows are those of the opcodes from this one on, whatever bytes stand after
 abbrev pub AreRowsFrom : (opcode : ℕ) → List OpcodeRow → Type 0
 AreRowsFrom opcode [] = Unit {0}
 AreRowsFrom opcode (r ∷ rows) =
     ((b c : ℕ) → decoded_row opcode b c ≡ row (with_operands b c r.text) r.length r.cycles r.taken) × AreRowsFrom (opcode + 1) rows
 
--- ---- behind CB
+-- ---- after CB
 
 -- an operation: the text before its operand, and its M-cycles with a register and with the byte at HL
 pub record CbRow : Type 0 where
@@ -170,7 +170,7 @@ AreCbRowsFrom byte (r ∷ rows) = AreOperandsFrom byte r cb_operands × AreCbRow
 
 -- ---- the table
 
--- each opcode and each byte behind CB has its row, and none is left out
+-- each opcode and each byte after CB has its row, and none is left out
 pub record EachOpcodeHasItsRow : Type 0 where
   pub counts : (length opcodes_00 ≡ 64) × (length opcodes_40 ≡ 64) × (length opcodes_80 ≡ 64) × (length opcodes_c0 ≡ 11) × (length opcodes_cc ≡ 52)
   pub cb_counts : (length cb_rows ≡ 32) × (length cb_operands ≡ 8)
@@ -179,4 +179,4 @@ pub record EachOpcodeHasItsRow : Type 0 where
   pub from_80 : AreRowsFrom 0x80 opcodes_80
   pub from_c0 : AreRowsFrom 0xC0 opcodes_c0
   pub from_cc : AreRowsFrom 0xCC opcodes_cc
-  pub behind_cb : AreCbRowsFrom 0x00 cb_rows
+  pub after_cb : AreCbRowsFrom 0x00 cb_rows

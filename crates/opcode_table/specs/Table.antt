@@ -71,7 +71,7 @@ bit_instruction x z y =
     else if x == 2 then instr.ResetBit y (operand8_of z)
     else instr.SetBit y (operand8_of z)
 
--- the instruction of three bytes: the opcode o and the two behind it
+-- the instruction of three bytes: the opcode o and the two after it
 unfoldable pub instruction_of : ℕ → ℕ → ℕ → Instr
 instruction_of o b c =
     let x = o / 64 in

@@ -18,7 +18,7 @@ is_in_memory L = false
 is_in_memory AtHl = true
 is_in_memory A = false
 
--- the bytes behind the opcode: one for n8 and e, two for n16, and the second byte of STOP and of CB
+-- the bytes after the opcode: one for n8 and e, two for n16, and the second byte of STOP and of CB
 abbrev pub operand_bytes : Instr → ℕ
 operand_bytes Nop = 0
 operand_bytes (StoreSp w) = 2

@@ -75,7 +75,7 @@ pub enum AccumulatorOperation {
     FlipCarry,
 }
 
-/// The rotations and shifts behind CB.
+/// The rotations and shifts after CB.
 #[derive(Clone, Copy, Debug, PartialEq, Eq)]
 pub enum Shift {
     RotateLeft,

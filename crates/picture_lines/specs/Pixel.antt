@@ -36,7 +36,7 @@ shade_over o shade under under_shade =
     if has_bit o.attributes 7 && not (under == 0) then under_shade else shade
 
 module _ (s : LineRegisters) where
-  -- whether the line has a window, at any column
+  -- whether the line has a window, at any column: WX 00 and A6 are values as any other (fixed profile)
   unfoldable pub is_window_drawn : Bool
   is_window_drawn =
       has_bit s.lcdc 5 && has_bit s.lcdc 0 && s.seen && nat_le s.wx 166

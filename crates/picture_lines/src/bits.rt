@@ -1,3 +1,5 @@
+//! Bits of a byte, palettes and the planes of a tile row.
+
 ghost use Rattle.std.specs.Prelude.{◌≡◌, ◌<◌};
 ghost use Rattle.picture_lines.specs.Bits.{has_bit as is_bit_set, shade_of, plane_colour};
 

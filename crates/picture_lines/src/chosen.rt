@@ -1,3 +1,5 @@
+//! The objects of a line, chosen once for all lines on which they are the same.
+
 ghost use Rattle.std.specs.Prelude.{◌≡◌, ℕ, ◌+◌, ◌<◌, ◌≤◌, length, take, filter, List};
 ghost use Rattle.std.specs.List.{AllPass};
 ghost use Rattle.picture_lines.specs.Bits.{has_bit as is_bit_set};
@@ -5,9 +7,9 @@ ghost use Rattle.picture_lines.specs.Pixel.{covers_line as covers, objects_of};
 ghost use Rattle.picture_lines.specs.Choice.{IsChoice};
 
 use crate::bits::has_bit;
+use crate::by_definition::object_at;
 use crate::object_entry::Object;
-use crate::plain::object_at;
-use crate::registers::LineRegisters;
+use crate::registers::{LineRegisters, OBJECT_SIZE};
 use arrayvec::ArrayVec;
 
 /// The objects that were chosen for a line, with the lines on which the same ones are chosen as long
@@ -37,7 +39,7 @@ impl ChosenObjects {
         }
     }
 
-    /// They are right for no line from now on.
+    /// Forgets them: from now on they are right for no line.
     pub fn forget(&mut self)
         ensures { (oam : List ℕ) → IsChoice self.new oam }
     {
@@ -46,8 +48,8 @@ impl ChosenObjects {
 }
 
 impl LineRegisters {
-    // Up to which line an object covers the lines as it does this one.
-    fn stays_until(&self, object: &Object) -> usize
+    // The first line after this one on which it may change whether the object covers the line.
+    fn same_cover_until(&self, object: &Object) -> usize
         requires { self.now.ly < 144 }
         ensures later { self.now.ly + 16 < result }
         ensures same { (s : LineRegisters) → self.now.ly ≤ s.ly → s.ly + 16 < result →
@@ -62,7 +64,7 @@ impl LineRegisters {
         if line < bottom { bottom } else { 512 }
     }
 
-    // Chooses the objects of the line, by looking at all of them.
+    // Chooses the objects of the line from all 40.
     fn choice(&self, oam: &[u8]) -> ChosenObjects
         requires line_in { self.now.ly < 144 }
         requires oam { length oam.now ≡ 160 }
@@ -73,7 +75,7 @@ impl LineRegisters {
         let mut end = 512;
         for index in 0..40 {
             let object = object_at(oam, index);
-            end = self.stays_until(&object).min(end);
+            end = self.same_cover_until(&object).min(end);
             if self.covers_line(&object) && !objects.is_full() {
                 objects.push(object);
             }
@@ -82,11 +84,11 @@ impl LineRegisters {
             objects,
             first: self.ly as usize + 16,
             end,
-            is_tall: has_bit(self.lcdc, 2),
+            is_tall: has_bit(self.lcdc, OBJECT_SIZE),
         }
     }
 
-    // Chooses the objects of the line, unless those that are there are right for it.
+    // Chooses the objects of the line, unless those that were chosen before are still the right ones.
     pub(crate) fn choose(&self, oam: &[u8], chosen: &mut ChosenObjects)
         requires line_in { self.now.ly < 144 }
         requires oam { length oam.now ≡ 160 }
@@ -95,7 +97,7 @@ impl LineRegisters {
         ensures objects { chosen.new.objects.items ≡ take 10 (filter (covers self.now) (objects_of oam.now)) }
     {
         let line = self.ly as usize + 16;
-        let is_tall = has_bit(self.lcdc, 2);
+        let is_tall = has_bit(self.lcdc, OBJECT_SIZE);
         if chosen.first <= line && line < chosen.end && chosen.is_tall == is_tall {
             return;
         }

@@ -1,3 +1,5 @@
+//! Eight and sixteen colours at once.
+
 ghost use Rattle.std.specs.Prelude.{◌≡◌, ℕ, ◌+◌, ◌<◌, ◌≤◌, length, map, All, slice_index};
 ghost use lib.Lanes.{chunk, put_chunk};
 ghost use Rattle.picture_lines.specs.Bits.{plane_colours, shade_of};

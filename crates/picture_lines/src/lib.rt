@@ -3,17 +3,17 @@
 #![tactic(auto)]
 
 mod bits;
+mod by_definition;
 mod chosen;
 mod kernels;
 mod line;
 mod object_entry;
-mod plain;
 mod registers;
 mod tiles;
 
+pub use by_definition::winner_is_least;
 pub use chosen::ChosenObjects;
 pub use kernels::{map_shades, tile_colours};
 pub use object_entry::Object;
-pub use plain::winner_is_least;
 pub use registers::LineRegisters;
 pub use tiles::TileMemory;

@@ -1,3 +1,5 @@
+//! A line by whole tile rows.
+
 ghost use Rattle.std.specs.Prelude.{◌≡◌, ℕ, ◌+◌, ◌*◌, ◌-◌, ◌/◌, ◌%◌, ◌<◌, ◌≤◌, length, slice_index, All, List, drop, [], ◌∷◌, if◌then◌else◌};
 ghost use Rattle.std.specs.List.{AllPass};
 ghost use lib.Lanes.{put_chunk};
@@ -7,27 +9,29 @@ ghost use Rattle.picture_lines.specs.Bits.{shade_of};
 ghost use Rattle.picture_lines.specs.Layers.{IsBackground, IsLayered};
 
 use crate::bits::has_bit;
+use crate::by_definition::{map_start, shade_over};
 use crate::chosen::ChosenObjects;
 use crate::kernels::map_shades;
-use crate::object_entry::Object;
-use crate::plain::{map_start, shade_over};
-use crate::registers::LineRegisters;
+use crate::object_entry::{Object, X_FLIP};
+use crate::registers::{
+    BACKGROUND_ENABLE, BACKGROUND_MAP, LineRegisters, OBJECT_ENABLE, TILE_DATA, WINDOW_MAP,
+};
 use crate::tiles::TileMemory;
 
 const WIDTH: usize = 176;
 
-// The palette by which each colour is its own shade.
+// The palette that gives each colour the shade of the same number.
 const OWN_SHADES: u8 = 0xe4;
 
-// What is added to the number of a tile, as a byte and then once more, to get the tile: without a
-// test of the number.
+// The tile data at 8800 count tiles from -128 to 127. Adding this to a tile's number twice, the first time modulo 256, gives the tile
+// without a branch on the number.
 #[tactic(auto, unfolding(crate::specs::Pixel::tile_of))]
 #[inline(always)]
 fn first_tile(lcdc: u8) -> u8
     ensures value { (number : ℕ) → number < 256 → tile_of lcdc number ≡ (number + result) % 256 + result }
     ensures small { result ≤ 128 }
 {
-    if has_bit(lcdc, 4) { 0 } else { 128 }
+    if has_bit(lcdc, TILE_DATA) { 0 } else { 128 }
 }
 
 // The tile row of a tile of a map, at a row of the map.
@@ -116,14 +120,14 @@ impl LineRegisters {
             slice_index result (x + 8) ≡ background_colour self.now tiles.old x }
     {
         let mut colours = [0; WIDTH];
-        if !has_bit(self.lcdc, 0) {
+        if !has_bit(self.lcdc, BACKGROUND_ENABLE) {
             return colours;
         }
         let across = self.scx % 8;
         put_map(
             self.lcdc,
             tiles,
-            map_start(self.lcdc, 3),
+            map_start(self.lcdc, BACKGROUND_MAP),
             self.scx - across,
             self.scy.wrapping_add(self.ly),
             &mut colours,
@@ -133,7 +137,7 @@ impl LineRegisters {
             put_map(
                 self.lcdc,
                 tiles,
-                map_start(self.lcdc, 6),
+                map_start(self.lcdc, WINDOW_MAP),
                 0,
                 self.window_counter,
                 &mut colours,
@@ -151,7 +155,7 @@ impl LineRegisters {
     {
         let colours = self.background_colours(tiles);
         let mut shades = colours;
-        if has_bit(self.lcdc, 0) {
+        if has_bit(self.lcdc, BACKGROUND_ENABLE) {
             map_shades(self.bgp, &mut shades);
         }
         Background { colours, shades }
@@ -164,7 +168,7 @@ impl LineRegisters {
             slice_index result (x + 8) ≡ background_shade self.now tiles.old x }
     {
         let mut colours = self.background_colours(tiles);
-        if has_bit(self.lcdc, 0) && self.bgp != OWN_SHADES {
+        if has_bit(self.lcdc, BACKGROUND_ENABLE) && self.bgp != OWN_SHADES {
             map_shades(self.bgp, &mut colours);
         }
         colours
@@ -245,7 +249,7 @@ impl LineRegisters {
         let colours = tiles.row(self.object_row(&object));
         let mut shades = colours;
         map_shades(self.object_palette(&object), &mut shades);
-        let is_flipped = has_bit(object.attributes, 5);
+        let is_flipped = has_bit(object.attributes, X_FLIP);
         for across in 0..8 {
             let place = turned(is_flipped, across);
             self.put_pixel(
@@ -303,8 +307,8 @@ impl LineRegisters {
         self.draw_selected(tiles, &selected, row);
     }
 
-    /// The same, where the objects of an earlier line are looked at first: they are chosen anew only
-    /// where others may cover this line.
+    /// Draws the line as `draw` does. The objects that were chosen for an earlier line are used again,
+    /// unless others may cover this line.
     pub fn draw_with(
         &self,
         tiles: &mut TileMemory,
@@ -320,7 +324,7 @@ impl LineRegisters {
         ensures row { row.new ≡ drawn_row self.now tiles.old oam.now }
         ensures shades { All (λ shade. shade < 4) row.new }
     {
-        if !has_bit(self.lcdc, 1) {
+        if !has_bit(self.lcdc, OBJECT_ENABLE) {
             return self.draw_selected(tiles, &[], row);
         }
         self.choose(oam, chosen);

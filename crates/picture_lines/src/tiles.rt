@@ -1,3 +1,5 @@
+//! VRAM, with the colours of its tile rows kept.
+
 ghost use Rattle.std.specs.Prelude.{◌≡◌, ◌<◌, List, ℕ, IfOk, replicate, slice_index, slice_set, length};
 ghost use Rattle.picture_lines.specs.Tiles.{tile_row, IsCached};
 
@@ -64,7 +66,7 @@ impl TileMemory {
     }
 
     /// The eight colours of a tile row, the leftmost first. Row r of tile t has the index 8 t + r.
-    pub fn row(&mut self, index: usize) -> [u8; 8]
+    pub(crate) fn row(&mut self, index: usize) -> [u8; 8]
         requires { index < 3072 }
         ensures value { result ≡ tile_row self.old index }
         ensures kept { self.new ≡ self.old }

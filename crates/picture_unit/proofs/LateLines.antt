@@ -119,8 +119,8 @@ module _ (lines : LateLines) (at : ℕ) where
     none = λ none. ap (λ (l : List Bool). set l at false) (right.none none) ∙ cleared 144 at;
   }
 
-pub false_behind : (are_late : List Bool) (n : ℕ) → length are_late ≡ n → ((y : ℕ) → y < n → get_or are_late y false ≡ false) → are_late ≡ replicate n false
-false_behind are_late n size none =
+pub all_false : (are_late : List Bool) (n : ℕ) → length are_late ≡ n → ((y : ℕ) → y < n → get_or are_late y false ≡ false) → are_late ≡ replicate n false
+all_false are_late n size none =
     all-false are_late (λ y h. none y (omega arith)) ∙ ap (λ (m : ℕ). replicate m false) size
 
 -- the rows where no line is late

@@ -1,9 +1,9 @@
 pub mod Quiet
 pub mod Writing
 pub mod PictureLaws
-pub mod Settled
+pub mod Steady
 pub mod Kept
 pub mod LateLines
-pub mod LatePicture
+pub mod LatePictures
 pub mod SignalLaws
 pub mod WindowLaws

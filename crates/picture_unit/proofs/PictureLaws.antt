@@ -11,7 +11,7 @@ use Rattle.picture_unit.specs.Laws.{HoldsItsPixels, frame_cycle}
 use Rattle.picture_unit.proofs.Quiet.{stays_on}
 use Rattle.std.proofs.Math.Bool.{or_assoc}
 use Rattle.repeated_steps.proofs.Iterates.{iterate-along}
-use Rattle.picture_unit.specs.Picture.{PictureUnit, PictureAndRequests, unrequested, is_on, stat_signal, advanced, entered, drawn, begins_vblank, moved, taken, tick, ticks, line_registers, line_drawn, IsLegalPicture}
+use Rattle.picture_unit.specs.Picture.{PictureUnit, PictureAndRequests, unrequested, is_on, stat_signal, advanced, entered, drawn, begins_vblank, moved, evaluated, tick, ticks, line_registers, line_drawn, IsLegalPicture}
 
 abbrev pub pending : Bool → Bool → PictureAndRequests → PictureAndRequests
 pending v l d = record d { vblank = v || d.vblank; stat = l || d.stat }
@@ -20,13 +20,13 @@ abbrev requesting : PictureUnit → Bool → Bool → PictureAndRequests
 requesting s v l = record { picture = s; vblank = v; stat = l }
 
 tick-pending : (v l : Bool) (d : PictureAndRequests) → pending v l (tick d) ≡ tick (pending v l d)
-unfolding tick taken moved
+unfolding tick evaluated moved
 tick-pending v l d =
     let next = entered (advanced d.picture.state) in
     let s = drawn (record d.picture { state = next }) in
     let rises = stat_signal s.state && not s.state.signal in
     let end = record s { state = record s.state { signal = stat_signal s.state } } in
-    elim (is_on d.picture.state) as (λ b. pending v l (cond b (taken (moved d)) d) ≡ cond b (taken (moved (pending v l d))) (pending v l d)) [
+    elim (is_on d.picture.state) as (λ b. pending v l (cond b (evaluated (moved d)) d) ≡ cond b (evaluated (moved (pending v l d))) (pending v l d)) [
       | true ↦ ap (λ (q : Bool). requesting end q (l || (d.stat || rises))) (sym (or_assoc v d.vblank (begins_vblank next))) ∙ ap (λ (q : Bool). requesting end ((v || d.vblank) || begins_vblank next) q) (sym (or_assoc l d.stat rises))
       | false ↦ refl
     ]
@@ -90,12 +90,12 @@ unfolding advanced
 m_cycle-advanced p m_cycle = grind (arith, nat_tests)
 
 module _ (d : PictureAndRequests) (on : is_on d.picture.state ≡ true) where
-  run : tick d ≡ taken (moved d)
+  run : tick d ≡ evaluated (moved d)
   unfolding tick
-  run = ap (λ b. cond b (taken (moved d)) d) on
+  run = ap (λ b. cond b (evaluated (moved d)) d) on
 
   pub frame_cycle-tick : d.picture.state.ly < 154 → d.picture.state.m_cycle < 114 → frame_cycle (tick d).picture.state ≡ (frame_cycle d.picture.state + 1) % 17556
-  unfolding taken moved
+  unfolding evaluated moved
   frame_cycle-tick ly m_cycle =
       ap (λ (e : PictureAndRequests). frame_cycle e.picture.state) run
       ∙ frame_cycle-drawn (record d.picture { state = entered (advanced d.picture.state) })
@@ -103,14 +103,14 @@ module _ (d : PictureAndRequests) (on : is_on d.picture.state ≡ true) where
       ∙ frame_cycle-advanced d.picture.state ly m_cycle
 
   pub ly-tick : (tick d).picture.state.ly ≡ (advanced d.picture.state).ly
-  unfolding taken moved
+  unfolding evaluated moved
   ly-tick =
       ap (λ (e : PictureAndRequests). e.picture.state.ly) run
       ∙ ly-drawn (record d.picture { state = entered (advanced d.picture.state) })
       ∙ ly-entered (advanced d.picture.state)
 
   pub m_cycle-tick : (tick d).picture.state.m_cycle ≡ (advanced d.picture.state).m_cycle
-  unfolding taken moved
+  unfolding evaluated moved
   m_cycle-tick =
       ap (λ (e : PictureAndRequests). e.picture.state.m_cycle) run
       ∙ m_cycle-drawn (record d.picture { state = entered (advanced d.picture.state) })

@@ -5,9 +5,9 @@ use Rattle.std.specs.Fn.{iterate}
 use Rattle.std.proofs.lemmas.Bool.Decides.{nat_tests}
 use Rattle.picture_lines.specs.Bits.{has_bit}
 use Rattle.picture_unit.specs.declared.state.PictureState.{PictureState}
-use Rattle.picture_unit.specs.Picture.{PictureUnit, PictureAndRequests, unrequested, ticks, is_on, mode, stat_signal, is_source, advanced, entered, draws, drawn, begins_vblank, line_drawn, moved, taken, tick, is_entry}
+use Rattle.picture_unit.specs.Picture.{PictureUnit, PictureAndRequests, unrequested, ticks, is_on, mode, stat_signal, is_source, advanced, entered, draws, drawn, begins_vblank, line_drawn, moved, evaluated, tick, is_entry}
 use Rattle.picture_unit.specs.PictureJump.{next_entry, next_change, later, skipped}
-use Rattle.picture_unit.proofs.Settled.{bool_cases}
+use Rattle.picture_unit.proofs.Steady.{bool_cases}
 use Rattle.repeated_steps.specs.NextEvent.{IsNextEvent}
 use Rattle.repeated_steps.proofs.Iterates.{iterate-add}
 
@@ -34,13 +34,13 @@ or_false : (b : Bool) → (b || false) ≡ b
 or_false true = refl
 or_false false = refl
 
-quiet_tick : (d : PictureAndRequests) → is_on d.picture.state ≡ true → 1 < next_change d.picture.state → tick d ≡ taken (later 1 d)
-unfolding tick moved later drawn taken
+quiet_tick : (d : PictureAndRequests) → is_on d.picture.state ≡ true → 1 < next_change d.picture.state → tick d ≡ evaluated (later 1 d)
+unfolding tick moved later drawn evaluated
 quiet_tick d on h =
     let p = d.picture.state in
-    let run : tick d ≡ taken (moved d) = ap (λ b. cond b (taken (moved d)) d) on in
+    let run : tick d ≡ evaluated (moved d) = ap (λ b. cond b (evaluated (moved d)) d) on in
     let same : moved d ≡ later 1 d = rw (quiet_advance p h, quiet_draws p h, quiet_vblank p, or_false d.vblank) refl in
-    run ∙ ap taken same
+    run ∙ ap evaluated same
 
 -- the STAT signal stays
 
@@ -78,20 +78,20 @@ keeps_signal p n h =
 same_signal : (p : PictureState) (n : ℕ) → 0 < n → n < next_change p → stat_signal (record p { m_cycle = p.m_cycle + 1 }) ≡ stat_signal (record p { m_cycle = p.m_cycle + n })
 same_signal p n pos h = keeps_signal p 1 (omega arith) ∙ sym (keeps_signal p n h)
 
-settled : (r l s : Bool) → ((r || (l && not s)) || (l && not l)) ≡ (r || (l && not s))
-settled true l s = refl
-settled false true true = refl
-settled false true false = refl
-settled false false s = refl
+steady : (r l s : Bool) → ((r || (l && not s)) || (l && not l)) ≡ (r || (l && not s))
+steady true l s = refl
+steady false true true = refl
+steady false true false = refl
+steady false false s = refl
 
-skip_more : (n : ℕ) (d : PictureAndRequests) → suc n < next_change d.picture.state → skipped n (taken (later 1 d)) ≡ taken (later (suc n) d)
-unfolding skipped later taken is_on stat_signal is_source mode
+skip_more : (n : ℕ) (d : PictureAndRequests) → suc n < next_change d.picture.state → skipped n (evaluated (later 1 d)) ≡ evaluated (later (suc n) d)
+unfolding skipped later evaluated is_on stat_signal is_source mode
 skip_more zero d h = refl
 skip_more (suc n) d h =
     let p = d.picture.state in
     let further : p.m_cycle + 1 + suc n ≡ p.m_cycle + suc (suc n) = omega arith in
     let stays : stat_signal (record p { m_cycle = p.m_cycle + 1 }) ≡ stat_signal (record p { m_cycle = p.m_cycle + suc (suc n) }) = same_signal p (suc (suc n)) (omega arith) h in
-    rw (further, stays, settled d.stat (stat_signal (record p { m_cycle = p.m_cycle + suc (suc n) })) p.signal) refl
+    rw (further, stays, steady d.stat (stat_signal (record p { m_cycle = p.m_cycle + suc (suc n) })) p.signal) refl
 
 -- one M-cycle on, the change is one M-cycle nearer
 nearer : (p : PictureState) (n : ℕ) → suc n < next_change p → n < next_change (record p { m_cycle = p.m_cycle + 1 })
@@ -99,16 +99,16 @@ unfolding next_entry next_change
 nearer p n h = grind (arith, nat_tests)
 
 pub skips : (n : ℕ) (d : PictureAndRequests) → is_on d.picture.state ≡ true → n < next_change d.picture.state → iterate tick n d ≡ skipped n d
-unfolding skipped later taken is_on stat_signal next_entry next_change
+unfolding skipped later evaluated is_on stat_signal next_entry next_change
 skips zero d on h = refl
 skips (suc n) d on h =
     ap (iterate tick n) (quiet_tick d on (omega arith))
-    ∙ skips n (taken (later 1 d)) on (nearer d.picture.state n h)
+    ∙ skips n (evaluated (later 1 d)) on (nearer d.picture.state n h)
     ∙ skip_more n d h
 
 off_tick : (d : PictureAndRequests) → is_on d.picture.state ≡ false → tick d ≡ d
 unfolding tick
-off_tick d off = ap (λ b. cond b (taken (moved d)) d) off
+off_tick d off = ap (λ b. cond b (evaluated (moved d)) d) off
 
 pub stands_still : (n : ℕ) (d : PictureAndRequests) → is_on d.picture.state ≡ false → iterate tick n d ≡ d
 stands_still zero d off = refl
@@ -125,20 +125,20 @@ unfolding next_entry is_entry advanced later is_on
 an_entry n d on legal h = grind (arith, nat_tests)
 
 -- whether the next M-cycle is an entry does not depend on the signal
-entry_taken : (d : PictureAndRequests) → is_entry (taken d) ≡ is_entry d
-unfolding taken is_entry advanced is_on
-entry_taken d = grind (arith, nat_tests)
+entry_evaluated : (d : PictureAndRequests) → is_entry (evaluated d) ≡ is_entry d
+unfolding evaluated is_entry advanced is_on
+entry_evaluated d = grind (arith, nat_tests)
 
 entry_later : (n : ℕ) (d : PictureAndRequests) → is_entry (skipped n d) ≡ is_entry (later n d)
 unfolding skipped later
 entry_later zero d = let e : d.picture.state.m_cycle ≡ d.picture.state.m_cycle + 0 = omega arith in ap (λ (k : ℕ). is_entry (record d { picture = record d.picture { state = record d.picture.state { m_cycle = k } } })) e
-entry_later (suc n) d = entry_taken (later (suc n) d)
+entry_later (suc n) d = entry_evaluated (later (suc n) d)
 
 pub never_due : (d : PictureAndRequests) → is_on d.picture.state ≡ false → IsNextEvent tick is_entry d None
 unfolding is_entry
 never_due d off k = ap is_entry (stands_still k d off) ∙ grind arith
 
--- no change comes behind the next entry
+-- no change comes after the next entry
 entry_first : (p : PictureState) → next_entry p ≤ next_change p
 unfolding next_entry next_change
 entry_first p = grind (arith, nat_tests)
@@ -165,13 +165,13 @@ unfolding is_on drawn line_drawn
 on_drawn s = grind (arith, nat_tests)
 
 on_tick : (d : PictureAndRequests) → is_on d.picture.state ≡ true → is_on (tick d).picture.state ≡ true
-unfolding tick taken moved is_on
+unfolding tick evaluated moved is_on
 on_tick d on =
-    let run : tick d ≡ taken (moved d) = ap (λ b. cond b (taken (moved d)) d) on in
+    let run : tick d ≡ evaluated (moved d) = ap (λ b. cond b (evaluated (moved d)) d) on in
     ap (λ (e : PictureAndRequests). is_on e.picture.state) run ∙ on_drawn (record d.picture { state = entered (advanced d.picture.state) }) ∙ on_entered d.picture.state ∙ on
 
 on_skipped : (n : ℕ) (d : PictureAndRequests) → is_on (skipped n d).picture.state ≡ is_on d.picture.state
-unfolding skipped taken later is_on
+unfolding skipped evaluated later is_on
 on_skipped zero d = refl
 on_skipped (suc n) d = refl
 

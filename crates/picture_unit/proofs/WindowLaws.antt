@@ -3,20 +3,20 @@ use Rattle.std.proofs.Common.{◌≡◌, ℕ, ◌+◌, ◌%◌, ◌<◌, Bool, t
 use Rattle.std.specs.Prelude.{◌==◌, if◌then◌else◌}
 use Rattle.std.proofs.lemmas.Bool.Decides.{nat_tests}
 use Rattle.picture_unit.specs.declared.state.PictureState.{PictureState}
-use Rattle.picture_unit.specs.Picture.{PictureUnit, PictureAndRequests, is_on, advanced, entered, draws, drawn, line_drawn, window_counter_after, moved, taken, tick}
+use Rattle.picture_unit.specs.Picture.{PictureUnit, PictureAndRequests, is_on, advanced, entered, draws, drawn, line_drawn, window_counter_after, moved, evaluated, tick}
 use Rattle.picture_unit.specs.Registers.{register_stored, switched_off, switched_on, lcdc_written, stat_written, lyc_written, register_written}
 use Rattle.picture_unit.specs.WindowLaws.{Event, Cycle, Write, after, draws_window, window_lines, EndsFrame, StayInFrame, WindowCounterCountsLines}
 use Rattle.picture_unit.proofs.Quiet.{stays_on}
-use Rattle.picture_unit.proofs.Settled.{bool_cases}
+use Rattle.picture_unit.proofs.Steady.{bool_cases}
 
 abbrev counter : PictureAndRequests → ℕ
 counter d = d.picture.state.window_counter
 
 -- ---- an M-cycle
 
-counter-taken : (d : PictureAndRequests) → counter (taken d) ≡ counter d
-unfolding taken
-counter-taken d = refl
+counter-evaluated : (d : PictureAndRequests) → counter (evaluated d) ≡ counter d
+unfolding evaluated
+counter-evaluated d = refl
 
 counter-moved : (d : PictureAndRequests) →
     counter (moved d) ≡ (if draws_window d.picture.state then ((entered (advanced d.picture.state)).window_counter + 1) % 256 else (entered (advanced d.picture.state)).window_counter)
@@ -26,7 +26,7 @@ counter-moved d = grind (arith, nat_tests)
 counter-tick : (d : PictureAndRequests) → is_on d.picture.state ≡ true →
     counter (tick d) ≡ (if draws_window d.picture.state then ((entered (advanced d.picture.state)).window_counter + 1) % 256 else (entered (advanced d.picture.state)).window_counter)
 unfolding tick
-counter-tick d on = rw on (counter-taken (moved d) ∙ counter-moved d)
+counter-tick d on = rw on (counter-evaluated (moved d) ∙ counter-moved d)
 
 counter-within : (p : PictureState) → (EndsFrame p → ⊥) → (entered (advanced p)).window_counter ≡ p.window_counter
 unfolding entered advanced
@@ -83,7 +83,7 @@ counter-stored address value p =
 
 counter-write : (address value : ℕ) (d : PictureAndRequests) → is_on d.picture.state ≡ true → is_on (register_written address value d).picture.state ≡ true →
     counter (register_written address value d) ≡ counter d
-unfolding register_written stat_written lyc_written taken is_on
+unfolding register_written stat_written lyc_written evaluated is_on
 counter-write address value d on stays =
     elim (bool_cases (address == 0xFF40)) [
       | inl lcdc ↦ let stays' = rw lcdc at stays in rw lcdc (counter-lcdc value d.picture on stays')

@@ -1,26 +1,15 @@
 -- The picture unit, which is given its M-cycles late.
-use Rattle.std.specs.Prelude.{◌≡◌, ℕ, ◌+◌, ◌-◌, ◌*◌, ◌/◌, ◌%◌, ◌<◌, ◌≤◌, Bool, true, false, ◌&&◌, ◌==◌, nat_lt, [], Option, Some, None, if◌then◌else◌}
+use Rattle.std.specs.Prelude.{◌≡◌, ℕ, ◌+◌, ◌-◌, ◌*◌, ◌/◌, ◌%◌, ◌<◌, ◌≤◌, Bool, false, ◌&&◌, ◌==◌, nat_lt, Option, Some, None, if◌then◌else◌}
 use Rattle.picture_lines.specs.Bits.{has_bit}
 use Rattle.picture_lines.specs.declared.registers.LineRegisters.{LineRegisters}
 use Rattle.picture_unit.specs.declared.state.PictureState.{PictureState}
-use Rattle.picture_unit.specs.Picture.{PictureUnit, IsLegalPicture, IsWhole, is_on, advanced, entered, draws, line_registers, ticks}
+use Rattle.picture_unit.specs.Picture.{PictureUnit, IsWhole, is_on, advanced, entered, draws, line_registers, ticks}
 use Rattle.picture_unit.specs.Laws.{frame_cycle}
-
--- A picture unit without VRAM, OAM and rows: neither what it requests nor the state that it comes to depends on these.
-abbrev pub bare : PictureState → PictureUnit
-bare p = record { state = p; vram = []; oam = []; rows = [] }
+use Rattle.picture_unit.specs.Quiet.{bare, AreQuiet}
 
 -- n M-cycles on
 abbrev pub state_after : ℕ → PictureState → PictureState
 state_after n p = (ticks n (bare p)).picture.state
-
--- In the next n M-cycles, if any, nothing is requested, and the frame does not end.
-pub record AreQuiet (n : ℕ) (p : PictureState) : Type 0 where
-  pub legal : 0 < n → IsLegalPicture p
-  pub on : 0 < n → is_on p ≡ true
-  pub frame : 0 < n → frame_cycle p + n < 17556
-  pub vblank : 0 < n → (ticks n (bare p)).vblank ≡ false
-  pub stat : 0 < n → (ticks n (bare p)).stat ≡ false
 
 -- as it is at an M-cycle of the frame
 abbrev pub up_to : ℕ → PictureUnit → PictureUnit
@@ -50,7 +39,7 @@ begins_mode_2 p = has_bit p.stat 5 && (p.m_cycle == 0 && nat_lt p.ly 144)
 unfoldable pub begins_mode_0 : PictureState → Bool
 begins_mode_0 p = has_bit p.stat 3 && (p.m_cycle == 63 && nat_lt p.ly 144)
 
--- That source begins with none of the M-cycles of the frame behind `now` and before `next`.
+-- That source begins with none of the M-cycles of the frame after `now` and before `next`.
 abbrev pub NoneBefore : (PictureState → Bool) → (now next : ℕ) → PictureState → Type 0
 NoneBefore begins now next p = (ly m_cycle : ℕ) → m_cycle < 114 → now < 114 * ly + m_cycle → 114 * ly + m_cycle < next → begins (record p { ly = ly; m_cycle = m_cycle }) ≡ false
 

@@ -5,6 +5,7 @@ pub mod Pgm
 pub mod Laws
 pub mod SignalLaws
 pub mod WindowLaws
+pub mod Quiet
 -- what only the code needs
 pub mod PictureJump
 pub mod LateRows

@@ -65,9 +65,9 @@ is_source stat mode is_line =
 unfoldable pub stat_signal : PictureState → Bool
 stat_signal p = is_on p && is_source p.stat (mode p) (p.ly == p.lyc)
 
--- The STAT signal is taken: its rise requests the STAT interrupt.
-unfoldable pub taken : PictureAndRequests → PictureAndRequests
-taken d = record d {
+-- The STAT signal is evaluated: its rise requests the STAT interrupt.
+unfoldable pub evaluated : PictureAndRequests → PictureAndRequests
+evaluated d = record d {
   picture = record d.picture { state = record d.picture.state { signal = stat_signal d.picture.state } };
   stat = d.stat || (stat_signal d.picture.state && not d.picture.state.signal);
 }
@@ -139,7 +139,7 @@ moved d =
 
 -- one M-cycle; with LCDC bit 7 clear the picture unit stands still
 unfoldable pub tick : PictureAndRequests → PictureAndRequests
-tick d = if is_on d.picture.state then taken (moved d) else d
+tick d = if is_on d.picture.state then evaluated (moved d) else d
 
 -- n M-cycles of a picture unit that has requested nothing
 abbrev pub ticks : ℕ → PictureUnit → PictureAndRequests
@@ -156,7 +156,7 @@ is_entry d =
 unfoldable pub blank_rows : List (List ℕ)
 blank_rows = replicate 144 (replicate 160 0)
 
--- the picture unit when the machine is switched on
+-- the picture unit when the machine is switched on: line 0 in mode 2, so that STAT reads 86 (fixed profile)
 unfoldable pub state_at_power_on : PictureState
 state_at_power_on = record {
   lcdc = 0x91;

@@ -2,7 +2,7 @@
 use Rattle.std.specs.Prelude.{◌≡◌, ℕ, zero, suc, ◌+◌, ◌-◌, ◌%◌, true, ◌&&◌, ◌||◌, ◌==◌, nat_le, nat_lt, if◌then◌else◌}
 use Rattle.picture_unit.specs.declared.state.PictureState.{PictureState}
 use Rattle.picture_unit.specs.declared.state.PictureRequests.{PictureRequests}
-use Rattle.picture_unit.specs.Picture.{PictureUnit, PictureAndRequests, is_on, stat_signal, taken}
+use Rattle.picture_unit.specs.Picture.{PictureUnit, PictureAndRequests, is_on, stat_signal, evaluated}
 
 -- how many M-cycles the next entry is away
 unfoldable pub next_entry : PictureState → ℕ
@@ -24,12 +24,12 @@ later n d = record d {
 -- n M-cycles of which each changes at most the M-cycle and the STAT signal
 unfoldable pub skipped : ℕ → PictureAndRequests → PictureAndRequests
 skipped zero d = d
-skipped (suc n) d = taken (later (suc n) d)
+skipped (suc n) d = evaluated (later (suc n) d)
 
 -- a picture unit that has requested these interrupts
 abbrev pub with_requests : PictureRequests → PictureUnit → PictureAndRequests
 with_requests requests s = record { picture = s; vblank = requests.vblank; stat = requests.stat }
 
--- The STAT signal was taken as it is now, so that it does not rise before the next change.
-abbrev pub IsSettled : PictureAndRequests → Type 0
-IsSettled d = is_on d.picture.state ≡ true → stat_signal d.picture.state ≡ d.picture.state.signal
+-- The STAT signal was evaluated as it is now, so that it does not rise before the next change.
+abbrev pub IsSteady : PictureAndRequests → Type 0
+IsSteady d = is_on d.picture.state ≡ true → stat_signal d.picture.state ≡ d.picture.state.signal

@@ -2,7 +2,7 @@
 -- "Palettes".
 use Rattle.std.specs.Prelude.{ℕ, ◌+◌, ◌*◌, ◌/◌, ◌%◌, false, ◌&&◌, not, ◌==◌, nat_le, nat_lt, if◌then◌else◌}
 use Rattle.picture_unit.specs.declared.state.PictureState.{PictureState}
-use Rattle.picture_unit.specs.Picture.{PictureUnit, PictureAndRequests, is_on, mode, taken, blank_rows}
+use Rattle.picture_unit.specs.Picture.{PictureUnit, PictureAndRequests, is_on, mode, evaluated, blank_rows}
 
 -- STAT: bit 7 is 1, bits 6 to 3 were written, bit 2 is LY = LYC, bits 1 and 0 are the mode
 unfoldable pub stat_value : PictureState → ℕ
@@ -51,7 +51,7 @@ switched_off lcdc s = record s {
   rows = blank_rows;
 }
 
--- LCDC bit 7 goes from 0 to 1: line 0 begins, in mode 2 (fixed profile)
+-- LCDC bit 7 goes from 0 to 1: line 0 begins, in mode 2, and the first picture is drawn as any other (fixed profile)
 unfoldable pub switched_on : (lcdc : ℕ) → PictureUnit → PictureUnit
 switched_on lcdc s = record s {
   state = record s.state {
@@ -70,19 +70,19 @@ lcdc_written lcdc s =
     else if not (is_on s.state) && nat_le 128 lcdc then switched_on lcdc s
     else record s { state = record s.state { lcdc = lcdc } }
 
--- STAT is written: bits 6 to 3 are kept
+-- STAT is written: bits 6 to 3 are kept, and the write itself requests nothing (fixed profile)
 unfoldable pub stat_written : (value : ℕ) → PictureUnit → PictureUnit
 stat_written value s = record s { state = record s.state { stat = 8 * (value / 8 % 16) } }
 
 unfoldable pub lyc_written : (value : ℕ) → PictureUnit → PictureUnit
 lyc_written value s = record s { state = record s.state { lyc = value } }
 
--- A register is written. After LCDC, STAT and LYC the STAT signal is taken.
+-- A register is written. After LCDC, STAT and LYC the STAT signal is evaluated.
 unfoldable pub register_written : (address value : ℕ) → PictureAndRequests → PictureAndRequests
 register_written address value d =
-    if address == 0xFF40 then taken (record d { picture = lcdc_written value d.picture })
-    else if address == 0xFF41 then taken (record d { picture = stat_written value d.picture })
-    else if address == 0xFF45 then taken (record d { picture = lyc_written value d.picture })
+    if address == 0xFF40 then evaluated (record d { picture = lcdc_written value d.picture })
+    else if address == 0xFF41 then evaluated (record d { picture = stat_written value d.picture })
+    else if address == 0xFF45 then evaluated (record d { picture = lyc_written value d.picture })
     else record d {
       picture = record d.picture { state = register_stored address value d.picture.state };
     }

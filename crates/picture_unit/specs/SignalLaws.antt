@@ -3,9 +3,9 @@ use Rattle.std.specs.Prelude.{◌≡◌, ℕ, Bool, ◌&&◌, ◌||◌, not}
 use Rattle.picture_unit.specs.Picture.{PictureUnit, PictureAndRequests, stat_signal, tick, picture_at_power_on}
 use Rattle.picture_unit.specs.Registers.{register_written}
 
--- the STAT signal was taken as it is
-abbrev pub IsTaken : PictureUnit → Type 0
-IsTaken s = s.state.signal ≡ stat_signal s.state
+-- the STAT signal was evaluated as it is
+abbrev pub IsEvaluated : PictureUnit → Type 0
+IsEvaluated s = s.state.signal ≡ stat_signal s.state
 
 -- the STAT signal goes from 0 to 1
 abbrev pub rises : (old new : PictureUnit) → Bool
@@ -14,10 +14,10 @@ rises old new = not (stat_signal old.state) && stat_signal new.state
 -- The STAT interrupt is requested exactly if the signal rises; a request from before stays.
 pub record RequestsItsRise (old new : PictureAndRequests) : Type 0 where
   pub requested : new.stat ≡ (old.stat || rises old.picture new.picture)
-  pub taken : IsTaken new.picture
+  pub evaluated : IsEvaluated new.picture
 
 -- It is so in each M-cycle and at each write of a register, from power-on on.
 pub record StatIsRequestedAtRises : Type 0 where
-  pub power_on : IsTaken picture_at_power_on
-  pub m_cycle : (d : PictureAndRequests) → IsTaken d.picture → RequestsItsRise d (tick d)
-  pub write : (address value : ℕ) (d : PictureAndRequests) → IsTaken d.picture → RequestsItsRise d (register_written address value d)
+  pub power_on : IsEvaluated picture_at_power_on
+  pub m_cycle : (d : PictureAndRequests) → IsEvaluated d.picture → RequestsItsRise d (tick d)
+  pub write : (address value : ℕ) (d : PictureAndRequests) → IsEvaluated d.picture → RequestsItsRise d (register_written address value d)

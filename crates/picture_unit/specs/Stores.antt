@@ -9,7 +9,7 @@ use Rattle.picture_unit.specs.Picture.{PictureUnit, mode}
 unfoldable pub is_vram_closed : PictureState → Bool
 is_vram_closed p = mode p == 3
 
--- modes 2 and 3 close OAM
+-- modes 2 and 3 close OAM, and nothing else spoils it (fixed profile)
 unfoldable pub is_oam_closed : PictureState → Bool
 is_oam_closed p = mode p == 2 || mode p == 3
 

@@ -1,3 +1,5 @@
+//! Laws of the definitions. The functions do nothing: the contract of each is a law.
+
 ghost use Rattle.picture_unit.specs.Laws.{PictureRequestsAreAdded, DrawnLineHoldsItsPixels, FrameHas17556Cycles};
 
 /// Law: what n M-cycles do does not depend on the requests that were pending; new requests are

@@ -1,9 +1,11 @@
+//! A picture as plain PGM.
+
 ghost use Rattle.std.specs.Prelude.{◌≡◌, ◌<◌, ◌%◌, ◌==◌, if◌then◌else◌, length, All, OnOk, OnErr};
 ghost use Rattle.std.specs.Io.KnownBytes.{Appends};
 ghost use Rattle.exact_text.specs.Written.{AppendsProperPrefix};
 ghost use Rattle.picture_unit.specs.Pgm.{row_text, picture_text};
 
-use crate::picture::Picture;
+use crate::late_picture::LatePicture;
 use exact_text::{OutputFailed, write_whole};
 use std::io::Write;
 
@@ -30,7 +32,7 @@ fn row_bytes(row: &[u8; 160]) -> [u8; 320]
 }
 
 /// Writes the rows of a picture as plain PGM.
-pub(crate) fn write_rows<W: Write>(picture: &Picture, out: &mut W) -> Result<(), OutputFailed>
+pub(crate) fn write_rows<W: Write>(picture: &LatePicture, out: &mut W) -> Result<(), OutputFailed>
     ensures ok { OnOk result
         (Appends (W.contents out.old) (W.contents out.new) (picture_text picture.now.rows)) }
     ensures err { OnErr result

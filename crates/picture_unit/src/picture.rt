@@ -1,165 +1,156 @@
-ghost use Rattle.std.specs.Prelude.{◌≡◌, false, IfOk, OnOk, OnErr};
+//! The picture unit, which is given all its M-cycles as they pass.
+
+ghost use Rattle.std.specs.Prelude.{◌≡◌, false, not, ◌&&◌, IfOk};
 
 mod clock;
-mod snapshot;
+mod contents;
 
-use crate::pgm::write_rows;
-use crate::prompt_picture::PromptPicture;
+use crate::registers::{LCD_ENABLE, LCDC, LYC, STAT};
+use crate::rows::Rows;
 use crate::state::PictureState;
-use exact_text::OutputFailed;
+use picture_lines::TileMemory;
 use std::alloc::{AllocError, Global};
-use std::io::Write;
 use std::marker::Model;
 
-/// The picture unit: registers and counters, VRAM, OAM and the rows of shades (Pan Docs,
-/// "Rendering").
-///
-/// Contracts see it as a `PictureUnit`: the state that a snapshot holds, the bytes of VRAM and OAM, and
-/// 144 rows of 160 shades from 0 to 3. Time is counted in M-cycles, with 114 per line and 154 lines
-/// per frame. `new` allocates all the memory that it needs, and no other call takes memory.
+/// The picture unit, with nothing left to be given to it but the lines that are noted in `rows`.
 #[derive(Drop)]
-pub struct Picture {
-    // The picture unit as it was when it was last given its M-cycles.
-    prompt: PromptPicture,
-    // The M-cycle of the frame. Those since then are quiet: they requested nothing, and the frame did not end. While the LCD is off,
-    // when no M-cycle changes anything, it is counted on and means nothing.
-    frame_cycle: u16,
-    // Those up to this one are known to be quiet too.
-    quiet_until: u16,
+pub(crate) struct Picture {
+    state: PictureState,
+    tiles: TileMemory,
+    oam: Vec<u8>,
+    rows: Rows,
 }
 
 impl Model for Picture {
-    ghost use Rattle.picture_unit.specs.Picture.{PictureUnit};
-    ghost use Rattle.picture_unit.specs.LatePicture.{moment, up_to, IsLate};
+    ghost use Rattle.picture_unit.specs.Picture.{PictureUnit, IsWhole};
+    ghost use Rattle.picture_unit.specs.LateRows.{rows_of, AreRight};
 
     ghost Value = { PictureUnit };
 
-    ghost view = { λ p. up_to (moment p.frame_cycle p.prompt) p.prompt };
+    ghost view = { λ p. record {
+      state = p.state;
+      vram = p.tiles;
+      oam = p.oam.items;
+      rows = rows_of p.rows p.tiles p.oam.items;
+    } };
 
-    ghost invariant = { λ p. IsLate (moment p.frame_cycle p.prompt) p.quiet_until p.prompt };
+    ghost invariant = { λ p. record {
+      whole : IsWhole p.state p.oam.items (rows_of p.rows p.tiles p.oam.items);
+      rows : AreRight p.rows;
+    } };
 }
 
 impl Picture {
-    ghost use Rattle.std.specs.Io.KnownBytes.{Appends};
-    ghost use Rattle.exact_text.specs.Written.{AppendsProperPrefix};
-    ghost use Rattle.picture_unit.specs.Picture.{unrequested, is_on, picture_at_power_on, IsLegalPicture};
-    ghost use Rattle.picture_unit.specs.PictureJump.{next_entry};
-    ghost use Rattle.picture_unit.specs.Registers.{register_value, register_written, register_stored};
-    ghost use Rattle.picture_unit.specs.Stores.{is_vram_closed, is_oam_closed, byte_read, vram_written, oam_written, oam_copied};
-    ghost use Rattle.picture_unit.specs.Pgm.{picture_text};
-    ghost use Rattle.picture_unit.specs.LatePicture.{AreQuiet};
+    ghost use Rattle.picture_unit.specs.Picture.{unrequested, is_on, stat_signal, evaluated, picture_at_power_on};
+    ghost use Rattle.picture_unit.specs.Registers.{register_written, register_stored, lcdc_written, stat_written, lyc_written, switched_off, switched_on};
+    ghost use Rattle.picture_unit.specs.Stores.{byte_read, vram_written, oam_written, oam_copied};
 
     /// The picture unit when the machine is switched on: LCDC 91, BGP FC, OBP0 and OBP1 FF, the
     /// other registers, VRAM, OAM and all shades 0, at the beginning of line 0. Refused if there is
     /// no memory.
-    pub fn new(alloc: Global) -> Result<Picture, AllocError>
+    pub(crate) fn new(alloc: Global) -> Result<Picture, AllocError>
         ensures { IfOk result (λ p. p ≡ picture_at_power_on) }
     {
-        let prompt = PromptPicture::new(alloc)?;
-        let frame_cycle = prompt.frame_cycle();
+        let tiles = TileMemory::new(alloc)?;
+        let oam = Vec::from_elem(alloc, 0u8, 160)?;
+        let rows = Rows::new(alloc)?;
         Ok(Picture {
-            prompt,
-            frame_cycle,
-            quiet_until: 0,
+            state: PictureState::at_power_on(),
+            tiles,
+            oam,
+            rows,
         })
     }
 
-    /// A byte of VRAM, by its offset from 8000. Mode 3 closes VRAM: it reads FF. Beyond VRAM it
-    /// reads 00.
-    #[tactic(auto, unfolding(crate::specs::Stores::byte_read))]
-    pub fn read_vram(&self, offset: u16) -> u8
-        ensures { result ≡ byte_read (is_vram_closed self.now.state) self.now.vram offset }
-    {
-        if self.registers_now().is_vram_closed() {
-            return 0xff;
-        }
-        self.peek_vram(offset)
-    }
-
     /// A byte of VRAM, in every mode.
-    pub fn peek_vram(&self, offset: u16) -> u8
+    #[tactic(auto, unfolding(crate::specs::Stores::byte_read))]
+    pub(crate) fn peek_vram(&self, offset: u16) -> u8
         ensures { result ≡ byte_read false self.now.vram offset }
     {
-        self.prompt.peek_vram(offset)
+        let bytes = self.tiles.bytes();
+        if offset as usize >= bytes.len() {
+            return 0;
+        }
+        bytes[offset as usize]
     }
 
     /// Writes a byte of VRAM, by its offset from 8000. The write is ignored in mode 3, and beyond
     /// VRAM.
-    pub fn write_vram(&mut self, offset: u16, value: u8)
+    #[tactic(auto, unfolding(crate::specs::Stores::vram_written))]
+    pub(crate) fn write_vram(&mut self, offset: u16, value: u8)
         ensures { self.new ≡ vram_written offset value self.old }
     {
-        self.prompt.pass_to(self.frame_cycle);
-        self.prompt.write_vram(offset, value);
-        self.frame_cycle = self.prompt.frame_cycle();
-    }
-
-    /// A byte of OAM, by its offset from FE00. Modes 2 and 3 close OAM: it reads FF. Beyond OAM it
-    /// reads 00.
-    #[tactic(auto, unfolding(crate::specs::Stores::byte_read))]
-    pub fn read_oam(&self, offset: u8) -> u8
-        ensures { result ≡ byte_read (is_oam_closed self.now.state) self.now.oam offset }
-    {
-        if self.registers_now().is_oam_closed() {
-            return 0xff;
+        if self.state.is_vram_closed() {
+            return;
         }
-        self.peek_oam(offset)
+        if offset as usize >= self.tiles.bytes().len() {
+            return;
+        }
+        if self.tiles.byte(offset as usize) == value {
+            return;
+        }
+        self.rows.set_late_aside(&self.tiles, &self.oam);
+        self.tiles.write(offset as usize, value);
     }
 
     /// A byte of OAM, in every mode.
-    pub fn peek_oam(&self, offset: u8) -> u8
+    #[tactic(auto, unfolding(crate::specs::Stores::byte_read))]
+    pub(crate) fn peek_oam(&self, offset: u8) -> u8
         ensures { result ≡ byte_read false self.now.oam offset }
     {
-        self.prompt.peek_oam(offset)
+        if offset as usize >= self.oam.len() {
+            return 0;
+        }
+        self.oam[offset as usize]
     }
 
     /// Writes a byte of OAM, by its offset from FE00. The write is ignored in modes 2 and 3, and
     /// beyond OAM.
-    pub fn write_oam(&mut self, offset: u8, value: u8)
+    #[tactic(auto, unfolding(crate::specs::Stores::oam_written, crate::specs::Stores::oam_copied))]
+    pub(crate) fn write_oam(&mut self, offset: u8, value: u8)
         ensures { self.new ≡ oam_written offset value self.old }
     {
-        self.prompt.pass_to(self.frame_cycle);
-        self.prompt.write_oam(offset, value);
-        self.frame_cycle = self.prompt.frame_cycle();
+        if self.state.is_oam_closed() {
+            return;
+        }
+        self.copy_to_oam(offset, value);
     }
 
     /// Writes a byte of OAM in every mode, as the object DMA does. Beyond OAM the write is ignored.
-    pub fn copy_to_oam(&mut self, offset: u8, value: u8)
+    #[tactic(auto, unfolding(crate::specs::Stores::oam_copied))]
+    pub(crate) fn copy_to_oam(&mut self, offset: u8, value: u8)
         ensures { self.new ≡ oam_copied offset value self.old }
     {
-        if self.prompt.peek_oam(offset) == value {
+        if offset as usize >= self.oam.len() {
             return;
         }
-        self.prompt.pass_to(self.frame_cycle);
-        self.prompt.copy_to_oam(offset, value);
-        self.frame_cycle = self.prompt.frame_cycle();
+        if self.oam[offset as usize] == value {
+            return;
+        }
+        self.rows.set_late_aside(&self.tiles, &self.oam);
+        self.oam[offset as usize] = value;
     }
 
     /// Whether LCDC bit 7 is set: the LCD is on.
     #[inline]
-    pub fn is_on(&self) -> bool
+    pub(crate) fn is_on(&self) -> bool
         ensures { result ≡ is_on self.now.state }
     {
-        self.prompt.is_on()
+        self.state.is_on()
     }
 
-    /// What a register reads: FF40 LCDC, FF41 STAT, FF42 SCY, FF43 SCX, FF44 LY, FF45 LYC, FF47
-    /// BGP, FF48 OBP0, FF49 OBP1, FF4A WY, FF4B WX. Every other address reads FF.
-    pub fn read_register(&self, address: u16) -> u8
-        ensures { result ≡ register_value self.now.state address }
-    {
-        self.registers_now().register(address)
-    }
-
-    /// Writes a register, and answers whether that requests the STAT interrupt. LY and every other
+    /// Writes a register, and returns whether that requests the STAT interrupt. LY and every other
     /// address ignore it.
     #[tactic(auto, unfolding(crate::specs::Registers::register_written, crate::specs::Picture::unrequested))]
-    pub fn write_register(&mut self, address: u16, value: u8) -> bool
+    pub(crate) fn write_register(&mut self, address: u16, value: u8) -> bool
         ensures picture { self.new
             ≡ (register_written address value (unrequested self.old)).picture }
         ensures stat { result ≡ (register_written address value (unrequested self.old)).stat }
     {
         match address {
-            0xff40 | 0xff41 | 0xff45 => self.write_signal_register(address, value),
+            LCDC => self.write_lcdc(value),
+            STAT => self.write_stat(value),
+            LYC => self.write_lyc(value),
             _ => {
                 self.store_register(address, value);
                 false
@@ -167,55 +158,88 @@ impl Picture {
         }
     }
 
-    // LCDC, STAT or LYC is written: the signal is taken, and how long the M-cycles are quiet has to be found anew.
-    fn write_signal_register(&mut self, address: u16, value: u8) -> bool
-        ensures picture { self.new
-            ≡ (register_written address value (unrequested self.old)).picture }
-        ensures stat { result ≡ (register_written address value (unrequested self.old)).stat }
+    /// Writes a register that only holds what was written. Every other address ignores it.
+    pub(crate) fn store_register(&mut self, address: u16, value: u8)
+        ensures { self.new ≡ record self.old { state = register_stored address value self.old.state } }
     {
-        self.prompt.pass_to(self.frame_cycle);
-        let requested = self.prompt.write_register(address, value);
-        self.frame_cycle = self.prompt.frame_cycle();
-        self.quiet_until = 0;
-        requested
+        self.state.store_register(address, value);
     }
 
-    /// Writes a register that only holds what was written: SCY, SCX, BGP, OBP0, OBP1, WY or WX. What was quiet stays so. Every other
-    /// address ignores it.
-    pub fn store_register(&mut self, address: u16, value: u8)
-        ensures stored { self.new ≡ record self.old { state = register_stored address value self.old.state } }
-        ensures quiet { (n : ℕ) → AreQuiet n self.old.state → AreQuiet n self.new.state }
+    #[tactic(auto, unfolding(crate::specs::Picture::unrequested, crate::specs::Picture::evaluated))]
+    fn write_lcdc(&mut self, value: u8) -> bool
+        ensures picture { self.new ≡ (evaluated (unrequested (lcdc_written value self.old))).picture }
+        ensures stat { result ≡ (evaluated (unrequested (lcdc_written value self.old))).stat }
     {
-        self.prompt.pass_to(self.frame_cycle);
-        self.prompt.store_register(address, value);
-        self.frame_cycle = self.prompt.frame_cycle();
+        self.store_lcdc(value);
+        self.evaluate_signal()
     }
 
-    /// Writes the picture as plain PGM: `P2`, `160 144`, `3`, then each row as five lines of 32
-    /// values, 3 minus the shade. Refused if a write fails or takes no byte: a proper prefix of the
-    /// text went out.
-    pub fn write_pgm<W: Write>(&self, out: &mut W) -> Result<(), OutputFailed>
-        ensures ok { OnOk result
-            (Appends (W.contents out.old) (W.contents out.new) (picture_text self.now.rows)) }
-        ensures err { OnErr result (AppendsProperPrefix
-            (W.contents out.old) (W.contents out.new) (picture_text self.now.rows)) }
+    #[tactic(auto, unfolding(crate::specs::Registers::lcdc_written))]
+    fn store_lcdc(&mut self, value: u8)
+        ensures { self.new ≡ lcdc_written value self.old }
     {
-        write_rows(self, out)
+        let was_on = self.state.is_on();
+        if was_on && value < LCD_ENABLE {
+            return self.switch_off(value);
+        }
+        if !was_on && value >= LCD_ENABLE {
+            return self.switch_on(value);
+        }
+        self.state.lcdc = value;
     }
 
-    /// The registers, LY and the M-cycle of the line as they are now; what no register shows is as it was.
-    #[inline]
-    fn registers_now(&self) -> PictureState
-        ensures legal { IsLegalPicture result }
-        ensures legal_now { IsLegalPicture self.now.state }
-        ensures on { is_on result ≡ is_on self.now.state }
-        ensures vram { is_vram_closed result ≡ is_vram_closed self.now.state }
-        ensures oam { is_oam_closed result ≡ is_oam_closed self.now.state }
-        ensures registers { (address : ℕ) → register_value result address ≡ register_value self.now.state address }
-        ensures entry { next_entry result ≡ next_entry self.now.state }
+    #[tactic(auto, unfolding(crate::specs::Registers::switched_off, crate::specs::Picture::blank_rows))]
+    fn switch_off(&mut self, lcdc: u8)
+        ensures { self.new ≡ switched_off lcdc self.old }
     {
-        self.prompt.state().at(self.frame_cycle())
+        self.state.lcdc = lcdc;
+        self.state.ly = 0;
+        self.state.m_cycle = 0;
+        self.state.window_counter = 0;
+        self.state.seen = false;
+        self.state.signal = false;
+        self.rows.blank();
+    }
+
+    #[tactic(auto, unfolding(crate::specs::Registers::switched_on))]
+    fn switch_on(&mut self, lcdc: u8)
+        ensures { self.new ≡ switched_on lcdc self.old }
+    {
+        self.state.lcdc = lcdc;
+        self.state.ly = 0;
+        self.state.m_cycle = 0;
+        self.state.window_counter = 0;
+        self.state.seen = self.state.wy == 0;
+    }
+
+    #[tactic(auto, unfolding(crate::specs::Picture::unrequested, crate::specs::Picture::evaluated, crate::specs::Registers::stat_written))]
+    fn write_stat(&mut self, value: u8) -> bool
+        ensures picture { self.new ≡ (evaluated (unrequested (stat_written value self.old))).picture }
+        ensures stat { result ≡ (evaluated (unrequested (stat_written value self.old))).stat }
+    {
+        self.state.stat = value / 8 % 16 * 8;
+        self.evaluate_signal()
+    }
+
+    #[tactic(auto, unfolding(crate::specs::Picture::unrequested, crate::specs::Picture::evaluated, crate::specs::Registers::lyc_written))]
+    fn write_lyc(&mut self, value: u8) -> bool
+        ensures picture { self.new ≡ (evaluated (unrequested (lyc_written value self.old))).picture }
+        ensures stat { result ≡ (evaluated (unrequested (lyc_written value self.old))).stat }
+    {
+        self.state.lyc = value;
+        self.evaluate_signal()
+    }
+
+    // Evaluates the STAT signal. Returns whether it rises.
+    fn evaluate_signal(&mut self) -> bool
+        ensures rises { result ≡ (stat_signal self.old.state && not self.old.state.signal) }
+        ensures evaluated { self.new ≡ record self.old {
+          state = record self.old.state { signal = stat_signal self.old.state };
+        } }
+    {
+        let signal = self.state.stat_signal();
+        let rises = signal && !self.state.signal;
+        self.state.signal = signal;
+        rises
     }
 }
-
-ghost use Rattle.std.specs.Prelude.{ℕ};

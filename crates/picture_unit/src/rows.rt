@@ -1,3 +1,5 @@
+//! The rows of shades, and the lines that are due to be drawn.
+
 ghost use Rattle.std.specs.Prelude.{◌≡◌, ◌<◌, ℕ, List, All, Some, false, length, replicate, slice_get, slice_set, IfOk};
 ghost use Rattle.picture_lines.specs.Pixel.{drawn_row};
 ghost use Rattle.picture_unit.specs.Picture.{blank_rows};
@@ -6,7 +8,7 @@ ghost use Rattle.picture_unit.specs.LateRows.{shown, rows_of, AreLines, AreRight
 use picture_lines::{ChosenObjects, LineRegisters, TileMemory};
 use std::alloc::{AllocError, Global};
 
-// Lines that are due to be drawn, and what by.
+// The lines that are due to be drawn, with the registers that each is drawn by.
 #[derive(Clone, Copy)]
 pub(crate) struct LateLines {
     pub(crate) are_late: [bool; 144],
@@ -64,9 +66,9 @@ impl LateLines {
     }
 }
 
-// 144 rows of shades. A line that is due is only noted, and drawn when its row is looked at, or at
-// the latest when VRAM and OAM have changed for the second time since: at the first time they are
-// copied. A row that the next frame draws over before that is never drawn.
+// 144 rows of shades. A line that is due is only noted. It is drawn when its row is read, or at the
+// latest at the second change of VRAM or OAM after that: at the first one they are copied. A row that
+// the next frame draws over before that is never drawn.
 #[derive(Drop)]
 pub(crate) struct Rows {
     pub(crate) drawn: Vec<[u8; 160]>,
@@ -113,10 +115,9 @@ impl Rows {
         self.earlier.are_late[y] = false;
     }
 
-    // To be called before VRAM or OAM changes: the rows stay what they are by these, whatever they
-    // become.
+    // Has to be called before VRAM or OAM changes: it keeps copies of them, by which the late lines are drawn from then on.
     #[inline(always)]
-    pub(crate) fn settle(&mut self, tiles: &TileMemory, oam: &[u8])
+    pub(crate) fn set_late_aside(&mut self, tiles: &TileMemory, oam: &[u8])
         requires oam { length oam.now ≡ 160 }
         requires right { AreRight self.old }
         ensures right { AreRight self.new }
@@ -127,7 +128,7 @@ impl Rows {
         }
     }
 
-    // The same where a line is late.
+    // Draws the earlier lines, and makes the late lines the earlier ones, with copies of VRAM and OAM.
     #[inline(never)]
     fn copy_memory(&mut self, tiles: &TileMemory, oam: &[u8])
         requires oam { length oam.now ≡ 160 }
@@ -165,10 +166,10 @@ impl Rows {
         let mut row = self.drawn[y];
         if self.late.are_late[y] {
             let by = self.late.drawn_by[y];
-            by.draw_plainly(tiles.bytes(), oam, &mut row);
+            by.draw_by_definition(tiles.bytes(), oam, &mut row);
         } else if self.earlier.are_late[y] {
             let by = self.earlier.drawn_by[y];
-            by.draw_plainly(self.earlier_tiles.bytes(), &self.earlier_oam, &mut row);
+            by.draw_by_definition(self.earlier_tiles.bytes(), &self.earlier_oam, &mut row);
         }
         row
     }

@@ -1,6 +1,18 @@
+//! The registers and counters of the picture unit.
+
 ghost use Rattle.std.specs.Prelude.{◌≡◌, ◌+◌, ◌%◌, ◌<◌, ◌≤◌, true, Some, None, if◌then◌else◌};
 
+use crate::registers::{
+    BGP, LCD_ENABLE, LCDC, LY, LYC, LYC_SELECT, MODE_0_SELECT, MODE_1_SELECT, MODE_2_SELECT, OBP0,
+    OBP1, SCX, SCY, STAT, WX, WY,
+};
 use picture_lines::LineRegisters;
+
+/// The M-cycles of a frame.
+const FRAME: u16 = 17_556;
+
+/// The M-cycle of the frame with which VBlank begins.
+const VBLANK: u16 = 16_416;
 
 /// The registers and counters of the picture unit: what a snapshot holds of it besides VRAM, OAM
 /// and the rows of shades. It is legal if STAT has no bits other than 6 to 3, LY is below 154 and
@@ -54,7 +66,8 @@ impl PictureState {
     ghost use Rattle.picture_unit.specs.Picture.{IsLegalPicture, is_on, mode, stat_signal, advanced, entered, begins_vblank, draws, drawn, line_registers, state_at_power_on};
     ghost use Rattle.picture_unit.specs.Stores.{is_vram_closed, is_oam_closed};
     ghost use Rattle.picture_unit.specs.Laws.{frame_cycle};
-    ghost use Rattle.picture_unit.specs.LatePicture.{bare, state_after, at_cycle, line_drawn_next, begins_line, begins_mode_2, begins_mode_0, NoneBefore, AreQuiet};
+    ghost use Rattle.picture_unit.specs.LatePicture.{state_after, at_cycle, line_drawn_next, begins_line, begins_mode_2, begins_mode_0, NoneBefore};
+    ghost use Rattle.picture_unit.specs.Quiet.{bare, AreQuiet};
     ghost use Rattle.picture_unit.specs.PictureJump.{next_entry, next_change};
     ghost use Rattle.picture_unit.specs.Registers.{stat_value, register_value, register_stored};
 
@@ -85,7 +98,7 @@ impl PictureState {
     pub(crate) fn is_on(&self) -> bool
         ensures { result ≡ is_on self.now }
     {
-        self.lcdc >= 128
+        self.lcdc >= LCD_ENABLE
     }
 
     #[tactic(auto, unfolding(crate::specs::Picture::mode))]
@@ -190,7 +203,7 @@ impl PictureState {
         114 * u16::from(self.ly) + u16::from(self.m_cycle)
     }
 
-    /// The same at another M-cycle of the frame.
+    /// This state, moved to another M-cycle of the frame.
     pub(crate) fn at(&self, now: u16) -> PictureState
         requires { now < 17556 }
         ensures { result ≡ at_cycle now self.now }
@@ -201,8 +214,8 @@ impl PictureState {
         state
     }
 
-    /// One M-cycle. Answers what the line is drawn by, if it is drawn in it.
-    #[tactic(auto, unfolding(crate::specs::Picture::tick, crate::specs::Picture::taken, crate::specs::Picture::moved, crate::specs::Picture::drawn, crate::specs::Picture::line_drawn, crate::specs::Picture::window_counter_after, crate::specs::Picture::unrequested, crate::specs::LatePicture::line_drawn_next))]
+    /// One M-cycle. If the line is drawn in it, returns the registers that it is drawn by.
+    #[tactic(auto, unfolding(crate::specs::Picture::tick, crate::specs::Picture::evaluated, crate::specs::Picture::moved, crate::specs::Picture::drawn, crate::specs::Picture::line_drawn, crate::specs::Picture::window_counter_after, crate::specs::Picture::unrequested, crate::specs::LatePicture::line_drawn_next))]
     pub(crate) fn tick(&mut self) -> Option<LineRegisters>
         requires { IsLegalPicture self.old }
         ensures state { self.new ≡ state_after 1 self.old }
@@ -218,7 +231,7 @@ impl PictureState {
         line
     }
 
-    /// The same so many M-cycles on.
+    /// The state after this many M-cycles.
     pub(crate) fn after(&self, cycles: u16) -> PictureState
         requires { IsLegalPicture self.now }
         ensures state { result ≡ state_after cycles self.now }
@@ -231,7 +244,7 @@ impl PictureState {
         state
     }
 
-    /// Counts the row of the window if the line is drawn in this M-cycle, and answers what by.
+    /// If the line is drawn in this M-cycle, counts the row of the window and returns the registers that the line is drawn by.
     #[tactic(auto, unfolding(crate::specs::Picture::drawn, crate::specs::Picture::line_drawn, crate::specs::Picture::window_counter_after))]
     fn line_due(&mut self) -> Option<LineRegisters>
         requires { IsLegalPicture self.old }
@@ -267,8 +280,8 @@ impl PictureState {
         source.min(self.vblank_or_end()) - 1 - now
     }
 
-    // The M-cycle of the frame with which line LYC begins: one behind the frame if STAT does not enable that source, or the line has
-    // begun before.
+    // The M-cycle of the frame with which line LYC begins, or the end of the frame if STAT does not enable that source or the line has
+    // begun already.
     fn line_begins(&self, now: u16) -> u16
         requires legal { IsLegalPicture self.now }
         requires now { now ≡ frame_cycle self.now }
@@ -276,45 +289,45 @@ impl PictureState {
         ensures first { NoneBefore begins_line now result self.now }
     {
         let at = 114 * u16::from(self.lyc);
-        if self.stat / 64 % 2 == 0 || at <= now {
-            return 17_556;
+        if self.stat / LYC_SELECT % 2 == 0 || at <= now {
+            return FRAME;
         }
         at
     }
 
-    // The same for the next mode 2.
+    // The M-cycle of the frame with which mode 2 next begins, or the end of the frame if STAT does not enable that source or none begins.
     fn mode_2_begins(&self) -> u16
         requires legal { IsLegalPicture self.now }
         ensures ahead { frame_cycle self.now < result }
         ensures first { NoneBefore begins_mode_2 (frame_cycle self.now) result self.now }
     {
-        if self.stat / 32 % 2 == 0 || self.ly >= 143 {
-            return 17_556;
+        if self.stat / MODE_2_SELECT % 2 == 0 || self.ly >= 143 {
+            return FRAME;
         }
         114 * (u16::from(self.ly) + 1)
     }
 
-    // The same for the next mode 0.
+    // The M-cycle of the frame with which mode 0 next begins, or the end of the frame if STAT does not enable that source or none begins.
     fn mode_0_begins(&self) -> u16
         requires legal { IsLegalPicture self.now }
         ensures ahead { frame_cycle self.now < result }
         ensures first { NoneBefore begins_mode_0 (frame_cycle self.now) result self.now }
     {
-        if self.stat / 8 % 2 == 0 || self.ly >= 144 {
-            return 17_556;
+        if self.stat / MODE_0_SELECT % 2 == 0 || self.ly >= 144 {
+            return FRAME;
         }
         let at = 114 * u16::from(self.ly) + 63;
         if self.m_cycle < 63 { at } else { at + 114 }
     }
 
-    // The M-cycle of the frame with which VBlank begins, or behind that the end of the frame.
+    // The M-cycle of the frame with which VBlank begins, or the end of the frame if it has begun.
     fn vblank_or_end(&self) -> u16
         requires { IsLegalPicture self.now }
         ensures ahead { frame_cycle self.now < result }
         ensures within { result ≤ 17556 }
         ensures vblank { frame_cycle self.now < 16416 → result ≤ 16416 }
     {
-        if self.ly < 144 { 16_416 } else { 17_556 }
+        if self.ly < 144 { VBLANK } else { FRAME }
     }
 
     /// How many M-cycles away the next line, mode 3 or mode 0 is.
@@ -345,7 +358,7 @@ impl PictureState {
     {
         if self.m_cycle < 20 && self.ly < 144 {
             20
-        } else if self.m_cycle < 63 && self.ly < 144 && self.stat % 64 != 0 {
+        } else if self.m_cycle < 63 && self.ly < 144 && self.stat % LYC_SELECT != 0 {
             63
         } else {
             114
@@ -386,17 +399,17 @@ impl PictureState {
         ensures { result ≡ register_value self.now address }
     {
         match address {
-            0xff40 => self.lcdc,
-            0xff41 => self.stat_value(),
-            0xff42 => self.scy,
-            0xff43 => self.scx,
-            0xff44 => self.ly,
-            0xff45 => self.lyc,
-            0xff47 => self.bgp,
-            0xff48 => self.obp0,
-            0xff49 => self.obp1,
-            0xff4a => self.wy,
-            0xff4b => self.wx,
+            LCDC => self.lcdc,
+            STAT => self.stat_value(),
+            SCY => self.scy,
+            SCX => self.scx,
+            LY => self.ly,
+            LYC => self.lyc,
+            BGP => self.bgp,
+            OBP0 => self.obp0,
+            OBP1 => self.obp1,
+            WY => self.wy,
+            WX => self.wx,
             _ => 0xff,
         }
     }
@@ -409,13 +422,13 @@ impl PictureState {
         ensures legal { IsLegalPicture self.new }
     {
         match address {
-            0xff42 => self.scy = value,
-            0xff43 => self.scx = value,
-            0xff47 => self.bgp = value,
-            0xff48 => self.obp0 = value,
-            0xff49 => self.obp1 = value,
-            0xff4a => self.wy = value,
-            0xff4b => self.wx = value,
+            SCY => self.scy = value,
+            SCX => self.scx = value,
+            BGP => self.bgp = value,
+            OBP0 => self.obp0 = value,
+            OBP1 => self.obp1 = value,
+            WY => self.wy = value,
+            WX => self.wx = value,
             _ => {}
         }
     }
@@ -428,13 +441,13 @@ ghost use Rattle.picture_unit.specs.Picture.{is_source as is_source_of};
 fn is_source(stat: u8, mode: u8, is_line: bool) -> bool
     ensures { result ≡ is_source_of stat mode is_line }
 {
-    if is_line && stat / 64 % 2 == 1 {
+    if is_line && stat / LYC_SELECT % 2 == 1 {
         return true;
     }
     match mode {
-        0 => stat / 8 % 2 == 1,
-        1 => stat / 16 % 2 == 1,
-        2 => stat / 32 % 2 == 1,
+        0 => stat / MODE_0_SELECT % 2 == 1,
+        1 => stat / MODE_1_SELECT % 2 == 1,
+        2 => stat / MODE_2_SELECT % 2 == 1,
         _ => false,
     }
 }

@@ -1,7 +1,7 @@
 //! Steps of a debugger.
 use cartridge::Cartridge;
 use debugger::{Debugger, OutputFailed, Stop, write_stepped};
-use machine::{Machine, Stepped, What};
+use machine::{Machine, StepKind, Stepped};
 use std::alloc::Global;
 use std::process::Abort;
 use std::test::Fail;
@@ -175,7 +175,7 @@ fn lists_instructions(rt: HostRuntime) -> Result<(), Fail> {
     assert_eq!(rt; debugger.list(0x0100, 2, &mut full), Err(OutputFailed));
     assert!(rt; buffer == *b"0100 00     NOP\n0101");
     let wait = Stepped {
-        what: What::Wait,
+        kind: StepKind::Wait,
         cycles: 1,
     };
     let mut buffer = [0; 3];

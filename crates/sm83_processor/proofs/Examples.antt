@@ -8,7 +8,7 @@ use Rattle.opcode_table.specs.Table.{instruction_of, loads_and_steps, jumps_and_
 use Rattle.sm83_processor.specs.Rules.{Rules}
 use Rattle.sm83_processor.specs.Steps.{step_of, after_steps}
 use Rattle.sm83_processor.specs.declared.processor.Processor.{Processor}
-use Rattle.sm83_processor.specs.declared.step.What.TheVariants.{Dispatch, Wait}
+use Rattle.sm83_processor.specs.declared.step.StepKind.TheVariants.{Dispatch, Wait}
 
 abbrev function_rules : Rules (ℕ → ℕ)
 function_rules = record {
@@ -77,24 +77,24 @@ halt_not_entered_repeats_a_byte : let r = registers_after 3 (quiet 0x10 0 0xFFFE
 unfolding after_steps step_of instruction_of loads_and_steps jumps_and_stack bit_instruction
 halt_not_entered_repeats_a_byte = (refl, refl)
 
-disabling_behind_enabling : (after 2 (quiet 0x10 0 0xFFFE (0xFB ∷ 0xF3 ∷ []) 1)).state.ime ≡ false
+disabling_after_enabling : (after 2 (quiet 0x10 0 0xFFFE (0xFB ∷ 0xF3 ∷ []) 1)).state.ime ≡ false
 unfolding after_steps step_of instruction_of loads_and_steps jumps_and_stack bit_instruction
-disabling_behind_enabling = refl
+disabling_after_enabling = refl
 
-interrupt_behind_enabling :
+interrupt_after_enabling :
     let s = after 3 (quiet 0x10 0 0xFFFE (0xFB ∷ 0 ∷ []) 1) in (s.registers.pc ≡ 0x40) × (s.memory 0xFFFD ≡ 0xC0) × (s.memory 0xFFFC ≡ 0x02)
 unfolding after_steps step_of instruction_of loads_and_steps jumps_and_stack bit_instruction
-interrupt_behind_enabling = (refl, refl, refl)
+interrupt_after_enabling = (refl, refl, refl)
 
 -- of STAT and timer only the timer is enabled beside VBlank, which is not requested
 timer_interrupt :
     let s = step_of function_rules (processor_at 0 0 0xD000 true (memory_of [] 0xE4 0x05)) in
-    (s.stepped ≡ record { what = Dispatch 0x50; cycles = 5 }) × (s.after.registers.sp ≡ 0xCFFE) × (s.after.memory 0xCFFF ≡ 0xC0) × (s.after.memory 0xCFFE ≡ 0x00)
+    (s.stepped ≡ record { kind = Dispatch 0x50; cycles = 5 }) × (s.after.registers.sp ≡ 0xCFFE) × (s.after.memory 0xCFFF ≡ 0xC0) × (s.after.memory 0xCFFE ≡ 0x00)
     × (s.after.memory 0xFF0F ≡ 0xE0) × (s.after.state.ime ≡ false)
 unfolding step_of
 timer_interrupt = (refl, refl, refl, refl, refl, refl)
 
 undefined_opcode_locks :
-    let s = after 1 (quiet 0 0 0 (0xD3 ∷ []) 0) in (s.registers.pc ≡ 0xC001) × ((step_of function_rules s).stepped ≡ record { what = Wait; cycles = 1 })
+    let s = after 1 (quiet 0 0 0 (0xD3 ∷ []) 0) in (s.registers.pc ≡ 0xC001) × ((step_of function_rules s).stepped ≡ record { kind = Wait; cycles = 1 })
 unfolding after_steps step_of instruction_of loads_and_steps jumps_and_stack bit_instruction
 undefined_opcode_locks = (refl, refl)

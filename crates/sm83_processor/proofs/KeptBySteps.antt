@@ -9,7 +9,7 @@ use Rattle.sm83_processor.specs.declared.processor.Processor.{Processor}
 use Rattle.sm83_processor.specs.Rules.{Rules}
 use Rattle.sm83_processor.specs.RegisterOperations.{previous_address, condition_holds}
 use Rattle.sm83_processor.specs.Execution.{executed, with_operand, pushed, at_pc}
-use Rattle.sm83_processor.specs.Steps.{is_disabling, Step, step_of, lowest_interrupt, vector_of, passing, waited, dispatched, decoded_at, begun, settled, ran, dispatched_or_ran, step_unstopped}
+use Rattle.sm83_processor.specs.Steps.{is_disabling, Step, step_of, lowest_interrupt, vector_of, passing, waited, dispatched, decoded_at, begun, with_ime_due, ran, dispatched_or_ran, step_unstopped}
 
 -- a relation of a memory to a later one that each access and each M-cycle meets
 pub record IsKept {M : Type 0} (r : Rules M) (R : M → M → Type 0) : Type 0 where
@@ -85,8 +85,8 @@ module _ {M : Type 0} (r : Rules M) (R : M → M → Type 0) (k : IsKept r R) wh
   by_instruction (instr.SetBit n p) s = by_operand p _ s
   by_instruction (instr.Undefined o) s = k.itself s.memory
 
-  by_settling : (m : M) (ime_pending : Bool) (i : Instr) (s : Processor M) → R m s.memory → R m (settled ime_pending i s).memory
-  by_settling m ime_pending i s before = either m (ime_pending && not (is_disabling i)) _ _ before before
+  by_enabling : (m : M) (ime_pending : Bool) (i : Instr) (s : Processor M) → R m s.memory → R m (with_ime_due ime_pending i s).memory
+  by_enabling m ime_pending i s before = either m (ime_pending && not (is_disabling i)) _ _ before before
 
   by_passing : (m : M) (n : ℕ) (s : Processor M) → R m s.memory → R m (passing r n s).memory
   by_passing m n s before = k.follows _ _ _ before (k.passed s.memory n)
@@ -99,8 +99,8 @@ module _ {M : Type 0} (r : Rules M) (R : M → M → Type 0) (k : IsKept r R) wh
   by_running s =
       let d = decoded_at r s in
       let done : Processor M = executed r d.instr (begun d.length s) in
-      by_passing s.memory (ran r s).stepped.cycles (settled s.state.ime_pending d.instr done)
-      (by_settling s.memory s.state.ime_pending d.instr done (by_instruction d.instr (begun d.length s)))
+      by_passing s.memory (ran r s).stepped.cycles (with_ime_due s.state.ime_pending d.instr done)
+      (by_enabling s.memory s.state.ime_pending d.instr done (by_instruction d.instr (begun d.length s)))
 
   by_dispatch : (s : Processor M) → R s.memory (dispatched r s).after.memory
   by_dispatch s =

@@ -12,8 +12,8 @@ use Rattle.sm83_alu.specs.declared.register_file.Flags.{Flags}
 use Rattle.sm83_processor.specs.Rules.{Rules}
 use Rattle.sm83_processor.specs.RegisterOperations.{condition_holds}
 use Rattle.sm83_processor.specs.Execution.{executed, with_operand, with_flags, jumped_relative, returned, at_pc}
-use Rattle.sm83_processor.specs.Opcodes.{taken, instruction_at, executed_behind, past, low_at, high_at, cycles_with}
-use Rattle.sm83_processor.specs.Plain.{KeepsMemory}
+use Rattle.sm83_processor.specs.Opcodes.{after_fetch, instruction_at, executed_after_fetch, past, low_at, high_at, cycles_with}
+use Rattle.sm83_processor.specs.KeptMemory.{KeepsMemory}
 use Rattle.sm83_processor.specs.declared.processor.Processor.{Processor}
 
 -- ---- by instruction
@@ -105,8 +105,8 @@ memory_kept r (ResetBit n p) s kept = operand_memory r p _ s kept
 memory_kept r (SetBit n p) s kept = operand_memory r p _ s kept
 memory_kept r (Undefined o) s kept = refl
 
-kept_behind : {M : Type 0} (r : Rules M) (i : Instr) (s : Processor M) → may_write i ≡ false → (executed_behind r i s).memory ≡ s.memory
-kept_behind r i s kept = memory_kept r i (past (length_of i) s) kept
+kept_after : {M : Type 0} (r : Rules M) (i : Instr) (s : Processor M) → may_write i ≡ false → (executed_after_fetch r i s).memory ≡ s.memory
+kept_after r i s kept = memory_kept r i (past (length_of i) s) kept
 
 -- ---- by opcode, but for CB
 
@@ -128,11 +128,11 @@ keeps_memory r o cycles below other none = λ b c s _.
       | true ↦ λ e _. absurd_write e
       | false ↦ λ _ same. same
     ] in
-    kept_behind r (instruction_of o b c) s (here (o == 0xCB) other (table ∙ none))
+    kept_after r (instruction_of o b c) s (here (o == 0xCB) other (table ∙ none))
 
--- ---- behind CB
+-- ---- after CB
 
--- what is said of an instruction behind CB
+-- what is said of an instruction after CB
 abbrev ShortKeeps : Flags → Instr → Type 0
 ShortKeeps f i = cycles_with i f ≡ 2 → may_write i ≡ false
 
@@ -166,12 +166,12 @@ prefixed f b c = bit_instruction_keeps f _ _ _
 pub keeps_memory_prefixed : {M : Type 0} (r : Rules M) (o cycles : ℕ) → o ≡ 0xCB → cycles ≡ 2 → KeepsMemory r o cycles
 keeps_memory_prefixed {M} r o cycles prefix two =
     let short : KeepsMemory r 0xCB cycles =
-    λ b c s took. kept_behind r (instruction_of 0xCB b c) s (prefixed s.registers.flags b c (sym took ∙ two)) in
+    λ b c s took. kept_after r (instruction_of 0xCB b c) s (prefixed s.registers.flags b c (sym took ∙ two)) in
     rw prefix short
 
--- the memory behind an instruction of such an opcode
-pub memory_behind : {M : Type 0} (r : Rules M) (o cycles : ℕ) (p q : Processor M) → KeepsMemory r o cycles
-    → q ≡ executed_behind r (instruction_at r o (taken p)) (taken p) → cycles ≡ cycles_with (instruction_at r o (taken p)) p.registers.flags
+-- the memory after an instruction of such an opcode
+pub memory_after : {M : Type 0} (r : Rules M) (o cycles : ℕ) (p q : Processor M) → KeepsMemory r o cycles
+    → q ≡ executed_after_fetch r (instruction_at r o (after_fetch p)) (after_fetch p) → cycles ≡ cycles_with (instruction_at r o (after_fetch p)) p.registers.flags
     → q.memory ≡ p.memory
-memory_behind {M} r o cycles p q keeps after took =
-    ap (λ (s : Processor M). s.memory) after ∙ keeps (low_at r (taken p)) (high_at r (taken p)) (taken p) took
+memory_after {M} r o cycles p q keeps after took =
+    ap (λ (s : Processor M). s.memory) after ∙ keeps (low_at r (after_fetch p)) (high_at r (after_fetch p)) (after_fetch p) took

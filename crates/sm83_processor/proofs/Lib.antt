@@ -5,6 +5,6 @@ pub mod Disabling
 pub mod OpcodeLengths
 pub mod Lowest
 pub mod Runs
-pub mod PlainSteps
+pub mod FastSteps
 pub mod UsualStates
 pub mod KeptMemory

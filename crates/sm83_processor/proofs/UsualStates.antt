@@ -10,8 +10,8 @@ use Rattle.opcode_table.specs.declared.instruction.Instr.TheVariants.{Nop, Store
 use Rattle.sm83_processor.specs.Rules.{Rules}
 use Rattle.sm83_processor.specs.RegisterOperations.{condition_holds}
 use Rattle.sm83_processor.specs.Execution.{executed, with_operand, with_flags, jumped_relative, returned, called, at_pc}
-use Rattle.sm83_processor.specs.Opcodes.{instruction_at, executed_behind, low_at, high_at}
-use Rattle.sm83_processor.specs.Plain.{IsUsual}
+use Rattle.sm83_processor.specs.Opcodes.{instruction_at, executed_after_fetch, low_at, high_at}
+use Rattle.sm83_processor.specs.FastStep.{IsUsual}
 use Rattle.sm83_processor.specs.declared.processor.Processor.{Processor}
 use Rattle.sm83_processor.specs.declared.processor.ProcessorState.{ProcessorState}
 
@@ -150,8 +150,8 @@ stays o b c below none =
     ] in
     cases (o == 0xCB) refl (table ∙ none)
 
-pub usual_behind : {M : Type 0} (r : Rules M) (o : ℕ) (p q : Processor M) → o < 256 → leaving o ≡ false
-    → q ≡ executed_behind r (instruction_at r o p) p → IsUsual p.state → IsUsual q.state
-usual_behind {M} r o p q below none e usual =
+pub usual_after : {M : Type 0} (r : Rules M) (o : ℕ) (p q : Processor M) → o < 256 → leaving o ≡ false
+    → q ≡ executed_after_fetch r (instruction_at r o p) p → IsUsual p.state → IsUsual q.state
+usual_after {M} r o p q below none e usual =
     let i = instruction_at r o p in
     same_usual _ _ (ap (λ (s : Processor M). s.state) e) (usual_in r i _ (stays o (low_at r p) (high_at r p) below none) usual (changes_state i) refl)

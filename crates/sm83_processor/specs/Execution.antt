@@ -1,4 +1,4 @@
--- What an instruction does, over any memory (Pan Docs, 'CPU Instruction Set'). PC is already behind it.
+-- What an instruction does, over any memory (Pan Docs, 'CPU Instruction Set'). PC is already after it.
 use Rattle.std.specs.Prelude.{ℕ, true, false, ◌+◌, ◌*◌, ◌/◌, ◌%◌, ◌==◌, ◌||◌, if◌then◌else◌}
 use Rattle.sm83_processor.specs.Rules.{Rules}
 use Rattle.sm83_processor.specs.RegisterPairs.{hl_of, with_hl, register16_value, with_register16, stack_register16_value, with_stack_register16}
@@ -88,20 +88,27 @@ abbrev pub returned : {M : Type 0} → Rules M → Processor M → Processor M
 returned rules s = at_pc (popped_word rules s) (popped s)
 
 -- HALT; with IME clear and an interrupt pending it is not entered, and the next opcode is fetched without advancing PC.
--- Directly behind EI it counts as IME set (fixed profile).
+-- Directly after EI it counts as IME set (fixed profile).
 abbrev pub halting : {M : Type 0} → Rules M → Processor M → Processor M
 halting rules s =
     if s.state.ime || s.state.ime_pending || rules.pending_interrupts s.memory == 0
     then record s { state = record s.state { halted = true } }
     else record s { state = record s.state { halt_bug = true } }
 
+-- STOP acts as a write to DIV, whatever is pressed or pending (fixed profile)
+abbrev pub stopping : {M : Type 0} → Rules M → Processor M → Processor M
+stopping rules s = with_byte rules 0xFF04 0 (record s { state = record s.state { stopped = true } })
+
+-- an opcode that no instruction has locks the processor (fixed profile)
+abbrev pub locking : {M : Type 0} → Processor M → Processor M
+locking s = record s { state = record s.state { locked = true } }
+
 -- what an instruction leaves
 abbrev pub executed : {M : Type 0} → Rules M → Instr → Processor M → Processor M
 executed rules instr.Nop s = s
 executed rules (instr.StoreSp w) s =
     with_byte rules (next_address w) (s.registers.sp / 256) (with_byte rules w (s.registers.sp % 256) s)
-executed rules instr.Stop s =
-    with_byte rules 0xFF04 0 (record s { state = record s.state { stopped = true } })
+executed rules instr.Stop s = stopping rules s
 executed rules (instr.JumpRelative b) s = jumped_relative b s
 executed rules (instr.JumpRelativeIf c b) s = if condition_holds c s.registers.flags then jumped_relative b s else s
 executed rules (instr.LoadRegister16 p w) s = with_registers (with_register16 p w s.registers) s
@@ -156,4 +163,4 @@ executed rules (instr.Shift h p) s =
 executed rules (instr.TestBit n p) s = with_flags (tested_bit (n % 8) (operand_value rules p s) s.registers.flags) s
 executed rules (instr.ResetBit n p) s = with_operand rules p (without_bit (n % 8) (operand_value rules p s)) s
 executed rules (instr.SetBit n p) s = with_operand rules p (with_bit (n % 8) (operand_value rules p s)) s
-executed rules (instr.Undefined o) s = record s { state = record s.state { locked = true } }
+executed rules (instr.Undefined o) s = locking s

@@ -3,6 +3,7 @@ pub mod RegisterPairs
 pub mod RegisterOperations
 pub mod Execution
 pub mod Steps
--- what only the code needs
 pub mod Opcodes
-pub mod Plain
+pub mod FastStep
+-- what only the code needs
+pub mod KeptMemory

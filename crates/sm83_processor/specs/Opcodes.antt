@@ -10,13 +10,13 @@ use Rattle.opcode_table.specs.declared.instruction.Instr.{Instr}
 use Rattle.opcode_table.specs.Table.{instruction_of}
 use Rattle.opcode_table.specs.Timing.{length_of, cycles_of, cycles_taken_of}
 
--- the opcode at PC is taken: PC is at the byte behind it
-abbrev pub taken : {M : Type 0} → Processor M → Processor M
-taken s = at_pc (next_address s.registers.pc) s
+-- the opcode at PC has been fetched: PC is at the byte after it
+abbrev pub after_fetch : {M : Type 0} → Processor M → Processor M
+after_fetch s = at_pc (next_address s.registers.pc) s
 
 -- the same where `halt_bug` may hold, which ends
-abbrev pub opened : {M : Type 0} → Processor M → Processor M
-opened s = record s { registers = record s.registers { pc = second_address s }; state = record s.state { halt_bug = false } }
+abbrev pub after_any_fetch : {M : Type 0} → Processor M → Processor M
+after_any_fetch s = record s { registers = record s.registers { pc = second_address s }; state = record s.state { halt_bug = false } }
 
 -- the bytes at PC
 abbrev pub low_at : {M : Type 0} → Rules M → Processor M → ℕ
@@ -25,17 +25,17 @@ low_at rules s = byte_at rules s.registers.pc s
 abbrev pub high_at : {M : Type 0} → Rules M → Processor M → ℕ
 high_at rules s = byte_at rules (next_address s.registers.pc) s
 
--- the instruction of an opcode that is taken
+-- the instruction of an opcode that has been fetched
 abbrev pub instruction_at : {M : Type 0} → Rules M → ℕ → Processor M → Instr
 instruction_at rules opcode s = instruction_of opcode (low_at rules s) (high_at rules s)
 
--- PC goes behind an instruction of n bytes, of which the first is taken
+-- PC goes after an instruction of n bytes, of which the first has been fetched
 abbrev pub past : {M : Type 0} → ℕ → Processor M → Processor M
 past n s = record s { registers = record s.registers { pc = (s.registers.pc + (n - 1)) % 65536 } }
 
--- an instruction whose opcode is taken
-abbrev pub executed_behind : {M : Type 0} → Rules M → Instr → Processor M → Processor M
-executed_behind rules i s = executed rules i (past (length_of i) s)
+-- what an instruction leaves whose opcode has been fetched
+abbrev pub executed_after_fetch : {M : Type 0} → Rules M → Instr → Processor M → Processor M
+executed_after_fetch rules i s = executed rules i (past (length_of i) s)
 
 -- its M-cycles with these flags
 abbrev pub cycles_with : Instr → Flags → ℕ

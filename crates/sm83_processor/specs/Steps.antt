@@ -8,7 +8,7 @@ use Rattle.sm83_processor.specs.RegisterOperations.{next_address, is_taken}
 use Rattle.sm83_processor.specs.Execution.{executed, pushed, at_pc}
 use Rattle.sm83_processor.specs.declared.processor.Processor.{Processor}
 use Rattle.sm83_processor.specs.declared.step.Stepped.{Stepped}
-use Rattle.sm83_processor.specs.declared.step.What.TheVariants.{Dispatch, Wait, Ran}
+use Rattle.sm83_processor.specs.declared.step.StepKind.TheVariants.{Dispatch, Wait, Ran}
 use Rattle.opcode_table.specs.declared.instruction.Instr.{Instr}
 use Rattle.opcode_table.specs.declared.instruction.Instr.TheVariants as instr
 use Rattle.opcode_table.specs.declared.decoding.Decoded.{Decoded}
@@ -25,7 +25,7 @@ passing rules n s = record s { memory = rules.passed s.memory n }
 
 -- one M-cycle passes, and nothing else
 abbrev pub waited : {M : Type 0} → Rules M → Processor M → Step M
-waited rules s = record { after = passing rules 1 s; stepped = record { what = Wait; cycles = 1 } }
+waited rules s = record { after = passing rules 1 s; stepped = record { kind = Wait; cycles = 1 } }
 
 -- the interrupts by their bits in IE and IF: VBlank 0, STAT 1, timer 2, serial 3, joypad 4
 -- the first of them that is set
@@ -45,7 +45,8 @@ DispatchesLowest = (n : ℕ) → 0 < n → n < 32 → IsLowestBit n (lowest_inte
 abbrev pub vector_of : ℕ → ℕ
 vector_of bit = 0x40 + 8 * bit
 
--- an interrupt: its bit in IF is cleared, PC is pushed and becomes its vector
+-- an interrupt: its bit in IF is cleared, PC is pushed and becomes its vector, which is chosen before the pushes, whatever they write
+-- to IE (fixed profile)
 abbrev pub dispatched : {M : Type 0} → Rules M → Processor M → Step M
 dispatched rules s =
     let bit = lowest_interrupt (rules.pending_interrupts s.memory) in
@@ -55,10 +56,10 @@ dispatched rules s =
     } in
     record {
       after = passing rules 5 (at_pc (vector_of bit) (pushed rules s.registers.pc quiet));
-      stepped = record { what = Dispatch (vector_of bit); cycles = 5 };
+      stepped = record { kind = Dispatch (vector_of bit); cycles = 5 };
     }
 
--- the address of the second byte: behind a halt that was not entered it is PC's own
+-- the address of the second byte: after a halt that was not entered it is PC's own
 abbrev pub second_address : {M : Type 0} → Processor M → ℕ
 second_address s = if s.state.halt_bug then s.registers.pc else next_address s.registers.pc
 
@@ -70,64 +71,22 @@ abbrev pub decoded_at : {M : Type 0} → Rules M → Processor M → Decoded
 decoded_at rules s =
     decoded_of (byte_at rules s.registers.pc s) (byte_at rules (second_address s) s) (byte_at rules (next_address (second_address s)) s)
 
--- the processor as an instruction of n bytes begins: PC is behind it
+-- the processor as an instruction of n bytes begins: PC is after it
 abbrev pub begun : {M : Type 0} → ℕ → Processor M → Processor M
 begun n s = record s {
   registers = record s.registers { pc = (second_address s + (n - 1)) % 65536 };
   state = record s.state { halt_bug = false };
 }
 
+-- DI
 abbrev pub is_disabling : Instr → Bool
-is_disabling instr.Nop = false
-is_disabling (instr.StoreSp w) = false
-is_disabling instr.Stop = false
-is_disabling (instr.JumpRelative b) = false
-is_disabling (instr.JumpRelativeIf c b) = false
-is_disabling (instr.LoadRegister16 r w) = false
-is_disabling (instr.AddHl r) = false
-is_disabling (instr.StoreAccumulator p) = false
-is_disabling (instr.LoadAccumulator p) = false
-is_disabling (instr.IncrementRegister16 r) = false
-is_disabling (instr.DecrementRegister16 r) = false
-is_disabling (instr.Increment r) = false
-is_disabling (instr.Decrement r) = false
-is_disabling (instr.LoadByte r b) = false
-is_disabling (instr.Accumulator o) = false
-is_disabling (instr.Load r s) = false
-is_disabling instr.Halt = false
-is_disabling (instr.Operate o r) = false
-is_disabling (instr.OperateByte o b) = false
-is_disabling (instr.ReturnIf c) = false
-is_disabling (instr.StoreHigh b) = false
-is_disabling (instr.AddSp b) = false
-is_disabling (instr.LoadHigh b) = false
-is_disabling (instr.LoadHlSp b) = false
-is_disabling (instr.Pop r) = false
-is_disabling instr.Return = false
-is_disabling instr.ReturnFromInterrupt = false
-is_disabling instr.JumpHl = false
-is_disabling instr.LoadSpHl = false
-is_disabling (instr.JumpIf c w) = false
-is_disabling instr.StoreHighC = false
-is_disabling (instr.StoreAt w) = false
-is_disabling instr.LoadHighC = false
-is_disabling (instr.LoadAt w) = false
-is_disabling (instr.Jump w) = false
 is_disabling instr.DisableInterrupts = true
-is_disabling instr.EnableInterrupts = false
-is_disabling (instr.CallIf c w) = false
-is_disabling (instr.Push r) = false
-is_disabling (instr.Call w) = false
-is_disabling (instr.Restart a) = false
-is_disabling (instr.Shift s r) = false
-is_disabling (instr.TestBit n r) = false
-is_disabling (instr.ResetBit n r) = false
-is_disabling (instr.SetBit n r) = false
-is_disabling (instr.Undefined o) = false
+is_disabling i = false
 
--- an instruction that began with `ime_pending` ends with IME set and `ime_pending` clear, but for DI
-abbrev pub settled : {M : Type 0} → Bool → Instr → Processor M → Processor M
-settled ime_pending i s =
+-- an instruction that began with `ime_pending` ends with IME set and `ime_pending` clear, but for DI: directly after EI, IME stays
+-- clear (fixed profile)
+abbrev pub with_ime_due : {M : Type 0} → Bool → Instr → Processor M → Processor M
+with_ime_due ime_pending i s =
     if ime_pending && not (is_disabling i) then record s { state = record s.state { ime = true; ime_pending = false } } else s
 
 -- one instruction
@@ -136,9 +95,9 @@ ran rules s =
     let d = decoded_at rules s in
     let cycles = (if is_taken d.instr s.registers.flags then d.cycles_taken else d.cycles) in
     record {
-      after = passing rules cycles (settled s.state.ime_pending d.instr (executed rules d.instr (begun d.length s)));
+      after = passing rules cycles (with_ime_due s.state.ime_pending d.instr (executed rules d.instr (begun d.length s)));
       stepped = record {
-        what = Ran (record {
+        kind = Ran (record {
           pc = s.registers.pc;
           bytes = byte_at rules s.registers.pc s ∷ byte_at rules (second_address s) s ∷ byte_at rules (next_address (second_address s)) s ∷ [];
           length = d.length;
@@ -157,7 +116,8 @@ step_unstopped rules s =
     if s.state.halted && rules.pending_interrupts s.memory == 0 then waited rules s
     else dispatched_or_ran rules (record s { state = record s.state { halted = false } })
 
--- a locked processor waits for ever; a stop ends where a low bit of P1, at FF00, is 0
+-- A locked processor waits for ever (fixed profile). A stop ends where a low bit of P1, at FF00, is 0; until then all units go on
+-- (fixed profile).
 unfoldable pub step_of : {M : Type 0} → Rules M → Processor M → Step M
 step_of rules s =
     if s.state.locked then waited rules s

@@ -6,7 +6,7 @@
 ghost use Rattle.std.specs.Prelude.{◌≡◌, ◌<◌, ◌+◌, ◌*◌, if◌then◌else◌};
 ghost use Rattle.sm83_processor.specs.RegisterOperations.{next_address};
 ghost use Rattle.sm83_processor.specs.Steps.{second_address};
-ghost use Rattle.sm83_processor.specs.Opcodes.{taken, low_at, high_at, past, executed_behind, cycles_with};
+ghost use Rattle.sm83_processor.specs.Opcodes.{after_fetch, low_at, high_at, past, executed_after_fetch, cycles_with};
 ghost use Rattle.opcode_table.specs.Table.{word_of};
 ghost use Rattle.opcode_table.specs.Timing.{is_in_memory};
 ghost use Rattle.opcode_table.specs.declared.instruction.Instr.{Instr};
@@ -53,33 +53,33 @@ impl<M: Memory> Processor<M> {
         }
     }
 
-    /// The address behind the opcode at PC.
+    /// The address after the opcode at PC.
     #[inline(always)]
-    fn behind(&self) -> u16
+    fn operand_address(&self) -> u16
         ensures { result ≡ next_address self.now.registers.pc }
     {
         self.registers.pc.wrapping_add(1)
     }
 
-    /// The byte behind the opcode at PC.
+    /// The byte after the opcode at PC.
     #[inline(always)]
     pub(crate) fn low(&self) -> u8
-        ensures { result ≡ low_at M.rules (taken self.now) }
+        ensures { result ≡ low_at M.rules (after_fetch self.now) }
     {
-        self.memory.read(self.behind())
+        self.memory.read(self.operand_address())
     }
 
     #[inline(always)]
     fn high(&self) -> u8
-        ensures { result ≡ high_at M.rules (taken self.now) }
+        ensures { result ≡ high_at M.rules (after_fetch self.now) }
     {
-        self.memory.read(self.behind().wrapping_add(1))
+        self.memory.read(self.operand_address().wrapping_add(1))
     }
 
-    /// The two bytes behind the opcode at PC, the low one first.
+    /// The two bytes after the opcode at PC, the low one first.
     #[inline(always)]
     pub(crate) fn word(&self) -> u16
-        ensures { result ≡ word_of (low_at M.rules (taken self.now)) (high_at M.rules (taken self.now)) }
+        ensures { result ≡ word_of (low_at M.rules (after_fetch self.now)) (high_at M.rules (after_fetch self.now)) }
     {
         u16::from(self.low()) + 256 * u16::from(self.high())
     }
@@ -88,15 +88,15 @@ impl<M: Memory> Processor<M> {
     #[inline(always)]
     fn move_past(&mut self, length: u8)
         requires { 0 < length }
-        ensures { self.new ≡ past length (taken self.old) }
+        ensures { self.new ≡ past length (after_fetch self.old) }
     {
-        self.registers.pc = self.behind().wrapping_add(u16::from(length - 1));
+        self.registers.pc = self.operand_address().wrapping_add(u16::from(length - 1));
     }
 
     /// NOP
     #[inline]
     pub(crate) fn run_nop(&mut self) -> u32
-        ensures after { self.new ≡ executed_behind M.rules Instr.Nop (taken self.old) }
+        ensures after { self.new ≡ executed_after_fetch M.rules Instr.Nop (after_fetch self.old) }
         ensures cycles { result ≡ cycles_with Instr.Nop self.old.registers.flags }
     {
         self.move_past(1);
@@ -106,7 +106,7 @@ impl<M: Memory> Processor<M> {
     /// LD (n16),SP
     #[inline]
     pub(crate) fn run_store_sp(&mut self, address: u16) -> u32
-        ensures after { self.new ≡ executed_behind M.rules (Instr.StoreSp address) (taken self.old) }
+        ensures after { self.new ≡ executed_after_fetch M.rules (Instr.StoreSp address) (after_fetch self.old) }
         ensures cycles { result ≡ cycles_with (Instr.StoreSp address) self.old.registers.flags }
     {
         self.move_past(3);
@@ -117,7 +117,7 @@ impl<M: Memory> Processor<M> {
     /// STOP
     #[inline]
     pub(crate) fn run_stop(&mut self) -> u32
-        ensures after { self.new ≡ executed_behind M.rules Instr.Stop (taken self.old) }
+        ensures after { self.new ≡ executed_after_fetch M.rules Instr.Stop (after_fetch self.old) }
         ensures cycles { result ≡ cycles_with Instr.Stop self.old.registers.flags }
     {
         self.move_past(2);
@@ -129,7 +129,7 @@ impl<M: Memory> Processor<M> {
     /// JR e
     #[inline]
     pub(crate) fn run_jump_relative(&mut self, offset: u8) -> u32
-        ensures after { self.new ≡ executed_behind M.rules (Instr.JumpRelative offset) (taken self.old) }
+        ensures after { self.new ≡ executed_after_fetch M.rules (Instr.JumpRelative offset) (after_fetch self.old) }
         ensures cycles { result ≡ cycles_with (Instr.JumpRelative offset) self.old.registers.flags }
     {
         self.move_past(2);
@@ -140,7 +140,7 @@ impl<M: Memory> Processor<M> {
     /// JR cc,e
     #[inline]
     pub(crate) fn run_jump_relative_if(&mut self, condition: Condition, offset: u8) -> u32
-        ensures after { self.new ≡ executed_behind M.rules (Instr.JumpRelativeIf condition offset) (taken self.old) }
+        ensures after { self.new ≡ executed_after_fetch M.rules (Instr.JumpRelativeIf condition offset) (after_fetch self.old) }
         ensures cycles { result ≡ cycles_with (Instr.JumpRelativeIf condition offset) self.old.registers.flags }
     {
         self.move_past(2);
@@ -155,7 +155,7 @@ impl<M: Memory> Processor<M> {
     /// LD rp,n16
     #[inline]
     pub(crate) fn run_load_register16(&mut self, register: Register16, word: u16) -> u32
-        ensures after { self.new ≡ executed_behind M.rules (Instr.LoadRegister16 register word) (taken self.old) }
+        ensures after { self.new ≡ executed_after_fetch M.rules (Instr.LoadRegister16 register word) (after_fetch self.old) }
         ensures cycles { result ≡ cycles_with (Instr.LoadRegister16 register word) self.old.registers.flags }
     {
         self.move_past(3);
@@ -166,7 +166,7 @@ impl<M: Memory> Processor<M> {
     /// ADD HL,rp
     #[inline]
     pub(crate) fn run_add_hl(&mut self, register: Register16) -> u32
-        ensures after { self.new ≡ executed_behind M.rules (Instr.AddHl register) (taken self.old) }
+        ensures after { self.new ≡ executed_after_fetch M.rules (Instr.AddHl register) (after_fetch self.old) }
         ensures cycles { result ≡ cycles_with (Instr.AddHl register) self.old.registers.flags }
     {
         self.move_past(1);
@@ -177,7 +177,7 @@ impl<M: Memory> Processor<M> {
     /// LD (BC),A and the like
     #[inline]
     pub(crate) fn run_store_accumulator(&mut self, operand: Indirect) -> u32
-        ensures after { self.new ≡ executed_behind M.rules (Instr.StoreAccumulator operand) (taken self.old) }
+        ensures after { self.new ≡ executed_after_fetch M.rules (Instr.StoreAccumulator operand) (after_fetch self.old) }
         ensures cycles { result ≡ cycles_with (Instr.StoreAccumulator operand) self.old.registers.flags }
     {
         self.move_past(1);
@@ -190,7 +190,7 @@ impl<M: Memory> Processor<M> {
     /// LD A,(BC) and the like
     #[inline]
     pub(crate) fn run_load_accumulator(&mut self, operand: Indirect) -> u32
-        ensures after { self.new ≡ executed_behind M.rules (Instr.LoadAccumulator operand) (taken self.old) }
+        ensures after { self.new ≡ executed_after_fetch M.rules (Instr.LoadAccumulator operand) (after_fetch self.old) }
         ensures cycles { result ≡ cycles_with (Instr.LoadAccumulator operand) self.old.registers.flags }
     {
         self.move_past(1);
@@ -203,7 +203,7 @@ impl<M: Memory> Processor<M> {
     /// INC rp
     #[inline]
     pub(crate) fn run_increment_register16(&mut self, register: Register16) -> u32
-        ensures after { self.new ≡ executed_behind M.rules (Instr.IncrementRegister16 register) (taken self.old) }
+        ensures after { self.new ≡ executed_after_fetch M.rules (Instr.IncrementRegister16 register) (after_fetch self.old) }
         ensures cycles { result ≡ cycles_with (Instr.IncrementRegister16 register) self.old.registers.flags }
     {
         self.move_past(1);
@@ -214,7 +214,7 @@ impl<M: Memory> Processor<M> {
     /// DEC rp
     #[inline]
     pub(crate) fn run_decrement_register16(&mut self, register: Register16) -> u32
-        ensures after { self.new ≡ executed_behind M.rules (Instr.DecrementRegister16 register) (taken self.old) }
+        ensures after { self.new ≡ executed_after_fetch M.rules (Instr.DecrementRegister16 register) (after_fetch self.old) }
         ensures cycles { result ≡ cycles_with (Instr.DecrementRegister16 register) self.old.registers.flags }
     {
         self.move_past(1);
@@ -225,7 +225,7 @@ impl<M: Memory> Processor<M> {
     /// INC r
     #[inline]
     pub(crate) fn run_increment(&mut self, operand: Operand8) -> u32
-        ensures after { self.new ≡ executed_behind M.rules (Instr.Increment operand) (taken self.old) }
+        ensures after { self.new ≡ executed_after_fetch M.rules (Instr.Increment operand) (after_fetch self.old) }
         ensures cycles { result ≡ cycles_with (Instr.Increment operand) self.old.registers.flags }
     {
         self.move_past(1);
@@ -238,7 +238,7 @@ impl<M: Memory> Processor<M> {
     /// DEC r
     #[inline]
     pub(crate) fn run_decrement(&mut self, operand: Operand8) -> u32
-        ensures after { self.new ≡ executed_behind M.rules (Instr.Decrement operand) (taken self.old) }
+        ensures after { self.new ≡ executed_after_fetch M.rules (Instr.Decrement operand) (after_fetch self.old) }
         ensures cycles { result ≡ cycles_with (Instr.Decrement operand) self.old.registers.flags }
     {
         self.move_past(1);
@@ -251,7 +251,7 @@ impl<M: Memory> Processor<M> {
     /// LD r,n8
     #[inline]
     pub(crate) fn run_load_byte(&mut self, operand: Operand8, byte: u8) -> u32
-        ensures after { self.new ≡ executed_behind M.rules (Instr.LoadByte operand byte) (taken self.old) }
+        ensures after { self.new ≡ executed_after_fetch M.rules (Instr.LoadByte operand byte) (after_fetch self.old) }
         ensures cycles { result ≡ cycles_with (Instr.LoadByte operand byte) self.old.registers.flags }
     {
         self.move_past(2);
@@ -262,7 +262,7 @@ impl<M: Memory> Processor<M> {
     /// RLCA and the like
     #[inline]
     pub(crate) fn run_accumulator(&mut self, operation: AccumulatorOperation) -> u32
-        ensures after { self.new ≡ executed_behind M.rules (Instr.Accumulator operation) (taken self.old) }
+        ensures after { self.new ≡ executed_after_fetch M.rules (Instr.Accumulator operation) (after_fetch self.old) }
         ensures cycles { result ≡ cycles_with (Instr.Accumulator operation) self.old.registers.flags }
     {
         self.move_past(1);
@@ -273,7 +273,7 @@ impl<M: Memory> Processor<M> {
     /// LD r,r
     #[inline]
     pub(crate) fn run_load(&mut self, to: Operand8, from: Operand8) -> u32
-        ensures after { self.new ≡ executed_behind M.rules (Instr.Load to from) (taken self.old) }
+        ensures after { self.new ≡ executed_after_fetch M.rules (Instr.Load to from) (after_fetch self.old) }
         ensures cycles { result ≡ cycles_with (Instr.Load to from) self.old.registers.flags }
     {
         self.move_past(1);
@@ -285,7 +285,7 @@ impl<M: Memory> Processor<M> {
     /// HALT. Apart, so that a loop of steps keeps nothing in a register for IE and IF.
     #[inline(never)]
     pub(crate) fn run_halt(&mut self) -> u32
-        ensures after { self.new ≡ executed_behind M.rules Instr.Halt (taken self.old) }
+        ensures after { self.new ≡ executed_after_fetch M.rules Instr.Halt (after_fetch self.old) }
         ensures cycles { result ≡ cycles_with Instr.Halt self.old.registers.flags }
     {
         self.move_past(1);
@@ -296,7 +296,7 @@ impl<M: Memory> Processor<M> {
     /// ADD A,r and the like
     #[inline]
     pub(crate) fn run_operate(&mut self, operation: Operation, operand: Operand8) -> u32
-        ensures after { self.new ≡ executed_behind M.rules (Instr.Operate operation operand) (taken self.old) }
+        ensures after { self.new ≡ executed_after_fetch M.rules (Instr.Operate operation operand) (after_fetch self.old) }
         ensures cycles { result ≡ cycles_with (Instr.Operate operation operand) self.old.registers.flags }
     {
         self.move_past(1);
@@ -308,7 +308,7 @@ impl<M: Memory> Processor<M> {
     /// ADD A,n8 and the like
     #[inline]
     pub(crate) fn run_operate_byte(&mut self, operation: Operation, byte: u8) -> u32
-        ensures after { self.new ≡ executed_behind M.rules (Instr.OperateByte operation byte) (taken self.old) }
+        ensures after { self.new ≡ executed_after_fetch M.rules (Instr.OperateByte operation byte) (after_fetch self.old) }
         ensures cycles { result ≡ cycles_with (Instr.OperateByte operation byte) self.old.registers.flags }
     {
         self.move_past(2);
@@ -319,7 +319,7 @@ impl<M: Memory> Processor<M> {
     /// RET cc
     #[inline]
     pub(crate) fn run_return_if(&mut self, condition: Condition) -> u32
-        ensures after { self.new ≡ executed_behind M.rules (Instr.ReturnIf condition) (taken self.old) }
+        ensures after { self.new ≡ executed_after_fetch M.rules (Instr.ReturnIf condition) (after_fetch self.old) }
         ensures cycles { result ≡ cycles_with (Instr.ReturnIf condition) self.old.registers.flags }
     {
         self.move_past(1);
@@ -334,7 +334,7 @@ impl<M: Memory> Processor<M> {
     /// LDH (n8),A
     #[inline]
     pub(crate) fn run_store_high(&mut self, low: u8) -> u32
-        ensures after { self.new ≡ executed_behind M.rules (Instr.StoreHigh low) (taken self.old) }
+        ensures after { self.new ≡ executed_after_fetch M.rules (Instr.StoreHigh low) (after_fetch self.old) }
         ensures cycles { result ≡ cycles_with (Instr.StoreHigh low) self.old.registers.flags }
     {
         self.move_past(2);
@@ -346,7 +346,7 @@ impl<M: Memory> Processor<M> {
     /// ADD SP,e
     #[inline]
     pub(crate) fn run_add_sp(&mut self, offset: u8) -> u32
-        ensures after { self.new ≡ executed_behind M.rules (Instr.AddSp offset) (taken self.old) }
+        ensures after { self.new ≡ executed_after_fetch M.rules (Instr.AddSp offset) (after_fetch self.old) }
         ensures cycles { result ≡ cycles_with (Instr.AddSp offset) self.old.registers.flags }
     {
         self.move_past(2);
@@ -359,7 +359,7 @@ impl<M: Memory> Processor<M> {
     /// LDH A,(n8)
     #[inline]
     pub(crate) fn run_load_high(&mut self, low: u8) -> u32
-        ensures after { self.new ≡ executed_behind M.rules (Instr.LoadHigh low) (taken self.old) }
+        ensures after { self.new ≡ executed_after_fetch M.rules (Instr.LoadHigh low) (after_fetch self.old) }
         ensures cycles { result ≡ cycles_with (Instr.LoadHigh low) self.old.registers.flags }
     {
         self.move_past(2);
@@ -370,7 +370,7 @@ impl<M: Memory> Processor<M> {
     /// LD HL,SP+e
     #[inline]
     pub(crate) fn run_load_hl_sp(&mut self, offset: u8) -> u32
-        ensures after { self.new ≡ executed_behind M.rules (Instr.LoadHlSp offset) (taken self.old) }
+        ensures after { self.new ≡ executed_after_fetch M.rules (Instr.LoadHlSp offset) (after_fetch self.old) }
         ensures cycles { result ≡ cycles_with (Instr.LoadHlSp offset) self.old.registers.flags }
     {
         self.move_past(2);
@@ -383,7 +383,7 @@ impl<M: Memory> Processor<M> {
     /// POP rp
     #[inline]
     pub(crate) fn run_pop(&mut self, register: StackRegister16) -> u32
-        ensures after { self.new ≡ executed_behind M.rules (Instr.Pop register) (taken self.old) }
+        ensures after { self.new ≡ executed_after_fetch M.rules (Instr.Pop register) (after_fetch self.old) }
         ensures cycles { result ≡ cycles_with (Instr.Pop register) self.old.registers.flags }
     {
         self.move_past(1);
@@ -395,7 +395,7 @@ impl<M: Memory> Processor<M> {
     /// RET
     #[inline]
     pub(crate) fn run_return(&mut self) -> u32
-        ensures after { self.new ≡ executed_behind M.rules Instr.Return (taken self.old) }
+        ensures after { self.new ≡ executed_after_fetch M.rules Instr.Return (after_fetch self.old) }
         ensures cycles { result ≡ cycles_with Instr.Return self.old.registers.flags }
     {
         self.move_past(1);
@@ -406,7 +406,7 @@ impl<M: Memory> Processor<M> {
     /// RETI
     #[inline]
     pub(crate) fn run_return_from_interrupt(&mut self) -> u32
-        ensures after { self.new ≡ executed_behind M.rules Instr.ReturnFromInterrupt (taken self.old) }
+        ensures after { self.new ≡ executed_after_fetch M.rules Instr.ReturnFromInterrupt (after_fetch self.old) }
         ensures cycles { result ≡ cycles_with Instr.ReturnFromInterrupt self.old.registers.flags }
     {
         self.move_past(1);
@@ -418,7 +418,7 @@ impl<M: Memory> Processor<M> {
     /// JP HL
     #[inline]
     pub(crate) fn run_jump_hl(&mut self) -> u32
-        ensures after { self.new ≡ executed_behind M.rules Instr.JumpHl (taken self.old) }
+        ensures after { self.new ≡ executed_after_fetch M.rules Instr.JumpHl (after_fetch self.old) }
         ensures cycles { result ≡ cycles_with Instr.JumpHl self.old.registers.flags }
     {
         self.move_past(1);
@@ -429,7 +429,7 @@ impl<M: Memory> Processor<M> {
     /// LD SP,HL
     #[inline]
     pub(crate) fn run_load_sp_hl(&mut self) -> u32
-        ensures after { self.new ≡ executed_behind M.rules Instr.LoadSpHl (taken self.old) }
+        ensures after { self.new ≡ executed_after_fetch M.rules Instr.LoadSpHl (after_fetch self.old) }
         ensures cycles { result ≡ cycles_with Instr.LoadSpHl self.old.registers.flags }
     {
         self.move_past(1);
@@ -440,7 +440,7 @@ impl<M: Memory> Processor<M> {
     /// JP cc,n16
     #[inline]
     pub(crate) fn run_jump_if(&mut self, condition: Condition, address: u16) -> u32
-        ensures after { self.new ≡ executed_behind M.rules (Instr.JumpIf condition address) (taken self.old) }
+        ensures after { self.new ≡ executed_after_fetch M.rules (Instr.JumpIf condition address) (after_fetch self.old) }
         ensures cycles { result ≡ cycles_with (Instr.JumpIf condition address) self.old.registers.flags }
     {
         self.move_past(3);
@@ -455,7 +455,7 @@ impl<M: Memory> Processor<M> {
     /// LD (C),A
     #[inline]
     pub(crate) fn run_store_high_c(&mut self) -> u32
-        ensures after { self.new ≡ executed_behind M.rules Instr.StoreHighC (taken self.old) }
+        ensures after { self.new ≡ executed_after_fetch M.rules Instr.StoreHighC (after_fetch self.old) }
         ensures cycles { result ≡ cycles_with Instr.StoreHighC self.old.registers.flags }
     {
         self.move_past(1);
@@ -467,7 +467,7 @@ impl<M: Memory> Processor<M> {
     /// LD (n16),A
     #[inline]
     pub(crate) fn run_store_at(&mut self, address: u16) -> u32
-        ensures after { self.new ≡ executed_behind M.rules (Instr.StoreAt address) (taken self.old) }
+        ensures after { self.new ≡ executed_after_fetch M.rules (Instr.StoreAt address) (after_fetch self.old) }
         ensures cycles { result ≡ cycles_with (Instr.StoreAt address) self.old.registers.flags }
     {
         self.move_past(3);
@@ -478,7 +478,7 @@ impl<M: Memory> Processor<M> {
     /// LD A,(C)
     #[inline]
     pub(crate) fn run_load_high_c(&mut self) -> u32
-        ensures after { self.new ≡ executed_behind M.rules Instr.LoadHighC (taken self.old) }
+        ensures after { self.new ≡ executed_after_fetch M.rules Instr.LoadHighC (after_fetch self.old) }
         ensures cycles { result ≡ cycles_with Instr.LoadHighC self.old.registers.flags }
     {
         self.move_past(1);
@@ -490,7 +490,7 @@ impl<M: Memory> Processor<M> {
     /// LD A,(n16)
     #[inline]
     pub(crate) fn run_load_at(&mut self, address: u16) -> u32
-        ensures after { self.new ≡ executed_behind M.rules (Instr.LoadAt address) (taken self.old) }
+        ensures after { self.new ≡ executed_after_fetch M.rules (Instr.LoadAt address) (after_fetch self.old) }
         ensures cycles { result ≡ cycles_with (Instr.LoadAt address) self.old.registers.flags }
     {
         self.move_past(3);
@@ -501,7 +501,7 @@ impl<M: Memory> Processor<M> {
     /// JP n16
     #[inline]
     pub(crate) fn run_jump(&mut self, address: u16) -> u32
-        ensures after { self.new ≡ executed_behind M.rules (Instr.Jump address) (taken self.old) }
+        ensures after { self.new ≡ executed_after_fetch M.rules (Instr.Jump address) (after_fetch self.old) }
         ensures cycles { result ≡ cycles_with (Instr.Jump address) self.old.registers.flags }
     {
         self.move_past(3);
@@ -512,7 +512,7 @@ impl<M: Memory> Processor<M> {
     /// DI
     #[inline]
     pub(crate) fn run_disable_interrupts(&mut self) -> u32
-        ensures after { self.new ≡ executed_behind M.rules Instr.DisableInterrupts (taken self.old) }
+        ensures after { self.new ≡ executed_after_fetch M.rules Instr.DisableInterrupts (after_fetch self.old) }
         ensures cycles { result ≡ cycles_with Instr.DisableInterrupts self.old.registers.flags }
     {
         self.move_past(1);
@@ -524,7 +524,7 @@ impl<M: Memory> Processor<M> {
     /// EI
     #[inline]
     pub(crate) fn run_enable_interrupts(&mut self) -> u32
-        ensures after { self.new ≡ executed_behind M.rules Instr.EnableInterrupts (taken self.old) }
+        ensures after { self.new ≡ executed_after_fetch M.rules Instr.EnableInterrupts (after_fetch self.old) }
         ensures cycles { result ≡ cycles_with Instr.EnableInterrupts self.old.registers.flags }
     {
         self.move_past(1);
@@ -535,7 +535,7 @@ impl<M: Memory> Processor<M> {
     /// CALL cc,n16
     #[inline]
     pub(crate) fn run_call_if(&mut self, condition: Condition, address: u16) -> u32
-        ensures after { self.new ≡ executed_behind M.rules (Instr.CallIf condition address) (taken self.old) }
+        ensures after { self.new ≡ executed_after_fetch M.rules (Instr.CallIf condition address) (after_fetch self.old) }
         ensures cycles { result ≡ cycles_with (Instr.CallIf condition address) self.old.registers.flags }
     {
         self.move_past(3);
@@ -550,7 +550,7 @@ impl<M: Memory> Processor<M> {
     /// PUSH rp
     #[inline]
     pub(crate) fn run_push(&mut self, register: StackRegister16) -> u32
-        ensures after { self.new ≡ executed_behind M.rules (Instr.Push register) (taken self.old) }
+        ensures after { self.new ≡ executed_after_fetch M.rules (Instr.Push register) (after_fetch self.old) }
         ensures cycles { result ≡ cycles_with (Instr.Push register) self.old.registers.flags }
     {
         self.move_past(1);
@@ -562,7 +562,7 @@ impl<M: Memory> Processor<M> {
     /// CALL n16
     #[inline]
     pub(crate) fn run_call(&mut self, address: u16) -> u32
-        ensures after { self.new ≡ executed_behind M.rules (Instr.Call address) (taken self.old) }
+        ensures after { self.new ≡ executed_after_fetch M.rules (Instr.Call address) (after_fetch self.old) }
         ensures cycles { result ≡ cycles_with (Instr.Call address) self.old.registers.flags }
     {
         self.move_past(3);
@@ -573,7 +573,7 @@ impl<M: Memory> Processor<M> {
     /// RST n8
     #[inline]
     pub(crate) fn run_restart(&mut self, address: u8) -> u32
-        ensures after { self.new ≡ executed_behind M.rules (Instr.Restart address) (taken self.old) }
+        ensures after { self.new ≡ executed_after_fetch M.rules (Instr.Restart address) (after_fetch self.old) }
         ensures cycles { result ≡ cycles_with (Instr.Restart address) self.old.registers.flags }
     {
         self.move_past(1);
@@ -584,7 +584,7 @@ impl<M: Memory> Processor<M> {
     /// RLC r and the like
     #[inline(always)]
     pub(crate) fn run_shift(&mut self, shift_by: Shift, operand: Operand8) -> u32
-        ensures after { self.new ≡ executed_behind M.rules (Instr.Shift shift_by operand) (taken self.old) }
+        ensures after { self.new ≡ executed_after_fetch M.rules (Instr.Shift shift_by operand) (after_fetch self.old) }
         ensures cycles { result ≡ cycles_with (Instr.Shift shift_by operand) self.old.registers.flags }
     {
         self.move_past(2);
@@ -596,7 +596,7 @@ impl<M: Memory> Processor<M> {
     /// BIT n,r
     #[inline(always)]
     pub(crate) fn run_test_bit(&mut self, bit: u8, operand: Operand8) -> u32
-        ensures after { self.new ≡ executed_behind M.rules (Instr.TestBit bit operand) (taken self.old) }
+        ensures after { self.new ≡ executed_after_fetch M.rules (Instr.TestBit bit operand) (after_fetch self.old) }
         ensures cycles { result ≡ cycles_with (Instr.TestBit bit operand) self.old.registers.flags }
     {
         self.move_past(2);
@@ -609,7 +609,7 @@ impl<M: Memory> Processor<M> {
     /// RES n,r
     #[inline(always)]
     pub(crate) fn run_reset_bit(&mut self, bit: u8, operand: Operand8) -> u32
-        ensures after { self.new ≡ executed_behind M.rules (Instr.ResetBit bit operand) (taken self.old) }
+        ensures after { self.new ≡ executed_after_fetch M.rules (Instr.ResetBit bit operand) (after_fetch self.old) }
         ensures cycles { result ≡ cycles_with (Instr.ResetBit bit operand) self.old.registers.flags }
     {
         self.move_past(2);
@@ -621,7 +621,7 @@ impl<M: Memory> Processor<M> {
     /// SET n,r
     #[inline(always)]
     pub(crate) fn run_set_bit(&mut self, bit: u8, operand: Operand8) -> u32
-        ensures after { self.new ≡ executed_behind M.rules (Instr.SetBit bit operand) (taken self.old) }
+        ensures after { self.new ≡ executed_after_fetch M.rules (Instr.SetBit bit operand) (after_fetch self.old) }
         ensures cycles { result ≡ cycles_with (Instr.SetBit bit operand) self.old.registers.flags }
     {
         self.move_past(2);
@@ -631,32 +631,32 @@ impl<M: Memory> Processor<M> {
     }
 
     #[inline(never)]
-    pub(crate) fn run_shift_apart(&mut self, shift_by: Shift, operand: Operand8) -> u32
-        ensures after { self.new ≡ executed_behind M.rules (Instr.Shift shift_by operand) (taken self.old) }
+    pub(crate) fn run_shift_out_of_line(&mut self, shift_by: Shift, operand: Operand8) -> u32
+        ensures after { self.new ≡ executed_after_fetch M.rules (Instr.Shift shift_by operand) (after_fetch self.old) }
         ensures cycles { result ≡ cycles_with (Instr.Shift shift_by operand) self.old.registers.flags }
     {
         self.run_shift(shift_by, operand)
     }
 
     #[inline(never)]
-    pub(crate) fn run_test_bit_apart(&mut self, bit: u8, operand: Operand8) -> u32
-        ensures after { self.new ≡ executed_behind M.rules (Instr.TestBit bit operand) (taken self.old) }
+    pub(crate) fn run_test_bit_out_of_line(&mut self, bit: u8, operand: Operand8) -> u32
+        ensures after { self.new ≡ executed_after_fetch M.rules (Instr.TestBit bit operand) (after_fetch self.old) }
         ensures cycles { result ≡ cycles_with (Instr.TestBit bit operand) self.old.registers.flags }
     {
         self.run_test_bit(bit, operand)
     }
 
     #[inline(never)]
-    pub(crate) fn run_reset_bit_apart(&mut self, bit: u8, operand: Operand8) -> u32
-        ensures after { self.new ≡ executed_behind M.rules (Instr.ResetBit bit operand) (taken self.old) }
+    pub(crate) fn run_reset_bit_out_of_line(&mut self, bit: u8, operand: Operand8) -> u32
+        ensures after { self.new ≡ executed_after_fetch M.rules (Instr.ResetBit bit operand) (after_fetch self.old) }
         ensures cycles { result ≡ cycles_with (Instr.ResetBit bit operand) self.old.registers.flags }
     {
         self.run_reset_bit(bit, operand)
     }
 
     #[inline(never)]
-    pub(crate) fn run_set_bit_apart(&mut self, bit: u8, operand: Operand8) -> u32
-        ensures after { self.new ≡ executed_behind M.rules (Instr.SetBit bit operand) (taken self.old) }
+    pub(crate) fn run_set_bit_out_of_line(&mut self, bit: u8, operand: Operand8) -> u32
+        ensures after { self.new ≡ executed_after_fetch M.rules (Instr.SetBit bit operand) (after_fetch self.old) }
         ensures cycles { result ≡ cycles_with (Instr.SetBit bit operand) self.old.registers.flags }
     {
         self.run_set_bit(bit, operand)
@@ -665,7 +665,7 @@ impl<M: Memory> Processor<M> {
     /// an undefined opcode
     #[inline]
     pub(crate) fn run_undefined(&mut self, opcode: u8) -> u32
-        ensures after { self.new ≡ executed_behind M.rules (Instr.Undefined opcode) (taken self.old) }
+        ensures after { self.new ≡ executed_after_fetch M.rules (Instr.Undefined opcode) (after_fetch self.old) }
         ensures cycles { result ≡ cycles_with (Instr.Undefined opcode) self.old.registers.flags }
     {
         self.move_past(1);

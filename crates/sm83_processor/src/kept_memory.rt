@@ -1,14 +1,14 @@
 //! The instructions that leave the memory as it is, by their opcode.
 
 ghost use Rattle.std.specs.Prelude.{◌≡◌, true};
-ghost use Rattle.sm83_processor.specs.Plain.{KeepsMemory};
+ghost use Rattle.sm83_processor.specs.KeptMemory.{KeepsMemory};
 
 use crate::memory::Memory;
 use crate::processor::Processor;
 
 impl<M: Memory> Processor<M> {
-    /// Whether every instruction of this opcode that takes so many M-cycles leaves the memory as it
-    /// is. Where the answer is false, it may or may not.
+    /// Whether every instruction of this opcode that takes this many M-cycles leaves the memory as it
+    /// is. If not, it may still do so.
     #[inline(always)]
     pub(crate) fn keeps_memory(opcode: u8, cycles: u32) -> bool
         ensures { result ≡ true → KeepsMemory M.rules opcode cycles }
@@ -30,7 +30,7 @@ impl<M: Memory> Processor<M> {
             0xc7 | 0xcf | 0xd7 | 0xdf | 0xe7 | 0xef | 0xf7 | 0xff => false,
             // LDH (n8),A and LD (C),A and LD (n16),A
             0xe0 | 0xe2 | 0xea => false,
-            // behind CB only an operand in memory takes more
+            // after CB only an operand in memory takes more
             0xcb => cycles == 2,
             _ => true,
         }

@@ -19,6 +19,6 @@ pub mod step;
 
 pub use lengths::length_of_opcode;
 pub use memory::Memory;
-pub use opcodes::{IN_FRAME, IN_HRAM, IN_LOWER_ROM, IN_UPPER_ROM, IN_WRAM, REPORTED};
+pub use opcodes::{FIRST_OWN_LOOP, REPORTED};
 pub use processor::{Processor, ProcessorState};
-pub use step::{Executed, Stepped, What};
+pub use step::{Executed, StepKind, Stepped};

@@ -2,8 +2,8 @@
 //! by the others.
 
 ghost use Rattle.std.specs.Prelude.{◌≡◌, ◌≤◌, ◌%◌, ◌/◌, true};
-ghost use Rattle.sm83_processor.specs.Opcodes.{taken, opened, instruction_at, executed_behind, cycles_with};
-ghost use Rattle.sm83_processor.specs.Plain.{IsUsual};
+ghost use Rattle.sm83_processor.specs.Opcodes.{after_fetch, after_any_fetch, instruction_at, executed_after_fetch, cycles_with};
+ghost use Rattle.sm83_processor.specs.FastStep.{IsUsual};
 ghost use Rattle.opcode_table.specs.Table.{bit_instruction};
 
 use crate::memory::Memory;
@@ -22,44 +22,33 @@ const HALT: u8 = 0x76;
 /// The opcode of EI.
 const ENABLE_INTERRUPTS: u8 = 0xfb;
 
-/// As the parameter `WAY` of a call: a step of any kind.
-pub(crate) const APART: u8 = 0;
+/// `LOOP` of a call that makes a step of any kind.
+pub(crate) const ANY_STEP: u8 = 0;
 
-/// As the parameter `WAY` of a call: plain steps in a frame.
-pub const IN_FRAME: u8 = 1;
-
-/// As the parameter `WAY` of a call: plain steps in a frame, in the lower half of ROM.
-pub const IN_LOWER_ROM: u8 = 4;
-
-/// As the parameter `WAY` of a call: plain steps in a frame, in the upper half of ROM.
-pub const IN_UPPER_ROM: u8 = 5;
-
-/// As the parameter `WAY` of a call: plain steps in a frame, in WRAM.
-pub const IN_WRAM: u8 = 6;
-
-/// As the parameter `WAY` of a call: plain steps in a frame, in HRAM.
-pub const IN_HRAM: u8 = 7;
-
-/// As the parameter `WAY` of a call: plain steps that are counted.
+/// `LOOP` of the loop that counts fast steps.
 pub(crate) const COUNTED: u8 = 2;
 
-/// As the parameter `WAY` of a call: plain steps that are reported.
+/// `LOOP` of the loop that reports fast steps.
 pub const REPORTED: u8 = 3;
 
+/// The first `LOOP` that a caller may give a loop of its own. In such a loop the instructions after
+/// the prefix CB are in line too.
+pub const FIRST_OWN_LOOP: u8 = 4;
+
 impl<M: Memory> Processor<M> {
-    /// Executes the instruction of this opcode, with PC still at the opcode. Answers its
-    /// M-cycles, whether the next one may begin as plainly as this one did, unless an interrupt
-    /// comes, and whether it is sure to have left the memory as it was. WAY names the caller: code
-    /// is made separately for each, so that it can be inlined into the caller's loop.
+    /// Executes the instruction of this opcode, with PC still at the opcode. Returns its M-cycles,
+    /// whether the next step is fast as well, unless an interrupt comes, and whether it is sure to
+    /// have left the memory as it was. `LOOP` names the caller's loop: code is made separately for
+    /// each, so that it can be inlined there.
     #[inline(always)]
-    pub fn run_opcode<const WAY: u8>(&mut self, opcode: u8) -> (u32, bool, bool)
-        ensures after { self.new ≡ executed_behind M.rules (instruction_at M.rules opcode (taken self.old)) (taken self.old) }
-        ensures cycles { result.0 ≡ cycles_with (instruction_at M.rules opcode (taken self.old)) self.old.registers.flags }
+    pub fn run_opcode<const LOOP: u8>(&mut self, opcode: u8) -> (u32, bool, bool)
+        ensures after { self.new ≡ executed_after_fetch M.rules (instruction_at M.rules opcode (after_fetch self.old)) (after_fetch self.old) }
+        ensures cycles { result.0 ≡ cycles_with (instruction_at M.rules opcode (after_fetch self.old)) self.old.registers.flags }
         ensures few { result.0 ≤ 6 }
         ensures usual { result.1 ≡ true → IsUsual self.old.state → IsUsual self.new.state }
         ensures memory { result.2 ≡ true → self.new.memory ≡ self.old.memory }
     {
-        let cycles = self.run_instruction::<WAY>(opcode);
+        let cycles = self.run_instruction::<LOOP>(opcode);
         match opcode {
             STOP | HALT | ENABLE_INTERRUPTS => (cycles, false, false),
             0xd3 | 0xdb | 0xdd | 0xe3 | 0xe4 | 0xeb | 0xec | 0xed | 0xf4 | 0xfc | 0xfd => {
@@ -69,20 +58,20 @@ impl<M: Memory> Processor<M> {
         }
     }
 
-    /// Executes the instruction at PC, which has this opcode, and answers its M-cycles.
+    /// Executes the instruction at PC, which has this opcode, and returns its M-cycles.
     #[inline(never)]
-    pub(crate) fn run_opcode_apart(&mut self, opcode: u8) -> u8
-        ensures after { self.new ≡ executed_behind M.rules (instruction_at M.rules opcode (opened self.old)) (opened self.old) }
-        ensures cycles { result ≡ cycles_with (instruction_at M.rules opcode (opened self.old)) self.old.registers.flags }
+    pub(crate) fn run_opcode_out_of_line(&mut self, opcode: u8) -> u8
+        ensures after { self.new ≡ executed_after_fetch M.rules (instruction_at M.rules opcode (after_any_fetch self.old)) (after_any_fetch self.old) }
+        ensures cycles { result ≡ cycles_with (instruction_at M.rules opcode (after_any_fetch self.old)) self.old.registers.flags }
     {
-        self.open();
-        self.run_opcode::<APART>(opcode).0 as u8
+        self.end_halt_bug();
+        self.run_opcode::<ANY_STEP>(opcode).0 as u8
     }
 
-    /// Ends `halt_bug`, with PC where the byte behind it is the one to come.
+    /// Ends `halt_bug`, with PC at the address before that of the next byte to fetch.
     #[inline(always)]
-    fn open(&mut self)
-        ensures { taken self.new ≡ opened self.old }
+    fn end_halt_bug(&mut self)
+        ensures { after_fetch self.new ≡ after_any_fetch self.old }
     {
         if self.state.halt_bug {
             self.registers.pc = self.registers.pc.wrapping_sub(1);
@@ -90,13 +79,13 @@ impl<M: Memory> Processor<M> {
         }
     }
 
-    /// Executes the instruction of this opcode, with PC still at the opcode, and answers its
+    /// Executes the instruction of this opcode, with PC still at the opcode, and returns its
     /// M-cycles. One match on all opcodes makes one jump.
     #[inline(always)]
     #[tactic(auto, unfolding(opcode_table::specs::Table::instruction_of, opcode_table::specs::Table::loads_and_steps, opcode_table::specs::Table::jumps_and_stack))]
-    fn run_instruction<const WAY: u8>(&mut self, opcode: u8) -> u32
-        ensures after { self.new ≡ executed_behind M.rules (instruction_at M.rules opcode (taken self.old)) (taken self.old) }
-        ensures cycles { result ≡ cycles_with (instruction_at M.rules opcode (taken self.old)) self.old.registers.flags }
+    fn run_instruction<const LOOP: u8>(&mut self, opcode: u8) -> u32
+        ensures after { self.new ≡ executed_after_fetch M.rules (instruction_at M.rules opcode (after_fetch self.old)) (after_fetch self.old) }
+        ensures cycles { result ≡ cycles_with (instruction_at M.rules opcode (after_fetch self.old)) self.old.registers.flags }
     {
         match opcode {
             0x00 => self.run_nop(),
@@ -302,7 +291,7 @@ impl<M: Memory> Processor<M> {
             0xc8 => self.run_return_if(Condition::Zero),
             0xc9 => self.run_return(),
             0xca => self.run_jump_if(Condition::Zero, self.word()),
-            0xcb => self.run_prefixed::<WAY>(self.low()),
+            0xcb => self.run_prefixed::<LOOP>(self.low()),
             0xcc => self.run_call_if(Condition::Zero, self.word()),
             0xcd => self.run_call(self.word()),
             0xce => self.run_operate_byte(Operation::AddCarry, self.low()),
@@ -358,35 +347,35 @@ impl<M: Memory> Processor<M> {
         }
     }
 
-    /// Executes the instruction of an opcode CB and this byte, and answers its M-cycles. In a frame
-    /// it is in line, since a call costs as much as most of these instructions.
+    /// Executes the instruction of an opcode CB and this byte, and returns its M-cycles. In a
+    /// caller's own loop it is in line, since a call costs as much as most of these instructions.
     #[inline(always)]
-    fn run_prefixed<const WAY: u8>(&mut self, byte: u8) -> u32
-        ensures after { self.new ≡ executed_behind M.rules (bit_instruction (byte / 64) (byte % 8) (byte / 8 % 8)) (taken self.old) }
+    fn run_prefixed<const LOOP: u8>(&mut self, byte: u8) -> u32
+        ensures after { self.new ≡ executed_after_fetch M.rules (bit_instruction (byte / 64) (byte % 8) (byte / 8 % 8)) (after_fetch self.old) }
         ensures cycles { result ≡ cycles_with (bit_instruction (byte / 64) (byte % 8) (byte / 8 % 8)) self.old.registers.flags }
     {
-        if WAY == APART || WAY == COUNTED || WAY == REPORTED {
-            self.run_bit_opcode_apart(byte)
+        if LOOP == ANY_STEP || LOOP == COUNTED || LOOP == REPORTED {
+            self.run_bit_opcode_out_of_line(byte)
         } else {
-            self.run_bit_opcode::<WAY>(byte)
+            self.run_bit_opcode::<LOOP>(byte)
         }
     }
 
     #[inline(never)]
-    fn run_bit_opcode_apart(&mut self, byte: u8) -> u32
-        ensures after { self.new ≡ executed_behind M.rules (bit_instruction (byte / 64) (byte % 8) (byte / 8 % 8)) (taken self.old) }
+    fn run_bit_opcode_out_of_line(&mut self, byte: u8) -> u32
+        ensures after { self.new ≡ executed_after_fetch M.rules (bit_instruction (byte / 64) (byte % 8) (byte / 8 % 8)) (after_fetch self.old) }
         ensures cycles { result ≡ cycles_with (bit_instruction (byte / 64) (byte % 8) (byte / 8 % 8)) self.old.registers.flags }
     {
-        self.run_bit_opcode::<APART>(byte)
+        self.run_bit_opcode::<ANY_STEP>(byte)
     }
 
-    /// Executes the instruction of an opcode CB and this byte, and answers its M-cycles. One match on
-    /// all bytes makes one jump to code in which the number and the operand are fixed. An operand in
-    /// memory is apart, so that the others save no registers for its calls.
+    /// Executes the instruction of an opcode CB and this byte, and returns its M-cycles. One match on
+    /// all bytes makes one jump to code in which the number and the operand are fixed. The code
+    /// for an operand in memory is out of line, so that the others save no registers for its calls.
     #[inline(always)]
     #[tactic(auto, unfolding(opcode_table::specs::Table::bit_instruction))]
-    fn run_bit_opcode<const WAY: u8>(&mut self, byte: u8) -> u32
-        ensures after { self.new ≡ executed_behind M.rules (bit_instruction (byte / 64) (byte % 8) (byte / 8 % 8)) (taken self.old) }
+    fn run_bit_opcode<const LOOP: u8>(&mut self, byte: u8) -> u32
+        ensures after { self.new ≡ executed_after_fetch M.rules (bit_instruction (byte / 64) (byte % 8) (byte / 8 % 8)) (after_fetch self.old) }
         ensures cycles { result ≡ cycles_with (bit_instruction (byte / 64) (byte % 8) (byte / 8 % 8)) self.old.registers.flags }
     {
         match byte {
@@ -396,7 +385,7 @@ impl<M: Memory> Processor<M> {
             0x03 => self.run_shift(Shift::RotateLeft, Operand8::E),
             0x04 => self.run_shift(Shift::RotateLeft, Operand8::H),
             0x05 => self.run_shift(Shift::RotateLeft, Operand8::L),
-            0x06 => self.run_shift_apart(Shift::RotateLeft, Operand8::AtHl),
+            0x06 => self.run_shift_out_of_line(Shift::RotateLeft, Operand8::AtHl),
             0x07 => self.run_shift(Shift::RotateLeft, Operand8::A),
             0x08 => self.run_shift(Shift::RotateRight, Operand8::B),
             0x09 => self.run_shift(Shift::RotateRight, Operand8::C),
@@ -404,7 +393,7 @@ impl<M: Memory> Processor<M> {
             0x0b => self.run_shift(Shift::RotateRight, Operand8::E),
             0x0c => self.run_shift(Shift::RotateRight, Operand8::H),
             0x0d => self.run_shift(Shift::RotateRight, Operand8::L),
-            0x0e => self.run_shift_apart(Shift::RotateRight, Operand8::AtHl),
+            0x0e => self.run_shift_out_of_line(Shift::RotateRight, Operand8::AtHl),
             0x0f => self.run_shift(Shift::RotateRight, Operand8::A),
             0x10 => self.run_shift(Shift::RotateLeftThrough, Operand8::B),
             0x11 => self.run_shift(Shift::RotateLeftThrough, Operand8::C),
@@ -412,7 +401,7 @@ impl<M: Memory> Processor<M> {
             0x13 => self.run_shift(Shift::RotateLeftThrough, Operand8::E),
             0x14 => self.run_shift(Shift::RotateLeftThrough, Operand8::H),
             0x15 => self.run_shift(Shift::RotateLeftThrough, Operand8::L),
-            0x16 => self.run_shift_apart(Shift::RotateLeftThrough, Operand8::AtHl),
+            0x16 => self.run_shift_out_of_line(Shift::RotateLeftThrough, Operand8::AtHl),
             0x17 => self.run_shift(Shift::RotateLeftThrough, Operand8::A),
             0x18 => self.run_shift(Shift::RotateRightThrough, Operand8::B),
             0x19 => self.run_shift(Shift::RotateRightThrough, Operand8::C),
@@ -420,7 +409,7 @@ impl<M: Memory> Processor<M> {
             0x1b => self.run_shift(Shift::RotateRightThrough, Operand8::E),
             0x1c => self.run_shift(Shift::RotateRightThrough, Operand8::H),
             0x1d => self.run_shift(Shift::RotateRightThrough, Operand8::L),
-            0x1e => self.run_shift_apart(Shift::RotateRightThrough, Operand8::AtHl),
+            0x1e => self.run_shift_out_of_line(Shift::RotateRightThrough, Operand8::AtHl),
             0x1f => self.run_shift(Shift::RotateRightThrough, Operand8::A),
             0x20 => self.run_shift(Shift::ShiftLeftArithmetic, Operand8::B),
             0x21 => self.run_shift(Shift::ShiftLeftArithmetic, Operand8::C),
@@ -428,7 +417,7 @@ impl<M: Memory> Processor<M> {
             0x23 => self.run_shift(Shift::ShiftLeftArithmetic, Operand8::E),
             0x24 => self.run_shift(Shift::ShiftLeftArithmetic, Operand8::H),
             0x25 => self.run_shift(Shift::ShiftLeftArithmetic, Operand8::L),
-            0x26 => self.run_shift_apart(Shift::ShiftLeftArithmetic, Operand8::AtHl),
+            0x26 => self.run_shift_out_of_line(Shift::ShiftLeftArithmetic, Operand8::AtHl),
             0x27 => self.run_shift(Shift::ShiftLeftArithmetic, Operand8::A),
             0x28 => self.run_shift(Shift::ShiftRightArithmetic, Operand8::B),
             0x29 => self.run_shift(Shift::ShiftRightArithmetic, Operand8::C),
@@ -436,7 +425,7 @@ impl<M: Memory> Processor<M> {
             0x2b => self.run_shift(Shift::ShiftRightArithmetic, Operand8::E),
             0x2c => self.run_shift(Shift::ShiftRightArithmetic, Operand8::H),
             0x2d => self.run_shift(Shift::ShiftRightArithmetic, Operand8::L),
-            0x2e => self.run_shift_apart(Shift::ShiftRightArithmetic, Operand8::AtHl),
+            0x2e => self.run_shift_out_of_line(Shift::ShiftRightArithmetic, Operand8::AtHl),
             0x2f => self.run_shift(Shift::ShiftRightArithmetic, Operand8::A),
             0x30 => self.run_shift(Shift::Swap, Operand8::B),
             0x31 => self.run_shift(Shift::Swap, Operand8::C),
@@ -444,7 +433,7 @@ impl<M: Memory> Processor<M> {
             0x33 => self.run_shift(Shift::Swap, Operand8::E),
             0x34 => self.run_shift(Shift::Swap, Operand8::H),
             0x35 => self.run_shift(Shift::Swap, Operand8::L),
-            0x36 => self.run_shift_apart(Shift::Swap, Operand8::AtHl),
+            0x36 => self.run_shift_out_of_line(Shift::Swap, Operand8::AtHl),
             0x37 => self.run_shift(Shift::Swap, Operand8::A),
             0x38 => self.run_shift(Shift::ShiftRightLogical, Operand8::B),
             0x39 => self.run_shift(Shift::ShiftRightLogical, Operand8::C),
@@ -452,7 +441,7 @@ impl<M: Memory> Processor<M> {
             0x3b => self.run_shift(Shift::ShiftRightLogical, Operand8::E),
             0x3c => self.run_shift(Shift::ShiftRightLogical, Operand8::H),
             0x3d => self.run_shift(Shift::ShiftRightLogical, Operand8::L),
-            0x3e => self.run_shift_apart(Shift::ShiftRightLogical, Operand8::AtHl),
+            0x3e => self.run_shift_out_of_line(Shift::ShiftRightLogical, Operand8::AtHl),
             0x3f => self.run_shift(Shift::ShiftRightLogical, Operand8::A),
             0x40 => self.run_test_bit(0, Operand8::B),
             0x41 => self.run_test_bit(0, Operand8::C),
@@ -460,7 +449,7 @@ impl<M: Memory> Processor<M> {
             0x43 => self.run_test_bit(0, Operand8::E),
             0x44 => self.run_test_bit(0, Operand8::H),
             0x45 => self.run_test_bit(0, Operand8::L),
-            0x46 => self.run_test_bit_apart(0, Operand8::AtHl),
+            0x46 => self.run_test_bit_out_of_line(0, Operand8::AtHl),
             0x47 => self.run_test_bit(0, Operand8::A),
             0x48 => self.run_test_bit(1, Operand8::B),
             0x49 => self.run_test_bit(1, Operand8::C),
@@ -468,7 +457,7 @@ impl<M: Memory> Processor<M> {
             0x4b => self.run_test_bit(1, Operand8::E),
             0x4c => self.run_test_bit(1, Operand8::H),
             0x4d => self.run_test_bit(1, Operand8::L),
-            0x4e => self.run_test_bit_apart(1, Operand8::AtHl),
+            0x4e => self.run_test_bit_out_of_line(1, Operand8::AtHl),
             0x4f => self.run_test_bit(1, Operand8::A),
             0x50 => self.run_test_bit(2, Operand8::B),
             0x51 => self.run_test_bit(2, Operand8::C),
@@ -476,7 +465,7 @@ impl<M: Memory> Processor<M> {
             0x53 => self.run_test_bit(2, Operand8::E),
             0x54 => self.run_test_bit(2, Operand8::H),
             0x55 => self.run_test_bit(2, Operand8::L),
-            0x56 => self.run_test_bit_apart(2, Operand8::AtHl),
+            0x56 => self.run_test_bit_out_of_line(2, Operand8::AtHl),
             0x57 => self.run_test_bit(2, Operand8::A),
             0x58 => self.run_test_bit(3, Operand8::B),
             0x59 => self.run_test_bit(3, Operand8::C),
@@ -484,7 +473,7 @@ impl<M: Memory> Processor<M> {
             0x5b => self.run_test_bit(3, Operand8::E),
             0x5c => self.run_test_bit(3, Operand8::H),
             0x5d => self.run_test_bit(3, Operand8::L),
-            0x5e => self.run_test_bit_apart(3, Operand8::AtHl),
+            0x5e => self.run_test_bit_out_of_line(3, Operand8::AtHl),
             0x5f => self.run_test_bit(3, Operand8::A),
             0x60 => self.run_test_bit(4, Operand8::B),
             0x61 => self.run_test_bit(4, Operand8::C),
@@ -492,7 +481,7 @@ impl<M: Memory> Processor<M> {
             0x63 => self.run_test_bit(4, Operand8::E),
             0x64 => self.run_test_bit(4, Operand8::H),
             0x65 => self.run_test_bit(4, Operand8::L),
-            0x66 => self.run_test_bit_apart(4, Operand8::AtHl),
+            0x66 => self.run_test_bit_out_of_line(4, Operand8::AtHl),
             0x67 => self.run_test_bit(4, Operand8::A),
             0x68 => self.run_test_bit(5, Operand8::B),
             0x69 => self.run_test_bit(5, Operand8::C),
@@ -500,7 +489,7 @@ impl<M: Memory> Processor<M> {
             0x6b => self.run_test_bit(5, Operand8::E),
             0x6c => self.run_test_bit(5, Operand8::H),
             0x6d => self.run_test_bit(5, Operand8::L),
-            0x6e => self.run_test_bit_apart(5, Operand8::AtHl),
+            0x6e => self.run_test_bit_out_of_line(5, Operand8::AtHl),
             0x6f => self.run_test_bit(5, Operand8::A),
             0x70 => self.run_test_bit(6, Operand8::B),
             0x71 => self.run_test_bit(6, Operand8::C),
@@ -508,7 +497,7 @@ impl<M: Memory> Processor<M> {
             0x73 => self.run_test_bit(6, Operand8::E),
             0x74 => self.run_test_bit(6, Operand8::H),
             0x75 => self.run_test_bit(6, Operand8::L),
-            0x76 => self.run_test_bit_apart(6, Operand8::AtHl),
+            0x76 => self.run_test_bit_out_of_line(6, Operand8::AtHl),
             0x77 => self.run_test_bit(6, Operand8::A),
             0x78 => self.run_test_bit(7, Operand8::B),
             0x79 => self.run_test_bit(7, Operand8::C),
@@ -516,7 +505,7 @@ impl<M: Memory> Processor<M> {
             0x7b => self.run_test_bit(7, Operand8::E),
             0x7c => self.run_test_bit(7, Operand8::H),
             0x7d => self.run_test_bit(7, Operand8::L),
-            0x7e => self.run_test_bit_apart(7, Operand8::AtHl),
+            0x7e => self.run_test_bit_out_of_line(7, Operand8::AtHl),
             0x7f => self.run_test_bit(7, Operand8::A),
             0x80 => self.run_reset_bit(0, Operand8::B),
             0x81 => self.run_reset_bit(0, Operand8::C),
@@ -524,7 +513,7 @@ impl<M: Memory> Processor<M> {
             0x83 => self.run_reset_bit(0, Operand8::E),
             0x84 => self.run_reset_bit(0, Operand8::H),
             0x85 => self.run_reset_bit(0, Operand8::L),
-            0x86 => self.run_reset_bit_apart(0, Operand8::AtHl),
+            0x86 => self.run_reset_bit_out_of_line(0, Operand8::AtHl),
             0x87 => self.run_reset_bit(0, Operand8::A),
             0x88 => self.run_reset_bit(1, Operand8::B),
             0x89 => self.run_reset_bit(1, Operand8::C),
@@ -532,7 +521,7 @@ impl<M: Memory> Processor<M> {
             0x8b => self.run_reset_bit(1, Operand8::E),
             0x8c => self.run_reset_bit(1, Operand8::H),
             0x8d => self.run_reset_bit(1, Operand8::L),
-            0x8e => self.run_reset_bit_apart(1, Operand8::AtHl),
+            0x8e => self.run_reset_bit_out_of_line(1, Operand8::AtHl),
             0x8f => self.run_reset_bit(1, Operand8::A),
             0x90 => self.run_reset_bit(2, Operand8::B),
             0x91 => self.run_reset_bit(2, Operand8::C),
@@ -540,7 +529,7 @@ impl<M: Memory> Processor<M> {
             0x93 => self.run_reset_bit(2, Operand8::E),
             0x94 => self.run_reset_bit(2, Operand8::H),
             0x95 => self.run_reset_bit(2, Operand8::L),
-            0x96 => self.run_reset_bit_apart(2, Operand8::AtHl),
+            0x96 => self.run_reset_bit_out_of_line(2, Operand8::AtHl),
             0x97 => self.run_reset_bit(2, Operand8::A),
             0x98 => self.run_reset_bit(3, Operand8::B),
             0x99 => self.run_reset_bit(3, Operand8::C),
@@ -548,7 +537,7 @@ impl<M: Memory> Processor<M> {
             0x9b => self.run_reset_bit(3, Operand8::E),
             0x9c => self.run_reset_bit(3, Operand8::H),
             0x9d => self.run_reset_bit(3, Operand8::L),
-            0x9e => self.run_reset_bit_apart(3, Operand8::AtHl),
+            0x9e => self.run_reset_bit_out_of_line(3, Operand8::AtHl),
             0x9f => self.run_reset_bit(3, Operand8::A),
             0xa0 => self.run_reset_bit(4, Operand8::B),
             0xa1 => self.run_reset_bit(4, Operand8::C),
@@ -556,7 +545,7 @@ impl<M: Memory> Processor<M> {
             0xa3 => self.run_reset_bit(4, Operand8::E),
             0xa4 => self.run_reset_bit(4, Operand8::H),
             0xa5 => self.run_reset_bit(4, Operand8::L),
-            0xa6 => self.run_reset_bit_apart(4, Operand8::AtHl),
+            0xa6 => self.run_reset_bit_out_of_line(4, Operand8::AtHl),
             0xa7 => self.run_reset_bit(4, Operand8::A),
             0xa8 => self.run_reset_bit(5, Operand8::B),
             0xa9 => self.run_reset_bit(5, Operand8::C),
@@ -564,7 +553,7 @@ impl<M: Memory> Processor<M> {
             0xab => self.run_reset_bit(5, Operand8::E),
             0xac => self.run_reset_bit(5, Operand8::H),
             0xad => self.run_reset_bit(5, Operand8::L),
-            0xae => self.run_reset_bit_apart(5, Operand8::AtHl),
+            0xae => self.run_reset_bit_out_of_line(5, Operand8::AtHl),
             0xaf => self.run_reset_bit(5, Operand8::A),
             0xb0 => self.run_reset_bit(6, Operand8::B),
             0xb1 => self.run_reset_bit(6, Operand8::C),
@@ -572,7 +561,7 @@ impl<M: Memory> Processor<M> {
             0xb3 => self.run_reset_bit(6, Operand8::E),
             0xb4 => self.run_reset_bit(6, Operand8::H),
             0xb5 => self.run_reset_bit(6, Operand8::L),
-            0xb6 => self.run_reset_bit_apart(6, Operand8::AtHl),
+            0xb6 => self.run_reset_bit_out_of_line(6, Operand8::AtHl),
             0xb7 => self.run_reset_bit(6, Operand8::A),
             0xb8 => self.run_reset_bit(7, Operand8::B),
             0xb9 => self.run_reset_bit(7, Operand8::C),
@@ -580,7 +569,7 @@ impl<M: Memory> Processor<M> {
             0xbb => self.run_reset_bit(7, Operand8::E),
             0xbc => self.run_reset_bit(7, Operand8::H),
             0xbd => self.run_reset_bit(7, Operand8::L),
-            0xbe => self.run_reset_bit_apart(7, Operand8::AtHl),
+            0xbe => self.run_reset_bit_out_of_line(7, Operand8::AtHl),
             0xbf => self.run_reset_bit(7, Operand8::A),
             0xc0 => self.run_set_bit(0, Operand8::B),
             0xc1 => self.run_set_bit(0, Operand8::C),
@@ -588,7 +577,7 @@ impl<M: Memory> Processor<M> {
             0xc3 => self.run_set_bit(0, Operand8::E),
             0xc4 => self.run_set_bit(0, Operand8::H),
             0xc5 => self.run_set_bit(0, Operand8::L),
-            0xc6 => self.run_set_bit_apart(0, Operand8::AtHl),
+            0xc6 => self.run_set_bit_out_of_line(0, Operand8::AtHl),
             0xc7 => self.run_set_bit(0, Operand8::A),
             0xc8 => self.run_set_bit(1, Operand8::B),
             0xc9 => self.run_set_bit(1, Operand8::C),
@@ -596,7 +585,7 @@ impl<M: Memory> Processor<M> {
             0xcb => self.run_set_bit(1, Operand8::E),
             0xcc => self.run_set_bit(1, Operand8::H),
             0xcd => self.run_set_bit(1, Operand8::L),
-            0xce => self.run_set_bit_apart(1, Operand8::AtHl),
+            0xce => self.run_set_bit_out_of_line(1, Operand8::AtHl),
             0xcf => self.run_set_bit(1, Operand8::A),
             0xd0 => self.run_set_bit(2, Operand8::B),
             0xd1 => self.run_set_bit(2, Operand8::C),
@@ -604,7 +593,7 @@ impl<M: Memory> Processor<M> {
             0xd3 => self.run_set_bit(2, Operand8::E),
             0xd4 => self.run_set_bit(2, Operand8::H),
             0xd5 => self.run_set_bit(2, Operand8::L),
-            0xd6 => self.run_set_bit_apart(2, Operand8::AtHl),
+            0xd6 => self.run_set_bit_out_of_line(2, Operand8::AtHl),
             0xd7 => self.run_set_bit(2, Operand8::A),
             0xd8 => self.run_set_bit(3, Operand8::B),
             0xd9 => self.run_set_bit(3, Operand8::C),
@@ -612,7 +601,7 @@ impl<M: Memory> Processor<M> {
             0xdb => self.run_set_bit(3, Operand8::E),
             0xdc => self.run_set_bit(3, Operand8::H),
             0xdd => self.run_set_bit(3, Operand8::L),
-            0xde => self.run_set_bit_apart(3, Operand8::AtHl),
+            0xde => self.run_set_bit_out_of_line(3, Operand8::AtHl),
             0xdf => self.run_set_bit(3, Operand8::A),
             0xe0 => self.run_set_bit(4, Operand8::B),
             0xe1 => self.run_set_bit(4, Operand8::C),
@@ -620,7 +609,7 @@ impl<M: Memory> Processor<M> {
             0xe3 => self.run_set_bit(4, Operand8::E),
             0xe4 => self.run_set_bit(4, Operand8::H),
             0xe5 => self.run_set_bit(4, Operand8::L),
-            0xe6 => self.run_set_bit_apart(4, Operand8::AtHl),
+            0xe6 => self.run_set_bit_out_of_line(4, Operand8::AtHl),
             0xe7 => self.run_set_bit(4, Operand8::A),
             0xe8 => self.run_set_bit(5, Operand8::B),
             0xe9 => self.run_set_bit(5, Operand8::C),
@@ -628,7 +617,7 @@ impl<M: Memory> Processor<M> {
             0xeb => self.run_set_bit(5, Operand8::E),
             0xec => self.run_set_bit(5, Operand8::H),
             0xed => self.run_set_bit(5, Operand8::L),
-            0xee => self.run_set_bit_apart(5, Operand8::AtHl),
+            0xee => self.run_set_bit_out_of_line(5, Operand8::AtHl),
             0xef => self.run_set_bit(5, Operand8::A),
             0xf0 => self.run_set_bit(6, Operand8::B),
             0xf1 => self.run_set_bit(6, Operand8::C),
@@ -636,7 +625,7 @@ impl<M: Memory> Processor<M> {
             0xf3 => self.run_set_bit(6, Operand8::E),
             0xf4 => self.run_set_bit(6, Operand8::H),
             0xf5 => self.run_set_bit(6, Operand8::L),
-            0xf6 => self.run_set_bit_apart(6, Operand8::AtHl),
+            0xf6 => self.run_set_bit_out_of_line(6, Operand8::AtHl),
             0xf7 => self.run_set_bit(6, Operand8::A),
             0xf8 => self.run_set_bit(7, Operand8::B),
             0xf9 => self.run_set_bit(7, Operand8::C),
@@ -644,7 +633,7 @@ impl<M: Memory> Processor<M> {
             0xfb => self.run_set_bit(7, Operand8::E),
             0xfc => self.run_set_bit(7, Operand8::H),
             0xfd => self.run_set_bit(7, Operand8::L),
-            0xfe => self.run_set_bit_apart(7, Operand8::AtHl),
+            0xfe => self.run_set_bit_out_of_line(7, Operand8::AtHl),
             _ => self.run_set_bit(7, Operand8::A),
         }
     }

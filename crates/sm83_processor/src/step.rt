@@ -18,7 +18,7 @@ pub struct Executed {
 
 /// What a step did.
 #[derive(Clone, Copy, Debug, PartialEq, Eq)]
-pub enum What {
+pub enum StepKind {
     /// An interrupt was dispatched to this vector.
     Dispatch(u16),
     /// One M-cycle passed while the processor was halted, stopped or locked.
@@ -30,7 +30,7 @@ pub enum What {
 /// What a step did, and how many M-cycles passed in it: 1 to 6.
 #[derive(Clone, Copy, Debug, PartialEq, Eq)]
 pub struct Stepped {
-    pub what: What,
+    pub kind: StepKind,
     pub cycles: u8,
 }
 
@@ -41,10 +41,10 @@ const JOYPAD: u16 = 0xff00;
 const DISABLE_INTERRUPTS: u8 = 0xf3;
 
 impl<M: Memory> Processor<M> {
-    ghost use Rattle.sm83_processor.specs.Steps.{step_of, step_unstopped, dispatched_or_ran, ran, dispatched, waited, begun, settled, decoded_at, second_address, byte_at, lowest_interrupt};
+    ghost use Rattle.sm83_processor.specs.Steps.{step_of, step_unstopped, dispatched_or_ran, ran, dispatched, waited, begun, with_ime_due, decoded_at, second_address, byte_at, lowest_interrupt};
     ghost use Rattle.std.specs.Prelude.{[], ◌∷◌, ℕ};
     ghost use Rattle.opcode_table.specs.Table.{instruction_of};
-    ghost use Rattle.sm83_processor.specs.Plain.{IsPlain};
+    ghost use Rattle.sm83_processor.specs.FastStep.{IsFast};
 
     fn wait(&mut self) -> Stepped
         ensures after { self.new ≡ (waited M.rules self.old).after }
@@ -54,7 +54,7 @@ impl<M: Memory> Processor<M> {
     {
         self.memory.pass(1);
         Stepped {
-            what: What::Wait,
+            kind: StepKind::Wait,
             cycles: 1,
         }
     }
@@ -73,7 +73,7 @@ impl<M: Memory> Processor<M> {
         self.call(vector);
         self.memory.pass(5);
         Stepped {
-            what: What::Dispatch(vector),
+            kind: StepKind::Dispatch(vector),
             cycles: 5,
         }
     }
@@ -91,11 +91,11 @@ impl<M: Memory> Processor<M> {
         ]
     }
 
-    /// Ends an instruction of this opcode that began with `ime_pending` as given.
+    /// Sets IME at the end of an instruction of this opcode, if it began with `ime_pending` and is not DI.
     #[inline(always)]
     #[tactic(auto, using(crate::proofs::Disabling::disabling_opcode))]
-    fn settle(&mut self, ime_pending: bool, opcode: u8)
-        ensures { (low high : ℕ) → self.new ≡ settled ime_pending (instruction_of opcode low high) self.old }
+    fn set_ime_due(&mut self, ime_pending: bool, opcode: u8)
+        ensures { (low high : ℕ) → self.new ≡ with_ime_due ime_pending (instruction_of opcode low high) self.old }
     {
         if !ime_pending {
             return;
@@ -117,11 +117,11 @@ impl<M: Memory> Processor<M> {
         let pc = self.registers.pc;
         let ime_pending = self.state.ime_pending;
         let bytes = self.fetch();
-        let cycles = self.run_opcode_apart(bytes[0]);
-        self.settle(ime_pending, bytes[0]);
+        let cycles = self.run_opcode_out_of_line(bytes[0]);
+        self.set_ime_due(ime_pending, bytes[0]);
         self.memory.pass(cycles);
         Stepped {
-            what: What::Ran(Executed {
+            kind: StepKind::Ran(Executed {
                 pc,
                 bytes,
                 length: length_of_opcode(bytes[0]),
@@ -131,11 +131,11 @@ impl<M: Memory> Processor<M> {
     }
 
     /// Whether the next step is an instruction that begins with neither `ime_pending` nor `halt_bug`: a
-    /// plain one.
+    /// fast one.
     #[inline(always)]
-    pub fn is_plain(&self) -> bool
-        ensures plain { result ≡ true → IsPlain M.rules self.now }
-        ensures every { IsPlain M.rules self.now → result ≡ true }
+    pub fn is_fast(&self) -> bool
+        ensures fast { result ≡ true → IsFast M.rules self.now }
+        ensures every { IsFast M.rules self.now → result ≡ true }
     {
         if self.state.locked || self.state.stopped || self.state.halted {
             return false;
@@ -154,31 +154,31 @@ impl<M: Memory> Processor<M> {
         self.memory.pending_interrupts() != 0 && self.state.ime
     }
 
-    /// Makes a plain step: says how many M-cycles passed in it, and whether the next one is plain.
+    /// Makes a fast step: says how many M-cycles passed in it, and whether the next one is fast.
     #[inline(always)]
-    pub(crate) fn run_plainly<const WAY: u8>(&mut self) -> (u8, bool)
-        requires { IsPlain M.rules self.old }
+    pub(crate) fn run_fast<const LOOP: u8>(&mut self) -> (u8, bool)
+        requires { IsFast M.rules self.old }
         ensures after { self.new ≡ (step_of M.rules self.old).after }
         ensures cycles { result.0 ≡ (step_of M.rules self.old).stepped.cycles }
-        ensures plain { result.1 ≡ true → IsPlain M.rules self.new }
+        ensures fast { result.1 ≡ true → IsFast M.rules self.new }
     {
         let opcode = self.memory.read(self.registers.pc);
-        self.run_plain_opcode::<WAY>(opcode)
+        self.run_fast_opcode::<LOOP>(opcode)
     }
 
-    /// Makes a plain step whose opcode the caller has read: says how many M-cycles passed in it, and
-    /// whether the next one is plain. Conditions: the step is plain, and the byte at PC is this
+    /// Makes a fast step whose opcode the caller has read: says how many M-cycles passed in it, and
+    /// whether the next one is fast. Conditions: the step is fast, and the byte at PC is this
     /// opcode.
     #[inline(always)]
-    pub fn run_plain_opcode<const WAY: u8>(&mut self, opcode: u8) -> (u8, bool)
-        requires plain { IsPlain M.rules self.old }
+    pub fn run_fast_opcode<const LOOP: u8>(&mut self, opcode: u8) -> (u8, bool)
+        requires fast { IsFast M.rules self.old }
         requires here { opcode ≡ byte_at M.rules self.old.registers.pc self.old }
         ensures after { self.new ≡ (step_of M.rules self.old).after }
         ensures cycles { result.0 ≡ (step_of M.rules self.old).stepped.cycles }
-        ensures plain { result.1 ≡ true → IsPlain M.rules self.new }
+        ensures fast { result.1 ≡ true → IsFast M.rules self.new }
     {
-        let (taken, usual, _) = self.run_opcode::<WAY>(opcode);
-        let cycles = taken as u8;
+        let (count, usual, _) = self.run_opcode::<LOOP>(opcode);
+        let cycles = count as u8;
         if !usual {
             self.memory.pass(cycles);
             return (cycles, false);

@@ -7,7 +7,7 @@ use Rattle.std.proofs.lemmas.List.{get_or_past, take_all, length-take}
 use Rattle.std.proofs.lemmas.List.Elements.{All-nil, All-cons, All-head, All-tail}
 use Rattle.cartridge.specs.Header.{has_rumble, ram_length_of}
 use Rattle.cartridge.specs.declared.controller.Controller.{Controller}
-use Rattle.cartridge.specs.declared.controller.Controller.TheVariants.{Plain, Mbc1, Mbc2, Mbc3, Mbc3Clock, Mbc5}
+use Rattle.cartridge.specs.declared.controller.Controller.TheVariants.{NoMbc, Mbc1, Mbc2, Mbc3, Mbc3Clock, Mbc5}
 use Rattle.bank_controllers.specs.CartridgeState.{CartridgeState, IsLegalRam, cartridge_at_power_on}
 use Rattle.memory_map.specs.Bus.{is_set, digit}
 use Rattle.memory_map.specs.State.{BusState}
@@ -160,7 +160,7 @@ halves (x ∷ xs) e = let p = and_parts _ _ e in All-cons (λ v. v < 16) x xs (l
 ram_fits :
     (kind : Controller) (ram : List ℕ) (n : ℕ) (encoded : List ℕ)
     → IsLegalRam kind ram → slice_range encoded 22607 (22607 + n) ≡ ram → is_legal (bytes 22607 n (ram_rule kind)) encoded ≡ true
-ram_fits Plain ram n encoded legal same = refl
+ram_fits NoMbc ram n encoded legal same = refl
 ram_fits Mbc1 ram n encoded legal same = refl
 ram_fits Mbc2 ram n encoded legal same = ap (list_all (λ b. nat_lt b 16)) same ∙ halves_of ram legal.1
 ram_fits Mbc3 ram n encoded legal same = refl
@@ -271,7 +271,7 @@ pub ram_legal :
     (kind : Controller) (zeros encoded : List ℕ) (n : ℕ)
     → IsLegalRam kind zeros → length zeros ≡ n → length encoded ≡ 22607 + n → is_legal (bytes 22607 n (ram_rule kind)) encoded ≡ true
     → IsLegalRam kind (slice_range encoded 22607 (length encoded))
-ram_legal Plain zeros encoded n legal all long e = rw (ram_long zeros encoded n all long) legal
+ram_legal NoMbc zeros encoded n legal all long e = rw (ram_long zeros encoded n all long) legal
 ram_legal Mbc1 zeros encoded n legal all long e = rw (ram_long zeros encoded n all long) legal
 ram_legal Mbc2 zeros encoded n legal all long e =
     (ram_long zeros encoded n all long ∙ legal.0, subst (λ (xs : List ℕ). All (λ v. v < 16) xs) (sym (ram_same encoded n long)) (halves (slice_range encoded 22607 (22607 + n)) e))

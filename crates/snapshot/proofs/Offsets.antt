@@ -5,7 +5,7 @@ use Rattle.std.specs.List.{Contains}
 use Rattle.std.proofs.lemmas.List.Elements.{All-contains, All-from_recursion}
 use Rattle.cartridge.specs.Controllers.{ram_lengths}
 use Rattle.cartridge.specs.Header.{controller_of, has_rumble, ram_length_of}
-use Rattle.cartridge.specs.declared.controller.Controller.TheVariants.{Plain}
+use Rattle.cartridge.specs.declared.controller.Controller.TheVariants.{NoMbc}
 use Rattle.std.specs.Prelude.{◌&&◌}
 use Rattle.std.proofs.lemmas.Bool.{leb-true, and_parts}
 use Rattle.cartridge.specs.declared.controller.Controller.{Controller}
@@ -45,11 +45,11 @@ pub table_is :
     → controller_of image ≡ Some kind → rumble ≡ has_rumble image → ram ≡ ram_length_of image → table_of image ≡ table kind rumble ram
 unfolding table_of
 table_is image kind rumble ram e f g =
-    let own : kind_of_image image ≡ kind = ap (λ (o : Option Controller). unwrap_or o Plain) e in
+    let own : kind_of_image image ≡ kind = ap (λ (o : Option Controller). unwrap_or o NoMbc) e in
     rw (own, f, g) refl
 
 pub kind_is : (image : List ℕ) (kind : Controller) → controller_of image ≡ Some kind → kind_of_image image ≡ kind
-kind_is image kind e = ap (λ (o : Option Controller). unwrap_or o Plain) e
+kind_is image kind e = ap (λ (o : Option Controller). unwrap_or o NoMbc) e
 
 pub ram_small : (n : ℕ) → Contains ram_lengths n → n ≤ 131072
 ram_small n h =

@@ -18,7 +18,7 @@ pub record AreParts (encoded f u v w o h s p r : List ℕ) : Type 0 where
   pub picture : slice_range encoded 16847 22607 ≡ p
   pub ram : drop 22607 encoded ≡ r
 
--- behind a part of length k comes the rest
+-- after a part of length k comes the rest
 next : (encoded : List ℕ) (n k : ℕ) (part rest : List ℕ) → drop n encoded ≡ part ++ rest → length part ≡ k → drop (n + k) encoded ≡ rest
 next encoded n k part rest here long = sym (drop-drop k n encoded) ∙ ap (drop k) here ∙ drop_at part rest k long
 

@@ -3,12 +3,13 @@ use Rattle.std.specs.Prelude.{ℕ, ◌+◌, ◌*◌, ◌/◌, ◌%◌, Bool, Lis
 use Rattle.std.specs.List.{range_with_len}
 use Rattle.sm83_alu.specs.Flags.{digit_of, flags_byte}
 use Rattle.cartridge.specs.declared.controller.Controller.{Controller}
-use Rattle.cartridge.specs.declared.controller.Controller.TheVariants.{Plain, Mbc1, Mbc2, Mbc3, Mbc3Clock, Mbc5}
+use Rattle.cartridge.specs.declared.controller.Controller.TheVariants.{NoMbc, Mbc1, Mbc2, Mbc3, Mbc3Clock, Mbc5}
 use Rattle.memory_map.specs.State.{BusState}
 use Rattle.sm83_processor.specs.declared.processor.ProcessorState.{ProcessorState}
 use Rattle.machine.specs.declared.machine_without_memory.MachineWithoutMemory.{MachineWithoutMemory}
 use Rattle.machine.specs.Machine.{MachineState}
 use Rattle.machine.specs.MachineStores.{without_memory}
+use Rattle.snapshot.specs.Layout.{at}
 
 abbrev pub low : ℕ → ℕ
 low word = word % 256
@@ -26,7 +27,7 @@ abbrev pub picture_byte : (seen signal : Bool) → ℕ
 picture_byte seen signal = digit_of seen + 2 * digit_of signal
 
 abbrev pub kind_byte : Controller → ℕ
-kind_byte Plain = 0
+kind_byte NoMbc = 0
 kind_byte Mbc1 = 1
 kind_byte Mbc2 = 2
 kind_byte Mbc3 = 3
@@ -79,7 +80,7 @@ encoded m = fixed_fields (without_memory m) ++ stores_bytes m.processor.memory
 
 -- the length of a snapshot without cartridge RAM, which comes last
 abbrev pub length_without_ram : ℕ
-length_without_ram = 22607
+length_without_ram = at.ram
 
 -- the length of a snapshot, by the bytes of cartridge RAM
 abbrev pub snapshot_length : ℕ → ℕ

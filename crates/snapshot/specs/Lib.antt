@@ -1,3 +1,4 @@
+pub mod Layout
 pub mod Encoding
 pub mod Table
 pub mod Reading

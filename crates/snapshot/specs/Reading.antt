@@ -6,12 +6,15 @@ use Rattle.cartridge.specs.declared.controller.Controller.{Controller}
 use Rattle.bank_controllers.specs.declared.clock.ClockRegisters.{ClockRegisters}
 use Rattle.picture_unit.specs.Picture.{PictureUnit}
 use Rattle.memory_map.specs.State.{BusState}
+use Rattle.memory_map.specs.declared.region.Region.{Region}
+use Rattle.memory_map.specs.declared.region.Region.TheVariants.{Vram, Wram, Oam, Hram, Sound, CartRam}
+use Rattle.memory_map.specs.Stores.{region_filled}
 use Rattle.sm83_processor.specs.declared.processor.ProcessorState.{ProcessorState}
 use Rattle.machine.specs.declared.machine_without_memory.MachineWithoutMemory.{MachineWithoutMemory}
 use Rattle.machine.specs.Machine.{MachineState, start}
 use Rattle.machine.specs.MachineStores.{restored}
 use Rattle.snapshot.specs.Table.{kind_of_image}
-use Rattle.snapshot.specs.Encoding.{length_without_ram}
+use Rattle.snapshot.specs.Layout.{at}
 
 abbrev pub word_at : List ℕ → (offset : ℕ) → ℕ
 word_at bytes offset = slice_index bytes offset + 256 * slice_index bytes (offset + 1)
@@ -43,62 +46,62 @@ clock_at bytes offset = record {
 abbrev pub registers_in : Controller → List ℕ → MachineWithoutMemory
 registers_in kind bytes = record {
   registers = record {
-    a = slice_index bytes 8;
-    flags = flags_of (slice_index bytes 9);
-    b = slice_index bytes 10;
-    c = slice_index bytes 11;
-    d = slice_index bytes 12;
-    e = slice_index bytes 13;
-    h = slice_index bytes 14;
-    l = slice_index bytes 15;
-    sp = word_at bytes 16;
-    pc = word_at bytes 18;
+    a = slice_index bytes at.a;
+    flags = flags_of (slice_index bytes at.f);
+    b = slice_index bytes at.b;
+    c = slice_index bytes at.c;
+    d = slice_index bytes at.d;
+    e = slice_index bytes at.e;
+    h = slice_index bytes at.h;
+    l = slice_index bytes at.l;
+    sp = word_at bytes at.sp;
+    pc = word_at bytes at.pc;
   };
-  state = processor_of (slice_index bytes 20);
-  overrun = slice_index bytes 21;
+  state = processor_of (slice_index bytes at.processor);
+  overrun = slice_index bytes at.overrun;
   bus = record {
-    ie = slice_index bytes 22;
-    interrupt_flag = slice_index bytes 23;
-    buttons = slice_index bytes 24;
-    p1_select = slice_index bytes 25;
+    ie = slice_index bytes at.ie;
+    interrupt_flag = slice_index bytes at.interrupt_flag;
+    buttons = slice_index bytes at.buttons;
+    p1_select = slice_index bytes at.p1_select;
     timer = record {
-      counter = word_at bytes 26;
-      tima = slice_index bytes 28;
-      tma = slice_index bytes 29;
-      tac = slice_index bytes 30;
+      counter = word_at bytes at.counter;
+      tima = slice_index bytes at.tima;
+      tma = slice_index bytes at.tma;
+      tac = slice_index bytes at.tac;
     };
     serial = record {
-      sb = slice_index bytes 31;
-      sc = slice_index bytes 32;
-      cycles_left = word_at bytes 33;
+      sb = slice_index bytes at.sb;
+      sc = slice_index bytes at.sc;
+      cycles_left = word_at bytes at.cycles_left;
     };
-    dma = slice_index bytes 35;
-    dma_copied = slice_index bytes 36;
+    dma = slice_index bytes at.dma;
+    dma_copied = slice_index bytes at.dma_copied;
     picture = record {
-      lcdc = slice_index bytes 37;
-      stat = slice_index bytes 38;
-      scy = slice_index bytes 39;
-      scx = slice_index bytes 40;
-      lyc = slice_index bytes 41;
-      bgp = slice_index bytes 42;
-      obp0 = slice_index bytes 43;
-      obp1 = slice_index bytes 44;
-      wy = slice_index bytes 45;
-      wx = slice_index bytes 46;
-      ly = slice_index bytes 47;
-      m_cycle = slice_index bytes 48;
-      window_counter = slice_index bytes 49;
-      seen = has (slice_index bytes 50) 1;
-      signal = has (slice_index bytes 50) 2;
+      lcdc = slice_index bytes at.lcdc;
+      stat = slice_index bytes at.stat;
+      scy = slice_index bytes at.scy;
+      scx = slice_index bytes at.scx;
+      lyc = slice_index bytes at.lyc;
+      bgp = slice_index bytes at.bgp;
+      obp0 = slice_index bytes at.obp0;
+      obp1 = slice_index bytes at.obp1;
+      wy = slice_index bytes at.wy;
+      wx = slice_index bytes at.wx;
+      ly = slice_index bytes at.ly;
+      m_cycle = slice_index bytes at.m_cycle;
+      window_counter = slice_index bytes at.window_counter;
+      seen = has (slice_index bytes at.seen_and_signal) 1;
+      signal = has (slice_index bytes at.seen_and_signal) 2;
     };
     banks = record {
       kind = kind;
-      ram_enabled = slice_index bytes 52 == 1;
-      rom_bank = word_at bytes 53;
-      ram_bank = slice_index bytes 55;
-      mode = slice_index bytes 56 == 1;
-      clock = clock_at bytes 57;
-      latched = clock_at bytes 62;
+      ram_enabled = slice_index bytes at.ram_enabled == 1;
+      rom_bank = word_at bytes at.rom_bank;
+      ram_bank = slice_index bytes at.ram_bank;
+      mode = slice_index bytes at.mode == 1;
+      clock = clock_at bytes at.clock;
+      latched = clock_at bytes at.latched;
     };
   };
 }
@@ -123,28 +126,20 @@ with_rows rows m =
       processor = record m.processor { memory = record memory { picture = record memory.picture { picture = record picture { rows = rows } } } };
     }
 
+-- the machine with these bytes in a region
+abbrev pub with_region : Region → List ℕ → MachineState → MachineState
+with_region region bytes m = record m { processor = record m.processor { memory = region_filled region bytes m.processor.memory } }
+
 -- the machine with the stores of a snapshot
 abbrev pub with_stores : List ℕ → MachineState → MachineState
 with_stores bytes m =
-    let memory : BusState = m.processor.memory in
-    let picture : PictureUnit = memory.picture.picture in
-    record m {
-      processor = record m.processor {
-        memory = record memory {
-          picture = record memory.picture {
-            picture = record picture {
-              vram = slice_range bytes 128 8320;
-              oam = slice_range bytes 16512 16672;
-              rows = rows_in (slice_range bytes 16847 length_without_ram);
-            };
-          };
-          wram = slice_range bytes 8320 16512;
-          hram = slice_range bytes 16672 16799;
-          sound = slice_range bytes 16799 16847;
-          banks = record memory.banks { ram = slice_range bytes length_without_ram (length bytes) };
-        };
-      };
-    }
+    with_region CartRam (slice_range bytes at.ram (length bytes))
+    (with_rows (rows_in (slice_range bytes at.rows at.ram))
+    (with_region Sound (slice_range bytes at.sound at.rows)
+    (with_region Hram (slice_range bytes at.hram at.sound)
+    (with_region Oam (slice_range bytes at.oam at.hram)
+    (with_region Wram (slice_range bytes at.wram at.oam)
+    (with_region Vram (slice_range bytes at.vram at.wram) m))))))
 
 -- the machine of this image that a snapshot stands for
 unfoldable pub machine_in : (image bytes : List ℕ) → MachineState

@@ -4,12 +4,13 @@ use Rattle.std.specs.List.{list_all}
 use Rattle.std.specs.Option.{unwrap_or}
 use Rattle.cartridge.specs.Header.{controller_of, has_rumble, ram_length_of}
 use Rattle.cartridge.specs.declared.controller.Controller.{Controller}
-use Rattle.cartridge.specs.declared.controller.Controller.TheVariants.{Plain, Mbc1, Mbc2, Mbc3, Mbc3Clock, Mbc5}
+use Rattle.cartridge.specs.declared.controller.Controller.TheVariants.{NoMbc, Mbc1, Mbc2, Mbc3, Mbc3Clock, Mbc5}
 use Rattle.bank_controllers.specs.State.{first_rom_bank, last_rom_bank, last_ram_bank, has_ram_enable, has_mode, has_clock}
 use Rattle.snapshot.specs.declared.field.SnapshotField.{SnapshotField}
 use Rattle.snapshot.specs.declared.field.Rule.{Rule}
 use Rattle.snapshot.specs.declared.field.Rule.TheVariants.{Any, Magic, Between, Bits, Zeros, HalfBytes}
-use Rattle.snapshot.specs.Encoding.{kind_byte, length_without_ram}
+use Rattle.snapshot.specs.Layout.{at}
+use Rattle.snapshot.specs.Encoding.{kind_byte}
 
 -- ---- rules
 
@@ -68,7 +69,7 @@ day_high_of kind = Bits (if has_clock kind then 0xC1 else 0)
 
 -- MBC2 has half bytes
 abbrev pub ram_rule : Controller → Rule
-ram_rule Plain = Any
+ram_rule NoMbc = Any
 ram_rule Mbc1 = Any
 ram_rule Mbc2 = HalfBytes
 ram_rule Mbc3 = Any
@@ -78,87 +79,87 @@ ram_rule Mbc5 = Any
 -- of a cartridge with this kind, with or without a rumble motor, and with this many bytes of RAM
 unfoldable pub table : Controller → Bool → ℕ → List SnapshotField
 table kind rumble ram =
-    bytes 0 8 Magic
+    bytes at.magic 8 Magic
     -- A F B C D E H L, of which F has no bits 3 to 0; SP and PC
-    ∷ byte 8 Any
-    ∷ byte 9 (Bits 0xF0)
-    ∷ byte 10 Any
-    ∷ byte 11 Any
-    ∷ byte 12 Any
-    ∷ byte 13 Any
-    ∷ byte 14 Any
-    ∷ byte 15 Any
-    ∷ word 16 Any
-    ∷ word 18 Any
+    ∷ byte at.a Any
+    ∷ byte at.f (Bits 0xF0)
+    ∷ byte at.b Any
+    ∷ byte at.c Any
+    ∷ byte at.d Any
+    ∷ byte at.e Any
+    ∷ byte at.h Any
+    ∷ byte at.l Any
+    ∷ word at.sp Any
+    ∷ word at.pc Any
     -- IME, ime_pending, halted, stopped, locked and halt_bug as bits 0 to 5; the overrun
-    ∷ byte 20 (Between 0 63)
-    ∷ byte 21 (Between 0 5)
+    ∷ byte at.processor (Between 0 63)
+    ∷ byte at.overrun (Between 0 5)
     -- IE, IF, the buttons, the select bits of P1
-    ∷ byte 22 Any
-    ∷ byte 23 (Between 0 31)
-    ∷ byte 24 Any
-    ∷ byte 25 (Bits 0x30)
+    ∷ byte at.ie Any
+    ∷ byte at.interrupt_flag (Between 0 31)
+    ∷ byte at.buttons Any
+    ∷ byte at.p1_select (Bits 0x30)
     -- the timer's counter, TIMA, TMA and TAC
-    ∷ word 26 Any
-    ∷ byte 28 Any
-    ∷ byte 29 Any
-    ∷ byte 30 (Between 0 7)
+    ∷ word at.counter Any
+    ∷ byte at.tima Any
+    ∷ byte at.tma Any
+    ∷ byte at.tac (Between 0 7)
     -- SB, SC and the M-cycles left of a serial transfer
-    ∷ byte 31 Any
-    ∷ byte 32 (Bits 0x81)
-    ∷ word 33 (Between 0 1024)
+    ∷ byte at.sb Any
+    ∷ byte at.sc (Bits 0x81)
+    ∷ word at.cycles_left (Between 0 1024)
     -- the DMA register and the bytes copied
-    ∷ byte 35 Any
-    ∷ byte 36 (Between 0 160)
+    ∷ byte at.dma Any
+    ∷ byte at.dma_copied (Between 0 160)
     -- LCDC, STAT, SCY, SCX, LYC, BGP, OBP0, OBP1, WY, WX
-    ∷ byte 37 Any
-    ∷ byte 38 (Bits 0x78)
-    ∷ byte 39 Any
-    ∷ byte 40 Any
-    ∷ byte 41 Any
-    ∷ byte 42 Any
-    ∷ byte 43 Any
-    ∷ byte 44 Any
-    ∷ byte 45 Any
-    ∷ byte 46 Any
+    ∷ byte at.lcdc Any
+    ∷ byte at.stat (Bits 0x78)
+    ∷ byte at.scy Any
+    ∷ byte at.scx Any
+    ∷ byte at.lyc Any
+    ∷ byte at.bgp Any
+    ∷ byte at.obp0 Any
+    ∷ byte at.obp1 Any
+    ∷ byte at.wy Any
+    ∷ byte at.wx Any
     -- the line, its M-cycle, the window counter; that WY was seen and the STAT signal as bits 0 and 1
-    ∷ byte 47 (Between 0 153)
-    ∷ byte 48 (Between 0 113)
-    ∷ byte 49 Any
-    ∷ byte 50 (Between 0 3)
+    ∷ byte at.ly (Between 0 153)
+    ∷ byte at.m_cycle (Between 0 113)
+    ∷ byte at.window_counter Any
+    ∷ byte at.seen_and_signal (Between 0 3)
     -- the controller: its kind, RAM enabled, the ROM bank, the RAM bank (MBC1's upper bits, MBC3's select), MBC1's mode or the
     -- armed latch
-    ∷ byte 51 (Between (kind_byte kind) (kind_byte kind))
-    ∷ byte 52 (switch (has_ram_enable kind))
-    ∷ word 53 (Between (first_rom_bank kind) (last_rom_bank kind))
-    ∷ byte 55 (Between 0 (last_ram_bank kind rumble))
-    ∷ byte 56 (switch (has_mode kind))
+    ∷ byte at.kind (Between (kind_byte kind) (kind_byte kind))
+    ∷ byte at.ram_enabled (switch (has_ram_enable kind))
+    ∷ word at.rom_bank (Between (first_rom_bank kind) (last_rom_bank kind))
+    ∷ byte at.ram_bank (Between 0 (last_ram_bank kind rumble))
+    ∷ byte at.mode (switch (has_mode kind))
     -- the live clock, then the latched one: seconds, minutes, hours, day low, day high
-    ∷ byte 57 (counts_to kind 63)
-    ∷ byte 58 (counts_to kind 63)
-    ∷ byte 59 (counts_to kind 31)
-    ∷ byte 60 (counts_to kind 255)
-    ∷ byte 61 (day_high_of kind)
-    ∷ byte 62 (counts_to kind 63)
-    ∷ byte 63 (counts_to kind 63)
-    ∷ byte 64 (counts_to kind 31)
-    ∷ byte 65 (counts_to kind 255)
-    ∷ byte 66 (day_high_of kind)
+    ∷ byte at.clock (counts_to kind 63)
+    ∷ byte (at.clock + 1) (counts_to kind 63)
+    ∷ byte (at.clock + 2) (counts_to kind 31)
+    ∷ byte (at.clock + 3) (counts_to kind 255)
+    ∷ byte (at.clock + 4) (day_high_of kind)
+    ∷ byte at.latched (counts_to kind 63)
+    ∷ byte (at.latched + 1) (counts_to kind 63)
+    ∷ byte (at.latched + 2) (counts_to kind 31)
+    ∷ byte (at.latched + 3) (counts_to kind 255)
+    ∷ byte (at.latched + 4) (day_high_of kind)
     -- unused
-    ∷ bytes 67 61 Zeros
+    ∷ bytes at.unused 61 Zeros
     -- VRAM, WRAM, OAM, HRAM, the sound bytes, the picture and the cartridge's RAM
-    ∷ bytes 128 8192 Any
-    ∷ bytes 8320 8192 Any
-    ∷ bytes 16512 160 Any
-    ∷ bytes 16672 127 Any
-    ∷ bytes 16799 48 Any
-    ∷ bytes 16847 5760 Any
-    ∷ bytes length_without_ram ram (ram_rule kind)
+    ∷ bytes at.vram 8192 Any
+    ∷ bytes at.wram 8192 Any
+    ∷ bytes at.oam 160 Any
+    ∷ bytes at.hram 127 Any
+    ∷ bytes at.sound 48 Any
+    ∷ bytes at.rows 5760 Any
+    ∷ bytes at.ram ram (ram_rule kind)
     ∷ []
 
 -- the controller of an accepted image
 abbrev pub kind_of_image : List ℕ → Controller
-kind_of_image image = unwrap_or (controller_of image) Plain
+kind_of_image image = unwrap_or (controller_of image) NoMbc
 
 unfoldable pub table_of : List ℕ → List SnapshotField
 table_of image = table (kind_of_image image) (has_rumble image) (ram_length_of image)

@@ -2,16 +2,17 @@
 
 ghost use Rattle.std.specs.Prelude.{◌≡◌, IfOk, IfErr, IfSome, IfNone, MatchResult, length, slice_range};
 ghost use Rattle.memory_map.specs.Stores.{FitsRegion};
-ghost use Rattle.machine.specs.Machine.{MachineState};
+ghost use Rattle.machine.specs.Machine.{MachineState, picture_rows};
 ghost use Rattle.snapshot.specs.Encoding.{encoded, snapshot_length, length_without_ram};
 ghost use Rattle.snapshot.specs.Reading.{with_rows, with_stores, rows_in};
 ghost use Rattle.snapshot.specs.Legal.{IsMachineOf, IsLegalSnapshot, IsRefusal};
 
 use crate::error::SnapError;
+use crate::layout;
 use crate::picture::row_in;
 use crate::registers::registers_in;
 use crate::table::{first_illegal, table};
-use crate::to_bytes::{LENGTH_WITHOUT_RAM, length};
+use crate::to_bytes::length;
 use cartridge::Cartridge;
 use machine::{Machine, Region};
 use std::alloc::Global;
@@ -40,17 +41,32 @@ pub fn decode(alloc: Global, bytes: &[u8], cartridge: &Cartridge) -> Result<Mach
 /// Sets the stores and the picture.
 fn fill_stores(machine: &mut Machine, bytes: &[u8])
     requires length { length bytes.now ≡ snapshot_length (length machine.old.processor.memory.banks.ram) }
-    requires rows { length machine.old.processor.memory.picture.picture.rows ≡ 144 }
+    requires rows { length (picture_rows machine.old) ≡ 144 }
     requires ram { FitsRegion machine.old.processor.memory Region.CartRam (slice_range bytes.now length_without_ram (length bytes.now)) }
     ensures { machine.new ≡ with_stores bytes.now machine.old }
 {
-    machine.fill(Region::Vram, &bytes[128..8320]);
-    machine.fill(Region::Wram, &bytes[8320..16512]);
-    machine.fill(Region::Oam, &bytes[16512..16672]);
-    machine.fill(Region::Hram, &bytes[16672..16799]);
-    machine.fill(Region::Sound, &bytes[16799..16847]);
-    set_rows(machine, &bytes[16847..LENGTH_WITHOUT_RAM]);
-    machine.fill(Region::CartRam, &bytes[LENGTH_WITHOUT_RAM..]);
+    machine.fill(
+        Region::Vram,
+        &bytes[layout::VRAM as usize..layout::WRAM as usize],
+    );
+    machine.fill(
+        Region::Wram,
+        &bytes[layout::WRAM as usize..layout::OAM as usize],
+    );
+    machine.fill(
+        Region::Oam,
+        &bytes[layout::OAM as usize..layout::HRAM as usize],
+    );
+    machine.fill(
+        Region::Hram,
+        &bytes[layout::HRAM as usize..layout::SOUND as usize],
+    );
+    machine.fill(
+        Region::Sound,
+        &bytes[layout::SOUND as usize..layout::ROWS as usize],
+    );
+    set_rows(machine, &bytes[layout::ROWS as usize..layout::RAM as usize]);
+    machine.fill(Region::CartRam, &bytes[layout::RAM as usize..]);
 }
 
 /// The first fault of bytes, if they are not a legal snapshot of this cartridge.
@@ -72,7 +88,7 @@ fn fault(bytes: &[u8], cartridge: &Cartridge) -> Option<SnapError>
 /// Sets all rows of the picture.
 fn set_rows(machine: &mut Machine, picture: &[u8])
     requires length { length picture.now ≡ 5760 }
-    requires rows { length machine.old.processor.memory.picture.picture.rows ≡ 144 }
+    requires rows { length (picture_rows machine.old) ≡ 144 }
     ensures { machine.new ≡ with_rows (rows_in picture.now) machine.old }
 {
     for y in 0..144 {

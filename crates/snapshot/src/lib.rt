@@ -8,6 +8,7 @@ pub mod error;
 pub mod field;
 mod from_bytes;
 mod laws;
+mod layout;
 mod picture;
 mod registers;
 mod table;

@@ -5,7 +5,7 @@ ghost use Rattle.machine.specs.Legal.{IsRow};
 ghost use Rattle.snapshot.specs.Encoding.{byte_of_four, picture_bytes};
 ghost use Rattle.snapshot.specs.Reading.{shade_in, row_in};
 
-use picture_unit::Picture;
+use picture_unit::LatePicture;
 
 /// A byte of four shades, from column 4 times `place` on.
 fn byte_of_four(row: &[u8; 160], place: usize) -> u8
@@ -17,7 +17,7 @@ fn byte_of_four(row: &[u8; 160], place: usize) -> u8
 }
 
 /// Writes the bytes of the picture.
-pub(crate) fn write_picture(picture: &Picture, out: &mut [u8])
+pub(crate) fn write_picture(picture: &LatePicture, out: &mut [u8])
     requires { length out.old ≡ 5760 }
     ensures bytes { out.new ≡ picture_bytes picture.now.rows }
     ensures rows { (y : ℕ) → y < 144 → IsRow (slice_index_or picture.now.rows y []) }

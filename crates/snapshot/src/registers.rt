@@ -6,6 +6,7 @@ ghost use Rattle.snapshot.specs.Encoding.{low, high, processor_byte, picture_byt
 ghost use Rattle.snapshot.specs.Reading.{has, processor_of, clock_at, registers_in};
 
 use crate::field::{byte_at, word_at};
+use crate::layout;
 use crate::table::kind_byte;
 use bank_controllers::{BanksState, ClockRegisters};
 use cartridge::Controller;
@@ -169,41 +170,41 @@ fn processor_of(byte: u8) -> ProcessorState
 }
 
 fn processor_registers(bytes: &[u8]) -> Registers
-    ensures { result ≡ (registers_in Controller.Plain bytes.now).registers }
+    ensures { result ≡ (registers_in Controller.NoMbc bytes.now).registers }
 {
     Registers {
-        a: byte_at(bytes, 8),
-        flags: Flags::from_byte(byte_at(bytes, 9)),
-        b: byte_at(bytes, 10),
-        c: byte_at(bytes, 11),
-        d: byte_at(bytes, 12),
-        e: byte_at(bytes, 13),
-        h: byte_at(bytes, 14),
-        l: byte_at(bytes, 15),
-        sp: word_at(bytes, 16),
-        pc: word_at(bytes, 18),
+        a: byte_at(bytes, layout::A),
+        flags: Flags::from_byte(byte_at(bytes, layout::F)),
+        b: byte_at(bytes, layout::B),
+        c: byte_at(bytes, layout::C),
+        d: byte_at(bytes, layout::D),
+        e: byte_at(bytes, layout::E),
+        h: byte_at(bytes, layout::H),
+        l: byte_at(bytes, layout::L),
+        sp: word_at(bytes, layout::SP),
+        pc: word_at(bytes, layout::PC),
     }
 }
 
 fn picture_state(bytes: &[u8]) -> PictureState
-    ensures { result ≡ (registers_in Controller.Plain bytes.now).bus.picture }
+    ensures { result ≡ (registers_in Controller.NoMbc bytes.now).bus.picture }
 {
     PictureState {
-        lcdc: byte_at(bytes, 37),
-        stat: byte_at(bytes, 38),
-        scy: byte_at(bytes, 39),
-        scx: byte_at(bytes, 40),
-        lyc: byte_at(bytes, 41),
-        bgp: byte_at(bytes, 42),
-        obp0: byte_at(bytes, 43),
-        obp1: byte_at(bytes, 44),
-        wy: byte_at(bytes, 45),
-        wx: byte_at(bytes, 46),
-        ly: byte_at(bytes, 47),
-        m_cycle: byte_at(bytes, 48),
-        window_counter: byte_at(bytes, 49),
-        seen: has(byte_at(bytes, 50), 1),
-        signal: has(byte_at(bytes, 50), 2),
+        lcdc: byte_at(bytes, layout::LCDC),
+        stat: byte_at(bytes, layout::STAT),
+        scy: byte_at(bytes, layout::SCY),
+        scx: byte_at(bytes, layout::SCX),
+        lyc: byte_at(bytes, layout::LYC),
+        bgp: byte_at(bytes, layout::BGP),
+        obp0: byte_at(bytes, layout::OBP0),
+        obp1: byte_at(bytes, layout::OBP1),
+        wy: byte_at(bytes, layout::WY),
+        wx: byte_at(bytes, layout::WX),
+        ly: byte_at(bytes, layout::LY),
+        m_cycle: byte_at(bytes, layout::M_CYCLE),
+        window_counter: byte_at(bytes, layout::WINDOW_COUNTER),
+        seen: has(byte_at(bytes, layout::SEEN_AND_SIGNAL), 1),
+        signal: has(byte_at(bytes, layout::SEEN_AND_SIGNAL), 2),
     }
 }
 
@@ -225,12 +226,12 @@ fn banks_state(kind: Controller, bytes: &[u8]) -> BanksState
 {
     BanksState {
         kind,
-        ram_enabled: byte_at(bytes, 52) == 1,
-        rom_bank: word_at(bytes, 53),
-        ram_bank: byte_at(bytes, 55),
-        mode: byte_at(bytes, 56) == 1,
-        clock: clock_at(bytes, 57),
-        latched: clock_at(bytes, 62),
+        ram_enabled: byte_at(bytes, layout::RAM_ENABLED) == 1,
+        rom_bank: word_at(bytes, layout::ROM_BANK),
+        ram_bank: byte_at(bytes, layout::RAM_BANK),
+        mode: byte_at(bytes, layout::MODE) == 1,
+        clock: clock_at(bytes, layout::CLOCK),
+        latched: clock_at(bytes, layout::LATCHED),
     }
 }
 
@@ -240,26 +241,26 @@ pub(crate) fn registers_in(kind: Controller, bytes: &[u8]) -> MachineWithoutMemo
 {
     MachineWithoutMemory {
         registers: processor_registers(bytes),
-        state: processor_of(byte_at(bytes, 20)),
-        overrun: byte_at(bytes, 21),
+        state: processor_of(byte_at(bytes, layout::PROCESSOR)),
+        overrun: byte_at(bytes, layout::OVERRUN),
         bus: BusWithoutMemory {
-            ie: byte_at(bytes, 22),
-            interrupt_flag: byte_at(bytes, 23),
-            buttons: byte_at(bytes, 24),
-            p1_select: byte_at(bytes, 25),
+            ie: byte_at(bytes, layout::IE),
+            interrupt_flag: byte_at(bytes, layout::INTERRUPT_FLAG),
+            buttons: byte_at(bytes, layout::BUTTONS),
+            p1_select: byte_at(bytes, layout::P1_SELECT),
             timer: TimerState {
-                counter: word_at(bytes, 26),
-                tima: byte_at(bytes, 28),
-                tma: byte_at(bytes, 29),
-                tac: byte_at(bytes, 30),
+                counter: word_at(bytes, layout::COUNTER),
+                tima: byte_at(bytes, layout::TIMA),
+                tma: byte_at(bytes, layout::TMA),
+                tac: byte_at(bytes, layout::TAC),
             },
             serial: SerialState {
-                sb: byte_at(bytes, 31),
-                sc: byte_at(bytes, 32),
-                cycles_left: word_at(bytes, 33),
+                sb: byte_at(bytes, layout::SB),
+                sc: byte_at(bytes, layout::SC),
+                cycles_left: word_at(bytes, layout::CYCLES_LEFT),
             },
-            dma: byte_at(bytes, 35),
-            dma_copied: byte_at(bytes, 36),
+            dma: byte_at(bytes, layout::DMA),
+            dma_copied: byte_at(bytes, layout::DMA_COPIED),
             picture: picture_state(bytes),
             banks: banks_state(kind, bytes),
         },

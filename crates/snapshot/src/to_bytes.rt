@@ -1,15 +1,17 @@
 //! A machine as bytes.
 
 ghost use Rattle.std.specs.Prelude.{◌≡◌, ◌^◌, ◌-◌, ◌+◌, min, length};
+ghost use Rattle.machine.specs.Machine.{picture_rows};
 ghost use Rattle.machine.specs.Legal.{AreLegalStores, IsLegalMachine};
 ghost use Rattle.snapshot.specs.Encoding.{encoded, snapshot_length, stores_bytes, unused};
 
+use crate::layout;
 use crate::picture::write_picture;
 use crate::registers::fixed_fields;
 use machine::{Machine, Region};
 
 /// The length of a snapshot without cartridge RAM, which comes last.
-pub(crate) const LENGTH_WITHOUT_RAM: usize = 22_607;
+const LENGTH_WITHOUT_RAM: usize = layout::RAM as usize;
 
 /// The length of a snapshot, by the bytes of cartridge RAM: 22,607 more. A sum that no `usize` holds is `usize::MAX`.
 pub fn length(ram: usize) -> usize
@@ -26,30 +28,30 @@ pub fn encode(machine: &Machine, out: &mut [u8])
     ensures encoded { out.new ≡ encoded machine.now }
     ensures legal { IsLegalMachine machine.now }
 {
-    let (fields, stores) = out.split_at_mut(67);
+    let (fields, stores) = out.split_at_mut(layout::UNUSED as usize);
     fields.copy_from_slice(&fixed_fields(machine.state()));
     write_stores(machine, stores);
 }
 
 fn write_stores(machine: &Machine, out: &mut [u8])
     requires room { length out.old ≡ 22540 + length machine.now.processor.memory.banks.ram }
-    requires rows { length machine.now.processor.memory.picture.picture.rows ≡ 144 }
+    requires rows { length (picture_rows machine.now) ≡ 144 }
     ensures encoded { out.new ≡ stores_bytes machine.now.processor.memory }
     ensures legal { AreLegalStores machine.now.processor.memory }
 {
-    let (unused, out) = out.split_at_mut(61);
+    let (unused, out) = out.split_at_mut((layout::VRAM - layout::UNUSED) as usize);
     clear(unused);
-    let (vram, out) = out.split_at_mut(8192);
+    let (vram, out) = out.split_at_mut((layout::WRAM - layout::VRAM) as usize);
     vram.copy_from_slice(machine.region(Region::Vram));
-    let (wram, out) = out.split_at_mut(8192);
+    let (wram, out) = out.split_at_mut((layout::OAM - layout::WRAM) as usize);
     wram.copy_from_slice(machine.region(Region::Wram));
-    let (oam, out) = out.split_at_mut(160);
+    let (oam, out) = out.split_at_mut((layout::HRAM - layout::OAM) as usize);
     oam.copy_from_slice(machine.region(Region::Oam));
-    let (hram, out) = out.split_at_mut(127);
+    let (hram, out) = out.split_at_mut((layout::SOUND - layout::HRAM) as usize);
     hram.copy_from_slice(machine.region(Region::Hram));
-    let (sound, out) = out.split_at_mut(48);
+    let (sound, out) = out.split_at_mut((layout::ROWS - layout::SOUND) as usize);
     sound.copy_from_slice(machine.region(Region::Sound));
-    let (picture, ram) = out.split_at_mut(5760);
+    let (picture, ram) = out.split_at_mut((layout::RAM - layout::ROWS) as usize);
     write_picture(machine.picture(), picture);
     ram.copy_from_slice(machine.region(Region::CartRam));
 }

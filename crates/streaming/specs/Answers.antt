@@ -1,6 +1,6 @@
 -- What a stream answers to its orders.
 use Rattle.std.specs.Prelude.{◌==◌, ◌+◌, ℕ, List, [], ◌∷◌, ◌++◌, length, if◌then◌else◌}
-use Rattle.machine.specs.Machine.{MachineState, after}
+use Rattle.machine.specs.Machine.{MachineState, after, picture_rows}
 use Rattle.machine.specs.declared.input.Input.{Input}
 use Rattle.picture_unit.specs.Pgm.{picture_text}
 use Rattle.script.specs.declared.moves.Move.TheVariants.{Save}
@@ -28,7 +28,7 @@ unsaved_behind_orders unsaved (order ∷ orders) = unsaved_behind_orders (unsave
 
 -- a picture tells of no input that it is saved
 abbrev pub picture_line : MachineState → Line
-picture_line machine = record { told = 0; text = picture_text machine.processor.memory.picture.picture.rows }
+picture_line machine = record { told = 0; text = picture_text (picture_rows machine) }
 
 -- from a machine and a count of inputs of which so many are unsaved: the picture, or the lines of the saves that are due
 abbrev pub lines_of_order : MachineState → (count unsaved : ℕ) → Order → List Line

@@ -1,5 +1,6 @@
 //! Obeying lines.
 ghost use Rattle.std.specs.Prelude.{◌≡◌, ◌<◌, [], ◌∷◌, length, false, IfOk, IfErr, OnOk, OnErr};
+ghost use Rattle.machine.specs.Machine.{picture_rows};
 ghost use Rattle.std.specs.Io.KnownBytes.{Appends};
 ghost use Rattle.exact_text.specs.Written.{AppendsProperPrefix};
 ghost use Rattle.picture_unit.specs.Pgm.{picture_text};
@@ -33,9 +34,9 @@ pub enum End {
 /// Writes the picture of the machine as it is.
 fn draw<D: SectorDevice, W: Write>(session: &Session<D>, out: &mut W) -> Result<(), OutputFailed>
     ensures ok { OnOk result (Appends (W.contents out.old) (W.contents out.new)
-        (picture_text (machine_of session.now).processor.memory.picture.picture.rows)) }
+        (picture_text (picture_rows (machine_of session.now)))) }
     ensures err { OnErr result (AppendsProperPrefix (W.contents out.old) (W.contents out.new)
-        (picture_text (machine_of session.now).processor.memory.picture.picture.rows)) }
+        (picture_text (picture_rows (machine_of session.now)))) }
 {
     session.machine().picture().write_pgm(out)
 }

@@ -1,3 +1,5 @@
+//! The interrupts that the timer and the serial port request.
+
 ghost use Rattle.std.specs.Prelude.{◌≡◌};
 
 /// Interrupts that were requested, as bits of the interrupt flag register IF (FF0F): bit 2 is the timer's, bit 3 the

@@ -1,3 +1,5 @@
+//! The serial port.
+
 ghost use Rattle.std.specs.Prelude.{◌≡◌, ◌+◌};
 
 use crate::requests::Requests;

@@ -1,3 +1,5 @@
+//! The timer.
+
 ghost use Rattle.std.specs.Prelude.{◌≡◌, ◌<◌, ◌≤◌, ◌+◌, ◌*◌, ◌^◌, ◌%◌, ◌/◌, ℕ, false};
 
 use crate::requests::Requests;
@@ -108,7 +110,7 @@ impl Timer {
         self.cycles_to_fall() - 1 + self.cycles_of_counts(255 - self.state.tima)
     }
 
-    /// How many M-cycles so many counts take.
+    /// How many M-cycles a number of counts takes.
     fn cycles_of_counts(&self, counts: u8) -> u32
         ensures cycles { 4 * result ≡ 2 * 2 ^ selected_bit self.now.tac * counts }
         ensures few { result < 65536 }
@@ -197,7 +199,7 @@ impl Timer {
         Requests::of_timer(self.change(self.state.counter, value % 8))
     }
 
-    /// The counter and TAC become these; answers whether the interrupt is requested by a fall of the signal.
+    /// The counter and TAC become these. Returns whether a fall of the signal requests the interrupt.
     fn change(&mut self, counter: u16, tac: u8) -> bool
         requires { tac < 8 }
         ensures { record { timer = self.new; requested = result } ≡ with_counter_and_tac counter tac (unrequested self.old) }
@@ -260,7 +262,7 @@ impl Timer {
         }
     }
 
-    /// Counts that many falls, and answers whether the interrupt is requested.
+    /// Counts that many falls, and returns whether the interrupt is requested.
     #[inline]
     fn count_falls(&mut self, falls: u64) -> bool
         requires { falls < 2 ^ 40 }

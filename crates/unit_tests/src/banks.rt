@@ -376,7 +376,7 @@ fn without_a_clock_no_time_passes(rt: HostRuntime) {
 #[test]
 fn begins_as_at_power_on(rt: HostRuntime) {
     for (kind, controller, rom_bank) in [
-        (0x08, Controller::Plain, 0),
+        (0x08, Controller::NoMbc, 0),
         (0x02, Controller::Mbc1, 1),
         (0x05, Controller::Mbc2, 1),
         (0x11, Controller::Mbc3, 1),

@@ -48,7 +48,7 @@ fn has(
 fn reads_an_image_of_zeros(rt: HostRuntime) {
     let cartridge = Cartridge::read(image(rt.alloc(), 32768, 0, 0).or_stop(&rt)).or_stop(&rt);
     let wanted = [32768, 0, 0, 0, 2, 0, 0, 0, 0xE7];
-    has(&rt, &cartridge, wanted, Controller::Plain, b"");
+    has(&rt, &cartridge, wanted, Controller::NoMbc, b"");
     // `head -c 32768 /dev/zero | sha256sum`
     let digest = [
         0xC3, 0x50, 0x20, 0x47, 0x3A, 0xED, 0x1B, 0x46, 0x42, 0xCD, 0x72, 0x6C, 0xAD, 0x72, 0x7B,
@@ -121,7 +121,7 @@ fn names_the_first_broken_rule(rt: HostRuntime) {
 #[test]
 fn gives_each_type_its_controller_and_ram(rt: HostRuntime) {
     for (length, kind, ram_code, controller, ram) in [
-        (32768, 0x08, 0x02, Controller::Plain, 8192),
+        (32768, 0x08, 0x02, Controller::NoMbc, 8192),
         (2097152, 0x03, 0x03, Controller::Mbc1, 32768),
         (262144, 0x05, 0xFF, Controller::Mbc2, 512),
         (2097152, 0x0F, 0x00, Controller::Mbc3Clock, 0),

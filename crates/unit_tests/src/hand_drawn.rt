@@ -132,7 +132,7 @@ fn is_drawn(alloc: Global, drawn: &Drawn) -> Result<bool, Fail> {
     let mut row = [9; 160];
     let mut plain = [8; 160];
     registers.draw(&mut tiles, &oam, &mut row);
-    registers.draw_plainly(&vram, &oam, &mut plain);
+    registers.draw_by_definition(&vram, &oam, &mut plain);
     let wanted = shades_of(drawn);
     Ok(row == wanted && plain == wanted)
 }

@@ -37,7 +37,7 @@ fn line_of(
     let mut row = [9; 160];
     let mut plain = [8; 160];
     registers.draw(&mut tiles, oam, &mut row);
-    registers.draw_plainly(vram, oam, &mut plain);
+    registers.draw_by_definition(vram, oam, &mut plain);
     Ok(if row == plain { Some(row) } else { None })
 }
 

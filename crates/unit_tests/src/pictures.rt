@@ -1,7 +1,8 @@
 //! The picture unit: time, registers, stores and pictures.
 use crate::asserting::{OrStop, holds, same};
 use picture_unit::{
-    OutputFailed, Picture, PictureRegion, PictureRequests, PictureState, map_shades, tile_colours,
+    LatePicture, OutputFailed, PictureRegion, PictureRequests, PictureState, map_shades,
+    tile_colours,
 };
 use std::alloc::Global;
 use std::process::Abort;
@@ -29,8 +30,8 @@ const OFF: PictureState = PictureState {
 
 // A picture unit that is off, with a blank tile 0, a tile 1 of colour 3, maps 9800 of tile 0 and
 // 9C00 of tile 1.
-fn off(alloc: Global) -> Result<Picture, Fail> {
-    let mut picture = Picture::new(alloc)?;
+fn off(alloc: Global) -> Result<LatePicture, Fail> {
+    let mut picture = LatePicture::new(alloc)?;
     picture.restore(&OFF);
     for offset in 16..32 {
         picture.write_vram(offset, 0xff);
@@ -42,7 +43,7 @@ fn off(alloc: Global) -> Result<Picture, Fail> {
 }
 
 // Eleven objects of tile 1 at the top, side by side in OAM order or against it.
-fn put_objects(picture: &mut Picture, is_reversed: bool) {
+fn put_objects(picture: &mut LatePicture, is_reversed: bool) {
     for index in 0..11 {
         let place = if is_reversed { 10 - index } else { index };
         picture.write_oam(4 * index, 16);
@@ -65,7 +66,7 @@ fn black(start: usize, end: usize) -> [u8; 160] {
 }
 
 // Bytes without a pattern.
-fn put_noise(picture: &mut Picture) {
+fn put_noise(picture: &mut LatePicture) {
     let mut noise: u32 = 2463534242;
     for offset in 0..0x2000 {
         noise = noise.wrapping_mul(1664525).wrapping_add(1013904223);
@@ -77,7 +78,7 @@ fn put_noise(picture: &mut Picture) {
     }
 }
 
-fn is_same(a: &Picture, b: &Picture) -> bool {
+fn is_same(a: &LatePicture, b: &LatePicture) -> bool {
     for y in 0..144 {
         if a.row(y) != b.row(y) {
             return false;
@@ -88,8 +89,8 @@ fn is_same(a: &Picture, b: &Picture) -> bool {
         && a.region(PictureRegion::Oam) == b.region(PictureRegion::Oam)
 }
 
-fn copy(alloc: Global, picture: &Picture) -> Result<Picture, Fail> {
-    let mut other = Picture::new(alloc)?;
+fn copy(alloc: Global, picture: &LatePicture) -> Result<LatePicture, Fail> {
+    let mut other = LatePicture::new(alloc)?;
     let _ = other.pass(FRAME);
     other.restore(&picture.state());
     other.fill(PictureRegion::Vram, picture.region(PictureRegion::Vram));
@@ -102,35 +103,35 @@ fn copy(alloc: Global, picture: &Picture) -> Result<Picture, Fail> {
 
 // These have no contract, so that a test's proof does not follow the picture.
 
-fn pass(picture: &mut Picture, cycles: u32) -> PictureRequests {
+fn pass(picture: &mut LatePicture, cycles: u32) -> PictureRequests {
     picture.pass(cycles)
 }
 
-fn pass_plainly(picture: &mut Picture, cycles: u32) -> PictureRequests {
-    picture.pass_plainly(cycles)
+fn pass_by_definition(picture: &mut LatePicture, cycles: u32) -> PictureRequests {
+    picture.pass_by_definition(cycles)
 }
 
-fn write(picture: &mut Picture, address: u16, value: u8) -> bool {
+fn write(picture: &mut LatePicture, address: u16, value: u8) -> bool {
     picture.write_register(address, value)
 }
 
-fn read(picture: &Picture, address: u16) -> u8 {
+fn read(picture: &LatePicture, address: u16) -> u8 {
     picture.read_register(address)
 }
 
-fn put(picture: &mut Picture, offset: u16, value: u8) {
+fn put(picture: &mut LatePicture, offset: u16, value: u8) {
     picture.write_vram(offset, value);
 }
 
-fn due(picture: &Picture) -> Option<u32> {
+fn due(picture: &LatePicture) -> Option<u32> {
     picture.due()
 }
 
-fn row_of(picture: &Picture, y: usize) -> [u8; 160] {
+fn row_of(picture: &LatePicture, y: usize) -> [u8; 160] {
     if y < 144 { picture.row(y) } else { [9; 160] }
 }
 
-fn window_counter(picture: &Picture) -> u8 {
+fn window_counter(picture: &LatePicture) -> u8 {
     picture.state().window_counter
 }
 
@@ -186,16 +187,16 @@ fn tile_written_between_lines(rt: HostRuntime) {
 
 fn frames_are_same(
     rt: &impl Abort,
-    at_once: &mut Picture,
-    by_one: &mut Picture,
-    plain: &mut Picture,
+    at_once: &mut LatePicture,
+    by_one: &mut LatePicture,
+    plain: &mut LatePicture,
 ) {
     let requests = pass(at_once, FRAME);
     holds!(rt; requests.vblank && requests.stat);
     for _cycle in 0..FRAME {
         pass(by_one, 1);
     }
-    pass_plainly(plain, FRAME);
+    pass_by_definition(plain, FRAME);
     holds!(rt; is_same(at_once, by_one));
     holds!(rt; is_same(at_once, plain));
 }
@@ -230,7 +231,7 @@ fn restored_picture_goes_on_the_same(rt: HostRuntime) {
 }
 
 // STAT, and what VRAM reads and holds and OAM reads and holds behind a write to each. Then 11 is copied to OAM.
-fn seen(picture: &mut Picture, mode: u8) -> [u8; 5] {
+fn seen(picture: &mut LatePicture, mode: u8) -> [u8; 5] {
     let stat = picture.read_register(0xff41);
     picture.write_vram(0x100, mode.wrapping_add(0x50));
     picture.write_oam(0x9f, mode.wrapping_add(0x60));
@@ -245,7 +246,7 @@ fn seen(picture: &mut Picture, mode: u8) -> [u8; 5] {
     bytes
 }
 
-fn outside(picture: &Picture) -> [u8; 3] {
+fn outside(picture: &LatePicture) -> [u8; 3] {
     [
         picture.peek_oam(0x9f),
         picture.read_oam(160),
@@ -272,7 +273,7 @@ fn modes_close_vram_and_oam(rt: HostRuntime) {
 
 #[test]
 fn switched_off_and_on(rt: HostRuntime) {
-    let mut picture = Picture::new(rt.alloc()).or_stop(&rt);
+    let mut picture = LatePicture::new(rt.alloc()).or_stop(&rt);
     same!(rt; due(&picture), Some(20));
     same!(rt; read(&picture, 0xff40), 0x91);
     same!(rt; read(&picture, 0xff47), 0xfc);
@@ -293,7 +294,7 @@ fn switched_off_and_on(rt: HostRuntime) {
 
 #[test]
 fn picture_at_power_on_as_text(rt: HostRuntime) {
-    let picture = Picture::new(rt.alloc()).or_stop(&rt);
+    let picture = LatePicture::new(rt.alloc()).or_stop(&rt);
     let mut text = Vec::new(rt.alloc());
     same!(rt; picture.write_pgm(&mut text), Ok(()));
     assert_eq!(rt; text.len(), 46093);

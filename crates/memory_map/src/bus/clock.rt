@@ -1,3 +1,5 @@
+//! The passing of M-cycles: quiet ones are only counted.
+
 ghost use Rattle.std.specs.Prelude.{◌≡◌, ◌<◌, ◌≤◌, ◌+◌, ◌-◌, true, false, ℕ};
 ghost use Rattle.memory_map.specs.Bus.{pending_interrupts};
 ghost use Rattle.std.specs.Fn.{iterate};
@@ -7,8 +9,8 @@ ghost use Rattle.repeated_steps.specs.NextEvent.{IsNextEvent, earlier};
 ghost use Rattle.memory_map.specs.Ticks.{tick, tick_timer, tick_serial, tick_dma_and_picture, tick_picture, copied_byte, happens};
 ghost use Rattle.memory_map.specs.Quiet.{AreQuietOn, IsCalm};
 
-use super::Bus;
-use picture_unit::Picture;
+use super::{Bus, NOTHING_KNOWN};
+use picture_unit::LatePicture;
 
 impl Bus {
     /// Lets this many M-cycles pass for all units; in each M-cycle the order is timer, serial,
@@ -23,8 +25,8 @@ impl Bus {
         let _ = self.pass_few(cycles as u8);
     }
 
-    /// The same, for at most 255 M-cycles: faster if nothing happens in them. Answers true only if
-    /// IE and IF share no bit afterwards.
+    /// Lets at most 255 M-cycles pass, faster than `pass` if nothing happens in them. Returns true
+    /// only if IE and IF share no bit afterwards.
     #[inline(always)]
     pub fn pass_few(&mut self, cycles: u8) -> bool
         ensures ticks { self.new ≡ iterate tick cycles self.old }
@@ -38,8 +40,8 @@ impl Bus {
         false
     }
 
-    /// A number of M-cycles of which all but the last request nothing and copy no byte; where it is not 0, IE and IF share no bit.
-    /// None where not that much is known.
+    /// A number of M-cycles of which all but the last request nothing and copy no byte. If it is not 0, IE and IF share no bit. It is
+    /// 0 if nothing is known.
     #[inline(always)]
     pub fn calm(&self) -> u16
         ensures { IsCalm result self.now }
@@ -57,7 +59,7 @@ impl Bus {
         self.clock += u16::from(cycles);
     }
 
-    /// The same as `pass_few`, if IE and IF may share a bit, or not all M-cycles are quiet.
+    /// Lets M-cycles pass where IE and IF may share a bit, or not all of them are known to be quiet.
     #[inline(never)]
     fn pass_asked(&mut self, cycles: u8)
         ensures { self.new ≡ iterate tick cycles self.old }
@@ -83,19 +85,19 @@ impl Bus {
         self.pass_timer(cycles);
         self.pass_serial(cycles);
         self.pass_dma_and_picture(cycles);
-        self.look_ahead();
+        self.find_quiet();
     }
 
     /// Finds how many M-cycles are quiet, and whether IE and IF share a bit.
-    fn look_ahead(&mut self)
+    fn find_quiet(&mut self)
         ensures { self.new ≡ self.old }
     {
         let quiet_until = self.clock.saturating_add(self.quiet_cycles());
         if self.shared_by_flags() == 0 {
             self.calm_until = quiet_until.saturating_add(1);
-            self.quiet_until = 0;
+            self.quiet_until = NOTHING_KNOWN;
         } else {
-            self.calm_until = 0;
+            self.calm_until = NOTHING_KNOWN;
             self.quiet_until = quiet_until;
         }
     }
@@ -106,7 +108,7 @@ impl Bus {
     {
         if self.shared_by_flags() == 0 {
             self.calm_until = self.quiet_until.saturating_add(1);
-            self.quiet_until = 0;
+            self.quiet_until = NOTHING_KNOWN;
         }
     }
 
@@ -171,8 +173,8 @@ impl Bus {
         ensures ticks { self.new ≡ iterate tick_timer cycles self.old }
         ensures dma_page { self.old.control.dma < 256 }
     {
-        self.calm_until = 0;
-        self.quiet_until = 0;
+        self.calm_until = NOTHING_KNOWN;
+        self.quiet_until = NOTHING_KNOWN;
         let clock = clock_of(&self.picture);
         self.timer.pass(self.clock, clock, cycles);
         self.clock = clock;
@@ -182,8 +184,8 @@ impl Bus {
     fn pass_serial(&mut self, cycles: u32)
         ensures { self.new ≡ iterate tick_serial cycles self.old }
     {
-        self.calm_until = 0;
-        self.quiet_until = 0;
+        self.calm_until = NOTHING_KNOWN;
+        self.quiet_until = NOTHING_KNOWN;
         let requests = self.serial.pass(cycles);
         self.serial_requested |= requests.bits != 0;
     }
@@ -217,11 +219,11 @@ impl Bus {
     fn pass_picture(&mut self, cycles: u32)
         ensures { self.new ≡ iterate tick_picture cycles self.old }
     {
-        self.calm_until = 0;
-        self.quiet_until = 0;
+        self.calm_until = NOTHING_KNOWN;
+        self.quiet_until = NOTHING_KNOWN;
         let requests = self.picture.pass(cycles);
         let clock = clock_of(&self.picture);
-        self.timer.settle(self.clock, clock);
+        self.timer.catch_up(self.clock, clock);
         self.clock = clock;
         self.vblank_requested |= requests.vblank;
         self.stat_requested |= requests.stat;
@@ -237,8 +239,8 @@ impl Bus {
         let page = if page < 0xe0 { page } else { page - 0x20 };
         let source = 256 * u16::from(page) + u16::from(self.control.dma_copied);
         let byte = self.peek(source);
-        self.calm_until = 0;
-        self.quiet_until = 0;
+        self.calm_until = NOTHING_KNOWN;
+        self.quiet_until = NOTHING_KNOWN;
         self.picture.copy_to_oam(self.control.dma_copied, byte);
         self.control.dma_copied += 1;
     }
@@ -246,7 +248,7 @@ impl Bus {
 
 /// What the clock is set to: the M-cycle of the frame, or 0 while the LCD is off.
 #[inline]
-pub(super) fn clock_of(picture: &Picture) -> u16
+pub(super) fn clock_of(picture: &LatePicture) -> u16
     ensures lit { is_on picture.now.state ≡ true → result ≡ frame_cycle picture.now.state }
     ensures dark { is_on picture.now.state ≡ false → result ≡ 0 }
 {

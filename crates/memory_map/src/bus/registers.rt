@@ -1,3 +1,5 @@
+//! The interrupts and the registers.
+
 ghost use Rattle.std.specs.Prelude.{◌≡◌};
 ghost use Rattle.std.specs.Prelude.{◌%◌};
 ghost use Rattle.timer_unit.specs.Timer.{with_counter_and_tac};
@@ -5,9 +7,29 @@ ghost use Rattle.picture_unit.specs.Registers.{register_written as picture_regis
 ghost use Rattle.memory_map.specs.Joypad.{joypad_set, select_bits};
 ghost use Rattle.memory_map.specs.Bus.{register_value, register_written, interrupt_flag, with_interrupt_flag, pending_interrupts, acknowledged};
 
-use super::Bus;
 use super::clock::clock_of;
+use super::{Bus, NOTHING_KNOWN};
 use crate::control::select_bits;
+use picture_unit::{LCDC, LYC, STAT};
+
+/// The addresses of the registers but those of the picture unit (Pan Docs, "I/O Ranges").
+const P1: u16 = 0xff00;
+
+const SB: u16 = 0xff01;
+
+const SC: u16 = 0xff02;
+
+const DIV: u16 = 0xff04;
+
+const TIMA: u16 = 0xff05;
+
+const TMA: u16 = 0xff06;
+
+const TAC: u16 = 0xff07;
+
+const IF: u16 = 0xff0f;
+
+const DMA: u16 = 0xff46;
 
 impl Bus {
     /// The bits that IE and IF share, of the low five: VBlank 0, STAT 1, timer 2, serial 3, joypad
@@ -33,7 +55,7 @@ impl Bus {
     fn withdraw(&mut self, bit: u8)
         ensures { self.new ≡ acknowledged bit self.old }
     {
-        self.calm_until = 0;
+        self.calm_until = NOTHING_KNOWN;
         match bit {
             0 => self.vblank_requested = false,
             1 => self.stat_requested = false,
@@ -59,7 +81,7 @@ impl Bus {
     pub(super) fn set_interrupt_flag(&mut self, value: u8)
         ensures { self.new ≡ with_interrupt_flag value self.old }
     {
-        self.calm_until = 0;
+        self.calm_until = NOTHING_KNOWN;
         self.vblank_requested = value / 1 % 2 == 1;
         self.stat_requested = value / 2 % 2 == 1;
         self.timer.set_requested(self.clock, value / 4 % 2 == 1);
@@ -73,15 +95,15 @@ impl Bus {
         ensures { result ≡ register_value self.now address }
     {
         match address {
-            0xff00 => self.control.p1(),
-            0xff01 => self.serial.sb(),
-            0xff02 => self.serial.sc(),
-            0xff04 => self.timer.copy_at(self.clock).div(),
-            0xff05 => self.timer.copy_at(self.clock).tima(),
-            0xff06 => self.timer.copy_at(self.clock).tma(),
-            0xff07 => self.timer.copy_at(self.clock).tac(),
-            0xff0f => 0xe0 + self.interrupt_flag() % 32,
-            0xff46 => self.control.dma,
+            P1 => self.control.p1(),
+            SB => self.serial.sb(),
+            SC => self.serial.sc(),
+            DIV => self.timer.copy_at(self.clock).div(),
+            TIMA => self.timer.copy_at(self.clock).tima(),
+            TMA => self.timer.copy_at(self.clock).tma(),
+            TAC => self.timer.copy_at(self.clock).tac(),
+            IF => 0xe0 + self.interrupt_flag() % 32,
+            DMA => self.control.dma,
             _ => self.picture.read_register(address),
         }
     }
@@ -91,21 +113,21 @@ impl Bus {
         ensures { self.new ≡ register_written address value self.old }
     {
         match address {
-            0xff00 => self.write_p1(value),
-            0xff01 => self.serial.write_sb(value),
-            0xff02 => {
-                self.calm_until = 0;
-                self.quiet_until = 0;
+            P1 => self.write_p1(value),
+            SB => self.serial.write_sb(value),
+            SC => {
+                self.calm_until = NOTHING_KNOWN;
+                self.quiet_until = NOTHING_KNOWN;
                 self.serial.write_sc(value);
             }
-            0xff04 => self.write_div(),
-            0xff05 => self.write_tima(value),
-            0xff06 => self.write_tma(value),
-            0xff07 => self.write_tac(value),
-            0xff0f => self.set_interrupt_flag(value),
-            0xff46 => {
-                self.calm_until = 0;
-                self.quiet_until = 0;
+            DIV => self.write_div(),
+            TIMA => self.write_tima(value),
+            TMA => self.write_tma(value),
+            TAC => self.write_tac(value),
+            IF => self.set_interrupt_flag(value),
+            DMA => {
+                self.calm_until = NOTHING_KNOWN;
+                self.quiet_until = NOTHING_KNOWN;
                 self.control.dma = value;
                 self.control.dma_copied = 0;
             }
@@ -116,7 +138,7 @@ impl Bus {
     fn write_p1(&mut self, value: u8)
         ensures { self.new ≡ record self.old { control = joypad_set (select_bits value) self.old.control.buttons self.old.control } }
     {
-        self.calm_until = 0;
+        self.calm_until = NOTHING_KNOWN;
         let buttons = self.control.buttons;
         self.control.set_joypad(select_bits(value), buttons);
     }
@@ -124,8 +146,8 @@ impl Bus {
     fn write_div(&mut self)
         ensures { self.new ≡ record self.old { timer = with_counter_and_tac 0 self.old.timer.timer.tac self.old.timer } }
     {
-        self.calm_until = 0;
-        self.quiet_until = 0;
+        self.calm_until = NOTHING_KNOWN;
+        self.quiet_until = NOTHING_KNOWN;
         let clock = clock_of(&self.picture);
         self.timer.write_div(self.clock, clock);
         self.clock = clock;
@@ -134,24 +156,24 @@ impl Bus {
     fn write_tac(&mut self, value: u8)
         ensures { self.new ≡ record self.old { timer = with_counter_and_tac self.old.timer.timer.counter (value % 8) self.old.timer } }
     {
-        self.calm_until = 0;
-        self.quiet_until = 0;
+        self.calm_until = NOTHING_KNOWN;
+        self.quiet_until = NOTHING_KNOWN;
         self.timer.write_tac(self.clock, value);
     }
 
     fn write_tima(&mut self, value: u8)
         ensures { self.new ≡ record self.old { timer = record self.old.timer { timer = record self.old.timer.timer { tima = value } } } }
     {
-        self.calm_until = 0;
-        self.quiet_until = 0;
+        self.calm_until = NOTHING_KNOWN;
+        self.quiet_until = NOTHING_KNOWN;
         self.timer.write_tima(self.clock, value);
     }
 
     fn write_tma(&mut self, value: u8)
         ensures { self.new ≡ record self.old { timer = record self.old.timer { timer = record self.old.timer.timer { tma = value } } } }
     {
-        self.calm_until = 0;
-        self.quiet_until = 0;
+        self.calm_until = NOTHING_KNOWN;
+        self.quiet_until = NOTHING_KNOWN;
         self.timer.write_tma(self.clock, value);
     }
 
@@ -160,7 +182,7 @@ impl Bus {
         ensures { self.new ≡ record self.old { picture = picture_register_written address value self.old.picture } }
     {
         match address {
-            0xff40 | 0xff41 | 0xff45 => self.write_signal_register(address, value),
+            LCDC | STAT | LYC => self.write_signal_register(address, value),
             _ => self.store_in_picture(address, value),
         }
     }
@@ -169,11 +191,11 @@ impl Bus {
     fn write_signal_register(&mut self, address: u16, value: u8)
         ensures { self.new ≡ record self.old { picture = picture_register_written address value self.old.picture } }
     {
-        self.calm_until = 0;
-        self.quiet_until = 0;
+        self.calm_until = NOTHING_KNOWN;
+        self.quiet_until = NOTHING_KNOWN;
         self.stat_requested |= self.picture.write_register(address, value);
         let clock = clock_of(&self.picture);
-        self.timer.settle(self.clock, clock);
+        self.timer.catch_up(self.clock, clock);
         self.clock = clock;
     }
 

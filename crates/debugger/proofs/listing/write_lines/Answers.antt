@@ -17,7 +17,7 @@ returns-in-Err-clause-err g c =
 pub loop-i-preserved : goal.loop-i-preserved
 loop-i-preserved g c =
     let text : c.as_bytes.result.now ≡ line_at c.args.machine.now c.loop-i.address = c.as_bytes.ensures.value ∙ c.deref.ensures.0 ∙ c.line-text.ensures in
-    rw c.address_behind-address.ensures
+    rw c.address_after-address.ensures
     (one_more_written _ _ _ _ _ _ _ (next_line _ _ _ _ c.loop-i-test.true) c.loop-i.invariant
     (subst (λ (t : List ℕ). Appends (g.W.Write.contents c.loop-i.out) (g.W.Write.contents c.write_whole.new.out) t) text c.in_default.ensures.ok))
 

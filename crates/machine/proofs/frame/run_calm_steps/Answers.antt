@@ -17,13 +17,13 @@ loop-passed-init g c =
       below = omega (arith, c.requires.below);
       within = omega arith;
       end = omega (arith, c.requires.below, c.min-calm.ensures);
-      plain = c.requires.plain;
+      fast = c.requires.fast;
       calm = fewer_are_calm c.calm.result left c.args.processor.now.memory (omega (arith, c.min-calm.ensures, c.from.ensures)) c.calm.ensures;
     }
 
 pub returns-then-not-is_calm-clause-run : goal.returns-then-not-is_calm-clause-run
 returns-then-not-is_calm-clause-run g c =
-    let step = c.run_plain_step-now in
+    let step = c.run_fast_step-now in
     let known = c.loop-passed.invariant in
     ap (λ (n : ℕ). steps_until bus_rules 17556 n step.new.processor) (step.ensures.now c.if-not-is_calm.true)
     ∙ stepped_on (c.args.passed + c.min-calm.result - c.loop-passed.left) (step_of bus_rules c.loop-passed.processor).stepped.cycles c.loop-passed.processor step.new.processor known.below step.ensures.after refl
@@ -32,56 +32,56 @@ returns-then-not-is_calm-clause-run g c =
 pub returns-then-not-is_calm-clause-more : goal.returns-then-not-is_calm-clause-more
 returns-then-not-is_calm-clause-more g c =
     let bounds = step-bounds bus_rules c.loop-passed.processor in
-    omega (arith, c.loop-passed.invariant.start, c.run_plain_step-now.ensures.now c.if-not-is_calm.true, bounds.some)
+    omega (arith, c.loop-passed.invariant.start, c.run_fast_step-now.ensures.now c.if-not-is_calm.true, bounds.some)
 
 pub returns-then-not-is_calm-clause-few : goal.returns-then-not-is_calm-clause-few
 returns-then-not-is_calm-clause-few g c =
     let bounds = step-bounds bus_rules c.loop-passed.processor in
-    omega (arith, c.loop-passed.invariant.below, c.run_plain_step-now.ensures.now c.if-not-is_calm.true, bounds.few)
+    omega (arith, c.loop-passed.invariant.below, c.run_fast_step-now.ensures.now c.if-not-is_calm.true, bounds.few)
 
 pub loop-passed-smaller : goal.loop-passed-smaller
 loop-passed-smaller g c =
     let bounds = step-bounds bus_rules c.loop-passed.processor in
-    let step = c.run_plain_step-now in
+    let step = c.run_fast_step-now in
     omega (arith, step.ensures.fewer c.if-not-is_calm.false, step.ensures.left c.if-not-is_calm.false, bounds.some)
 
 pub loop-passed-preserved : goal.loop-passed-preserved
 loop-passed-preserved g c =
-    let step = c.run_plain_step-now in
+    let step = c.run_fast_step-now in
     let known = c.loop-passed.invariant in
     let left = c.loop-passed.left in
     let end = c.args.passed + c.min-calm.result in
     let cycles = (step_of bus_rules c.loop-passed.processor).stepped.cycles in
     let fewer : cycles < left = step.ensures.fewer c.if-not-is_calm.false in
-    let rest : step.result.1 ≡ left - cycles = step.ensures.left c.if-not-is_calm.false in
-    let on : end - step.result.1 ≡ end - left + cycles = omega (arith, rest, fewer, known.within) in record {
+    let rest : step.result.left ≡ left - cycles = step.ensures.left c.if-not-is_calm.false in
+    let on : end - step.result.left ≡ end - left + cycles = omega (arith, rest, fewer, known.within) in record {
       run = ap (λ (n : ℕ). steps_until bus_rules 17556 n step.new.processor) on
           ∙ stepped_on (end - left) cycles c.loop-passed.processor step.new.processor known.below step.ensures.after refl ∙ known.run;
       start = omega (arith, known.start, on);
       below = omega (arith, known.end, rest, fewer, known.within);
       within = omega (arith, rest, known.within);
       end = known.end;
-      plain = step.ensures.still_plain c.if-not-is_calm.false;
+      fast = step.ensures.still_fast c.if-not-is_calm.false;
       calm = step.ensures.calm c.if-not-is_calm.false;
     }
 
 pub returns-then-not-is_there-clause-run : goal.returns-then-not-is_there-clause-run
 returns-then-not-is_there-clause-run g c =
-    let step = c.run_plain_step-now in
+    let step = c.run_fast_step-now in
     let known = c.loop-passed.invariant in
     let left = c.loop-passed.left in
     let end = c.args.passed + c.min-calm.result in
-    let rest = step.result.1 in
+    let rest = step.result.left in
     let cycles = (step_of bus_rules c.loop-passed.processor).stepped.cycles in
     let fewer : cycles < left = step.ensures.fewer c.if-not-is_calm.false in
-    let taken : step.result.1 ≡ left - cycles = step.ensures.left c.if-not-is_calm.false in
-    let on : end - rest ≡ end - left + cycles = omega (arith, taken, fewer, known.within) in
+    let lessened : step.result.left ≡ left - cycles = step.ensures.left c.if-not-is_calm.false in
+    let on : end - rest ≡ end - left + cycles = omega (arith, lessened, fewer, known.within) in
     ap (λ (n : ℕ). steps_until bus_rules 17556 n step.new.processor) on
     ∙ stepped_on (end - left) cycles c.loop-passed.processor step.new.processor known.below step.ensures.after refl ∙ known.run
 
 pub returns-then-not-is_there-clause-more : goal.returns-then-not-is_there-clause-more
 returns-then-not-is_there-clause-more g c =
-    let step = c.run_plain_step-now in
+    let step = c.run_fast_step-now in
     let known = c.loop-passed.invariant in
     let bounds = step-bounds bus_rules c.loop-passed.processor in
     omega (arith, step.ensures.fewer c.if-not-is_calm.false, step.ensures.left c.if-not-is_calm.false, known.within, known.start, bounds.some)

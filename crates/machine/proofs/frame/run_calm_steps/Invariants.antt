@@ -2,7 +2,7 @@ use Rattle.std.proofs.Common.{◌≡◌, ◌<◌, ◌≤◌, ◌-◌}
 use Rattle.memory_map.specs.BusRules.{bus_rules}
 use Rattle.memory_map.specs.Quiet.{IsCalm}
 use Rattle.machine.specs.Machine.{steps_until}
-use Rattle.sm83_processor.specs.Plain.{IsPlain}
+use Rattle.sm83_processor.specs.FastStep.{IsFast}
 use Rattle.machine.proofs.frame.run_calm_steps.Given as goal
 
 abbrev pub invariant-loop-passed : goal.invariant-loop-passed
@@ -12,7 +12,7 @@ invariant-loop-passed g l = record {
   below : l.end - l.left < 17556;
   within : l.left ≤ l.end;
   end : l.end ≤ 17556;
-  plain : IsPlain bus_rules l.processor;
+  fast : IsFast bus_rules l.processor;
   calm : IsCalm l.left l.processor.memory;
 }
 

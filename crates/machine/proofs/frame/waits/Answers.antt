@@ -13,5 +13,5 @@ returns-then-read-eq15-clause-waits c =
 
 pub returns-clause-waits : goal.returns-clause-waits
 returns-clause-waits c =
-    λ settled. subst (λ (n : ℕ). Waits n c.args.processor.now) (sym c.soonest.ensures)
-    (halted_waits c.due.result c.args.left c.args.processor.now c.if-processor.false c.if-processor-2.false c.if-not-processor.false (sym c.pending_interrupts.ensures ∙ c.if-pending_interrupts-ne0.false) c.due.ensures settled)
+    λ steady. subst (λ (n : ℕ). Waits n c.args.processor.now) (sym c.soonest.ensures)
+    (halted_waits c.due.result c.args.left c.args.processor.now c.if-processor.false c.if-processor-2.false c.if-not-processor.false (sym c.pending_interrupts.ensures ∙ c.if-pending_interrupts-ne0.false) c.due.ensures steady)

@@ -1,7 +1,7 @@
 use Rattle.std.proofs.Common.{◌∙◌, ℕ, ap, subst, sym, arith}
 use Rattle.std.specs.List.{Contains}
 use Rattle.memory_map.specs.BusRules.{bus_rules}
-use Rattle.sm83_processor.specs.Plain.{IsPlain}
+use Rattle.sm83_processor.specs.FastStep.{IsFast}
 use Rattle.debugger.specs.History.{DebuggerState}
 use Rattle.debugger.proofs.Histories.{not_begun, one_more, past_more, run_on}
 use Rattle.debugger.proofs.debugger.Debugger.run_until.Goals as goal
@@ -11,11 +11,11 @@ pub loop-made-init : goal.loop-made-init
 loop-made-init c = record {
   run = record { run = rw (← c.self.view_is) (not_begun _ c.self.invariant); past = λ k some below met. omega arith };
   most = omega arith;
-  plain = λ e. cc;
+  fast = λ e. cc;
 }
 
-pub loop-made-preserved-then-is_plain : goal.loop-made-preserved-then-is_plain
-loop-made-preserved-then-is_plain c =
+pub loop-made-preserved-then-is_fast : goal.loop-made-preserved-then-is_fast
+loop-made-preserved-then-is_fast c =
     let pc = ap (λ r. r.pc) c.registers-pc.ensures ∙ ap (λ (d : DebuggerState). d.machine.processor.registers.pc) c.self-in-loop-made.view_is in
     record {
       run = run_on c.args.breaks.now _ _ _ _ _ c.loop-made.invariant.run
@@ -24,9 +24,9 @@ loop-made-preserved-then-is_plain c =
                 let here = w.is_break.ensures.1 (subst (λ (x : ℕ). Contains c.args.breaks.now x) (sym pc) met) in cc
             | else-made-gt0-via-else-made-gt0 w ↦ λ some met. omega arith
           ])
-          c.run_plainly-more.ensures.run;
-      most = omega (arith, c.run_plainly-more.ensures.most, c.loop-made-test.true);
-      plain = c.run_plainly-more.ensures.plain;
+          c.run_fast-more.ensures.run;
+      most = omega (arith, c.run_fast-more.ensures.most, c.loop-made-test.true);
+      fast = c.run_fast-more.ensures.fast;
     }
 
 pub loop-made-preserved : goal.loop-made-preserved
@@ -43,5 +43,5 @@ loop-made-preserved c =
             ]);
       };
       most = omega (arith, c.loop-made-test.true);
-      plain = λ e. subst (λ (d : DebuggerState). IsPlain bus_rules d.machine.processor) c.self-else-is_plain.view_is (c.is_plain-is_plain.ensures.plain e);
+      fast = λ e. subst (λ (d : DebuggerState). IsFast bus_rules d.machine.processor) c.self-else-is_fast.view_is (c.is_fast-is_fast.ensures.fast e);
     }

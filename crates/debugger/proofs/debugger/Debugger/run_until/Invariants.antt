@@ -1,6 +1,6 @@
 use Rattle.std.proofs.Common.{◌≡◌, ◌≤◌, ◌-◌, true}
 use Rattle.memory_map.specs.BusRules.{bus_rules}
-use Rattle.sm83_processor.specs.Plain.{IsPlain}
+use Rattle.sm83_processor.specs.FastStep.{IsFast}
 use Rattle.debugger.specs.Run.{HasRun}
 use Rattle.debugger.proofs.debugger.Debugger.run_until.Given as goal
 
@@ -8,7 +8,7 @@ abbrev pub invariant-loop-made : goal.invariant-loop-made
 invariant-loop-made l = record {
   run : HasRun l.breaks l.made l.fn.self l.self;
   most : l.made ≤ l.limit;
-  plain : l.is_plain ≡ true → IsPlain bus_rules l.self.machine.processor;
+  fast : l.is_fast ≡ true → IsFast bus_rules l.self.machine.processor;
 }
 
 abbrev pub decreases-loop-made : goal.decreases-loop-made

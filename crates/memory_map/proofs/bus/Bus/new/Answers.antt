@@ -5,7 +5,7 @@ use Rattle.picture_unit.specs.Picture.{PictureUnit, picture_at_power_on, state_a
 use Rattle.picture_unit.specs.Laws.{frame_cycle}
 use Rattle.memory_map.specs.LateTimer.{up_to}
 use Rattle.memory_map.specs.declared.late_timer.LateTimer.{LateTimer}
-use Rattle.memory_map.proofs.LateTimers.{settled}
+use Rattle.memory_map.proofs.LateTimers.{caught_up}
 use Rattle.memory_map.proofs.LateBus.{consistent_now}
 use Rattle.memory_map.proofs.bus.Bus.new.Goals as goal
 
@@ -23,5 +23,5 @@ invariant_of-result c =
 pub returns : goal.returns
 returns c =
     let l = c.new-3.result in
-    let t : up_to 0 l ≡ unrequested timer_at_power_on = settled 0 l (unrequested timer_at_power_on) c.new-3.ensures in
+    let t : up_to 0 l ≡ unrequested timer_at_power_on = caught_up 0 l (unrequested timer_at_power_on) c.new-3.ensures in
     search (rules, t)

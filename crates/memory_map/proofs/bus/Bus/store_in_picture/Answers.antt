@@ -1,7 +1,7 @@
 use Rattle.std.proofs.Common.{ap, ◌∙◌}
 use Rattle.picture_unit.specs.Picture.{PictureUnit, is_on}
 use Rattle.picture_unit.specs.Laws.{frame_cycle}
-use Rattle.picture_unit.proofs.LatePicture.{on_stored, frame_cycle-stored}
+use Rattle.picture_unit.proofs.LatePictures.{on_stored, frame_cycle-stored}
 use Rattle.memory_map.specs.contracts.bus.Bus.{the_view}
 use Rattle.memory_map.proofs.LateBus.{consistent_stored}
 use Rattle.memory_map.proofs.bus.Bus.store_in_picture.Goals as goal

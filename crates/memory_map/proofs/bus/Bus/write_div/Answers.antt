@@ -3,7 +3,7 @@ use Rattle.timer_unit.specs.Timer.{TimerAndRequest, with_counter_and_tac}
 use Rattle.memory_map.specs.declared.late_timer.LateTimer.{LateTimer}
 use Rattle.memory_map.specs.State.{BusState}
 use Rattle.memory_map.specs.contracts.bus.Bus.{the_view}
-use Rattle.memory_map.proofs.LateTimers.{settled}
+use Rattle.memory_map.proofs.LateTimers.{caught_up}
 use Rattle.memory_map.proofs.LateBus.{consistent_now}
 use Rattle.memory_map.proofs.bus.Bus.write_div.Goals as goal
 
@@ -16,5 +16,5 @@ invariant_of-self c =
 pub returns : goal.returns
 returns c =
     let b = the_view c.self.inside in
-    ap (λ (t : TimerAndRequest). record b { timer = t }) (settled c.clock_of-clock.result c.write_div.new.self (with_counter_and_tac 0 b.timer.timer.tac b.timer) c.write_div.ensures)
+    ap (λ (t : TimerAndRequest). record b { timer = t }) (caught_up c.clock_of-clock.result c.write_div.new.self (with_counter_and_tac 0 b.timer.timer.tac b.timer) c.write_div.ensures)
     ∙ ap (λ (b : BusState). record b { timer = with_counter_and_tac 0 b.timer.timer.tac b.timer }) c.self.view_is

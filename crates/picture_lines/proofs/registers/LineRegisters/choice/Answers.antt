@@ -12,11 +12,11 @@ loop-index-preserved c =
     let found = object_at c.args.oam.now in
     let i = c.loop-index.index in
     record {
-      later = omega (arith, c.min-end.ensures, c.stays_until.ensures.later, c.loop-index.invariant.later);
+      later = omega (arith, c.min-end.ensures, c.same_cover_until.ensures.later, c.loop-index.invariant.later);
       right = λ s low below tall.
           let covers = covers_line s in
           let same : covers (found i) ≡ covers_line line (found i) =
-          subst (λ (o : Object). covers o ≡ covers_line line o) c.object_at-object.ensures (c.stays_until.ensures.same s low (omega (arith, c.min-end.ensures, below)) tall) in
+          subst (λ (o : Object). covers o ≡ covers_line line o) c.object_at-object.ensures (c.same_cover_until.ensures.same s low (omega (arith, c.min-end.ensures, below)) tall) in
           let before : c.loop-index.objects.items ≡ take 10 (filter covers (map found (range_with_len 0 i))) =
           c.loop-index.invariant.right s low (omega (arith, c.min-end.ensures, below)) tall in
           elim c.if-covers_line.branch [

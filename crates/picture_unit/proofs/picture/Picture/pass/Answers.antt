@@ -1,18 +1,37 @@
-use Rattle.std.proofs.Common.{◌≤◌, sym, arith}
-use Rattle.picture_unit.proofs.LatePicture.{fewer_quiet, no_vblank, no_stat}
+use Rattle.std.proofs.Common.{◌≡◌, ◌<◌, true, false, ap, sym, ◌∙◌, arith}
+use Rattle.picture_unit.specs.Picture.{PictureUnit, PictureAndRequests, is_on, unrequested}
+use Rattle.picture_unit.specs.PictureJump.{next_change}
+use Rattle.picture_unit.proofs.Quiet.{ticks_when_off, skips_before}
 use Rattle.picture_unit.proofs.picture.Picture.pass.Goals as goal
 
-pub count-requires : goal.count-requires
-count-requires c = λ _.
-    let enough : c.args.cycles ≤ c.quiet.result = omega (arith, c.if-cycles-from.false, c.from.ensures) in
-    fewer_quiet c.quiet.result c.args.cycles c.args.self.now enough c.quiet.ensures.quiet
+pub returns-then-not-is_on : goal.returns-then-not-is_on
+unfolding unrequested
+returns-then-not-is_on c =
+    let off : is_on c.self.inside.state ≡ false = cc in
+    let same = sym (ticks_when_off c.args.cycles c.self.inside.state c.args.self.now (ap (λ (s : PictureUnit). s.state) c.self.view_is) off) in
+    record {
+      picture = ap (λ (d : PictureAndRequests). d.picture) same;
+      vblank = ap (λ (d : PictureAndRequests). d.vblank) same;
+      stat = ap (λ (d : PictureAndRequests). d.stat) same;
+    }
 
-pub returns-clause-vblank : goal.returns-clause-vblank
-returns-clause-vblank c =
-    let enough : c.args.cycles ≤ c.quiet.result = omega (arith, c.if-cycles-from.false, c.from.ensures) in
-    sym (no_vblank c.args.cycles c.args.self.now (fewer_quiet c.quiet.result c.args.cycles c.args.self.now enough c.quiet.ensures.quiet))
+pub returns-then-cycles-from-clause-picture : goal.returns-then-cycles-from-clause-picture
+unfolding unrequested
+returns-then-cycles-from-clause-picture c =
+    let on : is_on c.self.inside.state ≡ true = sym c.is_on.ensures ∙ c.if-not-is_on.false in
+    let before : c.args.cycles < next_change c.self.inside.state = omega (arith, c.change_at.ensures.change, c.from.ensures, c.if-cycles-from.true) in
+    ap (λ (d : PictureAndRequests). d.picture) (skips_before c.args.cycles c.self.inside.state c.args.self.now _ (ap (λ (s : PictureUnit). s.state) c.self.view_is) on before c.skip.ensures)
 
-pub returns-clause-stat : goal.returns-clause-stat
-returns-clause-stat c =
-    let enough : c.args.cycles ≤ c.quiet.result = omega (arith, c.if-cycles-from.false, c.from.ensures) in
-    sym (no_stat c.args.cycles c.args.self.now (fewer_quiet c.quiet.result c.args.cycles c.args.self.now enough c.quiet.ensures.quiet))
+pub returns-then-cycles-from-clause-vblank : goal.returns-then-cycles-from-clause-vblank
+unfolding unrequested
+returns-then-cycles-from-clause-vblank c =
+    let on : is_on c.self.inside.state ≡ true = sym c.is_on.ensures ∙ c.if-not-is_on.false in
+    let before : c.args.cycles < next_change c.self.inside.state = omega (arith, c.change_at.ensures.change, c.from.ensures, c.if-cycles-from.true) in
+    ap (λ (d : PictureAndRequests). d.vblank) (skips_before c.args.cycles c.self.inside.state c.args.self.now _ (ap (λ (s : PictureUnit). s.state) c.self.view_is) on before c.skip.ensures)
+
+pub returns-then-cycles-from-clause-stat : goal.returns-then-cycles-from-clause-stat
+unfolding unrequested
+returns-then-cycles-from-clause-stat c =
+    let on : is_on c.self.inside.state ≡ true = sym c.is_on.ensures ∙ c.if-not-is_on.false in
+    let before : c.args.cycles < next_change c.self.inside.state = omega (arith, c.change_at.ensures.change, c.from.ensures, c.if-cycles-from.true) in
+    ap (λ (d : PictureAndRequests). d.stat) (skips_before c.args.cycles c.self.inside.state c.args.self.now _ (ap (λ (s : PictureUnit). s.state) c.self.view_is) on before c.skip.ensures)

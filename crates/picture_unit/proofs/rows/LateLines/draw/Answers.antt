@@ -3,7 +3,7 @@ use Rattle.std.specs.Prelude.{replicate}
 use Rattle.std.proofs.lemmas.List.{get_or-set_same, get_or-set_other, length-set}
 use Rattle.std.proofs.lemmas.Bool.{cases_eq}
 use Rattle.picture_unit.specs.LateRows.{shown}
-use Rattle.picture_unit.proofs.LateLines.{shown-none, shown-drawn, false_behind}
+use Rattle.picture_unit.proofs.LateLines.{shown-none, shown-drawn, all_false}
 use Rattle.picture_unit.proofs.rows.LateLines.draw.Goals as goal
 use Rattle.picture_unit.proofs.rows.LateLines.draw.Goals.{then-self-y, else-self-y}
 
@@ -51,18 +51,18 @@ loop-y-preserved c =
 
 pub returns-clause-none : goal.returns-clause-none
 returns-clause-none c =
-    false_behind c.loop-y.self.are_late 144 c.loop-y.invariant.late_count (λ y h. c.loop-y.invariant.none y (omega arith))
+    all_false c.loop-y.self.are_late 144 c.loop-y.invariant.late_count (λ y h. c.loop-y.invariant.none y (omega arith))
 
 pub returns-clause-lines : goal.returns-clause-lines
 returns-clause-lines c =
     record {
       visible = rw c.loop-y.invariant.drawn_by c.requires.lines.visible;
-      none = λ _. false_behind c.loop-y.self.are_late 144 c.loop-y.invariant.late_count (λ y h. c.loop-y.invariant.none y (omega arith));
+      none = λ _. all_false c.loop-y.self.are_late 144 c.loop-y.invariant.late_count (λ y h. c.loop-y.invariant.none y (omega arith));
     }
 
 pub returns-clause-rows : goal.returns-clause-rows
 returns-clause-rows c =
     let lines = c.args.self.now in
-    let none : c.loop-y.self.are_late ≡ replicate 144 false = false_behind c.loop-y.self.are_late 144 c.loop-y.invariant.late_count (λ y h. c.loop-y.invariant.none y (omega arith)) in
+    let none : c.loop-y.self.are_late ≡ replicate 144 false = all_false c.loop-y.self.are_late 144 c.loop-y.invariant.late_count (λ y h. c.loop-y.invariant.none y (omega arith)) in
     sym (ap (λ (l : List Bool). shown l lines.drawn_by c.args.tiles.now c.args.oam.now c.loop-y.rows) none ∙ shown-none 144 lines.drawn_by c.args.tiles.now c.args.oam.now c.loop-y.rows)
     ∙ c.loop-y.invariant.rows

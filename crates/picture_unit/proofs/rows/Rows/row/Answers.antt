@@ -13,7 +13,7 @@ returns-then-self-y c =
     let count : length below ≡ length r.drawn.items = length-shown r.earlier.are_late r.earlier.drawn_by r.earlier_tiles r.earlier_oam.items r.drawn.items in
     let all : length (rows_of r vram oam) ≡ length below = length-shown r.late.are_late r.late.drawn_by vram oam below in
     slice_get-get_or (rows_of r vram oam) c.args.y [] (omega (arith, c.requires.right.row_count, c.requires.y_in))
-    ∙ ap Some (shown-late r.late.are_late r.late.drawn_by vram oam below c.args.y _ c.if-self-y.true (omega arith) (omega (arith, c.requires.right.row_count)) ∙ sym (rw c.bytes.ensures.bytes at c.draw_plainly.ensures))
+    ∙ ap Some (shown-late r.late.are_late r.late.drawn_by vram oam below c.args.y _ c.if-self-y.true (omega arith) (omega (arith, c.requires.right.row_count)) ∙ sym (rw c.bytes.ensures.bytes at c.draw_by_definition.ensures))
 
 pub returns-then-self-y-2 : goal.returns-then-self-y-2
 returns-then-self-y-2 c =
@@ -25,7 +25,7 @@ returns-then-self-y-2 c =
     let all : length (rows_of r vram oam) ≡ length below = length-shown r.late.are_late r.late.drawn_by vram oam below in
     slice_get-get_or (rows_of r vram oam) c.args.y [] (omega (arith, c.requires.right.row_count, c.requires.y_in))
     ∙ ap Some (shown-other r.late.are_late r.late.drawn_by vram oam below c.args.y c.if-self-y.false
-    ∙ (shown-late r.earlier.are_late r.earlier.drawn_by r.earlier_tiles r.earlier_oam.items r.drawn.items c.args.y _ c.if-self-y-2.true (omega arith) (omega (arith, c.requires.right.row_count)) ∙ sym (rw (c.bytes-then-self-y-2.ensures.bytes, c.deref.ensures.value) at c.draw_plainly-then-self-y-2.ensures)))
+    ∙ (shown-late r.earlier.are_late r.earlier.drawn_by r.earlier_tiles r.earlier_oam.items r.drawn.items c.args.y _ c.if-self-y-2.true (omega arith) (omega (arith, c.requires.right.row_count)) ∙ sym (rw (c.bytes-then-self-y-2.ensures.bytes, c.deref.ensures.value) at c.draw_by_definition-then-self-y-2.ensures)))
 
 pub returns-else-self-y-2 : goal.returns-else-self-y-2
 returns-else-self-y-2 c =

@@ -1,8 +1,9 @@
 use Rattle.std.proofs.Common.{ap, sym, refl, ◌∙◌}
 use Rattle.picture_unit.specs.declared.state.PictureState.{PictureState}
 use Rattle.picture_unit.specs.Picture.{unrequested}
-use Rattle.picture_unit.specs.LatePicture.{bare, state_after}
-use Rattle.picture_unit.proofs.LatePicture.{next_state}
+use Rattle.picture_unit.specs.LatePicture.{state_after}
+use Rattle.picture_unit.specs.Quiet.{bare}
+use Rattle.picture_unit.proofs.LatePictures.{next_state}
 use Rattle.picture_unit.proofs.state.PictureState.after.Goals as goal
 
 pub loop-cycle-init : goal.loop-cycle-init

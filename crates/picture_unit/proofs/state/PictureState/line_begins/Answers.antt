@@ -1,5 +1,5 @@
 use Rattle.std.proofs.Common.{arith, inl, inr}
-use Rattle.picture_unit.proofs.LatePicture.{line_off, not_line}
+use Rattle.picture_unit.proofs.LatePictures.{line_off, not_line}
 use Rattle.picture_unit.proofs.state.PictureState.line_begins.Goals as goal
 use Rattle.picture_unit.proofs.state.PictureState.line_begins.Goals.{then-self-eq0-via-then-self-eq0, then-self-eq0-via-else-self-eq0+then-at-now}
 

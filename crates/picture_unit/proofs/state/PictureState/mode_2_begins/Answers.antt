@@ -1,5 +1,5 @@
 use Rattle.std.proofs.Common.{arith}
-use Rattle.picture_unit.proofs.LatePicture.{mode_2_off, not_mode_2}
+use Rattle.picture_unit.proofs.LatePictures.{mode_2_off, not_mode_2}
 use Rattle.picture_unit.proofs.state.PictureState.mode_2_begins.Goals as goal
 use Rattle.picture_unit.proofs.state.PictureState.mode_2_begins.Goals.{then-self-eq0-via-then-self-eq0, then-self-eq0-via-else-self-eq0+then-self-ge143}
 

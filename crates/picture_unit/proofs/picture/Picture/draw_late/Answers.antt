@@ -1,9 +1,0 @@
-use Rattle.std.proofs.Common.{◌∙◌, refl}
-use Rattle.picture_unit.proofs.LatePicture.{to_the_moment, late_now, prompt_now}
-use Rattle.picture_unit.proofs.picture.Picture.draw_late.Goals as goal
-
-pub invariant_of-self : goal.invariant_of-self
-invariant_of-self c = late_now _ _ _ _ c.frame_cycle-self-inside.ensures.now refl c.frame_cycle-self-inside.ensures.whole c.quiet.ensures.quiet
-
-pub returns : goal.returns
-returns c = prompt_now _ _ c.frame_cycle-self-inside.ensures.now ∙ c.draw_late.ensures ∙ c.pass_to.ensures ∙ to_the_moment c.self.inside.frame_cycle c.self.inside.prompt ∙ c.self.view_is
