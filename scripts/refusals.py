@@ -86,7 +86,7 @@ def bodies_of(texts):
 def answered(bodies, name, around=()):
     """The refusals that a body names, and those that it calls in its crate, as they come."""
     order = []
-    for one, plain, call in re.findall(r'\b\w+(?:Error|Fault)::([A-Z]\w+)|\b(OutputFailed|AllocError)\b|\b(\w+)(?:::<[^>]*>)?\(', bodies.get(name, '')):
+    for one, plain, call in re.findall(r'\b\w+(?:Error|Fault)::([A-Z]\w+)|\b(OutputFailed|AllocError)\b|(?<!::)\b(\w+)(?:::<[^>]*>)?\(', bodies.get(name, '')):
         more = [one or plain] if one or plain else answered(bodies, call, (*around, name)) if call in bodies and call not in (*around, name) else []
         order += [each for each in more if each not in order]
     return order
@@ -107,7 +107,9 @@ class Call:
         error = behind.get(error, error)
         self.clauses = set(re.findall(r'ensures (\w+) \{', contract)) or {'the only one'}
         self.variants = enums.get(error, {error})
-        cans = [can for used in re.findall(r'\bIs\w+', contract) for can in [possible(used, equations, self.variants)] if can is not None]
+        # what stands before an arrow is asked, and not told
+        told = re.sub(r'\bIs\w+ [\w.]+ →', '→', contract)
+        cans = [can for used in re.findall(r'\bIs\w+', told) for can in [possible(used, equations, self.variants)] if can is not None]
         self.can = set.intersection(*cans) if cans else self.variants if len(self.variants) == 1 else None
         self.order = [one for one in answered(bodies, name) if one in (self.can or self.variants)]
         self.calls = calls_of(bodies, name)

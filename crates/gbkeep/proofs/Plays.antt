@@ -1,10 +1,11 @@
 -- A play that was not begun, and why one was refused.
-use Rattle.std.proofs.Common.{◌≡◌, ◌∙◌, ◌⊎◌, ◌+◌, inl, inr, refl, sym, ap, subst, ℕ, List, [], length, Option, Ok, arith}
+use Rattle.std.proofs.Common.{◌≡◌, ◌∙◌, ◌⊎◌, ◌+◌, inl, inr, refl, sym, ap, subst, ℕ, List, [], length, Option, Result, Ok, Err, arith}
 use Rattle.std.specs.Io.KnownBytes.{Appends}
 use Rattle.machine.specs.Machine.{MachineState, after}
 use Rattle.machine.specs.declared.input.Input.{Input}
 use Rattle.cartridge.specs.Accepted.{IsAccepted}
-use Rattle.sector_device.specs.DiskState.{DiskState}
+use Rattle.std.specs.Prelude.{IfErr}
+use Rattle.sector_device.specs.DiskState.{DiskState, HasAnswered}
 use Rattle.sector_device.specs.Runs.{HoldsSince}
 use Rattle.session.specs.declared.error.SessionError.{SessionError}
 use Rattle.session.proofs.Beginnings.{since_now}
@@ -17,7 +18,9 @@ use Rattle.command_line.specs.declared.Request.{Request}
 use Rattle.gbkeep.specs.declared.error.PlayError.{PlayError}
 use Rattle.gbkeep.specs.declared.error.PlayError.TheVariants.{Cart, Script, Session, Picture}
 use Rattle.gbkeep.specs.declared.error.PlayRefused.{PlayRefused}
-use Rattle.gbkeep.specs.Playing.{HasReported, IsLastMachine, IsPlayable, IsPlayCause, inputs_of_script, moves_in, moves_read}
+use Rattle.session.proofs.Answering.{answered_otherwise}
+use Rattle.gbkeep.specs.Playing.{HasReported, IsLastMachine, IsPlayable, IsPlayCause, faults_after_play, inputs_of_script, left_by, moves_in, moves_read}
+use Rattle.gbkeep.specs.Text.{Text}
 use Rattle.gbkeep.specs.Program.{IsRefused, fault_of_play}
 use Rattle.gbkeep.specs.Request.{HasAddress, HasScript, IsCutShort, IsGameRefused, IsOutputRefused, IsReported, OfAScript}
 
@@ -79,26 +82,48 @@ frame_done rom script start old new none playable reported =
     (playable.cartridge, subst (λ (moves : List Move). IsReported moves old new) (ap moves_in none ∙ no_moves) (whole_report rom script start old new reported))
 
 -- why a request is refused whose game was played
-pub play_refused : {D : Type 0} (request : Request) (rom script : List ℕ) (before : D) (refused : PlayRefused D) (start now : DiskState) (old new : Option (List ℕ)) (why : PlayError)
+pub play_refused : (request : Request) (rom script : List ℕ) (start now : DiskState) (old new : Option (List ℕ)) (why : PlayError)
     → HasAddress request → HasScript request
     → ((fault : SessionError) → IsPlayable rom script → IsCutShort (moves_in script) fault old new → IsGameRefused request fault old new)
     → (IsPlayable rom script → IsReported (moves_in script) old new → IsOutputRefused request old new)
-    → IsPlayCause rom script before refused start now old new why → IsRefused request (fault_of_play why) old new
-play_refused request rom script before refused start now old new (Cart fault) address plays game output cause = (address, cause.2, (rom, cause.0))
-play_refused request rom script before refused start now old new (Script fault) address plays game output cause = (plays, cause.3, (script, cause.1))
-play_refused request rom script before refused start now old new (Session fault) address plays game output cause =
+    → IsPlayCause rom script (record { old = start; now = now; output = record { before = old; since = new } }) why → IsRefused request (fault_of_play why) old new
+play_refused request rom script start now old new (Cart fault) address plays game output cause = (address, cause.1, (rom, cause.0))
+play_refused request rom script start now old new (Script fault) address plays game output cause = (plays, cause.2, (script, cause.1))
+play_refused request rom script start now old new (Session fault) address plays game output cause =
     game fault cause.0 (cut_short rom start now (moves_in script) fault old new cause.1)
-play_refused request rom script before refused start now old new Picture address plays game output cause =
+play_refused request rom script start now old new Picture address plays game output cause =
     (address, output cause.0 (whole_report rom script start old new cause.1))
 
 -- and one that plays no moves
-pub empty_refused : {D : Type 0} (request : Request) (rom script : List ℕ) (before : D) (refused : PlayRefused D) (start now : DiskState) (old new : Option (List ℕ)) (why : PlayError)
+pub empty_refused : (request : Request) (rom script : List ℕ) (start now : DiskState) (old new : Option (List ℕ)) (why : PlayError)
     → script ≡ [] → HasAddress request → HasScript request
     → ((fault : SessionError) → IsAccepted rom → IsCutShort [] fault old new → IsGameRefused request fault old new)
     → (IsAccepted rom → IsReported [] old new → IsOutputRefused request old new)
-    → IsPlayCause rom script before refused start now old new why → IsRefused request (fault_of_play why) old new
-empty_refused request rom script before refused start now old new why none address plays game output cause =
+    → IsPlayCause rom script (record { old = start; now = now; output = record { before = old; since = new } }) why → IsRefused request (fault_of_play why) old new
+empty_refused request rom script start now old new why none address plays game output cause =
     let empty = ap moves_in none ∙ no_moves in
-    play_refused request rom script before refused start now old new why address plays
+    play_refused request rom script start now old new why address plays
     (λ fault playable cut. game fault playable.cartridge (subst (λ (moves : List Move). IsCutShort moves fault old new) empty cut))
     (λ playable report. output playable.cartridge (subst (λ (moves : List Move). IsReported moves old new) empty report)) cause
+
+-- ---- a picture behind a play
+
+module _ {D : Type 0} (disk : D → DiskState) (device left : D) where
+  -- why it could not be written
+  pub undrawn_cause : (rom script : List ℕ) (report : Text) (r : Result D (PlayRefused D)) → left_by r ≡ left → IfErr r (λ refused. refused.why ≡ Picture)
+      → IsPlayable rom script → HasReported rom script (disk device) report.before report.since → ((disk device).honest → HasPlayed rom (disk device) (disk left) (inputs_of_script script))
+      → IfErr r (λ refused. IsPlayCause rom script (record { old = disk device; now = disk refused.device; output = report }) refused.why)
+  undrawn_cause rom script report (Ok d) same why playable reported played = tt
+  undrawn_cause rom script report (Err refused) same why playable reported played =
+      subst (λ (w : PlayError). IsPlayCause rom script (record { old = disk device; now = disk refused.device; output = report }) w) (sym why)
+      (playable, reported, λ honest. subst (λ (d : D). HasPlayed rom (disk device) (disk d) (inputs_of_script script)) (sym same) (played honest))
+
+  -- it makes no call
+  pub drawn_answered : {T E : Type 0} {first_faults : E → ℕ → ℕ} {value : T} (r : Result D (PlayRefused D)) → left_by r ≡ left → IfErr r (λ refused. refused.why ≡ Picture)
+      → HasAnswered first_faults (disk device) (disk left) (Ok value) → HasAnswered (λ (refused : PlayRefused D). faults_after_play refused.why) (disk device) (disk (left_by r)) r
+  drawn_answered (Ok d) same why played =
+      subst (λ (d' : D). HasAnswered (λ (refused : PlayRefused D). faults_after_play refused.why) (disk device) (disk d') (Ok d)) (sym same)
+      (record { count = played.count; honest = played.honest; faults_ok = played.faults_ok; faults = tt })
+  drawn_answered (Err refused) same why played =
+      subst (λ (d' : D). HasAnswered {T = D} (λ (r : PlayRefused D). faults_after_play r.why) (disk device) (disk d') (Err refused)) (sym same)
+      (answered_otherwise played (λ n. ap (λ (w : PlayError). faults_after_play w n) why))

@@ -1,5 +1,5 @@
 -- The text of a trace, which is written line by line, and why there is none.
-use Rattle.std.proofs.Common.{◌≡◌, ℕ, suc, ◌+◌, ◌-◌, ◌<◌, ◌≤◌, List, [], ◌++◌, Option, Some, Result, Ok, Err, ◌∙◌, ap, length, take, subst, sym, arith}
+use Rattle.std.proofs.Common.{◌≡◌, ℕ, suc, ◌+◌, ◌-◌, ◌<◌, ◌≤◌, List, [], ◌++◌, Option, Some, Result, Ok, Err, ◌∙◌, ap, length, take, refl, subst, sym, arith}
 use Rattle.std.specs.Prelude.{Bool, true, false, is_err, IfOk, IfSome, OnErr, OnOk}
 use Rattle.std.specs.Result.{result_ok}
 use Rattle.std.proofs.Math.Seq.{take-append_seam}
@@ -12,6 +12,8 @@ use Rattle.sector_log.specs.Content.{content}
 use Rattle.session.specs.Calls.{IsAtRest}
 use Rattle.session.specs.Stands.{Position, stands}
 use Rattle.session.specs.declared.error.SessionError.{SessionError}
+use Rattle.machine.specs.Machine.{MachineState}
+use Rattle.playing.specs.Played.{IsNotTakenUp}
 use Rattle.command_line.specs.declared.Request.{Request}
 use Rattle.sm83_processor.specs.Rules.{Rules}
 use Rattle.sm83_processor.specs.Steps.{step_of, after_steps}
@@ -20,10 +22,9 @@ use Rattle.debugger.specs.Report.{line_of}
 use Rattle.debugger.proofs.Lines.{IsWrittenBut, none_written}
 use Rattle.gbkeep.specs.declared.error.TraceError.{TraceError}
 use Rattle.gbkeep.specs.declared.error.TraceError.TheVariants.{Cart, Session, Memory, Output}
-use Rattle.gbkeep.specs.declared.error.TraceRefused.{TraceRefused}
 use Rattle.gbkeep.specs.Program.{IsRefused, fault_of_trace}
 use Rattle.gbkeep.specs.Request.{HasAddress, IsGameRefused, IsOutputRefused, OfATrace}
-use Rattle.gbkeep.specs.Tracing.{HasStopped, HasTraced, IsTakenUp, IsTraceCause, IsUnwritten, step_lines, trace_text}
+use Rattle.gbkeep.specs.Tracing.{HasStopped, HasTraced, IsTakenUp, IsTraceCause, IsUntraced, faults_after_trace, step_lines, trace_text}
 
 pub none_stepped : {M : Type 0} (rules : Rules M) (count : ℕ) (p : Processor M) (old : Option (List ℕ))
     → IsWrittenBut (step_lines rules (count - 0) p) (step_lines rules count p) old old
@@ -53,14 +54,14 @@ traced_text rom before now steps old new traced = (traced.from, traced.taken_up.
 pub stopped_text : (rom : List ℕ) (before now : DiskState) (steps : ℕ) (old new : Option (List ℕ)) → HasStopped rom before now steps old new → OfATrace rom steps (AppendsProperPrefix old new)
 stopped_text rom before now steps old new stopped = (stopped.from, stopped.taken_up.of_rom, stopped.written)
 
-pub trace_refused : {D : Type 0} (request : Request) (rom : List ℕ) (steps : ℕ) (device : D) (refused : TraceRefused D) (before now : DiskState) (old new : Option (List ℕ)) (why : TraceError)
+pub trace_refused : (request : Request) (rom : List ℕ) (steps : ℕ) (before now : DiskState) (old new : Option (List ℕ)) (why : TraceError)
     → HasAddress request → ((fault : SessionError) → Keeps old new → IsAccepted rom → IsGameRefused request fault old new)
     → (IsAccepted rom → OfATrace rom steps (AppendsProperPrefix old new) → IsOutputRefused request old new)
-    → IsTraceCause rom steps device refused before now old new why → IsRefused request (fault_of_trace why) old new
-trace_refused request rom steps device refused before now old new (Cart fault) address game output cause = (address, cause.2, (rom, cause.0))
-trace_refused request rom steps device refused before now old new (Session fault) address game output cause = game fault cause.1 cause.0
-trace_refused request rom steps device refused before now old new Memory address game output cause = (address, cause.1)
-trace_refused request rom steps device refused before now old new Output address game output cause = (address, output cause.0 (stopped_text rom before now steps old new cause.1))
+    → IsTraceCause rom steps (record { old = before; now = now; output = record { before = old; since = new } }) why → IsRefused request (fault_of_trace why) old new
+trace_refused request rom steps before now old new (Cart fault) address game output cause = (address, cause.1, (rom, cause.0))
+trace_refused request rom steps before now old new (Session fault) address game output cause = game fault cause.1.report cause.0
+trace_refused request rom steps before now old new Memory address game output cause = (address, cause.1)
+trace_refused request rom steps before now old new Output address game output cause = (address, output cause.0 (stopped_text rom before now steps old new cause.1))
 
 -- ---- answers without their errors
 
@@ -87,14 +88,27 @@ pub taken_up : (rom image : List ℕ) (old now : DiskState) (from : Position) �
 taken_up rom image old now from is of stood rests =
     subst (λ (r : List ℕ). IsTakenUp r old now from) is (record { of_rom = of; stood = stood; rests = rests })
 
-pub trace_cause : {D : Type 0} (rom image : List ℕ) (steps : ℕ) (device : D) (refused : TraceRefused D) (old now : DiskState) (from : Position) (before since : Option (List ℕ)) (why : TraceError)
+pub trace_cause : (rom image : List ℕ) (steps : ℕ) (old now : DiskState) (from : Position) (before since : Option (List ℕ)) (why : TraceError)
     → IsAccepted rom → (IsMachineOf image from.machine → IsTakenUp rom old now from)
-    → IsUnwritten image from.machine (trace_text from.count from.machine steps) before since why → IsTraceCause rom steps device refused old now before since why
-trace_cause rom image steps device refused old now from before since (Cart fault) accepted taken unwritten = absurd unwritten
-trace_cause rom image steps device refused old now from before since (Session fault) accepted taken unwritten = absurd unwritten
-trace_cause rom image steps device refused old now from before since Memory accepted taken unwritten = (accepted, unwritten)
-trace_cause rom image steps device refused old now from before since Output accepted taken unwritten =
+    → IsUntraced image from.machine (trace_text from.count from.machine steps) before since why
+    → IsTraceCause rom steps (record { old = old; now = now; output = record { before = before; since = since } }) why
+trace_cause rom image steps old now from before since (Cart fault) accepted taken unwritten = absurd unwritten
+trace_cause rom image steps old now from before since (Session fault) accepted taken unwritten = absurd unwritten
+trace_cause rom image steps old now from before since Memory accepted taken unwritten = (accepted, unwritten)
+trace_cause rom image steps old now from before since Output accepted taken unwritten =
     (accepted, record { from = from; taken_up = taken unwritten.0; written = unwritten.1 })
+
+-- it was not taken up
+pub not_taken_up : (rom image : List ℕ) (steps : ℕ) (old now : DiskState) (why : SessionError) (before : Option (List ℕ)) → image ≡ rom → IsAccepted rom
+    → IsNotTakenUp image old now why before before → IsTraceCause rom steps (record { old = old; now = now; output = record { before = before; since = before } }) (Session why)
+not_taken_up rom image steps old now why before is accepted refused = (accepted, subst (λ (r : List ℕ). IsNotTakenUp r old now why before before) is refused)
+
+-- no call failed where the text was not written
+pub text_only : (rom : List ℕ) (machine : MachineState) (text : List ℕ) (before since : Option (List ℕ)) (why : TraceError) (n : ℕ) → IsUntraced rom machine text before since why → faults_after_trace why n ≡ n
+text_only rom machine text before since (Cart fault) n unwritten = refl
+text_only rom machine text before since (Session fault) n unwritten = absurd unwritten
+text_only rom machine text before since Memory n unwritten = refl
+text_only rom machine text before since Output n unwritten = refl
 
 -- ---- a buffer
 

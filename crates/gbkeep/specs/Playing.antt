@@ -1,5 +1,5 @@
 -- What `play_to_picture` leaves, and when it refuses.
-use Rattle.std.specs.Prelude.{◌≡◌, ◌⊎◌, ℕ, List, [], Option, Some, Result, Ok, Err, IsOk}
+use Rattle.std.specs.Prelude.{◌≡◌, ◌⊎◌, ℕ, List, [], Option, Some, Result, Ok, Err, IsOk, ⊤}
 use Rattle.std.specs.Io.KnownBytes.{Appends, Keeps}
 use Rattle.exact_text.specs.Written.{AppendsProperPrefix}
 use Rattle.cartridge.specs.Accepted.{IsAccepted, refusal_of}
@@ -11,15 +11,17 @@ use Rattle.script.specs.declared.moves.Move.{Move}
 use Rattle.sector_device.specs.DiskState.{DiskState}
 use Rattle.sector_device.specs.declared.device.SectorDevice.{Ghosts}
 use Rattle.sector_log.specs.Content.{content}
+use Rattle.session.specs.Calls.{faults_after}
 use Rattle.session.specs.Stands.{Position, stands}
 use Rattle.session.specs.Words.{device_of}
 use Rattle.session.specs.declared.error.SessionError.{SessionError}
 use Rattle.session.specs.declared.session.Session.{Session as PlaySession}
-use Rattle.playing.specs.Played.{IsNotTakenUp, HasStopped}
+use Rattle.playing.specs.Played.{IsNotTakenUp, HasPlayed, HasStopped}
 use Rattle.playing.specs.Report.{inputs_of_moves, report_of}
 use Rattle.gbkeep.specs.declared.error.PlayError.{PlayError}
 use Rattle.gbkeep.specs.declared.error.PlayError.TheVariants.{Cart, Script, Session, Picture}
 use Rattle.gbkeep.specs.declared.error.PlayRefused.{PlayRefused}
+use Rattle.gbkeep.specs.Text.{Call, IsUnwritten}
 
 abbrev pub moves_read : Result (List Move) ℕ → List Move
 moves_read (Ok moves) = moves
@@ -70,15 +72,30 @@ HasDrawnPart rom script old before since Picture =
 abbrev pub IsPlayEnd : (rom script : List ℕ) → (old now : DiskState) → SessionError → (before since : Option (List ℕ)) → Type 0
 IsPlayEnd rom script old now why before since = IsNotTakenUp rom old now why before since ⊎ HasStopped rom old now (moves_in script) why before since
 
--- Why ROM and script are not played to the end, with the device and its images at the call's start and at its return, and the report
--- before and since: the first rule of a cartridge that the image breaks; the script is refused, of a cartridge that is accepted; and
--- nothing was touched or written then. Or the play ended, or the picture could not be written behind the whole report.
-abbrev pub IsPlayCause : {D : Type 0} → (rom script : List ℕ) → (before : D) → PlayRefused D → (start now : DiskState) → (old new : Option (List ℕ)) → PlayError → Type 0
-IsPlayCause rom script before refused start now old new (Cart fault) = (refusal_of rom ≡ Some fault) × (refused.device ≡ before) × Keeps old new
-IsPlayCause rom script before refused start now old new (Script fault) =
-    IsAccepted rom × IsScriptRefused script fault × (refused.device ≡ before) × Keeps old new
-IsPlayCause rom script before refused start now old new (Session fault) = IsPlayable rom script × IsPlayEnd rom script start now fault old new
-IsPlayCause rom script before refused start now old new Picture = IsPlayable rom script × HasReported rom script start old new
+-- Why ROM and script are not played to the end: the first rule of a cartridge that the image breaks; the script is refused, of a
+-- cartridge that is accepted; and nothing was written then. Or the play ended; or all was played, saved and reported, and the picture
+-- could not be written.
+abbrev pub IsPlayCause : (rom script : List ℕ) → Call → PlayError → Type 0
+IsPlayCause rom script play (Cart fault) = (refusal_of rom ≡ Some fault) × IsUnwritten play.output
+IsPlayCause rom script play (Script fault) = IsAccepted rom × IsScriptRefused script fault × IsUnwritten play.output
+IsPlayCause rom script play (Session fault) = IsPlayable rom script × IsPlayEnd rom script play.old play.now fault play.output.before play.output.since
+IsPlayCause rom script play Picture =
+    IsPlayable rom script × HasReported rom script play.old play.output.before play.output.since
+    × (play.old.honest → HasPlayed rom play.old play.now (inputs_of_script script))
+
+-- it is refused before the device is touched
+abbrev pub IsUnplayable : PlayError → Type 0
+IsUnplayable (Cart fault) = ⊤
+IsUnplayable (Script fault) = ⊤
+IsUnplayable (Session fault) = ⊥
+IsUnplayable Picture = ⊥
+
+-- the device's count of failed calls after a refusal: one more after `Device`, and after no other
+abbrev pub faults_after_play : PlayError → ℕ → ℕ
+faults_after_play (Cart fault) faults = faults
+faults_after_play (Script fault) faults = faults
+faults_after_play (Session fault) faults = faults_after fault faults
+faults_after_play Picture faults = faults
 
 -- the device that a play leaves before its picture
 module _ {D : Type 0} {disk : Ghosts D} where

@@ -26,6 +26,7 @@ use Rattle.streaming.specs.declared.obeying.End.TheVariants.{Whole, Wrong as Wro
 use Rattle.streaming.specs.declared.error.StreamError.TheVariants.{Session as StreamSession, Line as StreamLine, Input as StreamInput}
 use Rattle.gbkeep.specs.declared.fault.Fault.TheVariants.{Cart, Memory, File, Output, Address, Word, Device, Script, Session, Line, Input}
 use Rattle.script.specs.Script.{IsRefused as IsScriptRefused}
+use Rattle.gbkeep.specs.Text.{Exchange, Text, IsUnread, IsUnwritten}
 use Rattle.gbkeep.specs.Request.{HasAddress, HasSave, HasScript, IsDone, IsGameRefused, IsOutputRefused, IsStreamStopped, IsStreamedTo}
 
 abbrev pub status_of : Fault → ℕ
@@ -122,49 +123,49 @@ IsServed request (Ok u) old new = IsDone request old new
 IsServed request (Err fault) old new = IsRefused request fault old new
 
 -- why a stream was refused, and what was read and went out then
-abbrev pub IsStreamRefused : Fault → (before since old new : Option (List ℕ)) → Type 0
-IsStreamRefused (Cart fault) before since old new = (since ≡ before) × Keeps old new × ((rom : List ℕ) × (refusal_of rom ≡ Some fault))
-IsStreamRefused Memory before since old new = (since ≡ before) × Keeps old new
-IsStreamRefused File before since old new = (since ≡ before) × Keeps old new
-IsStreamRefused Output before since old new = ⊥
-IsStreamRefused Address before since old new = ⊥
-IsStreamRefused Word before since old new = ⊥
-IsStreamRefused (Device fault) before since old new = (since ≡ before) × Keeps old new
-IsStreamRefused (Script fault) before since old new = ⊥
-IsStreamRefused (Session why) before since old new = IsStreamStopped why before since old new
-IsStreamRefused (Line number) before since old new = IsStreamedTo (WrongLine number) before since old new
-IsStreamRefused Input before since old new = IsStreamedTo FailedRead before since old new
+abbrev pub IsStreamRefused : Fault → (input output : Text) → Type 0
+IsStreamRefused (Cart fault) input output = IsUnread input × IsUnwritten output × ((rom : List ℕ) × (refusal_of rom ≡ Some fault))
+IsStreamRefused Memory input output = IsUnread input × IsUnwritten output
+IsStreamRefused File input output = IsUnread input × IsUnwritten output
+IsStreamRefused Output input output = ⊥
+IsStreamRefused Address input output = ⊥
+IsStreamRefused Word input output = ⊥
+IsStreamRefused (Device fault) input output = IsUnread input × IsUnwritten output
+IsStreamRefused (Script fault) input output = ⊥
+IsStreamRefused (Session why) input output = IsStreamStopped why input output
+IsStreamRefused (Line number) input output = IsStreamedTo (WrongLine number) input output
+IsStreamRefused Input input output = IsStreamedTo FailedRead input output
 
 -- a stream was done or refused
-abbrev pub IsStreamServed : Result Unit Fault → (before since old new : Option (List ℕ)) → Type 0
-IsStreamServed (Ok u) before since old new = IsStreamedTo Whole before since old new
-IsStreamServed (Err fault) before since old new = IsStreamRefused fault before since old new
+abbrev pub IsStreamServed : Result Unit Fault → (input output : Text) → Type 0
+IsStreamServed (Ok u) input output = IsStreamedTo Whole input output
+IsStreamServed (Err fault) input output = IsStreamRefused fault input output
 
--- ---- any request, with what was left of the input before and since
+-- ---- any request: only a stream reads the input
 
-abbrev pub IsDoneReading : Request → (before since old new : Option (List ℕ)) → Type 0
-IsDoneReading (Info cart) before since old new = (since ≡ before) × IsDone (Info cart) old new
-IsDoneReading (Listing cart address count) before since old new = (since ≡ before) × IsDone (Listing cart address count) old new
-IsDoneReading (Step cart count) before since old new = (since ≡ before) × IsDone (Step cart count) old new
-IsDoneReading (New cart save sectors) before since old new = (since ≡ before) × IsDone (New cart save sectors) old new
-IsDoneReading (Play cart save script) before since old new = (since ≡ before) × IsDone (Play cart save script) old new
-IsDoneReading (Frame cart save out) before since old new = (since ≡ before) × IsDone (Frame cart save out) old new
-IsDoneReading (Trace cart save count) before since old new = (since ≡ before) × IsDone (Trace cart save count) old new
-IsDoneReading (Stream cart save) before since old new = IsStreamedTo Whole before since old new
+abbrev pub IsDoneReading : Request → (input output : Text) → Type 0
+IsDoneReading (Info cart) input output = IsUnread input × IsDone (Info cart) output.before output.since
+IsDoneReading (Listing cart address count) input output = IsUnread input × IsDone (Listing cart address count) output.before output.since
+IsDoneReading (Step cart count) input output = IsUnread input × IsDone (Step cart count) output.before output.since
+IsDoneReading (New cart save sectors) input output = IsUnread input × IsDone (New cart save sectors) output.before output.since
+IsDoneReading (Play cart save script) input output = IsUnread input × IsDone (Play cart save script) output.before output.since
+IsDoneReading (Frame cart save out) input output = IsUnread input × IsDone (Frame cart save out) output.before output.since
+IsDoneReading (Trace cart save count) input output = IsUnread input × IsDone (Trace cart save count) output.before output.since
+IsDoneReading (Stream cart save) input output = IsStreamedTo Whole input output
 
-abbrev pub IsRefusedReading : Request → Fault → (before since old new : Option (List ℕ)) → Type 0
-IsRefusedReading (Info cart) fault before since old new = (since ≡ before) × IsRefused (Info cart) fault old new
-IsRefusedReading (Listing cart address count) fault before since old new = (since ≡ before) × IsRefused (Listing cart address count) fault old new
-IsRefusedReading (Step cart count) fault before since old new = (since ≡ before) × IsRefused (Step cart count) fault old new
-IsRefusedReading (New cart save sectors) fault before since old new = (since ≡ before) × IsRefused (New cart save sectors) fault old new
-IsRefusedReading (Play cart save script) fault before since old new = (since ≡ before) × IsRefused (Play cart save script) fault old new
-IsRefusedReading (Frame cart save out) fault before since old new = (since ≡ before) × IsRefused (Frame cart save out) fault old new
-IsRefusedReading (Trace cart save count) fault before since old new = (since ≡ before) × IsRefused (Trace cart save count) fault old new
-IsRefusedReading (Stream cart save) fault before since old new = IsStreamRefused fault before since old new
+abbrev pub IsRefusedReading : Request → Fault → (input output : Text) → Type 0
+IsRefusedReading (Info cart) fault input output = IsUnread input × IsRefused (Info cart) fault output.before output.since
+IsRefusedReading (Listing cart address count) fault input output = IsUnread input × IsRefused (Listing cart address count) fault output.before output.since
+IsRefusedReading (Step cart count) fault input output = IsUnread input × IsRefused (Step cart count) fault output.before output.since
+IsRefusedReading (New cart save sectors) fault input output = IsUnread input × IsRefused (New cart save sectors) fault output.before output.since
+IsRefusedReading (Play cart save script) fault input output = IsUnread input × IsRefused (Play cart save script) fault output.before output.since
+IsRefusedReading (Frame cart save out) fault input output = IsUnread input × IsRefused (Frame cart save out) fault output.before output.since
+IsRefusedReading (Trace cart save count) fault input output = IsUnread input × IsRefused (Trace cart save count) fault output.before output.since
+IsRefusedReading (Stream cart save) fault input output = IsStreamRefused fault input output
 
-abbrev pub IsServedReading : Request → Result Unit Fault → (before since old new : Option (List ℕ)) → Type 0
-IsServedReading request (Ok u) before since old new = IsDoneReading request before since old new
-IsServedReading request (Err fault) before since old new = IsRefusedReading request fault before since old new
+abbrev pub IsServedReading : Request → Result Unit Fault → (input output : Text) → Type 0
+IsServedReading request (Ok u) input output = IsDoneReading request input output
+IsServedReading request (Err fault) input output = IsRefusedReading request fault input output
 
 -- `clap` answers this where help or the version is asked for
 abbrev pub is_help : ErrorKind → Bool
@@ -199,17 +200,17 @@ IsMisuse (Ok OutOfRange) = ⊤
 IsMisuse (Err fault) = fault ≡ Word
 
 -- what was asked for was done; nothing is said of what goes out where that is help
-abbrev pub IsFulfilled : Result Asked Fault → (before since old new : Option (List ℕ)) → Type 0
-IsFulfilled (Ok (Command request)) before since old new = IsDoneReading request before since old new
-IsFulfilled (Ok (Help text)) before since old new = since ≡ before
-IsFulfilled asked before since old new = ⊥
+abbrev pub IsFulfilled : Result Asked Fault → (input output : Text) → Type 0
+IsFulfilled (Ok (Command request)) input output = IsDoneReading request input output
+IsFulfilled (Ok (Help text)) input output = IsUnread input
+IsFulfilled asked input output = ⊥
 
 -- this fault is why it was not done
-abbrev pub IsFaultOf : Result Asked Fault → Fault → (before since old new : Option (List ℕ)) → Type 0
-IsFaultOf (Ok (Command request)) fault before since old new = IsRefusedReading request fault before since old new
-IsFaultOf (Ok (Help text)) fault before since old new = (since ≡ before) × (fault ≡ Output)
-IsFaultOf (Err why) fault before since old new = (since ≡ before) × (fault ≡ why) × Keeps old new
-IsFaultOf asked fault before since old new = ⊥
+abbrev pub IsFaultOf : Result Asked Fault → Fault → (input output : Text) → Type 0
+IsFaultOf (Ok (Command request)) fault input output = IsRefusedReading request fault input output
+IsFaultOf (Ok (Help text)) fault input output = IsUnread input × (fault ≡ Output)
+IsFaultOf (Err why) fault input output = IsUnread input × (fault ≡ why) × IsUnwritten output
+IsFaultOf asked fault input output = ⊥
 
 -- the line where the words are not understood; None where `clap` gives the text
 abbrev pub misuse_line : Result Asked Fault → Option (List ℕ)
@@ -217,23 +218,19 @@ misuse_line (Ok (Command request)) = line_of Address
 misuse_line (Ok asked) = None
 misuse_line (Err fault) = line_of fault
 
--- The program ended with this status on what was asked for. `before` and `since` are what was left of the input before and since, `old` and
--- `new` what went to the output, and the last two what went to standard error.
-pub record HasEnded (asked : Result Asked Fault) (before since old new errors_old errors_new : Option (List ℕ)) (status : ℕ) : Type 0 where
-  pub done : status ≡ 0 → IsFulfilled asked before since old new × Keeps errors_old errors_new
+-- The program ended with this status on what was asked for.
+pub record HasEnded (asked : Result Asked Fault) (run : Exchange) (status : ℕ) : Type 0 where
+  pub done : status ≡ 0 → IsFulfilled asked run.input run.output × IsUnwritten run.errors
   pub refused : status ≡ 1 →
-      (fault : Fault) × (status_of fault ≡ 1) × IsFaultOf asked fault before since old new × HasLine (line_of fault) errors_old errors_new
+      (fault : Fault) × (status_of fault ≡ 1) × IsFaultOf asked fault run.input run.output × HasLine (line_of fault) run.errors.before run.errors.since
   pub misuse : (status ≡ 2) ↔ IsMisuse asked
-  pub misused : status ≡ 2 → (since ≡ before) × Keeps old new × HasLine (misuse_line asked) errors_old errors_new
+  pub misused : status ≡ 2 → IsUnread run.input × IsUnwritten run.output × HasLine (misuse_line asked) run.errors.before run.errors.since
   pub bound : status ≤ 2
 
 -- it ended so on what these words ask for
-abbrev pub Ends : List WordText → (before since old new errors_old errors_new : Option (List ℕ)) → ℕ → Type 0
-Ends words before since old new errors_old errors_new status =
-    (asked : Result Asked Fault) × IsReading words asked × HasEnded asked before since old new errors_old errors_new status
+abbrev pub Ends : List WordText → Exchange → ℕ → Type 0
+Ends words run status = (asked : Result Asked Fault) × IsReading words asked × HasEnded asked run status
 
--- it ended so on some words, those of its process, or one of them is no text
-abbrev pub EndsOnSome : (before since old new errors_old errors_new : Option (List ℕ)) → ℕ → Type 0
-EndsOnSome before since old new errors_old errors_new status =
-    ((words : List WordText) × Ends words before since old new errors_old errors_new status)
-    ⊎ HasEnded (Err Word) before since old new errors_old errors_new status
+-- it ended so on some words, or one of them is no text
+abbrev pub EndsOnSome : Exchange → ℕ → Type 0
+EndsOnSome run status = ((words : List WordText) × Ends words run status) ⊎ HasEnded (Err Word) run status

@@ -1,5 +1,5 @@
 -- What a request wants of a ROM, and when the program has done it.
-use Rattle.std.specs.Prelude.{◌≡◌, ◌⊎◌, ◌≤◌, ℕ, List, [], codes, length, Option, unwrap_or, IsOk, All}
+use Rattle.std.specs.Prelude.{◌⊎◌, ◌≤◌, ℕ, List, [], length, Option, unwrap_or, IsOk, All}
 use Rattle.std.specs.Str.Parse.{IsNumeral, digits_value}
 use Rattle.std.specs.Io.KnownBytes.{Appends, Keeps}
 use Rattle.exact_text.specs.Written.{AppendsProperPrefix}
@@ -22,9 +22,11 @@ use Rattle.streaming.specs.Orders.{orders_of, IsRight}
 use Rattle.streaming.specs.Reading.{ReadsLines, ReadsTo}
 use Rattle.streaming.specs.declared.obeying.End.{End}
 use Rattle.debugger.specs.Listing.{lines_from}
+use Rattle.gbkeep.specs.Beginning.{begun_line}
 use Rattle.gbkeep.specs.Info.{info_of}
 use Rattle.gbkeep.specs.Playing.{moves_in}
 use Rattle.gbkeep.specs.StepLine.{line_after}
+use Rattle.gbkeep.specs.Text.{Text, IsUnread, IsUnwritten}
 use Rattle.gbkeep.specs.Tracing.{trace_text}
 
 -- how many sectors a new game's file has: as many as the words say, or else as many as a game of this ROM needs
@@ -51,7 +53,7 @@ abbrev pub printed : Request → List ℕ → List ℕ
 printed (Info cart) rom = info_of rom
 printed (Listing cart address count) rom = lines_from (start rom) (digits_value 16 address.now) count
 printed (Step cart count) rom = line_after rom count
-printed (New cart save sectors) rom = codes "begun 0\n"
+printed (New cart save sectors) rom = begun_line
 printed (Play cart save script) rom = []
 printed (Frame cart save out) rom = []
 printed (Trace cart save count) rom = []
@@ -128,25 +130,29 @@ IsOutputRefused (Frame cart save out) old new = (rom : List ℕ) × IsAccepted r
 IsOutputRefused (Trace cart save count) old new = (rom : List ℕ) × IsAccepted rom × OfATrace rom count (AppendsProperPrefix old new)
 IsOutputRefused (Stream cart save) old new = ⊥
 
--- ---- a stream, the only request that reads the input, of which `before` was left and then `since`
+-- ---- a stream, the only request that reads the input
 
--- of the answers to some lines of the input, from some position, P holds: those up to this end
-abbrev pub OfAStream : End → (before since : Option (List ℕ)) → (List Line → Type 0) → Type 0
-OfAStream end before since P =
-    (from : Position) × (lines : List (List ℕ)) × All IsRight lines × ReadsTo end lines before since × P (stream_lines from (orders_of lines))
+-- of the answers to some lines of the input, from some position of this ROM, P holds: those up to this end
+abbrev pub OfAStream : (rom : List ℕ) → End → (input : Text) → (List Line → Type 0) → Type 0
+OfAStream rom end input P =
+    (from : Position) × IsMachineOf rom from.machine
+    × ((lines : List (List ℕ)) × All IsRight lines × ReadsTo end lines input.before input.since × P (stream_lines from (orders_of lines)))
 
 -- or those that were read, with some bytes more, when one of them was refused
-abbrev pub OfABrokenStream : (before since : Option (List ℕ)) → (List Line → Type 0) → Type 0
-OfABrokenStream before since P =
-    (from : Position) × (lines : List (List ℕ)) × All IsRight lines
-    × ((more : List ℕ) × ReadsLines lines more before since) × P (stream_lines from (orders_of lines))
+abbrev pub OfABrokenStream : (rom : List ℕ) → (input : Text) → (List Line → Type 0) → Type 0
+OfABrokenStream rom input P =
+    (from : Position) × IsMachineOf rom from.machine
+    × ((lines : List (List ℕ)) × All IsRight lines
+    × ((more : List ℕ) × ReadsLines lines more input.before input.since) × P (stream_lines from (orders_of lines)))
 
 -- all that the lines up to this end ask for was done and answered
-abbrev pub IsStreamedTo : End → (before since old new : Option (List ℕ)) → Type 0
-IsStreamedTo end before since old new = (rom : List ℕ) × IsAccepted rom × OfAStream end before since (λ lines. Appends old new (texts lines))
+abbrev pub IsStreamedTo : End → (input output : Text) → Type 0
+IsStreamedTo end input output =
+    (rom : List ℕ) × IsAccepted rom × OfAStream rom end input (λ lines. Appends output.before output.since (texts lines))
 
 -- why the game was not taken up, with nothing read and nothing written; or why a line was refused, with what was answered up to there
-abbrev pub IsStreamStopped : SessionError → (before since old new : Option (List ℕ)) → Type 0
-IsStreamStopped why before since old new =
+abbrev pub IsStreamStopped : SessionError → (input output : Text) → Type 0
+IsStreamStopped why input output =
     (rom : List ℕ) × IsAccepted rom
-    × (((since ≡ before) × Keeps old new) ⊎ OfABrokenStream before since (λ lines. (saved : ℕ) × HasTold why saved lines old new))
+    × ((IsUnread input × IsUnwritten output)
+    ⊎ OfABrokenStream rom input (λ lines. (saved : ℕ) × HasTold why saved lines output.before output.since))

@@ -1,5 +1,5 @@
 -- What `trace_lines` writes and leaves, and when it refuses.
-use Rattle.std.specs.Prelude.{◌≡◌, ◌⊎◌, ℕ, zero, suc, List, [], ◌++◌, Option, Some, Result, Ok, Err}
+use Rattle.std.specs.Prelude.{◌≡◌, ℕ, zero, suc, List, [], ◌++◌, Option, Some, Result, Ok, Err}
 use Rattle.std.specs.Io.KnownBytes.{Appends, Keeps}
 use Rattle.exact_text.specs.Written.{AppendsProperPrefix}
 use Rattle.cartridge.specs.Accepted.{IsAccepted, refusal_of}
@@ -10,17 +10,16 @@ use Rattle.sm83_processor.specs.Steps.{step_of}
 use Rattle.sm83_processor.specs.declared.processor.Processor.{Processor}
 use Rattle.snapshot.specs.Legal.{IsMachineOf}
 use Rattle.sector_device.specs.DiskState.{DiskState}
-use Rattle.sector_device.specs.Runs.{HoldsSince}
-use Rattle.sector_log.specs.Content.{content, generation_in}
+use Rattle.sector_log.specs.Content.{content}
 use Rattle.session.specs.Calls.{IsAtRest, faults_after}
-use Rattle.session.specs.Found.{IsResumeCause}
 use Rattle.session.specs.Stands.{Position, stands}
-use Rattle.session.specs.declared.error.SessionError.TheVariants.{Device as GameDevice}
+use Rattle.playing.specs.Played.{IsNotTakenUp}
 use Rattle.playing.specs.Report.{resumed_line}
 use Rattle.debugger.specs.Report.{line_of}
 use Rattle.gbkeep.specs.declared.error.TraceError.{TraceError}
 use Rattle.gbkeep.specs.declared.error.TraceError.TheVariants.{Cart, Session, Memory, Output}
 use Rattle.gbkeep.specs.declared.error.TraceRefused.{TraceRefused}
+use Rattle.gbkeep.specs.Text.{Call, IsUnwritten}
 
 -- the lines of the next n steps, the first of them first
 unfoldable pub step_lines : {M : Type 0} → Rules M → ℕ → Processor M → List ℕ
@@ -54,17 +53,13 @@ abbrev pub left_by : {D : Type 0} → Result D (TraceRefused D) → D
 left_by (Ok device) = device
 left_by (Err refused) = refused.device
 
--- Why nothing, or not all, is traced, with the device and its images at the call's start and at its return, and what went out before
--- and since: the first rule of a cartridge that the image breaks, and then the device was not touched; why the game is not taken up;
--- out of memory; the text could not be written. Only at the last was any of it.
-abbrev pub IsTraceCause : {D : Type 0} → (rom : List ℕ) → (steps : ℕ) → (device : D) → TraceRefused D → (old now : DiskState) → (before since : Option (List ℕ)) → TraceError → Type 0
-IsTraceCause rom steps device refused old now before since (Cart fault) =
-    (refusal_of rom ≡ Some fault) × (refused.device ≡ device) × Keeps before since
-IsTraceCause rom steps device refused old now before since (Session fault) =
-    IsAccepted rom × Keeps before since × (old.honest → IsResumeCause rom (generation_in old.sectors) (content old.sectors) fault)
-    × ((fault ≡ GameDevice) ⊎ (old.honest → HoldsSince old now old.image))
-IsTraceCause rom steps device refused old now before since Memory = IsAccepted rom × Keeps before since
-IsTraceCause rom steps device refused old now before since Output = IsAccepted rom × HasStopped rom old now steps before since
+-- Why nothing, or not all, is traced: the first rule of a cartridge that the image breaks; why the game is not taken up; out of
+-- memory; the text could not be written. Only at the last was any of it.
+abbrev pub IsTraceCause : (rom : List ℕ) → (steps : ℕ) → Call → TraceError → Type 0
+IsTraceCause rom steps trace (Cart fault) = (refusal_of rom ≡ Some fault) × IsUnwritten trace.output
+IsTraceCause rom steps trace (Session fault) = IsAccepted rom × IsNotTakenUp rom trace.old trace.now fault trace.output.before trace.output.since
+IsTraceCause rom steps trace Memory = IsAccepted rom × IsUnwritten trace.output
+IsTraceCause rom steps trace Output = IsAccepted rom × HasStopped rom trace.old trace.now steps trace.output.before trace.output.since
 
 -- the device's count of failed calls after a refusal: one more after `Device`, and after no other
 abbrev pub faults_after_trace : TraceError → ℕ → ℕ
@@ -72,8 +67,8 @@ faults_after_trace (Session fault) faults = faults_after fault faults
 faults_after_trace why faults = faults
 
 -- why the text of this machine of the ROM is not written, and then nothing of it was or a proper prefix
-abbrev pub IsUnwritten : (rom : List ℕ) → MachineState → (text : List ℕ) → (before since : Option (List ℕ)) → TraceError → Type 0
-IsUnwritten rom machine text before since (Cart fault) = ⊥
-IsUnwritten rom machine text before since (Session fault) = ⊥
-IsUnwritten rom machine text before since Memory = Keeps before since
-IsUnwritten rom machine text before since Output = IsMachineOf rom machine × AppendsProperPrefix before since text
+abbrev pub IsUntraced : (rom : List ℕ) → MachineState → (text : List ℕ) → (before since : Option (List ℕ)) → TraceError → Type 0
+IsUntraced rom machine text before since (Cart fault) = ⊥
+IsUntraced rom machine text before since (Session fault) = ⊥
+IsUntraced rom machine text before since Memory = Keeps before since
+IsUntraced rom machine text before since Output = IsMachineOf rom machine × AppendsProperPrefix before since text

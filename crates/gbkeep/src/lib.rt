@@ -5,6 +5,7 @@
 #![tactic(auto)]
 
 mod asked;
+mod begin;
 mod bytes;
 pub mod error;
 mod fault;
@@ -19,8 +20,10 @@ mod steps;
 mod streams;
 mod trace;
 
+pub use begin::begin_game;
 pub use error::{
-    PlayError, PlayRefused, StreamPlayError, StreamPlayRefused, TextError, TraceError, TraceRefused,
+    BeginError, BeginRefused, PlayError, PlayRefused, StreamPlayError, StreamPlayRefused,
+    TextError, TraceError, TraceRefused,
 };
 pub use info::info_lines;
 pub use listing::list_lines;

@@ -5,10 +5,11 @@ ghost use Rattle.machine.specs.Machine.{picture_rows};
 ghost use Rattle.std.specs.Io.KnownBytes.{Appends};
 ghost use Rattle.exact_text.specs.Written.{AppendsProperPrefix};
 ghost use Rattle.picture_unit.specs.Pgm.{picture_text};
+ghost use Rattle.sector_device.specs.DiskState.{HasAnswered};
 ghost use Rattle.sector_device.specs.Runs.{HoldsSince};
 ghost use Rattle.session.specs.Words.{device_of, machine_of};
 ghost use Rattle.playing.specs.Played.{PlayImage, HasPlayed};
-ghost use Rattle.gbkeep.specs.Playing.{HasDrawn, HasDrawnPart, HasReported, IsLastMachine, IsPlayCause, IsPlayable, inputs_of_script, left_by, left_by_session};
+ghost use Rattle.gbkeep.specs.Playing.{HasDrawn, HasDrawnPart, HasReported, IsLastMachine, IsPlayCause, IsPlayable, IsUnplayable, faults_after_play, inputs_of_script, left_by, left_by_session};
 
 use crate::error::{PlayError, PlayRefused};
 use cartridge::Cartridge;
@@ -23,7 +24,7 @@ use std::io::Write;
 ///
 /// Refusals, in this order, each of which hands the device back: what is wrong with the image, what is wrong with the script or that
 /// its moves find no memory, both with nothing written; those of the play, and what it saved stays saved; that the picture could
-/// not be written. Of the picture `play_and_draw` says what goes out: no clause can name what is written through an `Option`.
+/// not be written, and then all that was played is saved and reported. Of the picture `play_and_draw` says what goes out: no clause can name what is written through an `Option`.
 pub fn play_to_picture<D: SectorDevice, W: Write, P: Write>(
     alloc: Global,
     device: D,
@@ -39,9 +40,12 @@ pub fn play_to_picture<D: SectorDevice, W: Write, P: Write>(
     ensures playable { OnOk result (IsPlayable rom.items script.now) }
     ensures report { OnOk result (HasReported rom.items script.now (D.disk device) (W.contents report.old) (W.contents report.new)) }
     ensures cause { IfErr result (λ refused.
-        IsPlayCause rom.items script.now device refused (D.disk device) (D.disk refused.device) (W.contents report.old)
-        (W.contents report.new) refused.why) }
+        IsPlayCause rom.items script.now
+        (record { old = D.disk device; now = D.disk refused.device; output = record { before = W.contents report.old; since = W.contents report.new } })
+        refused.why) }
+    ensures untouched { IfErr result (λ refused. IsUnplayable refused.why → refused.device ≡ device) }
     ensures undrawn { is_none out.entry ≡ true → IfErr result (λ refused. refused.why ≢ PlayError.Picture) }
+    ensures answered { HasAnswered (λ refused. faults_after_play refused.why) (D.disk device) (D.disk (left_by result)) result }
 {
     if let Some(out) = out {
         return play_and_draw(alloc, device, rom, script, report, out);
@@ -68,10 +72,13 @@ pub fn play_and_draw<D: SectorDevice, W: Write, P: Write>(
     ensures playable { OnOk result (IsPlayable rom.items script.now) }
     ensures report { OnOk result (HasReported rom.items script.now (D.disk device) (W.contents report.old) (W.contents report.new)) }
     ensures cause { IfErr result (λ refused.
-        IsPlayCause rom.items script.now device refused (D.disk device) (D.disk refused.device) (W.contents report.old)
-        (W.contents report.new) refused.why) }
+        IsPlayCause rom.items script.now
+        (record { old = D.disk device; now = D.disk refused.device; output = record { before = W.contents report.old; since = W.contents report.new } })
+        refused.why) }
+    ensures untouched { IfErr result (λ refused. IsUnplayable refused.why → refused.device ≡ device) }
     ensures picture { OnOk result (HasDrawn rom.items script.now (D.disk device) (P.contents out.old) (P.contents out.new)) }
     ensures part { IfErr result (λ refused. HasDrawnPart rom.items script.now (D.disk device) (P.contents out.old) (P.contents out.new) refused.why) }
+    ensures answered { HasAnswered (λ refused. faults_after_play refused.why) (D.disk device) (D.disk (left_by result)) result }
 {
     match play_script(alloc, device, rom, script, report) {
         Ok(session) => picture_of(session, out),
@@ -94,10 +101,13 @@ fn play_script<D: SectorDevice, W: Write>(
     ensures playable { OnOk result (IsPlayable rom.items script.now) }
     ensures report { OnOk result (HasReported rom.items script.now (D.disk device) (W.contents report.old) (W.contents report.new)) }
     ensures cause { IfErr result (λ refused.
-        IsPlayCause rom.items script.now device refused (D.disk device) (D.disk refused.device) (W.contents report.old)
-        (W.contents report.new) refused.why) }
+        IsPlayCause rom.items script.now
+        (record { old = D.disk device; now = D.disk refused.device; output = record { before = W.contents report.old; since = W.contents report.new } })
+        refused.why) }
+    ensures untouched { IfErr result (λ refused. IsUnplayable refused.why → refused.device ≡ device) }
     ensures last { IfOk result (λ s. IsLastMachine rom.items script.now (D.disk device) (machine_of s)) }
     ensures undrawn { IfErr result (λ refused. refused.why ≢ PlayError.Picture) }
+    ensures answered { HasAnswered (λ refused. faults_after_play refused.why) (D.disk device) (D.disk (left_by_session result)) result }
 {
     let cartridge = match Cartridge::read(rom) {
         Ok(cartridge) => cartridge,

@@ -27,8 +27,11 @@ pub fn run_program<R: Env + Files<File = File> + AllocGlobal, I: Read, O: Write,
 ) -> u8
     ensures status { result ≤ 2 }
     ensures misuse { KeepsAtMisuse (O.contents out.old) (O.contents out.new) result }
-    ensures ends { EndsOnSome (I.remaining input.old) (I.remaining input.new) (O.contents out.old) (O.contents out.new)
-        (E.contents err.old) (E.contents err.new) result }
+    ensures ends { EndsOnSome (record {
+      input = record { before = I.remaining input.old; since = I.remaining input.new };
+      output = record { before = O.contents out.old; since = O.contents out.new };
+      errors = record { before = E.contents err.old; since = E.contents err.new };
+    }) result }
 {
     match words(rt) {
         Ok(words) => run(rt, words.as_slice(), input, out, err),
@@ -60,8 +63,11 @@ pub fn run<R: Files<File = File> + AllocGlobal, S: AsStr, I: Read, O: Write, E: 
 ) -> u8
     ensures status { result ≤ 2 }
     ensures misuse { KeepsAtMisuse (O.contents out.old) (O.contents out.new) result }
-    ensures ends { Ends (map S.text words.now) (I.remaining input.old) (I.remaining input.new) (O.contents out.old) (O.contents out.new)
-        (E.contents err.old) (E.contents err.new) result }
+    ensures ends { Ends (map S.text words.now) (record {
+      input = record { before = I.remaining input.old; since = I.remaining input.new };
+      output = record { before = O.contents out.old; since = O.contents out.new };
+      errors = record { before = E.contents err.old; since = E.contents err.new };
+    }) result }
 {
     answer(rt, asked_by(rt.alloc(), words), input, out, err)
 }
@@ -75,8 +81,11 @@ fn answer<R: Files<File = File> + AllocGlobal, I: Read, O: Write, E: Write>(
     err: &mut E,
 ) -> u8
     requires { IsPossible asked }
-    ensures { HasEnded asked.entry (I.remaining input.old) (I.remaining input.new) (O.contents out.old) (O.contents out.new)
-        (E.contents err.old) (E.contents err.new) result }
+    ensures { HasEnded asked.entry (record {
+      input = record { before = I.remaining input.old; since = I.remaining input.new };
+      output = record { before = O.contents out.old; since = O.contents out.new };
+      errors = record { before = E.contents err.old; since = E.contents err.new };
+    }) result }
 {
     match asked {
         Ok(Asked::Command(request)) => match serve(rt, request, input, out) {
@@ -111,7 +120,8 @@ fn serve<R: Files<File = File> + AllocGlobal, I: Read, O: Write>(
     input: &mut I,
     out: &mut O,
 ) -> Result<(), Fault>
-    ensures { IsServedReading request.entry result (I.remaining input.old) (I.remaining input.new) (O.contents out.old) (O.contents out.new) }
+    ensures { IsServedReading request.entry result (record { before = I.remaining input.old; since = I.remaining input.new })
+        (record { before = O.contents out.old; since = O.contents out.new }) }
 {
     match request {
         Request::Info { cart } => info(rt, cart, out),

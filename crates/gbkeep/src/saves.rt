@@ -3,7 +3,9 @@
 ghost use Rattle.std.specs.Prelude.{◌≡◌, unwrap_or};
 ghost use Rattle.gbkeep.specs.Program.{IsServed, IsStreamServed};
 
+use crate::begin::begin_game;
 use crate::bytes::{MOST_ROM, MOST_SCRIPT, emptied_file, file_bytes, not_a_pipe};
+use crate::error::BeginError;
 use crate::fault::Fault;
 use crate::interrupted::new_file;
 use crate::picture::play_to_picture;
@@ -11,9 +13,8 @@ use crate::streams::stream_play;
 use crate::trace::trace_lines;
 use cartridge::Cartridge;
 use command_line::Request;
-use exact_text::write_whole;
 use sector_device::FileDevice;
-use session::{SessionError, new_game, sectors_needed};
+use session::{SessionError, sectors_needed};
 use std::fs;
 use std::fs::File;
 use std::io::{Read, Write};
@@ -40,13 +41,15 @@ pub(crate) fn new<R: Files<File = File> + AllocGlobal, O: Write>(
         return Err(Fault::Session(SessionError::TooSmall { need }));
     }
     let device = new_file(rt, save, sectors, &cartridge)?;
-    if let Err(refused) = new_game(rt.alloc(), device, &cartridge) {
-        let _ = fs::remove_file(rt, save);
-        return Err(Fault::Session(refused.why));
-    }
-    match write_whole(out, b"begun 0\n") {
-        Ok(()) => Ok(()),
-        Err(_) => Err(Fault::Output),
+    match begin_game(rt.alloc(), device, &cartridge, out) {
+        Ok(_) => Ok(()),
+        Err(refused) => match refused.why {
+            BeginError::Session(why) => {
+                let _ = fs::remove_file(rt, save);
+                Err(Fault::Session(why))
+            }
+            BeginError::Output => Err(Fault::Output),
+        },
     }
 }
 
@@ -133,7 +136,7 @@ pub(crate) fn stream<R: Files<File = File> + AllocGlobal, I: Read, O: Write>(
     input: &mut I,
     out: &mut O,
 ) -> Result<(), Fault>
-    ensures { IsStreamServed result (I.remaining input.old) (I.remaining input.new) (O.contents out.old) (O.contents out.new) }
+    ensures { IsStreamServed result (record { before = I.remaining input.old; since = I.remaining input.new }) (record { before = O.contents out.old; since = O.contents out.new }) }
 {
     let rom = file_bytes(rt, cart, MOST_ROM)?;
     let device = FileDevice::attach(rt, Path::new(save))?;

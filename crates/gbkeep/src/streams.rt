@@ -2,6 +2,7 @@
 
 ghost use Rattle.std.specs.Prelude.{◌≡◌, IfErr, OnOk};
 ghost use Rattle.cartridge.specs.Accepted.{IsAccepted};
+ghost use Rattle.sector_device.specs.DiskState.{HasAnswered};
 ghost use Rattle.streaming.specs.Streamed.{HasStreamed};
 ghost use Rattle.streaming.specs.declared.obeying.End.TheVariants.{Whole};
 ghost use Rattle.gbkeep.specs.Streaming.{IsStreamPlayCause, faults_after_stream_play, left_by};
@@ -30,10 +31,11 @@ pub fn stream_play<D: SectorDevice, R: Read, W: Write>(
         (HasStreamed rom.items (D.disk device) (D.disk (left_by result)) Whole (R.remaining input.old) (R.remaining input.new)
         (W.contents out.old) (W.contents out.new)) }
     ensures cause { IfErr result (λ refused.
-        IsStreamPlayCause rom.items device refused (D.disk device) (D.disk refused.device) (R.remaining input.old) (R.remaining input.new)
-        (W.contents out.old) (W.contents out.new) refused.why) }
-    ensures faults_ok { OnOk result ((D.disk (left_by result)).faults ≡ (D.disk device).faults) }
-    ensures faults { IfErr result (λ refused. (D.disk refused.device).faults ≡ faults_after_stream_play refused.why (D.disk device).faults) }
+        IsStreamPlayCause rom.items (record { before = R.remaining input.old; since = R.remaining input.new })
+        (record { old = D.disk device; now = D.disk refused.device; output = record { before = W.contents out.old; since = W.contents out.new } })
+        refused.why) }
+    ensures untouched { IfErr result (λ refused. (fault : _) → refused.why ≡ StreamPlayError.Cart fault → refused.device ≡ device) }
+    ensures answered { HasAnswered (λ refused. faults_after_stream_play refused.why) (D.disk device) (D.disk (left_by result)) result }
 {
     let cartridge = match Cartridge::read(rom) {
         Ok(cartridge) => cartridge,

@@ -6,10 +6,11 @@ ghost use Rattle.cartridge.specs.Accepted.{IsAccepted};
 ghost use Rattle.exact_text.specs.Written.{AppendsProperPrefix};
 ghost use Rattle.memory_map.specs.BusRules.{bus_rules};
 ghost use Rattle.snapshot.specs.Legal.{IsMachineOf};
+ghost use Rattle.sector_device.specs.DiskState.{HasAnswered};
 ghost use Rattle.sector_device.specs.Runs.{HoldsSince};
 ghost use Rattle.session.specs.Calls.{StandsAsBefore};
 ghost use Rattle.session.specs.Resting.{IsOfItsRom};
-ghost use Rattle.gbkeep.specs.Tracing.{HasTraced, IsTraceCause, IsUnwritten, faults_after_trace, left_by, step_lines, trace_text};
+ghost use Rattle.gbkeep.specs.Tracing.{HasTraced, IsTraceCause, IsUntraced, faults_after_trace, left_by, step_lines, trace_text};
 
 use crate::error::{TraceError, TraceRefused};
 use cartridge::Cartridge;
@@ -41,10 +42,11 @@ pub fn trace_lines<D: SectorDevice, W: Write>(
     ensures traced { OnOk result (HasTraced rom.items (D.disk device) (D.disk (left_by result)) count (W.contents out.old) (W.contents out.new)) }
     ensures images { (D.disk device).honest → HoldsSince (D.disk device) (D.disk (left_by result)) (StandsAsBefore rom.items (D.disk device)) }
     ensures cause { IfErr result (λ refused.
-        IsTraceCause rom.items count device refused (D.disk device) (D.disk refused.device) (W.contents out.old) (W.contents out.new)
+        IsTraceCause rom.items count
+        (record { old = D.disk device; now = D.disk refused.device; output = record { before = W.contents out.old; since = W.contents out.new } })
         refused.why) }
-    ensures faults_ok { OnOk result ((D.disk (left_by result)).faults ≡ (D.disk device).faults) }
-    ensures faults { IfErr result (λ refused. (D.disk refused.device).faults ≡ faults_after_trace refused.why (D.disk device).faults) }
+    ensures untouched { IfErr result (λ refused. (fault : _) → refused.why ≡ TraceError.Cart fault → refused.device ≡ device) }
+    ensures answered { HasAnswered (λ refused. faults_after_trace refused.why) (D.disk device) (D.disk (left_by result)) result }
 {
     let cartridge = match Cartridge::read(rom) {
         Ok(cartridge) => cartridge,
@@ -82,7 +84,7 @@ fn write_trace<W: Write>(
     requires own { IsOfItsRom machine.now }
     ensures ok { OnOk result (IsMachineOf cartridge.now machine.now ×
         Appends (W.contents out.old) (W.contents out.new) (trace_text inputs machine.now count)) }
-    ensures err { IfErr result (IsUnwritten cartridge.now machine.now (trace_text inputs machine.now count) (W.contents out.old)
+    ensures err { IfErr result (IsUntraced cartridge.now machine.now (trace_text inputs machine.now count) (W.contents out.old)
         (W.contents out.new)) }
 {
     let Some(mut debugger) = debugger_of(alloc, machine, cartridge) else {

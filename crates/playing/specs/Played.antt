@@ -4,11 +4,12 @@ use Rattle.std.specs.Io.KnownBytes.{Keeps}
 use Rattle.machine.specs.Machine.{MachineState, after}
 use Rattle.machine.specs.declared.input.Input.{Input}
 use Rattle.sector_device.specs.DiskState.{DiskState, Settled}
+use Rattle.sector_device.specs.Looking.{HasLooked}
 use Rattle.sector_device.specs.Runs.{HoldsSince}
 use Rattle.sector_log.specs.Content.{content, generation_in}
 use Rattle.input_entries.specs.declared.Entry.{Entry}
 use Rattle.script.specs.declared.moves.Move.{Move}
-use Rattle.session.specs.Calls.{IsAtRest, StandsAsBefore}
+use Rattle.session.specs.Calls.{CanBeTakenUp, IsAtRest, StandsAsBefore}
 use Rattle.session.specs.Found.{IsResumeCause}
 use Rattle.session.specs.Inputs.{inputs_of}
 use Rattle.session.specs.declared.error.SessionError.{SessionError}
@@ -72,13 +73,18 @@ pub record HasReached (rom : List ℕ) (old : DiskState) (count : ℕ) (machine 
 
 -- ---- a play that is refused
 
--- It was not taken up: nothing was written to the report. Each image at each moment stands for what one stood for before, and unless
--- a call failed it is one that stood before.
+-- It was not taken up.
 pub record IsNotTakenUp (rom : List ℕ) (old now : DiskState) (why : SessionError) (before since : Option (List ℕ)) : Type 0 where
+  -- the first reason that holds
   pub cause : old.honest → IsResumeCause rom (generation_in old.sectors) (content old.sectors) why
+  -- nothing was written to the report
   pub report : Keeps before since
+  -- each image at each moment stands for what one stood for before
   pub images : old.honest → HoldsSince old now (StandsAsBefore rom old)
+  -- and unless a call failed it is one that stood before
   pub untouched : (why ≡ Device) ⊎ (old.honest → HoldsSince old now old.image)
+  -- where a call failed, nothing was written, or no other reason holds
+  pub failed : why ≡ Device → old.honest → HasLooked old now ⊎ CanBeTakenUp rom old
 
 -- Why a play that was taken up stops: the generations used up, a failed call, more inputs in all than can be counted, or the report.
 abbrev pub IsStop : SessionError → (all : ℕ) → (now : DiskState) → Type 0

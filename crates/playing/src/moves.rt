@@ -3,6 +3,7 @@ ghost use Rattle.std.specs.Prelude.{◌≡◌, ◌<◌, ◌≤◌, ◌+◌, ◌+
 ghost use Rattle.std.specs.Io.KnownBytes.{Appends};
 ghost use Rattle.machine.specs.Machine.{after};
 ghost use Rattle.machine.specs.declared.input.Input.TheVariants.{Frame};
+ghost use Rattle.sector_device.specs.DiskState.{HasAnswered};
 ghost use Rattle.session.specs.Calls.{most_unsaved, faults_after};
 ghost use Rattle.session.specs.Words.{device_of, machine_of, rom_of, pending_of, acknowledged_of, is_broken};
 ghost use Rattle.playing.specs.Played.{IsPlayed, IsStop, Going, Stopped};
@@ -34,8 +35,7 @@ fn save_line<D: SectorDevice, W: Write>(
         []) (W.contents report.old) (W.contents report.new)) }
     ensures saved { OnOk result ((acknowledged_of session.new ≡ acknowledged_of session.old + length (pending_of session.old)) ×
         (pending_of session.new ≡ []) × (is_broken session.new ≡ false)) }
-    ensures faults_ok { OnOk result ((D.disk (device_of session.new)).faults ≡ (D.disk (device_of session.old)).faults) }
-    ensures faults { IfErr result (λ why. (D.disk (device_of session.new)).faults ≡ faults_after why (D.disk (device_of session.old)).faults) }
+    ensures answered { HasAnswered faults_after (D.disk (device_of session.old)) (D.disk (device_of session.new)) result }
     ensures cause { IfErr result (λ why.
         IsStop why (acknowledged_of session.old + length (pending_of session.old)) (D.disk (device_of session.new))) }
     ensures later { acknowledged_of session.old ≤ acknowledged_of session.new }
@@ -74,8 +74,7 @@ fn give<D: SectorDevice, W: Write>(
         (W.contents report.old) (W.contents report.new)) }
     ensures counts { OnOk result ((acknowledged_of session.new + length (pending_of session.new) ≡ acknowledged_of session.old + length
         (pending_of session.old) + 1) × (length (pending_of session.new) ≡ unsaved_after (length (pending_of session.old)))) }
-    ensures faults_ok { OnOk result ((D.disk (device_of session.new)).faults ≡ (D.disk (device_of session.old)).faults) }
-    ensures faults { IfErr result (λ why. (D.disk (device_of session.new)).faults ≡ faults_after why (D.disk (device_of session.old)).faults) }
+    ensures answered { HasAnswered faults_after (D.disk (device_of session.old)) (D.disk (device_of session.new)) result }
     ensures cause { IfErr result (λ why.
         IsStop why (acknowledged_of session.old + length (pending_of session.old) + 1) (D.disk (device_of session.new))) }
     ensures later { acknowledged_of session.old ≤ acknowledged_of session.new }
@@ -117,8 +116,7 @@ fn give_frames<D: SectorDevice, W: Write>(
     ensures counts { OnOk result ((acknowledged_of session.new + length (pending_of session.new) ≡ acknowledged_of session.old + length
         (pending_of session.old) + times) ×
         (length (pending_of session.new) ≡ unsaved_behind (length (pending_of session.old)) (replicate times (Frame buttons)))) }
-    ensures faults_ok { OnOk result ((D.disk (device_of session.new)).faults ≡ (D.disk (device_of session.old)).faults) }
-    ensures faults { IfErr result (λ why. (D.disk (device_of session.new)).faults ≡ faults_after why (D.disk (device_of session.old)).faults) }
+    ensures answered { HasAnswered faults_after (D.disk (device_of session.old)) (D.disk (device_of session.new)) result }
     ensures cause { IfErr result (λ why.
         IsStop why (acknowledged_of session.old + length (pending_of session.old) + times) (D.disk (device_of session.new))) }
     ensures later { acknowledged_of session.old ≤ acknowledged_of session.new }
@@ -163,8 +161,7 @@ pub fn make_move<D: SectorDevice, W: Write>(
     ensures counts { OnOk result ((acknowledged_of session.new + length (pending_of session.new) ≡ acknowledged_of session.old + length
         (pending_of session.old) + length (inputs_of_move one)) ×
         (length (pending_of session.new) ≡ unsaved_behind_move (length (pending_of session.old)) one)) }
-    ensures faults_ok { OnOk result ((D.disk (device_of session.new)).faults ≡ (D.disk (device_of session.old)).faults) }
-    ensures faults { IfErr result (λ why. (D.disk (device_of session.new)).faults ≡ faults_after why (D.disk (device_of session.old)).faults) }
+    ensures answered { HasAnswered faults_after (D.disk (device_of session.old)) (D.disk (device_of session.new)) result }
     ensures cause { IfErr result (λ why.
         IsStop why (acknowledged_of session.old + length (pending_of session.old) + length (inputs_of_move one))
         (D.disk (device_of session.new))) }
@@ -204,8 +201,7 @@ fn make_moves<D: SectorDevice, W: Write>(
     ensures counts { OnOk result ((acknowledged_of session.new + length (pending_of session.new) ≡ acknowledged_of session.old + length
         (pending_of session.old) + length (inputs_of_moves moves.now)) ×
         (length (pending_of session.new) ≡ unsaved_behind_moves (length (pending_of session.old)) moves.now)) }
-    ensures faults_ok { OnOk result ((D.disk (device_of session.new)).faults ≡ (D.disk (device_of session.old)).faults) }
-    ensures faults { IfErr result (λ why. (D.disk (device_of session.new)).faults ≡ faults_after why (D.disk (device_of session.old)).faults) }
+    ensures answered { HasAnswered faults_after (D.disk (device_of session.old)) (D.disk (device_of session.new)) result }
     ensures cause { IfErr result (λ why.
         IsStop why (acknowledged_of session.old + length (pending_of session.old) + length (inputs_of_moves moves.now))
         (D.disk (device_of session.new))) }
@@ -243,8 +239,7 @@ pub(crate) fn play_on<D: SectorDevice, W: Write>(
         IfErr result (λ why.
         HasTold why (acknowledged_of session.new) (report_lines (acknowledged_of session.old) moves.now) (W.contents report.old)
         (W.contents report.new)) }
-    ensures faults_ok { OnOk result ((D.disk (device_of session.new)).faults ≡ (D.disk (device_of session.old)).faults) }
-    ensures faults { IfErr result (λ why. (D.disk (device_of session.new)).faults ≡ faults_after why (D.disk (device_of session.old)).faults) }
+    ensures answered { HasAnswered faults_after (D.disk (device_of session.old)) (D.disk (device_of session.new)) result }
     ensures cause { IfErr result (λ why.
         IsStop why (acknowledged_of session.old + length (pending_of session.old) + length (inputs_of_moves moves.now))
         (D.disk (device_of session.new))) }

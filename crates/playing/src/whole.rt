@@ -1,6 +1,7 @@
 //! A whole play.
 ghost use Rattle.std.specs.Prelude.{◌≡◌, ◌⊎◌, ◌+◌, ℕ, [], length, false, IfOk, IfErr};
 ghost use Rattle.std.specs.Io.KnownBytes.{Appends};
+ghost use Rattle.sector_device.specs.DiskState.{HasAnswered};
 ghost use Rattle.sector_device.specs.Runs.{HoldsSince};
 ghost use Rattle.session.specs.Calls.{faults_after};
 ghost use Rattle.session.specs.Words.{device_of, machine_of, rom_of, pending_of, acknowledged_of, is_broken, left_by};
@@ -48,9 +49,7 @@ pub fn play<D: SectorDevice, W: Write>(
     ensures images { (D.disk device).honest →
         HoldsSince (D.disk device) (D.disk (left_by result)) (PlayImage cartridge.now (D.disk device) (inputs_of_moves moves.now)) }
 
-    ensures honest { (D.disk device).honest → (D.disk (left_by result)).honest }
-    ensures faults_ok { IfOk result (λ s. (D.disk (device_of s)).faults ≡ (D.disk device).faults) }
-    ensures faults { IfErr result (λ refused. (D.disk refused.device).faults ≡ faults_after refused.why (D.disk device).faults) }
+    ensures answered { HasAnswered (λ refused. faults_after refused.why) (D.disk device) (D.disk (left_by result)) result }
 {
     let mut session = match resume(alloc, device, cartridge) {
         Ok(session) => session,

@@ -63,6 +63,11 @@ pub looking_is_not_worn : {A : Type 0} (why : LogFault) → ((why ≡ LogMemory)
 looking_is_not_worn why (inl memory) worn = let same : Memory ≡ Worn = sym (ap session_fault memory.0) ∙ worn in cc
 looking_is_not_worn why (inr device) worn = let same : Device ≡ Worn = sym (ap session_fault device) ∙ worn in cc
 
+-- out of memory, the device was not touched
+pub looking_wants_memory : {A : Type 0} (why : LogFault) → ((why ≡ LogMemory) × A) ⊎ (why ≡ LogDevice) → session_fault why ≡ Memory → A
+looking_wants_memory why (inl memory) wanted = memory.1
+looking_wants_memory why (inr device) wanted = let same : Memory ≡ Device = sym wanted ∙ ap session_fault device in absurd (cc)
+
 -- ---- machines of a ROM
 
 pub machine_of_rom : (rom : List ℕ) (m : MachineState) → m.processor.memory.banks.rom ≡ rom → IsOfItsRom m → IsLegalMachine m → IsMachineOf rom m

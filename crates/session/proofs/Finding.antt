@@ -23,7 +23,7 @@ use Rattle.sector_log.specs.declared.found.Found.TheVariants.{Nothing, Intact, D
 use Rattle.sector_log.specs.declared.found.Part.TheVariants.{Length, Count as TooMany}
 use Rattle.sector_log.proofs.FoundLaws.{found_length, found_fits}
 use Rattle.session.specs.Inputs.{logged}
-use Rattle.session.specs.Stands.{is_snapshot, stands}
+use Rattle.session.specs.Stands.{Position, is_snapshot, position_in, stands}
 use Rattle.session.specs.Resting.{IsOfItsRom}
 use Rattle.session.specs.Beginning.{IsBeginRefusal}
 use Rattle.session.specs.Found.{IsShort, IsResumeCause}
@@ -31,7 +31,7 @@ use Rattle.session.specs.Recovery.{IsHeaderCause, IsRebuildCause, IsRecoveryCaus
 use Rattle.session.specs.declared.error.Damage.TheVariants.{Count, Snapshot, Entry}
 use Rattle.session.specs.declared.error.SessionError.{SessionError}
 use Rattle.session.specs.declared.error.SessionError.TheVariants.{Memory, Device, NoSession, TooSmall, OtherCartridge, Damaged, Worn, Broken, SaveFirst, CountFull, Output}
-use Rattle.session.proofs.StandsLaws.{sound_by, stands_sound, encoded_is_snapshot}
+use Rattle.session.proofs.StandsLaws.{sound_by, stands_sound, legal_is_snapshot, encoded_is_snapshot}
 use Rattle.session.proofs.Beginnings.{own_after, rom_after, own_of_machine}
 
 -- ---- what was found
@@ -225,6 +225,32 @@ recovered_stands rom generation most count image seen m is recovered =
     let machine_is : after (machine_in rom body.blob) (logged body.log) ≡ m =
     ap (λ (n : MachineState). after n (logged body.log)) snapshot_is ∙ ap (λ (l : List StoredEntry). after rebuilt.snapshot (logged l)) (sym log_are) ∙ sym rebuilt.machine_is in
     ap (stands rom) found.is ∙ stands_sound rom c body sound ∙ (λ i. Some (record { count = count_is i; machine = machine_is i }))
+
+-- where only memory was wanted, it stands for a position, and its generation has a next one
+pub memory_found :
+    (rom : List ℕ) (generation most : ℕ) (image : List (List ℕ)) (seen : Seen) → seen ≡ seen_in most (content image) → IsRecoveryCause rom seen generation Memory
+    → ((from : Position) × (stands rom (content image) ≡ Some from)) × (generation < 2 ^ 64 - 1)
+memory_found rom generation most image seen is cause =
+    let held = content image in
+    ⊎_elim
+    (λ header. absurd header)
+    (⊎_elim
+    (λ long. let wrong : Memory ≡ Damaged (Snapshot (SnapLength long.header.blob_length)) = long.why_is in absurd (cc))
+    (λ refusal.
+    let c = refusal.header in
+    let found = found_sound held c (sym (ap (λ (s : Seen). s.found) is) ∙ refusal.found_is) in
+    let body = found.body in
+    let log_are : seen.log ≡ body.log = ap (λ (s : Seen). s.log) is ∙ ap log_of found.is in
+    let kept : blob_in most held ≡ Some refusal.bytes = sym (ap (λ (s : Seen). s.blob) is) ∙ refusal.blob_is in
+    let blob_is : body.blob ≡ refusal.bytes = kept_blob most c.blob_length body refusal.bytes (sym (ap (blob_in most) found.is) ∙ kept) in
+    let sound = sound_by rom c body (record {
+      id = (bytes_eq-Decides c.id (sha256 rom)).1 refusal.id_is;
+      count = found.counts;
+      snapshot = legal_is_snapshot rom body.blob (subst (λ (b : List ℕ). IsLegalSnapshot rom b) (sym blob_is) refusal.cause.0);
+      inputs = sym (ap first_wrong log_are) ∙ refusal.cause.1;
+    }) in
+    ((position_in rom c body, ap (stands rom) found.is ∙ stands_sound rom c body sound), refusal.cause.2)))
+    cause
 
 -- and its machine is one of this ROM
 pub recovered_machine : (rom : List ℕ) (generation count : ℕ) (seen : Seen) (m : MachineState) → IsRecovered rom seen generation count m → (m.processor.memory.banks.rom ≡ rom) × IsOfItsRom m

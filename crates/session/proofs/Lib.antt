@@ -3,6 +3,7 @@ pub mod Replaying
 pub mod Recovering
 pub mod Writes
 pub mod Beginnings
+pub mod Answering
 pub mod Finding
 pub mod Saving
 pub mod SameSession

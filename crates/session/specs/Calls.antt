@@ -1,10 +1,11 @@
 -- What the calls of a session leave on a device, by what its images hold and stand for.
-use Rattle.std.specs.Prelude.{◌≡◌, ◌⊎◌, ◌==◌, ◌<◌, ◌+◌, ◌-◌, ◌^◌, ℕ, List, length, Bool, true, false, if◌then◌else◌, Some, Result, Ok, Err}
+use Rattle.std.specs.Prelude.{◌≡◌, ◌⊎◌, ◌==◌, ◌≤◌, ◌<◌, ◌+◌, ◌-◌, ◌^◌, ℕ, List, length, Bool, true, false, if◌then◌else◌, Some, Result, Ok, Err}
 use Rattle.sha2.specs.Sha256.{sha256}
 use Rattle.machine.specs.Machine.{MachineState, start}
-use Rattle.snapshot.specs.Encoding.{encoded}
+use Rattle.cartridge.specs.Header.{ram_length_of}
+use Rattle.snapshot.specs.Encoding.{encoded, snapshot_length}
 use Rattle.sector_device.specs.DiskState.{DiskState, Settled, next_count}
-use Rattle.sector_log.specs.Content.{ImageContent, content, generation_in, new_generation}
+use Rattle.sector_log.specs.Content.{ImageContent, content, generation_in, need, new_generation}
 use Rattle.sector_log.specs.Calls.{Adds}
 use Rattle.sector_log.specs.Found.{log_of}
 use Rattle.sector_log.specs.Inputs.{grown}
@@ -12,7 +13,7 @@ use Rattle.input_entries.specs.declared.Entry.{Entry}
 use Rattle.session.specs.declared.error.SessionError.{SessionError}
 use Rattle.session.specs.declared.error.SessionError.TheVariants.{Memory, Device, NoSession, TooSmall, OtherCartridge, Damaged, Worn, Broken, SaveFirst, CountFull, Output}
 use Rattle.session.specs.Inputs.{inputs_of}
-use Rattle.session.specs.Stands.{stands, further}
+use Rattle.session.specs.Stands.{Position, stands, further}
 
 -- ---- at rest
 
@@ -36,7 +37,18 @@ pub record HasContentOf (old : DiskState) (image : List (List ℕ)) : Type 0 whe
 abbrev pub HasOldContentOrNewGame : (rom : List ℕ) → DiskState → List (List ℕ) → Type 0
 HasOldContentOrNewGame rom old image = HasContentOf old image ⊎ (content image ≡ Some (new_game_content rom))
 
+-- a game of this ROM fits the device, whose generation, if it is honest, has a next one: only a failed call refuses a new game
+pub record CanBeginGame (rom : List ℕ) (old : DiskState) : Type 0 where
+  pub enough : need (snapshot_length (ram_length_of rom)) ≤ length old.sectors
+  pub unworn : old.honest → generation_in old.sectors < 2 ^ 64 - 1
+
 -- ---- a game taken up
+
+-- what reads give stands for a position, and its generation has a next one: only memory or a failed call refuses it
+pub record CanBeTakenUp (rom : List ℕ) (old : DiskState) : Type 0 where
+  pub from : Position
+  pub stood : stands rom (content old.sectors) ≡ Some from
+  pub unworn : generation_in old.sectors < 2 ^ 64 - 1
 
 -- the image stands for what one stood for before
 pub record StandsAsBefore (rom : List ℕ) (old : DiskState) (image : List (List ℕ)) : Type 0 where

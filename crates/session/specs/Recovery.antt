@@ -1,5 +1,5 @@
 -- The steps of recovery, over what was found of any device; a reader needs none of this.
-use Rattle.std.specs.Prelude.{◌≡◌, ◌≢◌, ◌⊎◌, ◌<◌, ◌+◌, ◌-◌, ◌^◌, ℕ, List, length, Some, None, ⊤}
+use Rattle.std.specs.Prelude.{◌≡◌, ◌≢◌, ◌⊎◌, ◌<◌, ◌+◌, ◌-◌, ◌^◌, ℕ, List, length, Some, None}
 use Rattle.sha2.specs.Sha256.{sha256}
 use Rattle.machine.specs.Machine.{MachineState, after}
 use Rattle.snapshot.specs.Encoding.{encoded}
@@ -46,7 +46,7 @@ pub record IsRebuilt (rom : List ℕ) (header : Header) (bytes : List ℕ) (log 
   pub unworn : generation < 2 ^ 64 - 1
 
 abbrev pub IsRebuildCause : (rom bytes : List ℕ) → List StoredEntry → (generation : ℕ) → SessionError → Type 0
-IsRebuildCause rom bytes log generation Memory = ⊤
+IsRebuildCause rom bytes log generation Memory = IsLegalSnapshot rom bytes × (first_wrong log ≡ None) × (generation < 2 ^ 64 - 1)
 IsRebuildCause rom bytes log generation (Damaged (Snapshot error)) = IsRefusal rom bytes error × (error ≢ NoMemory)
 IsRebuildCause rom bytes log generation (Damaged (Entry index)) = IsLegalSnapshot rom bytes × (first_wrong log ≡ Some index)
 IsRebuildCause rom bytes log generation Worn = IsLegalSnapshot rom bytes × (first_wrong log ≡ None) × (generation ≡ 2 ^ 64 - 1)

@@ -6,16 +6,17 @@ ghost use Rattle.machine.specs.Machine.{start};
 ghost use Rattle.snapshot.specs.Encoding.{encoded, snapshot_length};
 ghost use Rattle.snapshot.specs.Legal.{IsMachineOf};
 ghost use Rattle.sector_device.specs.DiskState.{HasAnswered};
+ghost use Rattle.sector_device.specs.Looking.{HasLooked};
 ghost use Rattle.sector_device.specs.Runs.{HoldsSince};
 ghost use Rattle.sector_log.specs.Calls.{HasOldOrNewContent, HasBegun, CanBegin};
 ghost use Rattle.sector_log.specs.Content.{need, generation_in};
 ghost use Rattle.sector_log.specs.Words.{device_under, found_generation};
-ghost use Rattle.session.specs.Calls.{IsAtRest, HasOldContentOrNewGame, most_unsaved, faults_after};
+ghost use Rattle.session.specs.Calls.{IsAtRest, CanBeginGame, HasOldContentOrNewGame, most_unsaved, faults_after};
 ghost use Rattle.session.specs.Beginning.{session_fault, IsBeginRefusal};
 ghost use Rattle.session.specs.Found.{IsNewGameCause};
 ghost use Rattle.session.specs.Resting.{IsOfItsRom};
 ghost use Rattle.session.specs.Words.{device_of, machine_of, rom_of, pending_of, acknowledged_of, is_broken, left_by};
-ghost use Rattle.session.specs.declared.error.SessionError.TheVariants.{Device, Worn};
+ghost use Rattle.session.specs.declared.error.SessionError.TheVariants.{Memory, Device, Worn};
 
 use crate::error::{Refused, SessionError};
 use crate::session::{MOST_UNSAVED, Session};
@@ -100,6 +101,11 @@ pub fn new_game<D: SectorDevice>(
     ensures cause { IfErr result (λ refused.
         IsNewGameCause (snapshot_length (ram_length_of cartridge.now)) (length (D.disk device).sectors) refused.why) }
     ensures worn { IfErr result (λ refused. refused.why ≡ Worn → (D.disk device).honest → generation_in (D.disk device).sectors ≡ 2 ^ 64 - 1) }
+
+    // before all other causes, or once none of them holds
+    ensures memory { IfErr result (λ refused. refused.why ≡ Memory → refused.device ≡ device) }
+    ensures failed { IfErr result (λ refused. refused.why ≡ Device → ((D.disk device).honest →
+        HasLooked (D.disk device) (D.disk refused.device)) ⊎ CanBeginGame cartridge.now (D.disk device)) }
 
     ensures answered { HasAnswered (λ refused. faults_after refused.why) (D.disk device) (D.disk (left_by result)) result }
 {

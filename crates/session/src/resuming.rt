@@ -1,13 +1,15 @@
 //! Resuming a game.
 ghost use Rattle.std.specs.Prelude.{◌≡◌, ◌<◌, ◌-◌, ◌^◌, ◌⊎◌, [], false, length, Ok, Err, Some, None, IfOk, IfErr};
+ghost use Rattle.snapshot.specs.Legal.{IsMachineOf};
 ghost use Rattle.sector_device.specs.DiskState.{HasAnswered};
+ghost use Rattle.sector_device.specs.Looking.{HasLooked};
 ghost use Rattle.sector_device.specs.Runs.{HoldsSince};
 ghost use Rattle.sector_log.specs.Content.{content, generation_in};
-ghost use Rattle.session.specs.Calls.{IsAtRest, StandsAsBefore, faults_after};
+ghost use Rattle.session.specs.Calls.{IsAtRest, CanBeTakenUp, StandsAsBefore, faults_after};
 ghost use Rattle.session.specs.Found.{IsResumeCause};
 ghost use Rattle.session.specs.Stands.{stands};
 ghost use Rattle.session.specs.Words.{device_of, machine_of, rom_of, pending_of, acknowledged_of, is_broken, left_by};
-ghost use Rattle.session.specs.declared.error.SessionError.TheVariants.{Device};
+ghost use Rattle.session.specs.declared.error.SessionError.TheVariants.{Memory, Device};
 
 use crate::begin::{begin_with, fault_of, make_room, snapshot_length};
 use crate::error::{Refused, SessionError};
@@ -31,6 +33,7 @@ pub fn resume<D: SectorDevice>(
 ) -> Result<Session<D>, Refused<D>>
     // what is taken up
     ensures begun { IfOk result (λ s. (pending_of s ≡ []) × (is_broken s ≡ false) × (rom_of s ≡ cartridge.now)) }
+    ensures of { IfOk result (λ s. IsMachineOf cartridge.now (machine_of s)) }
     ensures stands { IfOk result (λ s. (D.disk device).honest →
         stands cartridge.now (content (D.disk device).sectors) ≡ Some (record { count = acknowledged_of s; machine = machine_of s })) }
 
@@ -48,6 +51,12 @@ pub fn resume<D: SectorDevice>(
     ensures can { IfOk result (λ s. (D.disk device).honest → generation_in (D.disk device).sectors < 2 ^ 64 - 1) }
     ensures cause { IfErr result (λ refused. (D.disk device).honest →
         IsResumeCause cartridge.now (generation_in (D.disk device).sectors) (content (D.disk device).sectors) refused.why) }
+
+    // before all other causes, or once none of them holds
+    ensures memory { IfErr result (λ refused. refused.why ≡ Memory → (refused.device ≡ device) ⊎
+        ((D.disk device).honest → CanBeTakenUp cartridge.now (D.disk device))) }
+    ensures failed { IfErr result (λ refused. refused.why ≡ Device → (D.disk device).honest →
+        HasLooked (D.disk device) (D.disk refused.device) ⊎ CanBeTakenUp cartridge.now (D.disk device)) }
 
     ensures answered { HasAnswered (λ refused. faults_after refused.why) (D.disk device) (D.disk (left_by result)) result }
 {

@@ -6,8 +6,8 @@ use Rattle.std.proofs.lemmas.List.Elements.{All-nil, All-append, All-weaker}
 use Rattle.exact_text.proofs.Writes.{appends_nothing}
 use Rattle.machine.specs.Machine.{MachineState, after}
 use Rattle.machine.specs.declared.input.Input.{Input}
-use Rattle.session.specs.Calls.{faults_after}
 use Rattle.session.specs.declared.error.SessionError.{SessionError}
+use Rattle.session.proofs.Answering.{answered_both, answered_nothing, answered_refused}
 use Rattle.session.proofs.StandsLaws.{after_append, after_none}
 use Rattle.playing.specs.Report.{Line, texts}
 use Rattle.playing.proofs.ReportLaws.{appends_lines}
@@ -73,7 +73,7 @@ obeys_nothing a x only = record {
   answered = appends_nothing x;
   are_saved = All-nil (λ line. line.told ≤ a.acknowledged);
   later = omega arith;
-  faults = refl;
+  calls = answered_nothing;
   rom = refl;
 }
 
@@ -96,7 +96,7 @@ obeys_then a b c x y z first second one two =
           (All-append (λ line. line.told ≤ c.acknowledged) (answers_from a first) (answers_from b second)
           (All-weaker (λ line. line.told ≤ b.acknowledged) (λ line. line.told ≤ c.acknowledged) (λ line (within : line.told ≤ b.acknowledged). omega (arith, within, two.later)) (answers_from a first) one.are_saved) two.are_saved);
       later = omega (arith, one.later, two.later);
-      faults = two.faults ∙ one.faults;
+      calls = answered_both one.calls two.calls;
       rom = two.rom ∙ one.rom;
     }
 
@@ -112,7 +112,7 @@ stops_then a b c x y z first second why one two =
       told = told_by answers (told_then why b.acknowledged c.acknowledged (answers_from a first) (answers_from b second) x y z one.answered one.are_saved two.later two.told);
       cause = stops_among why (all_of b + length (inputs_of_orders second)) (all_of a + length (inputs_of_orders (first ++ second))) c.disk size two.cause;
       later = omega (arith, one.later, two.later);
-      faults = two.faults ∙ ap (faults_after why) one.faults;
+      calls = answered_refused one.calls two.calls (λ n. refl);
     }
 
 -- and before others
@@ -127,7 +127,7 @@ stops_before a b x y first second why stop =
       told = told_by (sym (lines_append a.machine (all_of a) (length a.pending) first second)) (told_more why b.acknowledged (answers_from a first) more x y stop.told);
       cause = stops_among why (all_of a + length (inputs_of_orders first)) (all_of a + length (inputs_of_orders (first ++ second))) b.disk size stop.cause;
       later = stop.later;
-      faults = stop.faults;
+      calls = stop.calls;
     }
 
 -- ---- the orders of one line more

@@ -8,6 +8,7 @@ use Rattle.exact_text.specs.Written.{AppendsProperPrefix}
 use Rattle.exact_text.proofs.Writes.{appends_twice}
 use Rattle.machine.specs.Machine.{after}
 use Rattle.machine.specs.declared.input.Input.{Input}
+use Rattle.snapshot.specs.Legal.{IsMachineOf}
 use Rattle.sector_device.specs.DiskState.{DiskState}
 use Rattle.sector_device.specs.Runs.{HoldsSince}
 use Rattle.sector_log.specs.Content.{content}
@@ -15,6 +16,7 @@ use Rattle.session.specs.Calls.{IsAtRest, StandsAsBefore}
 use Rattle.session.specs.Stands.{Position, stands}
 use Rattle.session.specs.declared.error.SessionError.{SessionError}
 use Rattle.session.specs.declared.error.SessionError.TheVariants.{Output}
+use Rattle.session.proofs.Answering.{answered_refusal}
 use Rattle.session.proofs.Writes.{since_weaker}
 use Rattle.session.proofs.Beginnings.{since_then}
 use Rattle.playing.specs.Played.{Reaches, IsPlayed, IsStop, PlayImage}
@@ -80,7 +82,7 @@ stops_at_resumed a before_in before since all is only part = record {
   told = told_part a.acknowledged (resumed_line (all_of a)) (answers_from a (ended (length a.pending) [])) before since (subst (λ (n : ℕ). AppendsProperPrefix before since (resumed_line n).text) is part);
   cause = tt;
   later = omega arith;
-  faults = refl;
+  calls = answered_refusal (λ n. refl);
 }
 
 pub begins_at : (a : Place) (before mid : Option (List ℕ)) (all : ℕ) → all ≡ all_of a → Appends before mid (resumed_line all).text → Appends before mid (resumed_line (all_of a)).text
@@ -109,7 +111,7 @@ module _ (a b : Place) (before_in since_in before since : Option (List ℕ)) (no
             (All-cons (λ line. line.told ≤ all_of a) first [] (omega arith) (All-nil (λ line. line.told ≤ all_of a))) (omega (arith, all_is, stop.later)) stop.told;
         cause = subst (λ (l : List Input). IsStop why (all_of a + length l) b.disk) gives stop.cause;
         later = stop.later;
-        faults = stop.faults;
+        calls = stop.calls;
       }
 
 -- ---- from the resume
@@ -117,6 +119,7 @@ module _ (a b : Place) (before_in since_in before since : Option (List ℕ)) (no
 pub record TakenUp (rom : List ℕ) (old : DiskState) (a : Place) : Type 0 where
   pub none : a.pending ≡ []
   pub rom_is : a.machine.processor.memory.banks.rom ≡ rom
+  pub of_rom : IsMachineOf rom a.machine
   pub honest : old.honest → a.disk.honest
   pub rests : old.honest → IsAtRest rom a.disk a.acknowledged [] a.machine
   pub stood : old.honest → stands rom (content old.sectors) ≡ Some (record { count = a.acknowledged; machine = a.machine })
@@ -153,6 +156,7 @@ module _ (rom : List ℕ) (old : DiskState) (a b : Place) (before_in since_in be
         right = streams.right;
         read = streams.read;
         from = from;
+        of_rom = up.of_rom;
         stood = up.stood;
         answered =
             subst (λ (l : List Line). Appends before since (texts l)) (lines_from orders)
@@ -176,9 +180,6 @@ module _ (rom : List ℕ) (old : DiskState) (a b : Place) (before_in since_in be
         machine_is = streams.obeys.machine_is ∙ ap (after a.machine) gives;
       }
 
-  pub streamed_honest : (end : End) → Streams a b before_in since_in before since end → old.honest → b.disk.honest
-  streamed_honest end streams honest = (streams.obeys.going rom from [] (begun honest)).played.honest
-
   -- stopped
   pub stopped_stream : (why : SessionError) → StopsStream a b before_in since_in before since why → HasStopped rom old b.disk why before_in since_in before since
   stopped_stream why stops =
@@ -191,6 +192,7 @@ module _ (rom : List ℕ) (old : DiskState) (a b : Place) (before_in since_in be
         more = stops.more;
         read = stops.read;
         from = from;
+        of_rom = up.of_rom;
         stood = up.stood;
         cause = subst (λ (n : ℕ). IsStop why (n + length (inputs_of_orders orders)) b.disk) all_from stops.cause;
         least = least;
@@ -201,6 +203,3 @@ module _ (rom : List ℕ) (old : DiskState) (a b : Place) (before_in since_in be
             let same : stopped.least ≡ least = omega (arith, stopped.acknowledged_is, saved_is) in
             subst (λ (n : ℕ). (image : List (List ℕ)) → b.disk.image image → Reaches rom from n (inputs_of_orders orders) image) same stopped.images;
       }
-
-  pub stopped_honest : (why : SessionError) → StopsStream a b before_in since_in before since why → old.honest → b.disk.honest
-  stopped_honest why stops honest = (stops.stopped rom from [] (begun honest)).honest

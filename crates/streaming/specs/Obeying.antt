@@ -1,9 +1,9 @@
 -- What obeying orders leaves of a session.
-use Rattle.std.specs.Prelude.{◌≡◌, ◌≤◌, ◌+◌, ℕ, List, ◌∷◌, ◌++◌, length, Option, All}
+use Rattle.std.specs.Prelude.{◌≡◌, ◌≤◌, ◌+◌, ℕ, List, ◌∷◌, ◌++◌, length, Option, Ok, Err, All}
 use Rattle.std.specs.Io.KnownBytes.{Appends}
 use Rattle.machine.specs.Machine.{MachineState, after}
 use Rattle.machine.specs.declared.input.Input.{Input}
-use Rattle.sector_device.specs.DiskState.{DiskState}
+use Rattle.sector_device.specs.DiskState.{DiskState, HasAnswered}
 use Rattle.sector_device.specs.declared.device.SectorDevice.{Ghosts}
 use Rattle.input_entries.specs.declared.Entry.{Entry}
 use Rattle.session.specs.Calls.{faults_after}
@@ -47,7 +47,7 @@ pub record Obeys (old new : Place) (before since : Option (List ℕ)) (orders : 
   pub answered : Appends before since (texts (answers_from old orders))
   pub are_saved : All (λ line. line.told ≤ new.acknowledged) (answers_from old orders)
   pub later : old.acknowledged ≤ new.acknowledged
-  pub faults : new.disk.faults ≡ old.disk.faults
+  pub calls : HasAnswered {T = Unit {0}} faults_after old.disk new.disk (Ok tt)
   pub rom : new.machine.processor.memory.banks.rom ≡ old.machine.processor.memory.banks.rom
 
 -- one of these orders was refused, and those before it were obeyed
@@ -57,7 +57,7 @@ pub record StopsAmong (old new : Place) (before since : Option (List ℕ)) (orde
   pub told : HasTold why new.acknowledged (answers_from old orders) before since
   pub cause : IsStop why (all_of old + length (inputs_of_orders orders)) new.disk
   pub later : old.acknowledged ≤ new.acknowledged
-  pub faults : new.disk.faults ≡ faults_after why old.disk.faults
+  pub calls : HasAnswered {T = Unit {0}} faults_after old.disk new.disk (Err why)
 
 -- ---- with the lines that were read
 
@@ -94,4 +94,4 @@ pub record StopsStream (old new : Place) (before_in since_in before since : Opti
   pub told : HasTold why new.acknowledged (resumed_line (all_of old) ∷ answers_from old (ended (length old.pending) (orders_of lines))) before since
   pub cause : IsStop why (all_of old + length (inputs_of_orders (orders_of lines))) new.disk
   pub later : old.acknowledged ≤ new.acknowledged
-  pub faults : new.disk.faults ≡ faults_after why old.disk.faults
+  pub calls : HasAnswered {T = Unit {0}} faults_after old.disk new.disk (Err why)

@@ -2,6 +2,7 @@
 use Rattle.std.specs.Prelude.{◌≡◌, ◌⊎◌, ◌+◌, ℕ, List, [], length, Option, Some, All, Result, Ok, Err}
 use Rattle.std.specs.Io.KnownBytes.{Appends}
 use Rattle.machine.specs.Machine.{MachineState, after}
+use Rattle.snapshot.specs.Legal.{IsMachineOf}
 use Rattle.sector_device.specs.DiskState.{DiskState}
 use Rattle.sector_device.specs.Runs.{HoldsSince}
 use Rattle.sector_log.specs.Content.{content}
@@ -22,13 +23,14 @@ use Rattle.streaming.specs.declared.error.StreamError.{StreamError}
 use Rattle.streaming.specs.declared.error.StreamRefused.{StreamRefused}
 use Rattle.streaming.specs.declared.error.StreamError.TheVariants.{Session as NotObeyed, Line as WrongLine, Input as FailedInput}
 
--- The lines that were read up to this end, and all that they ask for: it was done, answered and saved, from a position that is the one
--- that reads of an honest device gave. Each image at each moment stands for what one stood for before, or for some of these inputs.
+-- The lines that were read up to this end, and all that they ask for: it was done, answered and saved, from a position that is one of
+-- this ROM, and the one that reads of an honest device gave. Each image at each moment stands for what one stood for before, or for some of these inputs.
 pub record HasStreamed (rom : List ℕ) (old now : DiskState) (end : End) (before_in since_in before since : Option (List ℕ)) : Type 0 where
   pub lines : List (List ℕ)
   pub right : All IsRight lines
   pub read : ReadsTo end lines before_in since_in
   pub from : Position
+  pub of_rom : IsMachineOf rom from.machine
   pub stood : old.honest → stands rom (content old.sectors) ≡ Some from
   pub answered : Appends before since (texts (stream_lines from (orders_of lines)))
   pub rests : old.honest → IsAtRest rom now (from.count + length (inputs_of_orders (orders_of lines))) [] (after from.machine (inputs_of_orders (orders_of lines)))
@@ -40,7 +42,7 @@ pub record HasStreamedAll (rom : List ℕ) (old now : DiskState) (count : ℕ) (
   pub count_is : count ≡ streamed.from.count + length (inputs_of_orders (orders_of streamed.lines))
   pub machine_is : machine ≡ after streamed.from.machine (inputs_of_orders (orders_of streamed.lines))
 
--- It was taken up, and one of these lines was refused: of what the whole stream of these lines writes the front was written, and each
+-- It was taken up, at a position of this ROM, and one of these lines was refused: of what the whole stream of these lines writes the front was written, and each
 -- image that is left has all inputs up to each count that this tells.
 pub record HasStopped (rom : List ℕ) (old now : DiskState) (why : SessionError) (before_in since_in before since : Option (List ℕ)) : Type 0 where
   pub lines : List (List ℕ)
@@ -48,6 +50,7 @@ pub record HasStopped (rom : List ℕ) (old now : DiskState) (why : SessionError
   pub more : List ℕ
   pub read : ReadsLines lines more before_in since_in
   pub from : Position
+  pub of_rom : IsMachineOf rom from.machine
   pub stood : old.honest → stands rom (content old.sectors) ≡ Some from
   pub cause : IsStop why (from.count + length (inputs_of_orders (orders_of lines))) now
   pub least : ℕ

@@ -1,5 +1,6 @@
 //! A whole stream.
 ghost use Rattle.std.specs.Prelude.{◌≡◌, [], false, IfOk, IfErr};
+ghost use Rattle.sector_device.specs.DiskState.{HasAnswered};
 ghost use Rattle.session.specs.Words.{device_of, machine_of, rom_of, pending_of, acknowledged_of, is_broken};
 ghost use Rattle.streaming.specs.Streamed.{HasStreamedAll, IsStreamCause, faults_after_stream, left_by};
 
@@ -37,9 +38,7 @@ pub fn stream<D: SectorDevice, R: Read, W: Write>(
     ensures refused { IfErr result (λ refused.
         IsStreamCause refused.why cartridge.now (D.disk device) (D.disk refused.device) (R.remaining input.old) (R.remaining input.new)
         (W.contents out.old) (W.contents out.new)) }
-    ensures honest { (D.disk device).honest → (D.disk (left_by result)).honest }
-    ensures faults_ok { IfOk result (λ s. (D.disk (device_of s)).faults ≡ (D.disk device).faults) }
-    ensures faults { IfErr result (λ refused. (D.disk refused.device).faults ≡ faults_after_stream refused.why (D.disk device).faults) }
+    ensures answered { HasAnswered (λ refused. faults_after_stream refused.why) (D.disk device) (D.disk (left_by result)) result }
 {
     let mut session = match resume(alloc, device, cartridge) {
         Ok(session) => session,

@@ -19,7 +19,7 @@ use Rattle.session.proofs.StandsLaws.{after_append, after_none}
 use Rattle.whole_lives.proofs.RoundLaws.{stood_before, stands_here}
 use Rattle.whole_lives.specs.Lives.{inputs_of_round, IsRoundBy, IsRound, IsLife, HasLived, LeavesLife, LeavesSomeLife}
 use Rattle.whole_lives.specs.Laws.{survivors_of, survivors, IsTakenUpFrom, NeverFalls, NoLifeLosesWhatWasSaved}
-use Rattle.whole_lives.specs.Refusals.{IsLifeStop, IsUncountable}
+use Rattle.whole_lives.specs.Refusals.{IsFresh, IsLast, IsLifeStop}
 use Rattle.whole_lives.specs.Rounds.{LeavesRound, IsRoundRefusal}
 use Rattle.whole_lives.specs.declared.rounds.Round.{Round}
 use Rattle.whole_lives.specs.declared.rounds.RoundEnd.{RoundEnd}
@@ -34,6 +34,13 @@ known_behind known (end ∷ ends) = known_behind end.saved ends
 pub known_push : (known : ℕ) (ends : List RoundEnd) (end : RoundEnd) → known_behind known (ends ++ end ∷ []) ≡ end.saved
 known_push known [] end = refl
 known_push known (e ∷ ends) end = known_push e.saved ends end
+
+-- behind one round more the device is as its cut left it
+pub last_behind : (rounds : List Round) (i : ℕ) (first last : MemoryState) → i < length rounds → IsFresh last → IsLast (take (i + 1) rounds) first last
+last_behind [] i first last below fresh = absurd (omega arith)
+last_behind (round ∷ rounds) i first last below fresh =
+    let next : suc i ≡ i + 1 = omega arith in
+    subst (λ (n : ℕ). IsLast (take n (round ∷ rounds)) first last) next fresh
 
 life_push : (rounds : List Round) (ends : List RoundEnd) (known : ℕ) (first next last : Position) (round : Round) (end : RoundEnd)
     → IsLife rounds ends known first next → IsRound (inputs_of_round round) end (known_behind known ends) next last → IsLife (rounds ++ round ∷ []) (ends ++ end ∷ []) known first last

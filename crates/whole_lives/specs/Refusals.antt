@@ -1,12 +1,16 @@
 -- Why a life is refused.
-use Rattle.std.specs.Prelude.{◌≡◌, ◌⊎◌, ◌≤◌, ◌<◌, ◌+◌, ◌-◌, ◌^◌, ℕ, List, length, take, slice_get, Some, ⊤}
-use Rattle.sector_device.specs.DiskState.{DiskState}
+use Rattle.std.specs.Prelude.{◌≡◌, ◌⊎◌, ◌≤◌, ◌<◌, ◌+◌, ◌-◌, ◌^◌, ℕ, List, [], ◌∷◌, length, take, slice_get, false, Some, None, ⊤}
+use Rattle.sector_device.specs.DiskState.{DiskState, next_count}
+use Rattle.sector_device.specs.Looking.{HasLooked}
+use Rattle.sector_device.specs.Memory.{MemoryState, memory_disk}
+use Rattle.sector_device.specs.Runs.{HoldsSince}
 use Rattle.sector_log.specs.Content.{content, generation_in}
+use Rattle.session.specs.Calls.{CanBeTakenUp, StandsAsBefore}
 use Rattle.session.specs.Found.{IsResumeCause}
 use Rattle.session.specs.Stands.{Position}
 use Rattle.session.specs.declared.error.SessionError.{SessionError}
 use Rattle.session.specs.declared.error.SessionError.TheVariants.{Memory, Device, NoSession, TooSmall, OtherCartridge, Damaged, Worn, Broken, SaveFirst, CountFull, Output}
-use Rattle.whole_lives.specs.Lives.{HasLived, inputs_of_round}
+use Rattle.whole_lives.specs.Lives.{HasLived, LeavesLife, inputs_of_round}
 use Rattle.whole_lives.specs.declared.rounds.Round.{Round}
 use Rattle.whole_lives.specs.declared.rounds.RoundEnd.{RoundEnd}
 
@@ -54,3 +58,32 @@ IsSoundStop Output = ⊥
 pub record CountsLifeFaults (old new : ℕ) (why : SessionError) : Type 0 where
   pub kept : old ≤ new
   pub counted : why ≡ Device → (old < new) ⊎ (new ≡ 2 ^ 64 - 1)
+
+-- ---- a failed call
+
+-- a device as a cut leaves it: no fuse, no failing call, and nothing recorded since
+pub record IsFresh (now : MemoryState) : Type 0 where
+  pub fuse : now.fuse ≡ None
+  pub blown : now.blown ≡ false
+  pub fails_in : now.fails_in ≡ 0
+  pub recorded : now.recorded ≡ []
+
+-- the device of the last resume: that of the start where there are no rounds, else one that the last cut left
+abbrev pub IsLast : List Round → (first last : MemoryState) → Type 0
+IsLast [] first last = last ≡ first
+IsLast (round ∷ rounds) first last = IsFresh last
+
+-- all rounds were lived through, and then a call of the last resume failed
+pub record FailsAtLast (rom : List ℕ) (first left : MemoryState) (rounds : List Round) : Type 0 where
+  pub last : MemoryState
+  pub is_last : IsLast rounds first last
+  pub ends : List RoundEnd
+  pub lived : LeavesLife rom (memory_disk first) (memory_disk last) rounds ends
+  pub images : HoldsSince (memory_disk last) (memory_disk left) (StandsAsBefore rom (memory_disk last))
+  -- nothing was written, or no other reason refuses the game
+  pub found : HasLooked (memory_disk last) (memory_disk left) ⊎ CanBeTakenUp rom (memory_disk last)
+  pub counted : left.faults ≡ next_count last.faults
+
+-- No round's fuse failed the call that ends a life: the fuse of its round has failed none, or it was a call of the last resume.
+abbrev pub IsByNoFuse : (rom : List ℕ) → (first left : MemoryState) → List Round → SessionError → Type 0
+IsByNoFuse rom first left rounds why = why ≡ Device → (left.blown ≡ false) ⊎ FailsAtLast rom first left rounds

@@ -5,7 +5,7 @@ ghost use Rattle.sector_device.specs.MemoryDevice.{memory};
 ghost use Rattle.session.specs.Calls.{IsAtRest};
 ghost use Rattle.session.specs.Words.{device_of, machine_of, rom_of, pending_of, acknowledged_of, is_broken};
 ghost use Rattle.whole_lives.specs.Lives.{HasLived, LeavesLife, LeavesSomeLife, EachStands};
-ghost use Rattle.whole_lives.specs.Refusals.{IsLifeStop, IsSoundStop, CountsLifeFaults};
+ghost use Rattle.whole_lives.specs.Refusals.{IsByNoFuse, IsLast, IsLifeStop, IsSoundStop, CountsLifeFaults};
 
 use crate::rounds::{Lived, Round, RoundEnd, one_round};
 use cartridge::Cartridge;
@@ -32,6 +32,8 @@ fn live_rounds(
         EachStands cartridge.now (memory_disk (memory refused.device))) }
     ensures faults_ok { IfOk result (λ r. (memory device).faults ≤ (memory r.0).faults) }
     ensures faults { IfErr result (λ refused. CountsLifeFaults (memory device).faults (memory refused.device).faults refused.why) }
+    ensures last { IfOk result (λ r. IsLast rounds.now (memory device) (memory r.0)) }
+    ensures fuse { IfErr result (λ refused. refused.why ≡ SessionError.Device → (memory refused.device).blown ≡ false) }
 {
     let Ok(mut ends) = Vec::with_capacity(alloc, rounds.len()) else {
         return Err(Refused {
@@ -89,6 +91,7 @@ pub fn live(
         EachStands cartridge.now (memory_disk (memory refused.device))) }
     ensures faults_ok { IfOk result (λ lived. (memory device).faults ≤ (memory (device_of lived.session)).faults) }
     ensures faults { IfErr result (λ refused. CountsLifeFaults (memory device).faults (memory refused.device).faults refused.why) }
+    ensures fuse { IfErr result (λ refused. IsByNoFuse cartridge.now (memory device) (memory refused.device) rounds.now refused.why) }
 {
     let (left, ends) = match live_rounds(alloc, device, cartridge, rounds) {
         Ok(lived) => lived,

@@ -4,7 +4,7 @@ ghost use Rattle.playing.specs.Report.{inputs_of_moves};
 ghost use Rattle.sector_device.specs.Memory.{memory_disk, image_of};
 ghost use Rattle.sector_device.specs.MemoryDevice.{memory, IsNewMemory};
 ghost use Rattle.whole_lives.specs.Lives.{inputs_of_round, EachStands};
-ghost use Rattle.whole_lives.specs.Refusals.{IsSoundStop, CountsLifeFaults};
+ghost use Rattle.whole_lives.specs.Refusals.{IsFresh, IsSoundStop, CountsLifeFaults};
 ghost use Rattle.whole_lives.specs.Rounds.{LeavesRound, IsCutRound, IsRoundRefusal};
 ghost use Rattle.whole_lives.specs.declared.rounds.RoundEnd.{RoundEnd};
 
@@ -53,6 +53,7 @@ fn ended_by(
     ensures ended { IfOk result (λ r. (r.0 ≡ refused.device) × (r.1 ≡ end) × (refused.why ≡ SessionError.Device) ×
         ((memory refused.device).blown ≡ true)) }
     ensures refused { IfErr result (λ r. (r.device ≡ refused.device) × (r.why ≡ refused.why)) }
+    ensures fuse { IfErr result (λ r. r.why ≡ SessionError.Device → (memory r.device).blown ≡ false) }
 {
     if refused.why == SessionError::Device && refused.device.blown() {
         return Ok((refused.device, end));
@@ -90,6 +91,7 @@ fn play_until_blown(
         EachStands cartridge.now (memory_disk (memory refused.device))) }
     ensures faults_ok { IfOk result (λ r. (memory device).faults ≤ (memory r.0).faults) }
     ensures faults { IfErr result (λ refused. CountsLifeFaults (memory device).faults (memory refused.device).faults refused.why) }
+    ensures fuse { IfErr result (λ refused. refused.why ≡ SessionError.Device → (memory refused.device).blown ≡ false) }
 {
     let mut session = match resume(alloc, device, cartridge) {
         Ok(session) => session,
@@ -147,6 +149,7 @@ pub(crate) fn one_round(
         LeavesRound cartridge.now (memory_disk (memory device)) (memory_disk (memory refused.device)) (inputs_of_round round.now) end known) }
     ensures cut { IfOk result (λ r.
         IsCutRound cartridge.now (memory_disk (memory device)) (round.now).kept.items (memory r.0) (inputs_of_round round.now) r.1 known) }
+    ensures fresh { IfOk result (λ r. IsFresh (memory r.0)) }
     ensures cause { IfErr result (λ refused.
         IsRoundRefusal cartridge.now (memory_disk (memory device)) (inputs_of_round round.now) (memory_disk (memory refused.device)).sectors
         refused.why) }
@@ -156,6 +159,7 @@ pub(crate) fn one_round(
         EachStands cartridge.now (memory_disk (memory refused.device))) }
     ensures faults_ok { IfOk result (λ r. (memory device).faults ≤ (memory r.0).faults) }
     ensures faults { IfErr result (λ refused. CountsLifeFaults (memory device).faults (memory refused.device).faults refused.why) }
+    ensures fuse { IfErr result (λ refused. refused.why ≡ SessionError.Device → (memory refused.device).blown ≡ false) }
 {
     let device = with_fuse(device, round.calls);
     let (device, end) = match play_until_blown(alloc, device, cartridge, &round.moves, known) {

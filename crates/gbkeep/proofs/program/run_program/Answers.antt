@@ -7,8 +7,13 @@ use Rattle.gbkeep.proofs.program.run_program.Goals as goal
 -- where memory was wanted for the words, they may have been any
 pub returns-in-Err-clause-ends : goal.returns-in-Err-clause-ends
 returns-in-Err-clause-ends g c =
-    let Ended = λ (fault : Fault). HasEnded (Err fault) (g.I.Read.remaining c.args.input.now) (g.I.Read.remaining c.answer.new.input) (g.O.Write.contents c.args.out.now) (g.O.Write.contents c.answer.new.out) (g.E.Write.contents c.args.err.now)
-    (g.E.Write.contents c.answer.new.err) c.answer.result in
+    let Ended = λ (fault : Fault). HasEnded (Err fault)
+    (record {
+      input = record { before = g.I.Read.remaining c.args.input.now; since = g.I.Read.remaining c.answer.new.input };
+      output = record { before = g.O.Write.contents c.args.out.now; since = g.O.Write.contents c.answer.new.out };
+      errors = record { before = g.E.Write.contents c.args.err.now; since = g.E.Write.contents c.answer.new.err };
+    })
+    c.answer.result in
     elim c.in-Err.ensures [
       | inl memory ↦ inl ([], (Err Memory, tt, subst Ended memory c.answer.ensures))
       | inr word ↦ inr (subst Ended word c.answer.ensures)

@@ -9,5 +9,5 @@ returns-in-Ok g c = streamed_to c.in_ok-rom.rom.items _ _ _ _ _ _ _ c.in-Ok.ensu
 
 pub returns : goal.returns
 returns g c =
-    subst (λ (fault : Fault). IsStreamRefused fault (g.I.Read.remaining c.args.input.now) (g.I.Read.remaining c.stream_play.new.input) (g.O.Write.contents c.args.out.now) (g.O.Write.contents c.stream_play.new.out)) (sym c.from.ensures)
-    (stream_refused c.in_ok-rom.rom.items _ c.in-Err.refused _ _ _ _ _ _ c.in-Err.refused.why c.in-Err.ensures.cause)
+    subst (λ (fault : Fault). IsStreamRefused fault (record { before = g.I.Read.remaining c.args.input.now; since = g.I.Read.remaining c.stream_play.new.input }) (record { before = g.O.Write.contents c.args.out.now; since = g.O.Write.contents c.stream_play.new.out })) (sym c.from.ensures)
+    (stream_refused c.in_ok-rom.rom.items _ _ _ _ _ _ c.in-Err.refused.why c.in-Err.ensures.cause)

@@ -1,4 +1,7 @@
-use Rattle.std.proofs.Common.{refl, subst, sym}
+use Rattle.std.proofs.Common.{Ok, refl, subst, sym}
+use Rattle.sector_device.specs.DiskState.{HasAnswered}
+use Rattle.session.proofs.Answering.{answered_error, answered_refusal, answered_value}
+use Rattle.gbkeep.specs.Streaming.{faults_after_stream_play}
 use Rattle.streaming.specs.Streamed.{HasStreamed}
 use Rattle.streaming.specs.declared.obeying.End.TheVariants.{Whole}
 use Rattle.gbkeep.proofs.StreamTexts.{cause_as, streamed_as}
@@ -13,3 +16,14 @@ returns-in-Ok-stream-clause-streamed g c =
 pub returns-clause-cause : goal.returns-clause-cause
 returns-clause-cause g c =
     (c.in-Ok.ensures.accepted.0 refl, cause_as c.args.rom.items c.in-Ok.cartridge _ _ _ _ _ _ c.in-Err-stream.refused.why c.in-Ok.ensures.image c.in-Err-stream.ensures.refused)
+
+pub returns-in-Err-clause-answered : goal.returns-in-Err-clause-answered
+returns-in-Err-clause-answered g c = answered_refusal (λ n. refl)
+
+pub returns-clause-answered : goal.returns-clause-answered
+returns-clause-answered g c = answered_error c.in-Err-stream.ensures.answered (λ n. refl)
+
+pub returns-in-Ok-stream-clause-answered : goal.returns-in-Ok-stream-clause-answered
+returns-in-Ok-stream-clause-answered g c =
+    subst (λ (d : g.row.D.Denot). HasAnswered (λ refused. faults_after_stream_play refused.why) (g.D.SectorDevice.disk c.args.device) (g.D.SectorDevice.disk d) (Ok c.into_device.result))
+    (sym c.into_device.ensures.device) (answered_value c.in-Ok-stream.ensures.answered)

@@ -1,4 +1,4 @@
-use Rattle.std.proofs.Common.{◌≡◌, ◌+◌, ◌++◌, ◌∷◌, [], List, ℕ, length, sym, ap, ◌∙◌, subst, arith, length-append}
+use Rattle.std.proofs.Common.{◌≡◌, ◌+◌, ◌++◌, ◌∷◌, [], List, ℕ, length, Ok, Err, sym, ap, ◌∙◌, subst, arith, length-append}
 use Rattle.machine.specs.declared.input.Input.{Input}
 use Rattle.session.specs.Inputs.{entry_of}
 use Rattle.session.specs.Words.{device_of, machine_of, pending_of, acknowledged_of, is_broken}
@@ -10,6 +10,10 @@ use Rattle.playing.proofs.ReportLaws.{line_is_due}
 use Rattle.playing.proofs.Telling.{told_by, told_nothing}
 use Rattle.playing.proofs.Stops.{if_err, input_refused, full_not_output, full_stops}
 use Rattle.playing.proofs.PlayLaws.{going_input, stopped_here, stopped_more, on_ok, on_err}
+use Rattle.sector_device.specs.DiskState.{HasAnswered}
+use Rattle.session.specs.Calls.{faults_after}
+use Rattle.session.specs.declared.error.SessionError.{SessionError}
+use Rattle.session.proofs.Answering.{answered_nothing, answered_refusal}
 use Rattle.playing.proofs.moves.give.Goals as goal
 
 pub returns-clause-going : goal.returns-clause-going
@@ -108,3 +112,21 @@ pub returns-then-counts-eq-MOST_UNSAVED-clause-machine : goal.returns-then-count
 returns-then-counts-eq-MOST_UNSAVED-clause-machine g c =
     on_ok c.save_line.result c.save_line.ensures.machine
     (λ same. same ∙ c.in_default.ensures.machine ∙ sym (after_one (machine_of c.args.session.now) c.args.input))
+
+pub returns-clause-answered : goal.returns-clause-answered
+returns-clause-answered g c =
+    let disk = g.D.SectorDevice.disk in
+    subst (λ d. HasAnswered {T = Unit {0}} faults_after (disk (device_of c.args.session.now)) (disk d) (Ok tt)) (sym c.input.ensures.device) answered_nothing
+
+pub returns-in-Err-clause-answered : goal.returns-in-Err-clause-answered
+returns-in-Err-clause-answered g c =
+    let disk = g.D.SectorDevice.disk in
+    let was = c.args.session.now in
+    let full = input_refused c.in-Err.why (is_broken was) (length (pending_of was)) (acknowledged_of was + length (pending_of was)) c.requires.whole c.requires.few c.in-Err.ensures.answer in
+    subst (λ d. HasAnswered faults_after (disk (device_of was)) (disk d) (Err c.in-Err.why)) (sym c.input.ensures.device)
+    (answered_refusal (λ n. ap (λ (why : SessionError). faults_after why n) full.0))
+
+pub returns-then-counts-eq-MOST_UNSAVED-clause-answered : goal.returns-then-counts-eq-MOST_UNSAVED-clause-answered
+returns-then-counts-eq-MOST_UNSAVED-clause-answered g c =
+    let disk = g.D.SectorDevice.disk in
+    subst (λ d. HasAnswered faults_after (disk d) (disk (device_of c.save_line.new.session)) c.save_line.result) c.input.ensures.device c.save_line.ensures.answered

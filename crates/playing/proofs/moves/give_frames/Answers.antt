@@ -12,13 +12,14 @@ use Rattle.playing.proofs.Stops.{stops_among}
 use Rattle.session.proofs.StandsLaws.{after_none}
 use Rattle.playing.proofs.MoveLaws.{frames_next, frames_all, machine_frames}
 use Rattle.playing.proofs.PlayLaws.{going_nowhere, going_then, going_by, stopped_then, stopped_more, stopped_by}
+use Rattle.session.proofs.Answering.{answered_both, answered_nothing, answered_refused}
 use Rattle.playing.proofs.moves.give_frames.Goals as goal
 
 pub loop-i-init : goal.loop-i-init
 loop-i-init g c = record {
   whole = c.requires.whole;
   few = c.requires.few;
-  faults = refl;
+  answered = answered_nothing;
   counts = omega arith;
   unsaved = refl;
   report = appends_nothing (g.W.Write.contents c.args.report.now);
@@ -46,7 +47,7 @@ pub loop-i-preserved : goal.loop-i-preserved
 loop-i-preserved g c = record {
   whole = c.in_default.ensures.whole.0;
   few = c.in_default.ensures.whole.1;
-  faults = c.in_default.ensures.faults_ok ∙ c.loop-i.invariant.faults;
+  answered = answered_both c.loop-i.invariant.answered c.in_default.ensures.answered;
   counts = omega (arith, c.in_default.ensures.counts.0, c.loop-i.invariant.counts);
   unsaved = c.in_default.ensures.counts.1 ∙ ap unsaved_after c.loop-i.invariant.unsaved ∙ sym (frames_unsaved (length (pending_of c.args.session.now)) (Frame c.args.buttons) c.loop-i._i);
   report =
@@ -106,3 +107,6 @@ pub returns-clause-machine : goal.returns-clause-machine
 returns-clause-machine g c =
     let all : c.loop-i._i ≡ c.args.times = omega (arith, c.loop-i-test.false, c.loop-i.auto._i-end) in
     c.loop-i.invariant.machine ∙ ap (λ (n : ℕ). after (machine_of c.args.session.now) (replicate n (Frame c.args.buttons))) all
+
+pub returns-in-Err-clause-answered : goal.returns-in-Err-clause-answered
+returns-in-Err-clause-answered g c = answered_refused c.loop-i.invariant.answered c.in-Err.ensures.answered (λ n. refl)

@@ -1,7 +1,9 @@
-use Rattle.std.proofs.Common.{◌≡◌, ◌<◌, ◌≤◌, ◌+◌, ◌++◌, List, ℕ, length, replicate, false}
+use Rattle.std.proofs.Common.{◌≡◌, ◌<◌, ◌≤◌, ◌+◌, ◌++◌, List, ℕ, length, replicate, false, Ok}
 use Rattle.machine.specs.Machine.{after}
 use Rattle.machine.specs.declared.input.Input.{Input}
 use Rattle.machine.specs.declared.input.Input.TheVariants.{Frame}
+use Rattle.sector_device.specs.DiskState.{HasAnswered}
+use Rattle.session.specs.Calls.{faults_after}
 use Rattle.session.specs.Stands.{Position}
 use Rattle.session.specs.Words.{device_of, machine_of, rom_of, pending_of, acknowledged_of, is_broken}
 use Rattle.playing.specs.Played.{IsPlayed, Going}
@@ -17,7 +19,7 @@ invariant-loop-i g l =
     record {
       whole : is_broken now ≡ false;
       few : length (pending_of now) < 3200;
-      faults : (g.D.SectorDevice.disk (device_of now)).faults ≡ (g.D.SectorDevice.disk (device_of first)).faults;
+      answered : HasAnswered {T = Unit {0}} faults_after (g.D.SectorDevice.disk (device_of first)) (g.D.SectorDevice.disk (device_of now)) (Ok tt);
       counts : acknowledged_of now + length (pending_of now) ≡ acknowledged_of first + length (pending_of first) + l._i;
       unsaved : length (pending_of now) ≡ unsaved_behind (length (pending_of first)) (replicate l._i (Frame l.buttons));
       report : Appends (g.W.Write.contents l.initial.report) (g.W.Write.contents l.report) (texts (lines_of_inputs (acknowledged_of first + length (pending_of first)) (length (pending_of first)) (replicate l._i (Frame l.buttons))));

@@ -12,13 +12,14 @@ use Rattle.playing.proofs.Telling.{told_moves}
 use Rattle.playing.proofs.Stops.{stops_among}
 use Rattle.playing.proofs.MoveLaws.{moves_next, moves_all}
 use Rattle.playing.proofs.PlayLaws.{going_nowhere, going_then, going_by, stopped_then, stopped_more, stopped_by}
+use Rattle.session.proofs.Answering.{answered_both, answered_nothing, answered_refused}
 use Rattle.playing.proofs.moves.make_moves.Goals as goal
 
 pub loop-one-init : goal.loop-one-init
 loop-one-init g c = record {
   whole = c.requires.whole;
   few = c.requires.few;
-  faults = refl;
+  answered = answered_nothing;
   counts = omega arith;
   unsaved = refl;
   report = appends_nothing (g.W.Write.contents c.args.report.now);
@@ -47,7 +48,7 @@ pub loop-one-preserved : goal.loop-one-preserved
 loop-one-preserved g c = record {
   whole = c.in_default.ensures.whole.0;
   few = c.in_default.ensures.whole.1;
-  faults = c.in_default.ensures.faults_ok ∙ c.loop-one.invariant.faults;
+  answered = answered_both c.loop-one.invariant.answered c.in_default.ensures.answered;
   counts =
       let less = moves_counts c.args.moves.now c.loop-one.one-index (Frames 0 0) c.loop-one-test.true in
       omega (arith, c.in_default.ensures.counts.0, c.loop-one.invariant.counts, less);
@@ -114,3 +115,6 @@ returns-in-Err-clause-cause g c =
     let fewer : acknowledged_of there + length (pending_of there) + one ≤ acknowledged_of first + length (pending_of first) + length (inputs_of_moves moves) =
     omega (arith, c.loop-one.invariant.counts, moves_counts moves i (Frames 0 0) c.loop-one-test.true, moves_within moves (i + 1)) in
     stops_among c.in-Err.why (acknowledged_of there + length (pending_of there) + one) (acknowledged_of first + length (pending_of first) + length (inputs_of_moves moves)) (g.D.SectorDevice.disk (device_of c.make_move.new.session)) fewer c.in-Err.ensures.cause
+
+pub returns-in-Err-clause-answered : goal.returns-in-Err-clause-answered
+returns-in-Err-clause-answered g c = answered_refused c.loop-one.invariant.answered c.in-Err.ensures.answered (λ n. refl)

@@ -1,5 +1,7 @@
-use Rattle.std.proofs.Common.{◌≡◌, ◌<◌, ◌≤◌, ◌+◌, ◌++◌, List, ℕ, length, take, false}
+use Rattle.std.proofs.Common.{◌≡◌, ◌<◌, ◌≤◌, ◌+◌, ◌++◌, List, ℕ, length, take, false, Ok}
 use Rattle.machine.specs.declared.input.Input.{Input}
+use Rattle.sector_device.specs.DiskState.{HasAnswered}
+use Rattle.session.specs.Calls.{faults_after}
 use Rattle.session.specs.Stands.{Position}
 use Rattle.session.specs.Words.{device_of, machine_of, rom_of, pending_of, acknowledged_of, is_broken}
 use Rattle.playing.specs.Played.{IsPlayed, Going}
@@ -15,7 +17,7 @@ invariant-loop-one g l =
     record {
       whole : is_broken now ≡ false;
       few : length (pending_of now) < 3200;
-      faults : (g.D.SectorDevice.disk (device_of now)).faults ≡ (g.D.SectorDevice.disk (device_of first)).faults;
+      answered : HasAnswered {T = Unit {0}} faults_after (g.D.SectorDevice.disk (device_of first)) (g.D.SectorDevice.disk (device_of now)) (Ok tt);
       counts : acknowledged_of now + length (pending_of now) ≡ acknowledged_of first + length (pending_of first) + length (inputs_of_moves (take l.one-index l.moves));
       unsaved : length (pending_of now) ≡ unsaved_behind_moves (length (pending_of first)) (take l.one-index l.moves);
       report : Appends (g.W.Write.contents l.initial.report) (g.W.Write.contents l.report) (texts (lines_of_moves (acknowledged_of first + length (pending_of first)) (length (pending_of first)) (take l.one-index l.moves)));

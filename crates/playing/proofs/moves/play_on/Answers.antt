@@ -2,11 +2,12 @@ use Rattle.session.specs.Words.{device_of, machine_of, pending_of, acknowledged_
 use Rattle.exact_text.specs.Written.{AppendsProperPrefix}
 use Rattle.playing.specs.Played.{IsStop}
 use Rattle.playing.specs.Report.{inputs_of_moves, resumed_line, lines_of_moves, last_line, unsaved_behind_moves}
-use Rattle.std.proofs.Common.{◌≡◌, ◌+◌, ◌++◌, ℕ, ap, ◌∙◌, subst, length, arith}
+use Rattle.std.proofs.Common.{◌≡◌, ◌+◌, ◌++◌, ℕ, ap, refl, ◌∙◌, subst, length, arith}
 use Rattle.playing.proofs.ReportLaws.{report_ends, report_ends_saved}
 use Rattle.playing.proofs.Telling.{told_part, told_resumed, told_last}
 use Rattle.playing.proofs.Stops.{if_err}
 use Rattle.playing.proofs.PlayLaws.{stopped_here, stopped_more, going_on, stopped_on, on_ok, on_err}
+use Rattle.session.proofs.Answering.{answered_refusal, answered_then}
 use Rattle.playing.proofs.moves.play_on.Goals as goal
 
 pub returns-in-Err-clause-stopped : goal.returns-in-Err-clause-stopped
@@ -99,3 +100,9 @@ pub returns-clause-cause : goal.returns-clause-cause
 returns-clause-cause g c =
     if_err c.save_line.result c.save_line.ensures.cause
     (λ why stop. subst (λ (n : ℕ). IsStop why n (g.D.SectorDevice.disk (device_of c.save_line.new.session))) c.in_default-make_moves.ensures.counts.0 stop)
+
+pub returns-in-Err-clause-answered : goal.returns-in-Err-clause-answered
+returns-in-Err-clause-answered g c = answered_refusal (λ n. refl)
+
+pub returns-clause-answered : goal.returns-clause-answered
+returns-clause-answered g c = answered_then c.save_line.result c.in_default-make_moves.ensures.answered c.save_line.ensures.answered

@@ -8,6 +8,7 @@ use Rattle.playing.proofs.ReportLaws.{appends_line}
 use Rattle.playing.proofs.Telling.{told_part, told_nothing}
 use Rattle.playing.proofs.Stops.{save_not_output, save_stops}
 use Rattle.playing.proofs.PlayLaws.{going_saved, stopped_failed, stopped_after}
+use Rattle.session.proofs.Answering.{answered_otherwise}
 use Rattle.playing.proofs.moves.save_line.Goals as goal
 
 pub returns-in-Ok-write_saved-clause-going : goal.returns-in-Ok-write_saved-clause-going
@@ -58,3 +59,6 @@ pub returns-in-Err-clause-cause : goal.returns-in-Err-clause-cause
 returns-in-Err-clause-cause g c =
     let was = c.args.session.now in
     save_stops c.in-Err.why (is_broken was) (fits (log_in was) (pending_of was)) (generation_in_use was) (acknowledged_of was + length (pending_of was)) (g.D.SectorDevice.disk (device_of c.save.new.self)) c.requires c.in-Err.ensures.cause c.in-Err.ensures.worn
+
+pub returns-in-Err-write_saved-clause-answered : goal.returns-in-Err-write_saved-clause-answered
+returns-in-Err-write_saved-clause-answered g c = answered_otherwise c.in-Ok.ensures.answered (λ n. refl)

@@ -1,8 +1,11 @@
-use Rattle.std.proofs.Common.{◌≡◌, ◌+◌, ℕ, inl, inr, [], length, ap, sym, refl, subst, arith}
+use Rattle.std.proofs.Common.{◌≡◌, ◌+◌, ℕ, inl, inr, [], length, Err, ap, sym, refl, subst, arith}
+use Rattle.sector_device.specs.DiskState.{HasAnswered}
 use Rattle.sector_device.specs.Runs.{HoldsSince}
+use Rattle.session.specs.Calls.{faults_after}
 use Rattle.session.specs.Stands.{Position}
 use Rattle.session.specs.Words.{device_of, machine_of, pending_of, acknowledged_of}
 use Rattle.session.proofs.Writes.{since_weaker}
+use Rattle.session.proofs.Answering.{answered_both, answered_refused}
 use Rattle.session.proofs.Beginnings.{since_then}
 use Rattle.playing.specs.Played.{IsPlayed, IsStop, PlayImage, HasStopped}
 use Rattle.playing.specs.Report.{inputs_of_moves}
@@ -41,7 +44,7 @@ returns-in-Ok-play_on-clause-images g c = λ honest.
 
 pub returns-in-Err-clause-refused : goal.returns-in-Err-clause-refused
 returns-in-Err-clause-refused g c =
-    inl (record { cause = c.in-Err.ensures.cause; report = keeps_same (g.W.Write.contents c.args.report.now); images = c.in-Err.ensures.images; untouched = c.in-Err.ensures.untouched })
+    inl (record { cause = c.in-Err.ensures.cause; report = keeps_same (g.W.Write.contents c.args.report.now); images = c.in-Err.ensures.images; untouched = c.in-Err.ensures.untouched; failed = c.in-Err.ensures.failed })
 
 pub returns-in-Err-play_on-clause-refused : goal.returns-in-Err-play_on-clause-refused
 returns-in-Err-play_on-clause-refused g c =
@@ -101,20 +104,10 @@ returns-in-Ok-play_on-clause-report g c =
     let behind = ap length c.in-Ok-play_on.ensures.saved.0 in
     (acknowledged_of c.in-Ok.session, omega (arith, c.in-Ok-play_on.ensures.counts, before, behind), c.in-Ok-play_on.ensures.report c.in-Ok.ensures.begun.0)
 
-pub returns-in-Ok-play_on-clause-honest : goal.returns-in-Ok-play_on-clause-honest
-returns-in-Ok-play_on-clause-honest g c = λ honest.
-    let rom = c.args.cartridge.now in
-    let s = c.in-Ok.session in
-    let from : Position = record { count = acknowledged_of s; machine = machine_of s } in
-    let begun : IsPlayed rom (g.D.SectorDevice.disk (device_of s)) (acknowledged_of s) (pending_of s) (machine_of s) from [] =
-    begun_played rom (g.D.SectorDevice.disk (device_of s)) (acknowledged_of s) (pending_of s) (machine_of s) (c.in-Ok.ensures.answered.honest.1 honest) c.in-Ok.ensures.begun.2 c.in-Ok.ensures.begun.0 (c.in-Ok.ensures.rests honest) in
-    (c.in-Ok-play_on.ensures.going rom from [] begun).played.honest
+pub returns-in-Ok-play_on-clause-answered : goal.returns-in-Ok-play_on-clause-answered
+returns-in-Ok-play_on-clause-answered g c = answered_both c.in-Ok.ensures.answered c.in-Ok-play_on.ensures.answered
 
-pub returns-in-Err-play_on-clause-honest : goal.returns-in-Err-play_on-clause-honest
-returns-in-Err-play_on-clause-honest g c = λ honest.
-    let rom = c.args.cartridge.now in
-    let s = c.in-Ok.session in
-    let from : Position = record { count = acknowledged_of s; machine = machine_of s } in
-    let begun : IsPlayed rom (g.D.SectorDevice.disk (device_of s)) (acknowledged_of s) (pending_of s) (machine_of s) from [] =
-    begun_played rom (g.D.SectorDevice.disk (device_of s)) (acknowledged_of s) (pending_of s) (machine_of s) (c.in-Ok.ensures.answered.honest.1 honest) c.in-Ok.ensures.begun.2 c.in-Ok.ensures.begun.0 (c.in-Ok.ensures.rests honest) in
-    subst (λ d. (g.D.SectorDevice.disk d).honest) (sym c.into_device.ensures.device) (c.in-Err-play_on.ensures.stopped rom from [] begun).honest
+pub returns-in-Err-play_on-clause-answered : goal.returns-in-Err-play_on-clause-answered
+returns-in-Err-play_on-clause-answered g c =
+    subst (λ d. HasAnswered (λ refused. faults_after refused.why) (g.D.SectorDevice.disk c.args.device) (g.D.SectorDevice.disk d) (Err (record { why = c.in-Err-play_on.why; device = d }))) (sym c.into_device.ensures.device)
+    (answered_refused c.in-Ok.ensures.answered c.in-Err-play_on.ensures.answered (λ n. refl))

@@ -11,7 +11,7 @@ use Rattle.session.specs.Beginning.{IsBeginRefusal}
 use Rattle.session.specs.Calls.{IsAtRest}
 use Rattle.session.specs.Resting.{IsOfItsRom}
 use Rattle.session.specs.Words.{device_of, left_by}
-use Rattle.session.proofs.Beginnings.{if_ok, if_err, since_now, start_rom, start_own, begun_at_rest, new_game_images, looked_new_game, looking_is_not_worn}
+use Rattle.session.proofs.Beginnings.{if_ok, if_err, since_now, start_rom, start_own, begun_at_rest, new_game_images, looked_new_game, looking_is_not_worn, looking_wants_memory}
 use Rattle.session.proofs.Writes.{since_weaker}
 use Rattle.session.proofs.begin.new_game.Goals as goal
 
@@ -66,3 +66,25 @@ returns-clause-can g c =
       subst (λ (n : ℕ). need (snapshot_length (ram_length_of c.args.cartridge.now)) ≤ n) c.in-Ok-open_log.ensures.answered.count can.enough,
       λ honest. subst (λ (n : ℕ). n < 18446744073709551615) (c.in-Ok-open_log.ensures.opened.generation_is honest) can.unworn,
     ))
+
+pub returns-in-Err-clause-memory : goal.returns-in-Err-clause-memory
+returns-in-Err-clause-memory g c = λ wanted. looking_wants_memory c.in-Err.refused.why c.in-Err.ensures.cause (sym c.fault_of.ensures ∙ wanted)
+
+pub returns-in-Err-clause-failed : goal.returns-in-Err-clause-failed
+returns-in-Err-clause-failed g c = λ failed. inl (λ honest. c.in-Err.ensures.looked honest)
+
+pub returns-clause-memory : goal.returns-clause-memory
+returns-clause-memory g c =
+    if_err c.begin_with.result c.begin_with.ensures.cause
+    (λ refused cause wanted.
+    absurd (subst (λ why. IsBeginRefusal why (snapshot_length (ram_length_of c.args.cartridge.now)) (length (g.D.SectorDevice.disk (device_under c.in-Ok-open_log.opened)).sectors) (found_generation c.in-Ok-open_log.opened)) wanted cause))
+
+pub returns-clause-failed : goal.returns-clause-failed
+returns-clause-failed g c =
+    if_err c.begin_with.result c.begin_with.ensures.cause
+    (λ refused cause failed.
+    let can = subst (λ why. IsBeginRefusal why (snapshot_length (ram_length_of c.args.cartridge.now)) (length (g.D.SectorDevice.disk (device_under c.in-Ok-open_log.opened)).sectors) (found_generation c.in-Ok-open_log.opened)) failed cause in
+    inr (record {
+      enough = subst (λ (n : ℕ). need (snapshot_length (ram_length_of c.args.cartridge.now)) ≤ n) c.in-Ok-open_log.ensures.answered.count can.enough;
+      unworn = λ honest. subst (λ (n : ℕ). n < 18446744073709551615) (c.in-Ok-open_log.ensures.opened.generation_is honest) can.unworn;
+    }))

@@ -1,17 +1,21 @@
-use Rattle.std.proofs.Common.{◌≡◌, ⊎_elim, inl, inr, ◌≤◌, [], ℕ, Some, None, Result, Ok, Err, ◌<◌, refl, sym, ap, ◌∙◌, subst}
+use Rattle.std.proofs.Common.{◌≡◌, ⊎_elim, inl, inr, ◌≤◌, [], ℕ, length, Some, None, ◌<◌, refl, sym, ap, ◌∙◌, subst}
 use Rattle.sha2.specs.Sha256.{sha256}
 use Rattle.machine.specs.Machine.{MachineState}
 use Rattle.snapshot.specs.Encoding.{encoded, snapshot_length}
 use Rattle.cartridge.specs.Header.{ram_length_of}
-use Rattle.sector_device.specs.DiskState.{DiskState, HasAnswered}
 use Rattle.sector_device.specs.Runs.{HoldsSince}
 use Rattle.sector_log.specs.Content.{content, generation_in, need}
 use Rattle.sector_log.specs.Words.{device_under, found_generation, seen}
+use Rattle.snapshot.specs.Legal.{IsMachineOf}
+use Rattle.sector_device.specs.Looking.{HasLooked}
 use Rattle.session.specs.Calls.{IsAtRest, StandsAsBefore}
 use Rattle.session.specs.Found.{IsResumeCause}
+use Rattle.session.specs.Beginning.{IsBeginRefusal}
+use Rattle.session.specs.Recovery.{IsRecoveryCause}
 use Rattle.session.specs.Words.{device_of, machine_of, left_by}
-use Rattle.session.proofs.Beginnings.{if_ok, if_ok_both, if_err, begun_at_rest, resume_images, looked_resume}
-use Rattle.session.proofs.Finding.{cause_found, recovered_stands, recovered_machine, recovered_fits, begin_cause}
+use Rattle.session.proofs.Beginnings.{if_ok, if_ok_both, if_err, begun_at_rest, resume_images, looked_resume, looking_wants_memory}
+use Rattle.session.proofs.Answering.{answered_then}
+use Rattle.session.proofs.Finding.{cause_found, recovered_stands, recovered_machine, recovered_fits, memory_found, begin_cause}
 use Rattle.session.proofs.resuming.resume.Goals as goal
 
 pub begin_with-requires-clause-rom : goal.begin_with-requires-clause-rom
@@ -78,22 +82,6 @@ returns-in-Ok-recovered-clause-cause g c =
     (c.in-Ok-open_log.ensures.opened.seen_is honest) c.in-Ok-recovered.ensures.ok))
     c.in-Ok-recovered.ensures.ok.rebuilt.unworn cause)
 
--- a call of the layer below that succeeded, and then one more
-answered_then : {T U E F : Type 0} {first_faults : E → ℕ → ℕ} {faults_after : F → ℕ → ℕ} {old mid now : DiskState} {value : T} (r : Result U F)
-    → HasAnswered first_faults old mid (Ok value) → HasAnswered faults_after mid now r → HasAnswered faults_after old now r
-answered_then (Ok v) first second = record {
-  count = second.count ∙ first.count;
-  honest = (λ is. first.honest.0 (second.honest.0 is), λ was. second.honest.1 (first.honest.1 was));
-  faults_ok = second.faults_ok ∙ first.faults_ok;
-  faults = tt;
-}
-answered_then {faults_after = faults_after} (Err why) first second = record {
-  count = second.count ∙ first.count;
-  honest = (λ is. first.honest.0 (second.honest.0 is), λ was. second.honest.1 (first.honest.1 was));
-  faults_ok = tt;
-  faults = second.faults ∙ ap (faults_after why) first.faults_ok;
-}
-
 pub returns-in-Ok-recovered-clause-answered : goal.returns-in-Ok-recovered-clause-answered
 returns-in-Ok-recovered-clause-answered g c = answered_then c.begin_with.result c.in-Ok-open_log.ensures.answered c.begin_with.ensures.answered
 
@@ -119,3 +107,47 @@ pub returns-in-Ok-recovered-clause-kept : goal.returns-in-Ok-recovered-clause-ke
 returns-in-Ok-recovered-clause-kept g c =
     if_err c.begin_with.result c.begin_with.ensures.untouched
     (λ refused. ⊎_elim inl (λ same. inr (λ honest. subst (λ d. (g.D.SectorDevice.disk d).sectors ≡ (g.D.SectorDevice.disk c.args.device).sectors) (sym same) (c.in-Ok-open_log.ensures.looked honest).sectors)))
+
+pub returns-in-Ok-recovered-clause-of : goal.returns-in-Ok-recovered-clause-of
+returns-in-Ok-recovered-clause-of g c =
+    if_ok c.begin_with.result c.begin_with.ensures.begun
+    (λ s begun. subst (λ (m : MachineState). IsMachineOf c.args.cartridge.now m) (sym begun.3) c.begin_with.ensures.of)
+
+-- ---- where memory and a failed call come in the order of causes
+
+pub returns-in-Err-clause-memory : goal.returns-in-Err-clause-memory
+returns-in-Err-clause-memory g c = λ wanted. inl (looking_wants_memory c.in-Err.refused.why c.in-Err.ensures.cause (sym c.fault_of.ensures ∙ wanted))
+
+pub returns-in-Err-clause-failed : goal.returns-in-Err-clause-failed
+returns-in-Err-clause-failed g c = λ failed honest. inl (c.in-Err.ensures.looked honest)
+
+pub returns-in-Err-recovered-clause-memory : goal.returns-in-Err-recovered-clause-memory
+returns-in-Err-recovered-clause-memory g c = λ wanted. inr (λ honest.
+    let opened = c.in-Ok-open_log.opened in
+    let found = memory_found c.args.cartridge.now (found_generation opened) c.snapshot_length.result (g.D.SectorDevice.disk c.args.device).sectors (seen opened) (c.in-Ok-open_log.ensures.opened.seen_is honest)
+    (subst (λ why. IsRecoveryCause c.args.cartridge.now (seen opened) (found_generation opened) why) wanted c.in-Err-recovered.ensures.err) in
+    record {
+      from = found.0.0;
+      stood = found.0.1;
+      unworn = subst (λ (n : ℕ). n < 18446744073709551615) (c.in-Ok-open_log.ensures.opened.generation_is honest) found.1;
+    })
+
+pub returns-in-Err-recovered-clause-failed : goal.returns-in-Err-recovered-clause-failed
+returns-in-Err-recovered-clause-failed g c = λ failed honest.
+    inl (subst (λ d. HasLooked (g.D.SectorDevice.disk c.args.device) (g.D.SectorDevice.disk d)) (sym c.into_device.ensures) (c.in-Ok-open_log.ensures.looked honest))
+
+pub returns-in-Ok-recovered-clause-memory : goal.returns-in-Ok-recovered-clause-memory
+returns-in-Ok-recovered-clause-memory g c =
+    if_err c.begin_with.result c.begin_with.ensures.cause
+    (λ refused cause wanted.
+    absurd (subst (λ why. IsBeginRefusal why (snapshot_length (ram_length_of c.args.cartridge.now)) (length (g.D.SectorDevice.disk (device_under c.in-Ok-open_log.opened)).sectors) (found_generation c.in-Ok-open_log.opened)) wanted cause))
+
+pub returns-in-Ok-recovered-clause-failed : goal.returns-in-Ok-recovered-clause-failed
+returns-in-Ok-recovered-clause-failed g c =
+    if_err c.begin_with.result c.begin_with.ensures.cause
+    (λ refused cause failed honest. inr (record {
+      from = record { count = c.in-Ok-recovered.count; machine = c.in-Ok-recovered.machine };
+      stood = recovered_stands c.args.cartridge.now (found_generation c.in-Ok-open_log.opened) c.snapshot_length.result c.in-Ok-recovered.count (g.D.SectorDevice.disk c.args.device).sectors (seen c.in-Ok-open_log.opened) c.in-Ok-recovered.machine
+          (c.in-Ok-open_log.ensures.opened.seen_is honest) c.in-Ok-recovered.ensures.ok;
+      unworn = subst (λ (n : ℕ). n < 18446744073709551615) (c.in-Ok-open_log.ensures.opened.generation_is honest) c.in-Ok-recovered.ensures.ok.rebuilt.unworn;
+    }))

@@ -1,9 +1,11 @@
-use Rattle.std.proofs.Common.{◌≡◌, ◌⊎◌, inl, inr, ⊎_elim, []}
+use Rattle.std.proofs.Common.{◌≡◌, ◌⊎◌, ◌∙◌, ap, inl, inr, ⊎_elim, []}
 use Rattle.session.specs.declared.error.SessionError.TheVariants.{Device}
 use Rattle.sector_device.specs.Memory.{memory_disk}
 use Rattle.sector_device.specs.MemoryDevice.{memory}
 use Rattle.sector_log.specs.Content.{content, generation_in}
 use Rattle.session.specs.Words.{machine_of, acknowledged_of}
+use Rattle.session.specs.Calls.{faults_after}
+use Rattle.session.specs.declared.error.SessionError.{SessionError}
 use Rattle.whole_lives.proofs.CauseLaws.{sound_stop}
 use Rattle.whole_lives.proofs.LifeLaws.{lived_to, lived_until, life_untaken, resume_not_full}
 use Rattle.whole_lives.proofs.RoundLaws.{reads, each_before, resume_refuses}
@@ -40,3 +42,19 @@ returns-in-Err-resume-clause-cause c =
     life_untaken rom (memory_disk (memory c.args.device)) was c.args.rounds.now left.sectors why
     (resume_refuses rom was [] was.sectors left.sectors why (c.in-Err-resume.ensures.cause tt) kept)
     (resume_not_full rom was.sectors why (c.in-Err-resume.ensures.cause tt))
+
+pub returns-in-Err-clause-fuse : goal.returns-in-Err-clause-fuse
+returns-in-Err-clause-fuse c = λ failed. inl (c.in-Err.ensures.fuse failed)
+
+pub returns-in-Err-resume-clause-fuse : goal.returns-in-Err-resume-clause-fuse
+returns-in-Err-resume-clause-fuse c = λ failed.
+    let last = memory c.in-Ok.lived.0 in
+    inr (record {
+      last = last;
+      is_last = c.in-Ok.ensures.last;
+      ends = c.in-Ok.lived.1.items;
+      lived = c.in-Ok.ensures.lived;
+      images = c.in-Err-resume.ensures.images tt;
+      found = c.in-Err-resume.ensures.failed failed tt;
+      counted = c.in-Err-resume.ensures.answered.faults ∙ ap (λ (why : SessionError). faults_after why last.faults) failed;
+    })

@@ -4,10 +4,11 @@ use Rattle.std.proofs.lemmas.Option.{slice_get-get_or}
 use Rattle.sector_device.specs.Memory.{memory_disk}
 use Rattle.sector_device.specs.MemoryDevice.{memory}
 use Rattle.whole_lives.specs.Lives.{inputs_of_round, HasLived, LeavesLife}
+use Rattle.whole_lives.specs.Refusals.{IsLast}
 use Rattle.whole_lives.specs.Rounds.{LeavesRound, IsRoundRefusal}
 use Rattle.whole_lives.specs.declared.rounds.Round.{Round}
 use Rattle.whole_lives.specs.declared.rounds.RoundEnd.{RoundEnd}
-use Rattle.whole_lives.proofs.LifeLaws.{known_behind, known_push, lived_nothing, lived_next, life_refused}
+use Rattle.whole_lives.proofs.LifeLaws.{known_behind, known_push, last_behind, lived_nothing, lived_next, life_refused}
 use Rattle.whole_lives.proofs.lives.live_rounds.Goals as goal
 
 pub returns-in_default-clause-left : goal.returns-in_default-clause-left
@@ -50,12 +51,17 @@ loop-round-preserved c =
       room = omega (arith, c.loop-round.invariant.room, c.push_reserved.ensures.capacity);
       stand = λ each. c.in-Ok-one_round.ensures.stand (c.loop-round.invariant.stand each);
       faults = omega (arith, c.in-Ok-one_round.ensures.faults_ok, c.loop-round.invariant.faults);
+      last = last_behind rounds i (memory c.args.device) (memory c.in-Ok-one_round.image) c.loop-round-test.true c.in-Ok-one_round.ensures.fresh;
     }
 
 pub returns-clause-lived : goal.returns-clause-lived
 returns-clause-lived c = λ last here.
     subst (λ (l : List Round). HasLived c.args.cartridge.now (memory_disk (memory c.args.device)) l c.loop-round.ends.items last) (take_all c.loop-round.round-index c.args.rounds.now c.loop-round-test.false)
     (c.loop-round.invariant.lived last here)
+
+pub returns-clause-last : goal.returns-clause-last
+returns-clause-last c =
+    subst (λ (l : List Round). IsLast l (memory c.args.device) (memory c.loop-round.left)) (take_all c.loop-round.round-index c.args.rounds.now c.loop-round-test.false) c.loop-round.invariant.last
 
 pub returns-in-Err-clause-kept : goal.returns-in-Err-clause-kept
 returns-in-Err-clause-kept c = λ each. c.in-Err.ensures.kept (c.loop-round.invariant.stand each)

@@ -3,6 +3,7 @@ use Rattle.std.specs.Prelude.{vec_capacity}
 use Rattle.sector_device.specs.Memory.{memory_disk}
 use Rattle.sector_device.specs.MemoryDevice.{memory}
 use Rattle.whole_lives.specs.Lives.{LeavesLife, EachStands}
+use Rattle.whole_lives.specs.Refusals.{IsLast}
 use Rattle.whole_lives.proofs.LifeLaws.{known_behind}
 use Rattle.whole_lives.proofs.lives.live_rounds.Given as goal
 
@@ -15,4 +16,5 @@ invariant-loop-round l = record {
   room : length l.rounds ≤ vec_capacity l.ends;
   stand : EachStands l.cartridge (memory_disk (memory l.initial.left)) → EachStands l.cartridge (memory_disk (memory l.left));
   faults : (memory l.initial.left).faults ≤ (memory l.left).faults;
+  last : IsLast (take l.round-index l.rounds) (memory l.initial.left) (memory l.left);
 }

@@ -5,7 +5,7 @@ use Rattle.sector_device.specs.MemoryDevice.{memory}
 use Rattle.sector_device.specs.declared.memory.MemoryDevice.{MemoryDevice}
 use Rattle.playing.specs.Report.{inputs_of_moves}
 use Rattle.whole_lives.specs.Lives.{inputs_of_round}
-use Rattle.whole_lives.specs.Rounds.{LeavesRound, IsCutRound, IsRoundRefusal}
+use Rattle.whole_lives.specs.Rounds.{LeavesRound, IsRoundRefusal}
 use Rattle.whole_lives.proofs.RoundLaws.{round_fused, round_cut, cut_image, each_moved, each_fused, refusal_fused}
 use Rattle.whole_lives.proofs.rounds.one_round.Goals as goal
 
@@ -83,3 +83,11 @@ returns-in-Ok-cut-clause-cut c =
       cut = ap (λ m. m.at_start) c.in-Ok-cut.ensures.image ∙ ap (image_of played) c.deref-2.ensures.value;
       fresh = ap (λ m. m.recorded) c.in-Ok-cut.ensures.image;
     }
+
+pub returns-in-Ok-cut-clause-fresh : goal.returns-in-Ok-cut-clause-fresh
+returns-in-Ok-cut-clause-fresh c = record {
+  fuse = ap (λ m. m.fuse) c.in-Ok-cut.ensures.image;
+  blown = ap (λ m. m.blown) c.in-Ok-cut.ensures.image;
+  fails_in = ap (λ m. m.fails_in) c.in-Ok-cut.ensures.image;
+  recorded = ap (λ m. m.recorded) c.in-Ok-cut.ensures.image;
+}

@@ -1,0 +1,29 @@
+-- What a call reads and writes, and the device that it is on.
+use Rattle.std.specs.Prelude.{◌≡◌, ℕ, List, Option}
+use Rattle.std.specs.Io.KnownBytes.{Keeps}
+use Rattle.sector_device.specs.DiskState.{DiskState}
+
+-- a text before a call and since it, where it is known: what went to an output, or what an input has left
+pub record Text : Type 0 where
+  pub before : Option (List ℕ)
+  pub since : Option (List ℕ)
+
+-- nothing went out
+abbrev pub IsUnwritten : Text → Type 0
+IsUnwritten output = Keeps output.before output.since
+
+-- nothing was read
+abbrev pub IsUnread : Text → Type 0
+IsUnread input = input.since ≡ input.before
+
+-- a call on a device: the device at its start and at its return, and what went out
+pub record Call : Type 1 where
+  pub old : DiskState
+  pub now : DiskState
+  pub output : Text
+
+-- what the program reads and writes
+pub record Exchange : Type 0 where
+  pub input : Text
+  pub output : Text
+  pub errors : Text
