@@ -34,7 +34,7 @@ none_stepped rules count p old =
 
 -- what is left begins with the line of the next step
 pub next_step : {M : Type 0} (rules : Rules M) (count i : ℕ) (p : Processor M) → i < count
-    → step_lines rules (count - i) p ≡ line_of (step_of rules p).stepped.what ++ step_lines rules (count - (i + 1)) (after_steps rules 1 p)
+    → step_lines rules (count - i) p ≡ line_of (step_of rules p).stepped.kind ++ step_lines rules (count - (i + 1)) (after_steps rules 1 p)
 unfolding step_lines after_steps
 next_step rules count i p below =
     let left : count - i ≡ suc (count - (i + 1)) = omega arith in

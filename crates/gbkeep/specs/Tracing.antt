@@ -24,7 +24,7 @@ use Rattle.gbkeep.specs.Text.{Call, IsUnwritten}
 -- the lines of the next n steps, the first of them first
 unfoldable pub step_lines : {M : Type 0} → Rules M → ℕ → Processor M → List ℕ
 step_lines rules zero p = []
-step_lines rules (suc n) p = line_of (step_of rules p).stepped.what ++ step_lines rules n (step_of rules p).after
+step_lines rules (suc n) p = line_of (step_of rules p).stepped.kind ++ step_lines rules n (step_of rules p).after
 
 -- of a game that was taken up with so many inputs and this machine, the line of that and those of the next steps
 abbrev pub trace_text : (inputs : ℕ) → MachineState → (steps : ℕ) → List ℕ

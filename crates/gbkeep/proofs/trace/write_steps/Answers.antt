@@ -14,13 +14,13 @@ loop-i-init g c = none_stepped bus_rules _ _ _
 
 pub returns-in-Err-clause-err : goal.returns-in-Err-clause-err
 returns-in-Err-clause-err g c =
-    let text : line_of c.step-stepped.result.what ≡ line_of (step_of bus_rules c.loop-i.debugger.machine.processor).stepped.what = ap (λ (s : Stepped). line_of s.what) c.step-stepped.ensures.stepped in
+    let text : line_of c.step-stepped.result.kind ≡ line_of (step_of bus_rules c.loop-i.debugger.machine.processor).stepped.kind = ap (λ (s : Stepped). line_of s.kind) c.step-stepped.ensures.stepped in
     part_failed _ _ _ _ _ _ _ (next_step bus_rules _ _ _ c.loop-i-test.true) c.loop-i.invariant
     (subst (λ (t : List ℕ). AppendsProperPrefix (g.W.Write.contents c.loop-i.out) (g.W.Write.contents c.write_stepped.new.out) t) text c.in-Err.ensures.err)
 
 pub loop-i-preserved : goal.loop-i-preserved
 loop-i-preserved g c =
-    let text : line_of c.step-stepped.result.what ≡ line_of (step_of bus_rules c.loop-i.debugger.machine.processor).stepped.what = ap (λ (s : Stepped). line_of s.what) c.step-stepped.ensures.stepped in
+    let text : line_of c.step-stepped.result.kind ≡ line_of (step_of bus_rules c.loop-i.debugger.machine.processor).stepped.kind = ap (λ (s : Stepped). line_of s.kind) c.step-stepped.ensures.stepped in
     rw c.step-stepped.ensures.debugger
     (one_more_written _ _ _ _ _ _ _ (next_step bus_rules _ _ _ c.loop-i-test.true) c.loop-i.invariant
     (subst (λ (t : List ℕ). Appends (g.W.Write.contents c.loop-i.out) (g.W.Write.contents c.write_stepped.new.out) t) text c.in_default.ensures.ok))
