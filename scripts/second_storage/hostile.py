@@ -11,7 +11,7 @@ room), shrinks (a save file that another process cuts while it is played), names
 stream is closed, also in a root without /dev), streams (lines as they come, whole, in pieces, wrong ones, pictures, and a kill), injected (a
 system call fails, is cut short, or is the last; needs strace). The status is 1 where anything differs, where gbkeep dies by a signal, or where
 it takes longer than 10 seconds."""
-import fcntl, os, random, re, resource, shutil, signal, subprocess, sys, tempfile, time
+import fcntl, os, random, re, resource, shutil, signal, subprocess, sys, tempfile, threading, time
 import save_files as ref
 from save_files import get, put
 
@@ -762,14 +762,26 @@ def streams(rnd, seed):
     put(SCRIPT, b'')
     right = [one for one in random_script(rnd, 30).split(b'\n') if one] + [b'save', b'picture', b'frame 00']
     stream = subprocess.Popen([GB, 'stream', CART, SAVE], stdin=subprocess.PIPE, stdout=subprocess.PIPE, stderr=subprocess.PIPE)
+    # a line that is not answered before more is read would be waited for without end
+    patience = threading.Timer(10, stream.kill)
+    patience.start()
     report, shown = stream.stdout.readline(), b''
+    answered = report.endswith(b'\n')
     for one in right:
+        if not answered:
+            break
         stream.stdin.write(one + b'\n')
         stream.stdin.flush()
         if one == b'save':
             report += stream.stdout.readline()
+            answered = report.endswith(b'\n')
         elif one == b'picture':
             shown = stream.stdout.read(46093)
+            answered = len(shown) == 46093
+    patience.cancel()
+    if not answered:
+        stream.communicate()
+        return differs('streams', seed, 'a line is not answered before more is read')
     told = int(report.split()[-1])
     if rnd.random() < 0.5:
         stream.send_signal(signal.SIGKILL)
