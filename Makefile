@@ -42,7 +42,7 @@ bin/gbkeep: $(SOURCES)
 build: bin/gbkeep
 
 # each is installed as gbkeep-NAME
-TOOLS := window script rest movie film png
+TOOLS := window script rest movie film branch png
 
 install: bin/gbkeep
 	install -D -m 755 bin/gbkeep $(DESTDIR)$(PREFIX)/bin/gbkeep
@@ -50,7 +50,7 @@ install: bin/gbkeep
 	install -D -m 644 completions/gbkeep.bash $(DESTDIR)$(PREFIX)/share/bash-completion/completions/gbkeep
 	install -d $(DESTDIR)$(PREFIX)/share/gbkeep
 	install -m 755 $(TOOLS:%=players/%.py) $(DESTDIR)$(PREFIX)/share/gbkeep
-	install -m 644 players/faults.py players/gbkeep.py players/timed_game.py $(DESTDIR)$(PREFIX)/share/gbkeep
+	install -m 644 players/faults.py players/gbkeep.py players/timed_game.py players/slots.py players/window_keys.py $(DESTDIR)$(PREFIX)/share/gbkeep
 	for tool in $(TOOLS); do ln -sf ../share/gbkeep/$$tool.py $(DESTDIR)$(PREFIX)/bin/gbkeep-$$tool; done
 
 check:
@@ -137,6 +137,8 @@ test:
 	python3 -B scripts/second_storage/hostile.py $(PROGRAM)/out/gbkeep_program 4 1
 	python3 -B scripts/second_storage/traced.py $(PROGRAM)/out/gbkeep_program 2 1 crates/failed_syncs/out/failed_syncs
 	python3 -B examples/demo/check.py $(PROGRAM)/out/gbkeep_program
+	python3 -B examples/test_roms/check.py
+	python3 -B testers/run.py --gbkeep $(PROGRAM)/out/gbkeep_program examples/test_roms/all.txt
 	python3 -B scripts/second_storage/refused_memory.py $(PROGRAM)/out/gbkeep_program crates/refused_memory/out/refused_memory
 	RT=$(RT) python3 -B scripts/dist.py passed $(PROGRAM)/out/gbkeep_program
 

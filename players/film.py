@@ -1,9 +1,9 @@
 #!/usr/bin/env python3
-"""Plays a script from power-on and writes its pictures as a film without sound, in YUV4MPEG2.
+"""Plays a script or a recording from power-on and writes its pictures as a film without sound, in YUV4MPEG2.
 
 usage: film.py [--from N] [--to N] CART SCRIPT OUT
 
-SCRIPT is a script of gbkeep's or a friendly one (see script.py). OUT is a file or a pipe, `-` standard output; Debian's ffmpeg makes a video of it:
+SCRIPT is a recording of `gbkeep record`, a script of gbkeep's, or a friendly one (see script.py). OUT is a file or a pipe, `-` standard output; Debian's ffmpeg makes a video of it:
 
     film.py game.gb run.txt - | ffmpeg -i - -vf scale=iw*4:ih*4:flags=neighbor run.mp4
 
@@ -14,7 +14,7 @@ import tempfile
 from pathlib import Path
 
 from gbkeep import HEIGHT, WIDTH, Game, Refused
-from script import Wrong, friendly_moves
+from script import Wrong, friendly_moves, is_recording, recorded_moves
 
 # 4,194,304 clocks a second, and 70,224 of them a frame
 HEAD = f'YUV4MPEG2 W{WIDTH} H{HEIGHT} F4194304:70224 Ip A1:1 Cmono XCOLORRANGE=LIMITED\n'.encode()
@@ -67,7 +67,7 @@ def main():
         if is_told:
             print(f'\r{count} frames', end='', file=sys.stderr, flush=True)
     try:
-        moves = friendly_moves(asked.script)
+        moves = recorded_moves(asked.cart, asked.script) if is_recording(asked.script) else friendly_moves(asked.script)
         with tempfile.TemporaryDirectory(prefix='film-') as room:
             with (sys.stdout.buffer if asked.out == '-' else open(asked.out, 'wb')) as out, Game(asked.cart, Path(room) / 'film.sav') as game:
                 shown = write_film(game, moves, out, asked.first, asked.last, tell)

@@ -30,6 +30,8 @@ PICTURE_BYTES = 46_093
 MOST_FRAMES, MOST_SECONDS = 1_000_000, 0xffff_ffff
 # what a pipe takes at once when it takes anything
 PIECE = 4096
+# 2.3 MiB: ten hours of play with ten changes of buttons a second
+RECORDING_SECTORS = 4_800
 
 
 class Refused(Exception):
@@ -91,15 +93,27 @@ def begin(cart, save, program=None):
     run(str(program or find_program()), 'new', str(cart), str(save))
 
 
-class Game:
-    """The game in SAVE, which is begun where there is none. `count` is how many inputs it has been given, `saved` how many of them are saved."""
+def begin_recording(cart, recording, sectors=RECORDING_SECTORS, program=None):
+    """Makes an empty recording in a new file."""
+    run(str(program or find_program()), 'new-recording', str(cart), str(recording), str(sectors))
 
-    def __init__(self, cart, save, program=None):
+
+class Game:
+    """The game in SAVE, which is begun where there is none. `count` is how many inputs it has been given, `saved` how many of them are saved.
+
+    With a RECORDING every input is recorded there before it is saved. It is made where neither it nor SAVE is there; a SAVE without its
+    recording is refused."""
+
+    def __init__(self, cart, save, program=None, recording=None):
         program = str(program or find_program())
         if not os.path.lexists(save):
+            if recording and not os.path.lexists(recording):
+                begin_recording(cart, recording, program=program)
             begin(cart, save, program)
+        words = ['record', '--', str(cart), str(save), str(recording)] if recording else ['stream', '--', str(cart), str(save)]
+        self.command = words[0]
         # a Ctrl-C is for the caller: the program goes on, and saves what is unsaved when it is closed
-        self.process = subprocess.Popen([program, 'stream', '--', str(cart), str(save)], stdin=subprocess.PIPE, stdout=subprocess.PIPE,
+        self.process = subprocess.Popen([program, *words], stdin=subprocess.PIPE, stdout=subprocess.PIPE,
                                         stderr=subprocess.PIPE, bufsize=0, preexec_fn=lambda: signal.signal(signal.SIGINT, signal.SIG_IGN))
         self.input, self.output = self.process.stdin.fileno(), self.process.stdout.fileno()
         self.unread, self.pictures, self.saved, self.resumed = b'', [], None, None
@@ -206,4 +220,4 @@ class Game:
         self.process.stdout.close()
         self.process.stderr.close()
         if of_itself or status != 0:
-            raise Refused(line or f'the program ended with status {status}', 'stream')
+            raise Refused(line or f'the program ended with status {status}', self.command)

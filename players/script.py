@@ -21,7 +21,7 @@ import re
 import sys
 from pathlib import Path
 
-from gbkeep import MOST_FRAMES, MOST_SECONDS, Game, Refused
+from gbkeep import MOST_FRAMES, MOST_SECONDS, Game, Refused, find_program, run
 
 BUTTONS = ['right', 'left', 'up', 'down', 'A', 'B', 'select', 'start']
 MOST_BYTES = 1_048_576
@@ -103,6 +103,21 @@ def own_lines(moves):
                 yield own_line(('frames', move[1], min(MOST_FRAMES, move[2] - done)))
         elif move[0] != 'mark':
             yield own_line(move)
+
+
+# ---- recordings
+
+def is_recording(path):
+    """Whether a file is a recording of `gbkeep record`."""
+    if path == '-' or not Path(path).is_file():
+        return False
+    with open(path, 'rb') as file:
+        return file.read(8) == b'GBKPRECD'
+
+
+def recorded_moves(cart, recording):
+    """The moves that a recording holds, since power-on."""
+    return [own_move(line.split(' ')) for line in run(find_program(), 'recorded', str(cart), str(recording)).splitlines()]
 
 
 # ---- friendly scripts

@@ -25,6 +25,7 @@ from movie import bk2_frames, bk2_of, frames_of, log_frames, moves_of, vbm_frame
 from png import png_of
 from rest import rest_of
 from script import Wrong, friendly_line, friendly_move, friendly_moves, inputs_of, own_lines, own_moves
+from slots import go_back, keep_slot, slot_of
 from timed_game import INPUTS_BETWEEN, TimedGame
 
 CART = DEMO / 'demo.gb'
@@ -390,10 +391,61 @@ def test_film(room):
                                        env=dict(os.environ, GBKEEP=room.program)).stdout[:len(FILM_HEAD) + 6], FILM_HEAD + b'FRAME\n')
 
 
+def test_going_back(room):
+    save = room.path('back.sav')
+    slot, before = slot_of(save), room.path('back.sav.before')
+    with TimedGame(cart_with_clock(room), save, room.program, now=lambda: 1_000) as game:
+        game.frames(A, 100)
+        game.keep()
+        keep_slot(save)
+        kept = save.read_bytes(), room.path('back.sav.time').read_bytes()
+        game.frames(LEFT, 50)
+    with TimedGame(cart_with_clock(room), save, room.program, now=lambda: 2_000) as game:
+        newer = game.keep()
+    expect('the slot', (slot.read_bytes(), room.path('back.sav.slot.time').read_bytes()), kept)
+    replaced = save.read_bytes(), room.path('back.sav.time').read_bytes()
+    go_back(save)
+    expect('back', (save.read_bytes(), room.path('back.sav.time').read_bytes()), kept)
+    expect('what it replaces', (before.read_bytes(), room.path('back.sav.before.time').read_bytes()), replaced)
+    expect('nothing else', sorted(path.name for path in room.folder.glob('back.sav*')),
+           ['back.sav', 'back.sav.before', 'back.sav.before.time', 'back.sav.slot', 'back.sav.slot.time', 'back.sav.time'])
+    with TimedGame(cart_with_clock(room), save, room.program, now=lambda: 3_000) as game:
+        expect('the game of the slot, and the time since', (game.resumed < newer, game.notice), (True, None))
+
+
+def cart_with_clock(room):
+    return room.write('clock.gb', Assembler().assemble(CLOCK))
+
+
+def test_recordings(room):
+    save, recording = room.path('run.sav'), room.path('run.rec')
+    with Game(CART, save, room.program, recording) as game:
+        game.frames(0, 60)
+        game.frames(START, 4)
+        game.save()
+        game.frames(RIGHT, 40)
+    expect('recorded', run(room.program, 'recorded', str(CART), str(recording)), 'frames 00 60\nframes 80 4\nframes 01 40\n')
+    with Game(CART, save, room.program, recording) as game:
+        expect('taken up', game.resumed, 104)
+    expect('agree', run(room.program, 'verify', str(CART), str(save), str(recording)), 'agree 104\n')
+    other, branch = room.path('branch.sav'), room.path('branch.rec')
+    expect('a branch', room.tool(HERE / 'branch.py', CART, recording, '62', other, branch), 'saved 62\n')
+    expect('its inputs', run(room.program, 'recorded', str(CART), str(branch)), 'frames 00 60\nframes 80 2\n')
+    expect('its size', branch.stat().st_size, recording.stat().st_size)
+    expect('a branch over a file', 'is there already' in room.tool(HERE / 'branch.py', CART, recording, '3', other, room.path('new.rec')), True)
+    expect('and nothing is made', room.path('new.rec').exists(), False)
+    expect('too many', 'has 3 inputs fewer' in room.tool(HERE / 'branch.py', CART, recording, '107', room.path('far.sav'), room.path('far.rec')), True)
+    expect('a film', room.tool(HERE / 'film.py', '--from', '100', CART, recording, room.path('run.y4m')), '')
+    expect('its size', room.path('run.y4m').stat().st_size, len(FILM_HEAD) + 5 * (6 + 160 * 144))
+    with Game(CART, save, room.program) as game:
+        game.frame(A)
+    expect('played by another command', refusal(lambda: Game(CART, save, room.program, recording)), 'gbkeep: recording behind, 104 inputs')
+
+
 def main():
     if len(sys.argv) != 2:
         sys.exit(__doc__)
-    tests = [test_game, test_refusals, test_slots, test_friendly, test_check, test_rest, test_clock, test_movies, test_film]
+    tests = [test_game, test_refusals, test_slots, test_friendly, test_check, test_rest, test_clock, test_movies, test_film, test_going_back, test_recordings]
     with tempfile.TemporaryDirectory(prefix='players-') as folder:
         for test in tests:
             test(Room(os.path.abspath(sys.argv[1]), folder))

@@ -1,6 +1,7 @@
 #!/usr/bin/env python3
 """Plays the demo cartridge in the window with real key events, on a display of its own, and kills it in the middle of play. Then it looks at
-what the window shows: a pause, a saved picture, running fast, a fault, a notice about the clock; and ends it by Ctrl-C.
+what the window shows: a pause, a saved picture, running fast, a fault, a notice about the clock, a slot, the keys, another palette, full screen; and
+ends it by Ctrl-C.
 
 usage: test_window.py [GBKEEP [PICTURE]]    PICTURE: where a picture of the whole window goes, as PNG
 
@@ -89,8 +90,13 @@ class Player:
         self.screen, self.save = screen, save
         self.process = subprocess.Popen([sys.executable, '-B', HERE / 'window.py', '--gbkeep', gbkeep, cart, save], env=screen.env,
                                         start_new_session=True, stdout=subprocess.PIPE, stderr=subprocess.STDOUT, text=True)
-        self.window = self.wait(lambda: screen.do('search', '--class', 'gbkeep').split(), 'no window came up')[0]
-        screen.do('windowfocus', self.window)
+        self.window = None
+        self.find()
+
+    def find(self):
+        """Takes the window that there is."""
+        self.window = self.wait(lambda: self.screen.do('search', '--class', 'gbkeep').split(), 'no window came up')[0]
+        self.screen.do('windowfocus', self.window)
 
     def wait(self, what, or_else, seconds=20):
         until = time.monotonic() + seconds
@@ -104,7 +110,7 @@ class Player:
         sys.exit(f'{or_else}; the title is {self.title()!r}')
 
     def title(self):
-        return self.screen.do('getwindowname', self.window).strip()
+        return '' if self.window is None else self.screen.do('getwindowname', self.window).strip()
 
     def until_titled(self, words):
         self.wait(lambda: words in self.title(), f'the title never had {words!r}')
@@ -290,6 +296,39 @@ def look_at_clock(open_window, screen, room, gbkeep):
     print('shown: what the clock is given')
 
 
+def look_at_slot(open_window, screen, save):
+    """A slot, going back to it, the list of keys, another palette, and full screen."""
+    player = open_window(save)
+    kept = player.until_saved(120)
+    screen.keys('key', 'F5')
+    slot = Path(f'{save}.slot')
+    player.wait(slot.exists, 'F5 left no slot')
+    player.until_words(True, 'after F5')
+    player.until_words(False, 'two seconds after F5')
+    later = player.until_saved(kept + 240)
+    screen.keys('key', 'F9')
+    player.wait(lambda: kept <= player.saved() < later, 'F9 did not go back')
+    if not Path(f'{save}.before').exists():
+        sys.exit('F9 did not keep what it replaced')
+    player.until_words(False, 'two seconds after F9')
+    screen.keys('key', 'F1')
+    player.until_words(True, 'after F1')
+    screen.keys('key', 'x')
+    player.until_words(False, 'after a key')
+    screen.keys('key', 'F2')
+    player.wait(lambda: {colour for row in player.pixels() for colour in row} <= {(shade,) * 3 for shade in (0, 0x55, 0xaa, 0xff)}, 'F2 showed no greys')
+    screen.keys('key', 'F11')
+    time.sleep(0.5)
+    player.find()
+    player.wait(lambda: screen.shot(0, 0, 1, 1)[0][0] == (0, 0, 0) and len(set(screen.shot(0, 300, 800, 1)[0])) > 2, 'F11 did not fill the screen')
+    screen.keys('key', 'F11')
+    time.sleep(0.5)
+    player.find()
+    player.until_saved(kept + 300)
+    player.close()
+    print('shown: a slot, going back, keys, a palette, full screen')
+
+
 def main():
     needs()
     gbkeep = Path(sys.argv[1] if len(sys.argv) > 1 else HERE.parent / 'bin/gbkeep').resolve()
@@ -304,6 +343,7 @@ def main():
             play_and_kill(open_window, screen, room / 'demo.sav', sys.argv[2] if len(sys.argv) > 2 else None)
             look(open_window, screen, room / 'look.sav', gbkeep)
             look_at_clock(open_window, screen, room, gbkeep)
+            look_at_slot(open_window, screen, room / 'slot.sav')
         finally:
             for player in players:
                 if player.process.poll() is None:

@@ -45,10 +45,10 @@ class TimedGame(Game):
 
     `now` gives the seconds since 1970."""
 
-    def __init__(self, cart, save, program=None, now=time.time):
+    def __init__(self, cart, save, program=None, now=time.time, recording=None):
         self.header, self.now, self.time, self.notice = header_of(cart, program), now, SaveTime(save), None
         is_new = not os.path.lexists(save)
-        super().__init__(cart, save, program)
+        super().__init__(cart, save, program, recording)
         self.given_until = int(now())
         if self.header.has_clock():
             if not is_new:

@@ -8,12 +8,14 @@ import definitions, functools, os, pty, re, select, shutil, subprocess, sys, tem
 from pathlib import Path
 
 FAULT_FILES = ['crates/cartridge/src/error.rt', 'crates/sector_device/src/device.rt', 'crates/script/src/error.rt', 'crates/session/src/error.rt',
-               'crates/streaming/src/error.rt']
+               'crates/streaming/src/error.rt', 'crates/recording/src/fault.rt', 'crates/replaying/src/error.rt', 'crates/recorded_play/src/error.rt']
 FAULT_LINES, COMMANDS, LINES = 'crates/gbkeep/src/fault.rt', 'crates/command_line/specs/Commands.antt', 'crates/script/specs/Line.antt'
 README, MANUAL, MAN, COMPLETION, MAKE, TOOLS = 'README.md', 'docs/COMMANDS.md', 'docs/gbkeep.1', 'completions/gbkeep.bash', 'Makefile', 'players/faults.py'
+PLAYERS, TESTERS = 'docs/PLAYING.md', 'docs/TESTING_ROMS.md'
 WORDS, ARCHITECTURE = 'crates/command_line/src/words.rt', 'docs/ARCHITECTURE.md'
-# a library's answers: the program stops at the call that breaks a session, and saves before 3,200 inputs are unsaved
-NOT_OF_THE_PROGRAM = {'broken, open it again', 'save first'}
+# a library's answers: the program stops at the call that breaks a session or a recording, saves before 3,200 inputs are unsaved, and makes a
+# recording only in a new file
+NOT_OF_THE_PROGRAM = {'broken, open it again', 'save first', 'not blank'}
 OPTIONS = {'--help', '--version', '-h', '-V', '--'}
 
 
@@ -27,15 +29,20 @@ def faults_of(texts):
                for one in re.findall(r'#\[error\("([^"]+)"', one)}
     found = {one for one in found - damaged if not one.startswith('{')}
     found = (found - {'damaged {0}'}) | {f'damaged {one}' for one in damaged if 'damaged {0}' in found}
-    return {re.sub(r'\{\w+\}', 'N', re.sub(r'\{\d:02X\}', 'XX', one)) for one in found} - NOT_OF_THE_PROGRAM
+    return {with_n(re.sub(r'\{\d:02X\}', 'XX', one)) for one in found} - NOT_OF_THE_PROGRAM
+
+
+def with_n(text):
+    """A text with N for each number of sectors, inputs, .. in it."""
+    return re.sub(r'\{\w+\}|(?<=, )2(?= sectors)', 'N', text)
 
 
 def commands_of(texts):
     """Each command with its operands and the ranges of its numbers."""
     found = {}
-    for name, made in re.findall(r'^(\w+) = (.*\(codes "\1"\).*|over_save \(codes "\w+"\))$', texts[COMMANDS], re.M):
-        operands = ['CART'] + ['SAVE'] * ('over_save' in made) + re.findall(r'\((?:operand|number|optional_number) \(codes "(\w+)"\)', made)
-        optional = re.findall(r'\(optional_number \(codes "(\w+)"\)', made)
+    for made, name in re.findall(r'^\w+ = (.*over_(?:cart|save) \(codes "([\w-]+)"\).*)$', texts[COMMANDS], re.M):
+        operands = ['CART'] + ['SAVE'] * ('over_save' in made) + re.findall(r'\((?:operand|number|optional_number|new_rule) \(codes "(\w+)"\)', made)
+        optional = re.findall(r'\((?:optional_number|new_rule) \(codes "(\w+)"\)', made)
         ranges = [f'{int(least):,} to {int(most):,}' for least, most in re.findall(r'\) (\d+) (\d+)\)', made)]
         found[name] = (tuple(f'[{one}]' if one in optional else one for one in operands), tuple(ranges))
     return found
@@ -167,8 +174,8 @@ def walks(text):
 
 
 def parted(head):
-    """The faults of an entry: `too small, N sectors needed` is one, and several may stand in a row."""
-    return [head] if head.startswith('too small') else head.split(', ')
+    """The faults of an entry: `too small, N sectors needed` is one, as `recording behind, N inputs` is, and several may stand in a row."""
+    return [head] if head.startswith(('too small', 'recording behind')) else head.split(', ')
 
 
 def deletions(texts):
@@ -185,11 +192,11 @@ def deletions(texts):
             yield MAN, entry, ''
     for name in commands_of(texts):
         yield COMPLETION, f'{name} ' if f'{name} ' in texts[COMPLETION] else name, ''
-        yield COMMANDS, re.search(r'^%s = .*\n' % name, texts[COMMANDS], re.M)[0], ''
+        yield COMMANDS, re.search(r'^\w+ = .*over_(?:cart|save) \(codes "%s"\).*\n' % name, texts[COMMANDS], re.M)[0], ''
     for path in FAULT_FILES:
         for line in re.findall(r'^ *#\[error\("[^"{][^"]*"\)\]\n', texts[path], re.M):
             # a line that another crate's table has too is not gone
-            if sum(texts[other].count(line.strip()) for other in FAULT_FILES) == 1 and not re.search('|'.join(NOT_OF_THE_PROGRAM), line):
+            if sum(with_n(texts[other]).count(with_n(line.strip())) for other in FAULT_FILES) == 1 and not re.search('|'.join(NOT_OF_THE_PROGRAM), line):
                 text = re.search(r'"(.*)"', line)[1]
                 if f'gbkeep: {text}' not in texts[FAULT_LINES] and f'gbkeep: {re.sub(r"{.*", "", text)}' not in texts[FAULT_LINES]:
                     yield path, line, ''
@@ -231,7 +238,7 @@ def shell(room, line, **more):
 
 def clone(room, program):
     """What of the clone the blocks need, with this program at bin/gbkeep."""
-    for path in ('README.md', 'Makefile', 'crates.txt', 'examples', 'players', 'docs', 'completions'):
+    for path in ('README.md', 'Makefile', 'crates.txt', 'examples', 'players', 'testers', 'docs', 'completions'):
         copy = shutil.copytree if os.path.isdir(path) else shutil.copy
         copy(path, os.path.join(room, path))
     os.makedirs(os.path.join(room, 'bin'))
@@ -242,7 +249,7 @@ def clone(room, program):
 
 def run_blocks(program, texts):
     wrong, count = [], 0
-    for page in (README, MANUAL):
+    for page in (README, MANUAL, PLAYERS, TESTERS):
         for block in blocks(texts[page]):
             with tempfile.TemporaryDirectory(prefix='front-') as room:
                 clone(room, program)
@@ -275,7 +282,7 @@ def run_helps(program, texts):
 
     def said(*words):
         return subprocess.run([program, *words], capture_output=True, text=True).stdout
-    listed = re.findall(r'^  (\w+) ', re.search(r'Commands:\n(.*?)\n\n', said('--help'), re.S)[1], re.M)
+    listed = re.findall(r'^  ([\w-]+) ', re.search(r'Commands:\n(.*?)\n\n', said('--help'), re.S)[1], re.M)
     wrong += compared('gbkeep --help', 'command', listed, {*commands, 'help'})
     for name, (operands, _) in commands.items():
         usage = re.search(r'^Usage: gbkeep (.*)$', said(name, '--help'), re.M)[1]
@@ -292,7 +299,7 @@ def installed(room):
     """`make install`, and each tool that it installs."""
     status, got = shell(room, 'make install PREFIX=inst')
     wrong = [f'make install: {got}'] if status != 0 else []
-    for path in ('bin/gbkeep', 'bin/gbkeep-window', 'bin/gbkeep-script', 'bin/gbkeep-rest', 'bin/gbkeep-movie', 'bin/gbkeep-film', 'share/man/man1/gbkeep.1',
+    for path in ('bin/gbkeep', 'bin/gbkeep-window', 'bin/gbkeep-script', 'bin/gbkeep-rest', 'bin/gbkeep-movie', 'bin/gbkeep-film', 'bin/gbkeep-branch', 'share/man/man1/gbkeep.1',
                  'share/bash-completion/completions/gbkeep', 'share/gbkeep/gbkeep.py'):
         if not os.path.exists(os.path.join(room, 'inst', path)):
             wrong.append(f'make install leaves no {path}')
@@ -327,7 +334,7 @@ def completes_names(room, texts):
 
 
 def main():
-    texts = {path: Path(path).read_text() for path in [README, MANUAL, MAN, COMPLETION, MAKE, TOOLS, COMMANDS, LINES, FAULT_LINES, WORDS, ARCHITECTURE, *FAULT_FILES]}
+    texts = {path: Path(path).read_text() for path in [README, MANUAL, PLAYERS, TESTERS, MAN, COMPLETION, MAKE, TOOLS, COMMANDS, LINES, FAULT_LINES, WORDS, ARCHITECTURE, *FAULT_FILES]}
     wrong, seen = differences(texts), 0
     for path, piece, left in deletions(texts) if not wrong else []:
         seen += 1

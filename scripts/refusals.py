@@ -24,12 +24,13 @@ def sources(crate):
 
 
 def public_calls(text):
-    """The calls of a file that anybody may make, as (name, head, contract)."""
+    """The calls of a file that anybody may make, as (name, head, contract); that of a method begins with its type."""
     for found in re.finditer(r'^( *)pub (?:const )?fn (\w+)(.*?)^\1\{', text, re.S | re.M):
-        yield found[2], *parted(found[3])
-    for trait in re.finditer(r'^pub trait .*?^\}', text, re.S | re.M):
+        types = re.findall(r'^impl\b(?:<[^>]*>)? (?:.* for )?(\w+)', text[:found.start()], re.M) if found[1] else []
+        yield '::'.join([*types[-1:], found[2]]), *parted(found[3])
+    for trait in re.finditer(r'^pub trait (\w+).*?^\}', text, re.S | re.M):
         for found in re.finditer(r'^    fn (\w+)(.*?);$', trait[0], re.S | re.M):
-            yield found[1], *parted(found[2])
+            yield f'{trait[1]}::{found[1]}', *parted(found[2])
 
 
 def parted(words):
@@ -48,6 +49,14 @@ def parts_of(texts, crate):
         for name, body in re.findall(r'^pub struct (\w+)[^{]*\{(.*?)^\}', text, re.S | re.M):
             behind.update({name: why for why in re.findall(r'^    pub why: (\w+)', body, re.M)})
     return enums, behind
+
+
+def definitions_in(text):
+    """A file of definitions, in which a variant has its own name throughout."""
+    for given in re.findall(r'\.TheVariants\.\{([^}]*)\}', text):
+        for own, other in re.findall(r'(\w+) as (\w+)', given):
+            text = re.sub(rf'\b{other}\b', own, text)
+    return text
 
 
 def equations_of(definitions):
@@ -111,8 +120,9 @@ class Call:
         told = re.sub(r'\bIs\w+ [\w.]+ →', '→', contract)
         cans = [can for used in re.findall(r'\bIs\w+', told) for can in [possible(used, equations, self.variants)] if can is not None]
         self.can = set.intersection(*cans) if cans else self.variants if len(self.variants) == 1 else None
-        self.order = [one for one in answered(bodies, name) if one in (self.can or self.variants)]
-        self.calls = calls_of(bodies, name)
+        own = name.rpartition('::')[2]
+        self.order = [one for one in answered(bodies, own) if one in (self.can or self.variants)]
+        self.calls = calls_of(bodies, own)
 
 
 class Sources:
@@ -123,7 +133,7 @@ class Sources:
                       for name in re.findall(r'#\[test\]\nfn (\w+)', text)}
         parts = [parts_of(self.texts, crate) for crate in self.crates]
         enums = {name: variants for one, _ in parts for name, variants in one.items()}
-        equations = {crate: equations_of(''.join(path.read_text() for path in sorted((Path('crates') / crate / 'specs').glob('*.antt')))) for crate in self.crates}
+        equations = {crate: equations_of(''.join(definitions_in(path.read_text()) for path in sorted((Path('crates') / crate / 'specs').glob('*.antt')))) for crate in self.crates}
         self.calls, self.others = {}, 0
         for crate, (_, own) in zip(self.crates, parts):
             # what hands something back may be another crate's
@@ -143,8 +153,8 @@ class Sources:
 
 # ---- the comparison
 
-# a variant that holds the refusals of a call below, which a row writes as 'those of' that call
-HOLDS_OTHERS = {'Session', 'Stream'}
+# the variants that hold the refusals of a call below, which a row writes as 'those of' that call
+HOLDS_OTHERS = {'Recording', 'Save', 'Session', 'Stream'}
 
 
 def named(refusals):
@@ -157,7 +167,7 @@ def wanted_of(key, known):
     call = known.calls[key]
     if key == ('whole_lives', 'live') or call.can is None and not call.order and not call.variants & HOLDS_OTHERS:
         return None
-    wanted = (call.can if call.can is not None else call.variants if call.variants & HOLDS_OTHERS else set(call.order)) - HOLDS_OTHERS
+    wanted = (call.can if call.can is not None else set(call.order) or call.variants) - HOLDS_OTHERS
     # a play and a stream make moves, which stop for reasons of their own
     return wanted | known.calls['playing', 'make_move'].can if key[1] in ('play', 'stream') and 'make_move' in call.calls else wanted
 
@@ -166,7 +176,7 @@ def differences(table, known):
     rows = re.findall(r'^\| `(\w+)::(\S+)` \| (.*) \| (.*) \| (.*) \|$', table, re.M)
     wrong, seen = [], []
     for crate, full, refusals, clauses, shown in rows:
-        key, at = (crate, full.rpartition('::')[2]), f'{crate}::{full}'
+        key, at = (crate, full), f'{crate}::{full}'
         seen.append((crate, full))
         if key not in known.calls:
             wrong.append(f'{at} is no public call that returns a Result')
@@ -192,14 +202,14 @@ def differences(table, known):
             wrong += [f'{at}: its contract has no clause {one}' for one in sorted(told - call.clauses)]
         found = re.findall(r'`([\w:]+)`', shown)
         wrong += [f'{at}: no test {one}' for one in found if one not in known.tests] + ([] if found else [f'{at}: no test'])
-    wrong += [f'{crate}::{name} returns a Result and has no row' for crate, name in sorted(set(known.calls) - {(crate, full.rpartition('::')[2]) for crate, full in seen})]
+    wrong += [f'{crate}::{name} returns a Result and has no row' for crate, name in sorted(set(known.calls) - set(seen))]
     return wrong + [f'{crate}::{full} has {seen.count((crate, full))} rows' for crate, full in sorted(set(seen)) if seen.count((crate, full)) > 1]
 
 
 def spoilt(table, known):
     """The table with one thing gone, altered or turned round, each time, and what that is."""
     for crate, full, rest in re.findall(r'^\| `(\w+)::(\S+)` (\| .* \|)$', table, re.M):
-        line, call = f'| `{crate}::{full}` {rest}', known.calls[crate, full.rpartition('::')[2]]
+        line, call = f'| `{crate}::{full}` {rest}', known.calls[crate, full]
         yield f'{full} is gone', table.replace(line + '\n', '', 1)
         yield f'{full} is there twice', table.replace(line, f'{line}\n{line}', 1)
         for column, cell in enumerate(rest.strip('| ').split(' | ')):
@@ -208,8 +218,9 @@ def spoilt(table, known):
                 if names.count(name) > 1:
                     continue
                 yield f'{full} has {name}x', table.replace(line, line.replace(cell, cell.replace(f'`{name}`', f'`{name}x`')), 1)
-                # of several clauses or tests the others are still in the sources
-                if (column == 0 or len(names) == 1) and full != 'live':
+                # of several clauses or tests the others are still in the sources, and so are of several calls that a row points to
+                pointed = re.findall(r'those of `(\w+)`', cell)
+                if (column == 0 and not (name in pointed and len(pointed) > 1) or len(names) == 1) and full != 'live':
                     yield f'{full} lacks {name}', table.replace(line, line.replace(cell, re.sub(r'(those of )?`%s`' % name, '', cell, count=1), 1), 1)
                 if column == 0 and at > 0 and {name, names[at - 1]} <= set(call.order) and full != 'live':
                     turned = cell.replace(f'`{name}`', '``').replace(f'`{names[at - 1]}`', f'`{name}`').replace('``', f'`{names[at - 1]}`')

@@ -7,11 +7,13 @@ answer only a line of its own for want of memory, and the game in SAVE is as it 
 anything differs. What refuses is a library that is loaded before the C library, made here by the C compiler; where there is none,
 nothing is tried."""
 import os, shutil, subprocess, sys, tempfile
+import recordings
 import save_files as ref
 from save_files import get, put
 
 ROOM = tempfile.mkdtemp(prefix='refused-')
 CART, SAVE, NEW, SCRIPT, OUT, TOLD = (os.path.join(ROOM, name) for name in ('rom.gb', 'game.save', 'new.save', 'moves.script', 'out.pgm', 'told'))
+PAIR, RECORDING = os.path.join(ROOM, 'pair.save'), os.path.join(ROOM, 'pair.recording')     # a game and its recording
 # The count is of requests of the program, after the library is loaded. TOLD is made where one was refused.
 SOURCE = r'''
 #define _GNU_SOURCE
@@ -95,19 +97,27 @@ def commands(gbkeep, loaded):
     put(SCRIPT, b'frames 01 2\nsave\nseconds 3\nsave\nframe 02\n')
     subprocess.run([gbkeep, 'new', CART, SAVE, '188'], check=True, capture_output=True)
     subprocess.run([gbkeep, 'play', CART, SAVE, SCRIPT], check=True, capture_output=True)
-    image = get(SAVE)
-    before = count_of(image, cart)
+    subprocess.run([gbkeep, 'new', CART, PAIR, '188'], check=True, capture_output=True)
+    subprocess.run([gbkeep, 'new-recording', CART, RECORDING, '4'], check=True, capture_output=True)
+    subprocess.run([gbkeep, 'record', CART, PAIR, RECORDING], check=True, capture_output=True, input=LINES)
+    kept = {path: get(path) for path in (SAVE, PAIR, RECORDING)}
     for words in (['--help'], ['info', CART], ['list', CART, '100', '9'], ['step', CART, '9'], ['new', CART, NEW, '188'],
-                  ['play', CART, SAVE, SCRIPT], ['frame', CART, SAVE, OUT], ['stream', CART, SAVE], ['trace', CART, SAVE, '9']):
+                  ['play', CART, SAVE, SCRIPT], ['frame', CART, SAVE, OUT], ['stream', CART, SAVE], ['trace', CART, SAVE, '9'],
+                  ['new-recording', CART, NEW, '3'], ['record', CART, PAIR, RECORDING], ['recorded', CART, RECORDING], ['verify', CART, PAIR, RECORDING]):
         whole, answers, number = None, {}, 0
+        save = PAIR if PAIR in words else SAVE
+        before = count_of(kept[save], cart)
         for number in range(0, 100000):
-            put(SAVE, image)
+            for path, image in kept.items():
+                put(path, image)
             if os.path.exists(NEW):
                 os.remove(NEW)
             got, is_refused = refusing(loaded, [gbkeep] + words, number)
             whole = whole or got
             told = [int(one.split()[1]) for one in got[1].split(b'\n')[:-1] if one.startswith((b'resumed', b'saved'))]
-            count = count_of(get(SAVE), cart)
+            count = count_of(get(save), cart)
+            if len(recordings.Recording(get(RECORDING), cart).inputs) < count_of(get(PAIR), cart):
+                differs('%s, allocation %d: the recording is behind' % (words[0], number))
             if not max([before] + told) <= count <= before + 4:
                 differs('%s, allocation %d: %d inputs, %d told' % (words[0], number, count, max([before] + told)))
             if number and not is_refused:

@@ -165,8 +165,8 @@ def snapshot_of(image, root):
     return bytes(image[at:at + root['length']])
 
 
-def looked_at(image, cart):
-    """Count, entries and chosen root of a game that can be taken up; else why not, as the program says it."""
+def looked_at(image, cart, is_resumed=True):
+    """Count, chosen root and entries of a game that can be taken up, or only be looked at; else why not, as the program says it."""
     root = chosen_root(image)
     if root is None:
         raise Refused('no session')
@@ -183,7 +183,7 @@ def looked_at(image, cart):
         raise Refused('damaged snapshot')
     if None in counts:
         raise Refused('damaged entry %d' % counts.index(None))
-    if root['generation'] == MOST:
+    if is_resumed and root['generation'] == MOST:
         raise Refused('generations used up')
     return count, root, entries
 

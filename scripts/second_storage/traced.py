@@ -5,10 +5,12 @@ usage: traced.py GBKEEP [GAMES [SEED [FAILED_SYNCS]]]    FAILED_SYNCS is the bui
 It needs Debian's package strace. No clause can say that the program's file calls are those that a FileDevice notes: this shows that each write has the
 offset and the bytes that the second writer has (but for the snapshots of machines that were given inputs, which have their places and lengths), in its
 order, and that each sync of the record is an fsync of the file, before any line that tells of it goes out. `new`, `play`, `stream` and `frame` are
-followed. Of a device that has had a sync fail it shows that each later one fails too, without a call of the file."""
+followed, and `new-recording` and `record` with both of their files: the recording is synced before the save file is written. Of a device that has had a sync fail it shows that each later one fails too, without a call of the file."""
 import os, random, re, shutil, subprocess, sys, tempfile
 sys.argv, words = sys.argv[:1], sys.argv[1:]
 import hostile
+import recorded
+import recordings
 import save_files as ref
 from save_files import get, put
 
@@ -65,14 +67,48 @@ class Recorded(ref.Game):
         self.calls.append('saved %d\n' % self.count)
 
 
+class Pair(Recorded, recordings.RecordedGame):
+    """A game and its recording, whose calls are noted in one order; those of the recording begin with R."""
+
+    def __init__(self, image, recording, cart):
+        recordings.RecordedGame.__init__(self, image, recording, cart)
+        self.calls = []
+
+    def resume(self):
+        ref.Game.resume(self)
+
+    def take_up(self):
+        # both files as they are attached, and both as they are opened
+        self.calls += ['sync', 'R sync', 'sync', 'R sync']
+        recordings.RecordedGame.take_up(self)
+        self.calls.append('resumed %d\n' % self.count)
+
+    def save(self):
+        before = len(self.recording.writes)
+        self.recording.append(self.pending)
+        for one in self.recording.writes[before:]:
+            self.calls.append('R sync' if one == 'sync' else ('R', one[0] * 512, one[1]))
+        ref.Game.save(self)
+        self.calls.append('saved %d\n' % self.count)
+
+
+class NewRecording:
+    """The calls of `new-recording`."""
+
+    def __init__(self, sectors, cart):
+        self.calls = [('R', at * 512, bytes(512)) for at in range(sectors)]
+        # the file, its entry in the folder, and before it is looked at
+        self.calls += ['R sync', 'sync of the folder', 'R sync', ('R', 0, recordings.head_of(cart)), 'R sync', 'begun 0\n']
+
+
 def unescaped(text):
     return bytes.fromhex(text.replace('\\x', ''))
 
 
-def calls_of(trace, save):
-    """What a trace shows of the save file and of standard output, in order."""
-    calls, fd, folder, at = [], None, None, 0
-    hidden = ['"%s"' % ''.join('\\x%02x' % byte for byte in path.encode()) for path in (save, os.path.dirname(save))]
+def calls_of(trace, save, other=recorded.RECORDING):
+    """What a trace shows of the save file, of the recording and of standard output, in order."""
+    calls, fd, folder, at, second = [], None, None, 0, None
+    hidden = ['"%s"' % ''.join('\\x%02x' % byte for byte in path.encode()) for path in (save, os.path.dirname(save), other)]
     for row in open(trace):
         found = CALL.match(row)
         if not found:
@@ -80,6 +116,8 @@ def calls_of(trace, save):
         name, words, answer = found[1], found[2], int(found[3])
         if name == 'openat' and hidden[0] in words and answer >= 0:
             fd = answer
+        elif name == 'openat' and hidden[2] in words and answer >= 0:
+            second = answer
         elif name == 'openat' and hidden[1] in words and answer >= 0:
             folder = answer
         elif name in ('write', 'pwrite64') and answer >= 0:
@@ -89,6 +127,10 @@ def calls_of(trace, save):
                 place = int(rest[0].rpartition(', ')[2]) if name == 'pwrite64' else at
                 calls.append((place, data))
                 at = place + len(data)
+            elif int(to) == second:
+                if name != 'pwrite64':
+                    sys.exit('a write without a place: ' + row)
+                calls.append(('R', int(rest[0].rpartition(', ')[2]), data))
             elif int(to) == 1:
                 calls.append(data.decode())
         elif name == 'lseek' and words.split(',')[0] == str(fd):
@@ -99,6 +141,10 @@ def calls_of(trace, save):
             if answer != 0:
                 sys.exit('a sync failed: ' + row)
             calls.append('sync')
+        elif name in ('fsync', 'fdatasync') and words == str(second):
+            if answer != 0:
+                sys.exit('a sync failed: ' + row)
+            calls.append('R sync')
         elif name == 'fsync' and words == str(folder):
             if answer != 0:
                 sys.exit('a sync failed: ' + row)
@@ -107,11 +153,13 @@ def calls_of(trace, save):
             fd = None
         elif name == 'close' and words == str(folder):
             folder = None
+        elif name == 'close' and words == str(second):
+            second = None
     return calls
 
 
 def is_same(got, want):
-    if isinstance(want, str) or isinstance(got, str):
+    if isinstance(want, str) or isinstance(got, str) or 'R' in (want[0], got[0]):
         return got == want
     return got[0] == want[0] and (len(got[1]) == 512 if want[1] is None else got[1] == want[1])
 
@@ -153,6 +201,27 @@ def game(rnd):
         want.play(ref.moves_of(script))
         last = {'play': [hostile.SCRIPT], 'stream': [], 'frame': [hostile.OUT]}[command]
         shown += compare([command, hostile.CART, hostile.SAVE, *last], want, script if command == 'stream' else b'')
+    return shown + recorded_game(rnd, cart)
+
+
+def recorded_game(rnd, cart):
+    """A new game with its recording, recorded in pieces, once with a recording that is ahead."""
+    hostile.gone(hostile.SAVE), hostile.gone(recorded.RECORDING)
+    sectors = rnd.choice([3, 60])
+    shown = compare(['new-recording', hostile.CART, recorded.RECORDING, str(sectors)], NewRecording(sectors, cart))
+    hostile.gbkeep('new', hostile.CART, hostile.SAVE)
+    for turn in range(3):
+        before = get(hostile.SAVE)
+        script = hostile.random_script(rnd, rnd.choice([0, 30, 300]))
+        want = Pair(before, get(recorded.RECORDING), cart)
+        try:
+            want.take_up()
+            want.play(ref.moves_of(script))
+        except ref.Refused:
+            return shown
+        shown += compare(['record', hostile.CART, hostile.SAVE, recorded.RECORDING], want, script)
+        if turn == 1:
+            put(hostile.SAVE, before)
     return shown
 
 

@@ -63,3 +63,12 @@ number_is E G least most word r read only small passed =
     let got = signed_reads E G 32 least most word r read only small passed in
     let writes : Writes word got.0 = (passed.0, value_of E G least most word got.0 (subst (ReadsOne G (without_minus word)) got.1 read) only passed) in
     subst (λ (o : Option ℕ). IsSomeAnd o (WritesWithin least most word)) (sym got.1) (writes, got.2, got.3)
+
+-- an operand that was left out
+pub no_operand_is : (found : Found) (id : Word) (r : Option (Bor Word)) → option_map (λ s. s.now) r ≡ first_value found id
+    → first_of id (rows_of found) ≡ None → r ≡ None
+no_operand_is found id r given holds = go r (given ∙ first_value-rows found id ∙ holds)
+  where
+    go : (o : Option (Bor Word)) → option_map (λ s. s.now) o ≡ None → o ≡ None
+    go None e = refl
+    go (Some s) e = cc

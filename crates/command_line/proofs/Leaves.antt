@@ -14,6 +14,7 @@ use Rattle.std.specs.Prelude.{pos}
 use Rattle.clap.specs.declared.builder.value_parser.ValueParser.TheVariants.{Signed}
 use Rattle.clap.specs.Walk.{Held, Row, Text, finished, nothing_held, rows_after, settled, walked}
 use Rattle.command_line.specs.Commands.{IsFrameRow, IsInfoRow, IsListRow, IsNewRow, IsPlayRow, IsStepRow, IsStreamRow, IsTraceRow, frame, gbkeep, info, list, new, play, step, stream, trace}
+use Rattle.command_line.specs.Commands.{IsTestRow, IsNewRecordingRow, IsRecordRow, IsRecordedRow, IsVerifyRow, test_rom, new_recording, record_game, recorded, verify}
 use Rattle.command_line.specs.Words.{operands_of}
 use Rattle.command_line.proofs.Walks.{Fails, Follows, at, follows, first_fails, is_plain_rule}
 
@@ -223,3 +224,118 @@ stream_wants [] none = absurd (refuses none)
 stream_wants (first ∷ []) none = absurd (refuses none)
 stream_wants (first ∷ second ∷ []) none = (first, second, refl, refl, refl)
 stream_wants (first ∷ second ∷ more ∷ rest) none = absurd (refuses none)
+
+-- `test`
+pub test_rom_is_plain : list_all is_plain_rule (leaf test_rom).rules ≡ true
+test_rom_is_plain = refl
+
+test_rom_short_fault : (first second : Text) → leaf_fault (leaf test_rom) (first ∷ second ∷ []) ≡ value_kinds false (Signed (pos 1) (pos 1000000)) second
+unfolding walked walk_fault defaults_fault
+test_rom_short_fault first second = or_nothing _ ∙ or_nothing _
+
+pub test_rom_short_passes : (first second : Text) → Accepts false (Signed (pos 1) (pos 1000000)) second → leaf_fault (leaf test_rom) (first ∷ second ∷ []) ≡ []
+test_rom_short_passes first second h = test_rom_short_fault first second ∙ no_kinds (Signed (pos 1) (pos 1000000)) second (Accepts-accepts false (Signed (pos 1) (pos 1000000)) second h)
+
+test_rom_fault : (first second third : Text) → leaf_fault (leaf test_rom) (first ∷ second ∷ third ∷ []) ≡ value_kinds false (Signed (pos 1) (pos 1000000)) second
+unfolding walked walk_fault defaults_fault
+test_rom_fault first second third = or_nothing _ ∙ or_nothing _ ∙ or_nothing _
+
+pub test_rom_passes : (first second third : Text) → Accepts false (Signed (pos 1) (pos 1000000)) second → leaf_fault (leaf test_rom) (first ∷ second ∷ third ∷ []) ≡ []
+test_rom_passes first second third h = test_rom_fault first second third ∙ no_kinds (Signed (pos 1) (pos 1000000)) second (Accepts-accepts false (Signed (pos 1) (pos 1000000)) second h)
+
+first_nothing : (k l : Kinds) → or_else k l ≡ [] → k ≡ []
+first_nothing [] l none = refl
+first_nothing (y ∷ k) l none = absurd (refuses none)
+
+later_nothing : (k l : Kinds) → or_else k l ≡ [] → l ≡ []
+later_nothing [] l none = none
+later_nothing (y ∷ k) l none = absurd (refuses none)
+
+pub test_rom_wants : Wants (leaf test_rom) IsTestRow
+unfolding walked walk_fault defaults_fault
+test_rom_wants [] none = absurd (refuses none)
+test_rom_wants (first ∷ []) none = absurd (refuses none)
+test_rom_wants (first ∷ second ∷ []) none =
+    inr (first, second, refl, refl, (refl, accepts-Accepts false (Signed (pos 1) (pos 1000000)) second (kinds_of (Signed (pos 1) (pos 1000000)) second (sym (test_rom_short_fault first second) ∙ none))), refl)
+test_rom_wants (first ∷ second ∷ third ∷ []) none =
+    inl (first, second, third, refl, refl, (refl, accepts-Accepts false (Signed (pos 1) (pos 1000000)) second (kinds_of (Signed (pos 1) (pos 1000000)) second (sym (test_rom_fault first second third) ∙ none))), refl)
+test_rom_wants (first ∷ second ∷ third ∷ more ∷ rest) none = absurd (refuses (later_nothing (or_else (value_kinds false (Signed (pos 1) (pos 1000000)) second) []) _ (first_nothing (walk_fault (leaf test_rom) [] (at [] None 1 true) (first ∷ second ∷ third ∷ more ∷ rest)) _ none)))
+
+-- `new-recording`
+pub new_recording_is_plain : list_all is_plain_rule (leaf new_recording).rules ≡ true
+new_recording_is_plain = refl
+
+new_recording_fault : (first second third : Text) → leaf_fault (leaf new_recording) (first ∷ second ∷ third ∷ []) ≡ value_kinds false (Signed (pos 1) (pos 65536)) third
+unfolding walked walk_fault defaults_fault
+new_recording_fault first second third = or_nothing _ ∙ or_nothing _
+
+pub new_recording_passes : (first second third : Text) → Accepts false (Signed (pos 1) (pos 65536)) third → leaf_fault (leaf new_recording) (first ∷ second ∷ third ∷ []) ≡ []
+new_recording_passes first second third h = new_recording_fault first second third ∙ no_kinds (Signed (pos 1) (pos 65536)) third (Accepts-accepts false (Signed (pos 1) (pos 65536)) third h)
+
+pub new_recording_wants : Wants (leaf new_recording) IsNewRecordingRow
+unfolding walked walk_fault defaults_fault
+new_recording_wants [] none = absurd (refuses none)
+new_recording_wants (first ∷ []) none = absurd (refuses none)
+new_recording_wants (first ∷ second ∷ []) none = absurd (refuses none)
+new_recording_wants (first ∷ second ∷ third ∷ []) none =
+    (first, second, third, refl, refl, refl, (refl, accepts-Accepts false (Signed (pos 1) (pos 65536)) third (kinds_of (Signed (pos 1) (pos 65536)) third (sym (new_recording_fault first second third) ∙ none))))
+new_recording_wants (first ∷ second ∷ third ∷ more ∷ rest) none = absurd (refuses none)
+
+-- `record`
+pub record_game_is_plain : list_all is_plain_rule (leaf record_game).rules ≡ true
+record_game_is_plain = refl
+
+record_game_fault : (first second third : Text) → leaf_fault (leaf record_game) (first ∷ second ∷ third ∷ []) ≡ []
+unfolding walked walk_fault defaults_fault
+record_game_fault first second third = refl
+
+pub record_game_passes : (first second third : Text) → leaf_fault (leaf record_game) (first ∷ second ∷ third ∷ []) ≡ []
+record_game_passes first second third = record_game_fault first second third
+
+pub record_game_wants : Wants (leaf record_game) IsRecordRow
+unfolding walked walk_fault defaults_fault
+record_game_wants [] none = absurd (refuses none)
+record_game_wants (first ∷ []) none = absurd (refuses none)
+record_game_wants (first ∷ second ∷ []) none = absurd (refuses none)
+record_game_wants (first ∷ second ∷ third ∷ []) none =
+    (first, second, third, refl, refl, refl, refl)
+record_game_wants (first ∷ second ∷ third ∷ more ∷ rest) none = absurd (refuses none)
+
+-- `recorded`
+pub recorded_is_plain : list_all is_plain_rule (leaf recorded).rules ≡ true
+recorded_is_plain = refl
+
+recorded_fault : (first second : Text) → leaf_fault (leaf recorded) (first ∷ second ∷ []) ≡ []
+unfolding walked walk_fault defaults_fault
+recorded_fault first second = refl
+
+pub recorded_passes : (first second : Text) → leaf_fault (leaf recorded) (first ∷ second ∷ []) ≡ []
+recorded_passes first second = recorded_fault first second
+
+pub recorded_wants : Wants (leaf recorded) IsRecordedRow
+unfolding walked walk_fault defaults_fault
+recorded_wants [] none = absurd (refuses none)
+recorded_wants (first ∷ []) none = absurd (refuses none)
+recorded_wants (first ∷ second ∷ []) none =
+    (first, second, refl, refl, refl)
+recorded_wants (first ∷ second ∷ more ∷ rest) none = absurd (refuses none)
+
+-- `verify`
+pub verify_is_plain : list_all is_plain_rule (leaf verify).rules ≡ true
+verify_is_plain = refl
+
+verify_fault : (first second third : Text) → leaf_fault (leaf verify) (first ∷ second ∷ third ∷ []) ≡ []
+unfolding walked walk_fault defaults_fault
+verify_fault first second third = refl
+
+pub verify_passes : (first second third : Text) → leaf_fault (leaf verify) (first ∷ second ∷ third ∷ []) ≡ []
+verify_passes first second third = verify_fault first second third
+
+pub verify_wants : Wants (leaf verify) IsVerifyRow
+unfolding walked walk_fault defaults_fault
+verify_wants [] none = absurd (refuses none)
+verify_wants (first ∷ []) none = absurd (refuses none)
+verify_wants (first ∷ second ∷ []) none = absurd (refuses none)
+verify_wants (first ∷ second ∷ third ∷ []) none =
+    (first, second, third, refl, refl, refl, refl)
+verify_wants (first ∷ second ∷ third ∷ more ∷ rest) none = absurd (refuses none)

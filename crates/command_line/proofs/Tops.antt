@@ -21,11 +21,13 @@ use Rattle.clap.specs.declared.error.kind.ErrorKind.TheVariants.{OutOfMemory}
 use Rattle.clap.specs.declared.parser.matches.ArgMatches.{ArgMatches}
 use Rattle.clap.proofs.WalkLemmas.{walk_stopped}
 use Rattle.command_line.specs.Commands.{IsFrameRow, IsInfoRow, IsListRow, IsNewRow, IsPlayRow, IsMatched, IsRead, IsStepRow, IsStreamRow, IsTraceRow, frame, gbkeep, info, list, new, play, step, stream, trace}
+use Rattle.command_line.specs.Commands.{IsTestRow, IsNewRecordingRow, IsRecordRow, IsRecordedRow, IsVerifyRow, test_rom, new_recording, record_game, recorded, verify}
 use Rattle.command_line.specs.Words.{AsksFor, AskForSome, IsAnswer, IsCommand, Word, WritesWithin, is_option, operands_of}
 use Rattle.command_line.specs.declared.Request.{Request}
-use Rattle.command_line.specs.declared.Request.TheVariants.{Info, List as Listing, Step as Steps, New, Play, Frame, Trace, Stream}
+use Rattle.command_line.specs.declared.Request.TheVariants.{Info, List as Listing, Step as Steps, New, Play, Frame, Trace, Stream, Test, NewRecording, Record, Recorded, Verify}
 use Rattle.command_line.proofs.Leaves.{Wants, fault_is, leaf, leaf_fault, or_nothing, refused_without, rows_are}
 use Rattle.command_line.proofs.Leaves.{info_is_plain, info_passes, info_wants, list_is_plain, list_passes, list_wants, step_is_plain, step_passes, step_wants, new_is_plain, new_passes, new_unsized_passes, new_wants, play_is_plain, play_passes, play_wants, frame_is_plain, frame_passes, frame_wants, trace_is_plain, trace_passes, trace_wants, stream_is_plain, stream_passes, stream_wants}
+use Rattle.command_line.proofs.Leaves.{test_rom_is_plain, test_rom_passes, test_rom_wants, test_rom_short_passes, new_recording_is_plain, new_recording_passes, new_recording_wants, record_game_is_plain, record_game_passes, record_game_wants, recorded_is_plain, recorded_passes, recorded_wants, verify_is_plain, verify_passes, verify_wants}
 use Rattle.command_line.proofs.Walks.{Classified, Fails, classify, dashes, first_fails, is_plain_rule, later_fails, option_fails, value_met}
 
 abbrev top : Shape
@@ -120,6 +122,21 @@ trace_known = record { met = refl; is_not_help = refl; found = refl; named = ref
 stream_known : IsNameOf (codes "stream") (leaf stream)
 stream_known = record { met = refl; is_not_help = refl; found = refl; named = refl }
 
+test_rom_known : IsNameOf (codes "test") (leaf test_rom)
+test_rom_known = record { met = refl; is_not_help = refl; found = refl; named = refl }
+
+new_recording_known : IsNameOf (codes "new-recording") (leaf new_recording)
+new_recording_known = record { met = refl; is_not_help = refl; found = refl; named = refl }
+
+record_game_known : IsNameOf (codes "record") (leaf record_game)
+record_game_known = record { met = refl; is_not_help = refl; found = refl; named = refl }
+
+recorded_known : IsNameOf (codes "recorded") (leaf recorded)
+recorded_known = record { met = refl; is_not_help = refl; found = refl; named = refl }
+
+verify_known : IsNameOf (codes "verify") (leaf verify)
+verify_known = record { met = refl; is_not_help = refl; found = refl; named = refl }
+
 -- ---- a word that is no command
 
 abbrev NoCommand : Text → Type 0
@@ -192,7 +209,22 @@ trace_reads : (program : Text) (rest : List Text) → Reads program rest (codes 
 trace_reads = read_as _ (leaf trace) trace_known trace_is_plain IsTraceRow trace_wants (λ rows operands row. inr (inr (inr (inr (inr (inr (inl (refl, row))))))))
 
 stream_reads : (program : Text) (rest : List Text) → Reads program rest (codes "stream")
-stream_reads = read_as _ (leaf stream) stream_known stream_is_plain IsStreamRow stream_wants (λ rows operands row. inr (inr (inr (inr (inr (inr (inr (refl, row))))))))
+stream_reads = read_as _ (leaf stream) stream_known stream_is_plain IsStreamRow stream_wants (λ rows operands row. inr (inr (inr (inr (inr (inr (inr (inl (refl, row)))))))))
+
+test_rom_reads : (program : Text) (rest : List Text) → Reads program rest (codes "test")
+test_rom_reads = read_as _ (leaf test_rom) test_rom_known test_rom_is_plain IsTestRow test_rom_wants (λ rows operands row. inr (inr (inr (inr (inr (inr (inr (inr (inl (refl, row))))))))))
+
+new_recording_reads : (program : Text) (rest : List Text) → Reads program rest (codes "new-recording")
+new_recording_reads = read_as _ (leaf new_recording) new_recording_known new_recording_is_plain IsNewRecordingRow new_recording_wants (λ rows operands row. inr (inr (inr (inr (inr (inr (inr (inr (inr (inl (refl, row)))))))))))
+
+record_game_reads : (program : Text) (rest : List Text) → Reads program rest (codes "record")
+record_game_reads = read_as _ (leaf record_game) record_game_known record_game_is_plain IsRecordRow record_game_wants (λ rows operands row. inr (inr (inr (inr (inr (inr (inr (inr (inr (inr (inl (refl, row))))))))))))
+
+recorded_reads : (program : Text) (rest : List Text) → Reads program rest (codes "recorded")
+recorded_reads = read_as _ (leaf recorded) recorded_known recorded_is_plain IsRecordedRow recorded_wants (λ rows operands row. inr (inr (inr (inr (inr (inr (inr (inr (inr (inr (inr (inl (refl, row)))))))))))))
+
+verify_reads : (program : Text) (rest : List Text) → Reads program rest (codes "verify")
+verify_reads = read_as _ (leaf verify) verify_known verify_is_plain IsVerifyRow verify_wants (λ rows operands row. inr (inr (inr (inr (inr (inr (inr (inr (inr (inr (inr (inr (refl, row)))))))))))))
 
 -- a word is a name, or it is tried with the others
 case_of : (name word : Text) (P : Text → Type 0) → P name → (bytes_eq name word ≡ false → P word) → P word
@@ -213,8 +245,13 @@ reads word program rest =
     case_of (codes "frame") word P (frame_reads program rest) (λ not_frame.
     case_of (codes "trace") word P (trace_reads program rest) (λ not_trace.
     case_of (codes "stream") word P (stream_reads program rest) (λ not_stream.
+    case_of (codes "test") word P (test_rom_reads program rest) (λ not_test_rom.
+    case_of (codes "new-recording") word P (new_recording_reads program rest) (λ not_new_recording.
+    case_of (codes "record") word P (record_game_reads program rest) (λ not_record_game.
+    case_of (codes "recorded") word P (recorded_reads program rest) (λ not_recorded.
+    case_of (codes "verify") word P (verify_reads program rest) (λ not_verify.
     case_of (codes "help") word P (λ none. absurd (help_fails program rest none)) (λ not_help.
-    λ none. absurd (unknown_fails word program rest (rw (not_info, not_list, not_step, not_new, not_play, not_frame, not_trace, not_stream, not_help) refl) none))))))))))
+    λ none. absurd (unknown_fails word program rest (rw (not_info, not_list, not_step, not_new, not_play, not_frame, not_trace, not_stream, not_test_rom, not_new_recording, not_record_game, not_recorded, not_verify, not_help) refl) none)))))))))))))))
 
 understood : (words : List Text) → fault_of gbkeep words ≡ [] → IsRead words (subcommand_of gbkeep words)
 understood [] none = absurd (no_words [] (inl refl) none)
@@ -247,6 +284,18 @@ asked words (Trace cart save count) (number, command, within) =
     command_passes _ (leaf trace) trace_known trace_is_plain words _ (trace_passes cart.now save.now number (accepted 1 1024 count number within (omega arith))) command
 asked words (Stream cart save) command =
     command_passes _ (leaf stream) stream_known stream_is_plain words _ (stream_passes cart.now save.now) command
+asked words (Test cart frames None) (number, command, within) =
+    command_passes _ (leaf test_rom) test_rom_known test_rom_is_plain words _ (test_rom_short_passes cart.now number (accepted 1 1000000 frames number within (omega arith))) command
+asked words (Test cart frames (Some script)) (number, command, within) =
+    command_passes _ (leaf test_rom) test_rom_known test_rom_is_plain words _ (test_rom_passes cart.now number script.now (accepted 1 1000000 frames number within (omega arith))) command
+asked words (NewRecording cart recording sectors) (number, command, within) =
+    command_passes _ (leaf new_recording) new_recording_known new_recording_is_plain words _ (new_recording_passes cart.now recording.now number (accepted 1 65536 sectors number within (omega arith))) command
+asked words (Record cart save recording) command =
+    command_passes _ (leaf record_game) record_game_known record_game_is_plain words _ (record_game_passes cart.now save.now recording.now) command
+asked words (Recorded cart recording) command =
+    command_passes _ (leaf recorded) recorded_known recorded_is_plain words _ (recorded_passes cart.now recording.now) command
+asked words (Verify cart save recording) command =
+    command_passes _ (leaf verify) verify_known verify_is_plain words _ (verify_passes cart.now save.now recording.now) command
 
 -- ---- what `clap` answers
 

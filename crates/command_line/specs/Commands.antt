@@ -56,6 +56,21 @@ trace = with_rule (over_save (codes "trace")) (number (codes "COUNT") 1 1024)
 abbrev pub stream : App
 stream = over_save (codes "stream")
 
+abbrev pub test_rom : App
+test_rom = with_rule (with_rule (over_cart (codes "test")) (number (codes "FRAMES") 1 1000000)) (new_rule (codes "SCRIPT"))
+
+abbrev pub new_recording : App
+new_recording = with_rule (with_rule (over_cart (codes "new-recording")) (operand (codes "RECORDING"))) (number (codes "SECTORS") 1 65536)
+
+abbrev pub record_game : App
+record_game = with_rule (over_save (codes "record")) (operand (codes "RECORDING"))
+
+abbrev pub recorded : App
+recorded = with_rule (over_cart (codes "recorded")) (operand (codes "RECORDING"))
+
+abbrev pub verify : App
+verify = with_rule (over_save (codes "verify")) (operand (codes "RECORDING"))
+
 abbrev pub bare : App
 bare = let named = new_app (codes "gbkeep") in record named { top = record named.top { has_version = true; subcommand_required = true } }
 
@@ -63,9 +78,17 @@ bare = let named = new_app (codes "gbkeep") in record named { top = record named
 abbrev pub without_sessions : App
 without_sessions = with_subcommand (with_subcommand (with_subcommand (with_subcommand bare info.top) list.top) step.top) new.top
 
+-- and those over a game
+abbrev pub with_sessions : App
+with_sessions = with_subcommand (with_subcommand (with_subcommand (with_subcommand without_sessions play.top) frame.top) trace.top) stream.top
+
+-- and those over a recording
+abbrev pub with_recordings : App
+with_recordings = with_subcommand (with_subcommand (with_subcommand (with_subcommand with_sessions new_recording.top) record_game.top) recorded.top) verify.top
+
 -- the whole program's
 abbrev pub gbkeep : App
-gbkeep = with_subcommand (with_subcommand (with_subcommand (with_subcommand without_sessions play.top) frame.top) trace.top) stream.top
+gbkeep = with_subcommand with_recordings test_rom.top
 
 -- a command that `clap` reads so, none of whose operands is global
 pub record Reads (app : App) (command : Command) : Type 0 where
@@ -89,6 +112,10 @@ HasNumber rows id least most word = (one_of id rows ≡ Some (without_minus word
 -- it was left out
 abbrev pub HasNoNumber : List Row → Word → Type 0
 HasNoNumber rows id = one_of id rows ≡ None
+
+-- no such operand is there
+abbrev pub HasNoOperand : List Row → Word → Type 0
+HasNoOperand rows id = first_of id rows ≡ None
 
 abbrev pub IsInfoRow : List Row → List Word → Type 0
 IsInfoRow rows operands = (first : Word) × (operands ≡ first ∷ []) × HasOperand rows (codes "CART") first
@@ -129,6 +156,34 @@ abbrev pub IsStreamRow : List Row → List Word → Type 0
 IsStreamRow rows operands = (first second : Word) × (operands ≡ first ∷ second ∷ [])
     × HasOperand rows (codes "CART") first × HasOperand rows (codes "SAVE") second
 
+-- `test` with its last operand, and without
+abbrev pub IsTestFullRow : List Row → List Word → Type 0
+IsTestFullRow rows operands = (first second third : Word) × (operands ≡ first ∷ second ∷ third ∷ [])
+    × HasOperand rows (codes "CART") first × HasNumber rows (codes "FRAMES") 1 1000000 second × HasOperand rows (codes "SCRIPT") third
+
+abbrev pub IsTestShortRow : List Row → List Word → Type 0
+IsTestShortRow rows operands = (first second : Word) × (operands ≡ first ∷ second ∷ [])
+    × HasOperand rows (codes "CART") first × HasNumber rows (codes "FRAMES") 1 1000000 second × HasNoOperand rows (codes "SCRIPT")
+
+abbrev pub IsTestRow : List Row → List Word → Type 0
+IsTestRow rows operands = IsTestFullRow rows operands ⊎ IsTestShortRow rows operands
+
+abbrev pub IsNewRecordingRow : List Row → List Word → Type 0
+IsNewRecordingRow rows operands = (first second third : Word) × (operands ≡ first ∷ second ∷ third ∷ [])
+    × HasOperand rows (codes "CART") first × HasOperand rows (codes "RECORDING") second × HasNumber rows (codes "SECTORS") 1 65536 third
+
+abbrev pub IsRecordRow : List Row → List Word → Type 0
+IsRecordRow rows operands = (first second third : Word) × (operands ≡ first ∷ second ∷ third ∷ [])
+    × HasOperand rows (codes "CART") first × HasOperand rows (codes "SAVE") second × HasOperand rows (codes "RECORDING") third
+
+abbrev pub IsRecordedRow : List Row → List Word → Type 0
+IsRecordedRow rows operands = (first second : Word) × (operands ≡ first ∷ second ∷ [])
+    × HasOperand rows (codes "CART") first × HasOperand rows (codes "RECORDING") second
+
+abbrev pub IsVerifyRow : List Row → List Word → Type 0
+IsVerifyRow rows operands = (first second third : Word) × (operands ≡ first ∷ second ∷ third ∷ [])
+    × HasOperand rows (codes "CART") first × HasOperand rows (codes "SAVE") second × HasOperand rows (codes "RECORDING") third
+
 -- this command was named, with these operands, and its matches hold them
 abbrev pub IsMatched : Word → List Row → List Word → Type 0
 IsMatched name rows operands = ((name ≡ codes "info") × IsInfoRow rows operands)
@@ -139,6 +194,11 @@ IsMatched name rows operands = ((name ≡ codes "info") × IsInfoRow rows operan
     ⊎ ((name ≡ codes "frame") × IsFrameRow rows operands)
     ⊎ ((name ≡ codes "trace") × IsTraceRow rows operands)
     ⊎ ((name ≡ codes "stream") × IsStreamRow rows operands)
+    ⊎ ((name ≡ codes "test") × IsTestRow rows operands)
+    ⊎ ((name ≡ codes "new-recording") × IsNewRecordingRow rows operands)
+    ⊎ ((name ≡ codes "record") × IsRecordRow rows operands)
+    ⊎ ((name ≡ codes "recorded") × IsRecordedRow rows operands)
+    ⊎ ((name ≡ codes "verify") × IsVerifyRow rows operands)
 
 -- the words are a command with its operands, and the matches of a subcommand hold them
 abbrev pub IsRead : List Word → Option (Word × List Row) → Type 0

@@ -7,7 +7,7 @@ use Rattle.clap.specs.Words.{kind_of}
 use Rattle.clap.specs.declared.error.Error.{Error}
 use Rattle.clap.specs.declared.error.kind.ErrorKind.TheVariants.{OutOfMemory}
 use Rattle.command_line.specs.declared.Request.{Request}
-use Rattle.command_line.specs.declared.Request.TheVariants.{Info, List as Listing, Step, New, Play, Frame, Trace, Stream}
+use Rattle.command_line.specs.declared.Request.TheVariants.{Info, List as Listing, Step, New, Play, Frame, Trace, Stream, Test, NewRecording, Record, Recorded, Verify}
 
 -- a word, as its bytes
 abbrev pub Word : Type 0
@@ -55,6 +55,15 @@ AsksFor words (Frame cart save out) = IsCommand words (codes "frame") (cart.now 
 AsksFor words (Trace cart save count) =
     (number : Word) × IsCommand words (codes "trace") (cart.now ∷ save.now ∷ number ∷ []) × WritesWithin 1 1024 number count
 AsksFor words (Stream cart save) = IsCommand words (codes "stream") (cart.now ∷ save.now ∷ [])
+AsksFor words (Test cart frames None) =
+    (number : Word) × IsCommand words (codes "test") (cart.now ∷ number ∷ []) × WritesWithin 1 1000000 number frames
+AsksFor words (Test cart frames (Some script)) =
+    (number : Word) × IsCommand words (codes "test") (cart.now ∷ number ∷ script.now ∷ []) × WritesWithin 1 1000000 number frames
+AsksFor words (NewRecording cart recording sectors) =
+    (number : Word) × IsCommand words (codes "new-recording") (cart.now ∷ recording.now ∷ number ∷ []) × WritesWithin 1 65536 number sectors
+AsksFor words (Record cart save recording) = IsCommand words (codes "record") (cart.now ∷ save.now ∷ recording.now ∷ [])
+AsksFor words (Recorded cart recording) = IsCommand words (codes "recorded") (cart.now ∷ recording.now ∷ [])
+AsksFor words (Verify cart save recording) = IsCommand words (codes "verify") (cart.now ∷ save.now ∷ recording.now ∷ [])
 
 -- the words ask for some request
 abbrev pub AskForSome : List Word → Type 0

@@ -6,8 +6,9 @@
 ghost use Rattle.std.specs.Prelude.{◌≡◌, ◌<◌, ◌^◌, ℕ, List, None, Ok, codes, map};
 ghost use Rattle.std.specs.Option.{IsSomeAnd};
 ghost use Rattle.clap.specs.Words.{FailsBy, fault_of, found_of, rows_of, subcommand_rows_of};
-ghost use Rattle.command_line.specs.Commands.{HasNoNumber, HasNumber, HasOperand, IsFrameRow, IsInfoRow, IsListRow, IsMatched, IsRead};
+ghost use Rattle.command_line.specs.Commands.{HasNoNumber, HasNoOperand, HasNumber, HasOperand, IsFrameRow, IsInfoRow, IsListRow, IsMatched, IsRead};
 ghost use Rattle.command_line.specs.Commands.{IsNewRow, IsPlayRow, IsStepRow, IsStreamRow, IsTraceRow, gbkeep};
+ghost use Rattle.command_line.specs.Commands.{IsTestRow, IsNewRecordingRow, IsRecordRow, IsRecordedRow, IsVerifyRow};
 ghost use Rattle.command_line.specs.Words.{IsAnswer, IsCommand, Word, WritesWithin};
 
 mod words;
@@ -63,6 +64,35 @@ pub enum Request<'a> {
         cart: &'a str,
         save: &'a str,
     },
+    /// Runs a cartridge from power-on for `frames` frames, 1 to 1,000,000, or until it says that it is done.
+    Test {
+        cart: &'a str,
+        frames: u32,
+        script: Option<&'a str>,
+    },
+    /// Makes an empty recording of `sectors` sectors, 1 to 65,536, in a new file.
+    NewRecording {
+        cart: &'a str,
+        recording: &'a str,
+        sectors: u32,
+    },
+    /// Plays the lines of the input on the game in a file, as they come, and records each input.
+    Record {
+        cart: &'a str,
+        save: &'a str,
+        recording: &'a str,
+    },
+    /// Prints the inputs of a recording as a script.
+    Recorded {
+        cart: &'a str,
+        recording: &'a str,
+    },
+    /// Compares the game in a file with its recording, played again from power-on.
+    Verify {
+        cart: &'a str,
+        save: &'a str,
+        recording: &'a str,
+    },
 }
 
 /// The request that the words make, of which the first is the program's own name.
@@ -101,6 +131,11 @@ fn named_request<'a>(name: &str, values: &ArgMatches<'a>) -> Option<Request<'a>>
         "frame" => frame(values),
         "trace" => trace(values),
         "stream" => stream(values),
+        "test" => test_rom(values),
+        "new-recording" => new_recording(values),
+        "record" => record_game(values),
+        "recorded" => recorded(values),
+        "verify" => verify(values),
         _ => None,
     }
 }
@@ -108,6 +143,14 @@ fn named_request<'a>(name: &str, values: &ArgMatches<'a>) -> Option<Request<'a>>
 /// An operand, as it was given.
 fn operand<'a>(values: &ArgMatches<'a>, id: &str) -> Option<&'a str>
     ensures { (word : Word) → HasOperand (rows_of (found_of values.now)) id.now word → IsSomeAnd result (λ s. s.now ≡ word) }
+{
+    values.get_str(id)
+}
+
+/// An operand, as it was given. `None`: it was left out.
+fn optional_operand<'a>(values: &ArgMatches<'a>, id: &str) -> Option<&'a str>
+    ensures none { HasNoOperand (rows_of (found_of values.now)) id.now → result ≡ None }
+    ensures some { (word : Word) → HasOperand (rows_of (found_of values.now)) id.now word → IsSomeAnd result (λ s. s.now ≡ word) }
 {
     values.get_str(id)
 }
@@ -202,5 +245,59 @@ fn stream<'a>(values: &ArgMatches<'a>) -> Option<Request<'a>>
     Some(Request::Stream {
         cart: operand(values, "CART")?,
         save: operand(values, "SAVE")?,
+    })
+}
+
+fn test_rom<'a>(values: &ArgMatches<'a>) -> Option<Request<'a>>
+    ensures { (words operands : List Word) → IsCommand words (codes "test") operands
+        → IsTestRow (rows_of (found_of values.now)) operands → IsAnswer words (Ok result) }
+{
+    Some(Request::Test {
+        cart: operand(values, "CART")?,
+        frames: number(values, "FRAMES")?,
+        script: optional_operand(values, "SCRIPT"),
+    })
+}
+
+fn new_recording<'a>(values: &ArgMatches<'a>) -> Option<Request<'a>>
+    ensures { (words operands : List Word) → IsCommand words (codes "new-recording") operands
+        → IsNewRecordingRow (rows_of (found_of values.now)) operands → IsAnswer words (Ok result) }
+{
+    Some(Request::NewRecording {
+        cart: operand(values, "CART")?,
+        recording: operand(values, "RECORDING")?,
+        sectors: number(values, "SECTORS")?,
+    })
+}
+
+fn record_game<'a>(values: &ArgMatches<'a>) -> Option<Request<'a>>
+    ensures { (words operands : List Word) → IsCommand words (codes "record") operands
+        → IsRecordRow (rows_of (found_of values.now)) operands → IsAnswer words (Ok result) }
+{
+    Some(Request::Record {
+        cart: operand(values, "CART")?,
+        save: operand(values, "SAVE")?,
+        recording: operand(values, "RECORDING")?,
+    })
+}
+
+fn recorded<'a>(values: &ArgMatches<'a>) -> Option<Request<'a>>
+    ensures { (words operands : List Word) → IsCommand words (codes "recorded") operands
+        → IsRecordedRow (rows_of (found_of values.now)) operands → IsAnswer words (Ok result) }
+{
+    Some(Request::Recorded {
+        cart: operand(values, "CART")?,
+        recording: operand(values, "RECORDING")?,
+    })
+}
+
+fn verify<'a>(values: &ArgMatches<'a>) -> Option<Request<'a>>
+    ensures { (words operands : List Word) → IsCommand words (codes "verify") operands
+        → IsVerifyRow (rows_of (found_of values.now)) operands → IsAnswer words (Ok result) }
+{
+    Some(Request::Verify {
+        cart: operand(values, "CART")?,
+        save: operand(values, "SAVE")?,
+        recording: operand(values, "RECORDING")?,
     })
 }

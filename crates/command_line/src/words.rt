@@ -2,6 +2,7 @@
 ghost use Rattle.std.specs.Prelude.{IfOk, codes};
 ghost use Rattle.command_line.specs.Commands.{Reads, ReadsOperand, number, operand, over_cart, over_save};
 ghost use Rattle.command_line.specs.Commands.{bare, frame, gbkeep, info, list, new, play, step, stream, trace, without_sessions};
+ghost use Rattle.command_line.specs.Commands.{test_rom, new_recording, record_game, recorded, verify, with_sessions, with_recordings};
 
 use clap::{Arg, Command, value_parser};
 use std::alloc::{AllocError, Global};
@@ -28,6 +29,24 @@ const STREAM_LINES: &str = "Lines of the standard input:
 
 pub(crate) fn command<'a>(alloc: Global) -> Result<Command<'a>, AllocError>
     ensures { IfOk result (Reads gbkeep) }
+{
+    with_recordings(alloc)?.subcommand(test_rom(alloc)?)
+}
+
+/// So, and with those over a recording.
+fn with_recordings<'a>(alloc: Global) -> Result<Command<'a>, AllocError>
+    ensures { IfOk result (Reads with_recordings) }
+{
+    with_sessions(alloc)?
+        .subcommand(new_recording(alloc)?)?
+        .subcommand(record_game(alloc)?)?
+        .subcommand(recorded(alloc)?)?
+        .subcommand(verify(alloc)?)
+}
+
+/// The program with the commands over a game.
+fn with_sessions<'a>(alloc: Global) -> Result<Command<'a>, AllocError>
+    ensures { IfOk result (Reads with_sessions) }
 {
     without_sessions(alloc)?
         .subcommand(play(alloc)?)?
@@ -173,4 +192,89 @@ fn stream<'a>(alloc: Global) -> Result<Command<'a>, AllocError>
     )?
     .after_help(STREAM_LINES);
     Ok(lines)
+}
+
+fn test_rom<'a>(alloc: Global) -> Result<Command<'a>, AllocError>
+    ensures { IfOk result (Reads test_rom) }
+{
+    let frames = word(alloc, "FRAMES", "The most frames").value_parser(value_parser!(u32).range(
+        1..=1_000_000,
+    ));
+    let script = Arg::new(alloc, "SCRIPT").help(
+        "The file of moves, a line each, that are made first",
+    );
+    over_cart(
+        alloc,
+        "test",
+        "Runs a test ROM from power-on until it says that it is done",
+    )?
+    .arg(frames)?
+    .arg(script)
+}
+
+fn new_recording<'a>(alloc: Global) -> Result<Command<'a>, AllocError>
+    ensures { IfOk result (Reads new_recording) }
+{
+    let sectors = word(
+        alloc,
+        "SECTORS",
+        "How many sectors of 512 bytes the file has",
+    )
+    .value_parser(value_parser!(u32).range(1..=65_536));
+    over_cart(
+        alloc,
+        "new-recording",
+        "Makes a new file for every input of a game since power-on",
+    )?
+    .arg(word(
+        alloc,
+        "RECORDING",
+        "The file that keeps every input since power-on",
+    ))?
+    .arg(sectors)
+}
+
+fn record_game<'a>(alloc: Global) -> Result<Command<'a>, AllocError>
+    ensures { IfOk result (Reads record_game) }
+{
+    over_save(
+        alloc,
+        "record",
+        "Resumes a game as stream does, and records each input before it is saved",
+    )?
+    .arg(word(
+        alloc,
+        "RECORDING",
+        "The file that keeps every input since power-on",
+    ))
+}
+
+fn recorded<'a>(alloc: Global) -> Result<Command<'a>, AllocError>
+    ensures { IfOk result (Reads recorded) }
+{
+    over_cart(
+        alloc,
+        "recorded",
+        "Prints the inputs of a recording as a script",
+    )?
+    .arg(word(
+        alloc,
+        "RECORDING",
+        "The file that keeps every input since power-on",
+    ))
+}
+
+fn verify<'a>(alloc: Global) -> Result<Command<'a>, AllocError>
+    ensures { IfOk result (Reads verify) }
+{
+    over_save(
+        alloc,
+        "verify",
+        "Plays a recording again from power-on and compares it with the game",
+    )?
+    .arg(word(
+        alloc,
+        "RECORDING",
+        "The file that keeps every input since power-on",
+    ))
 }

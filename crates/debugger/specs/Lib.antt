@@ -2,5 +2,6 @@ pub mod History
 pub mod Listing
 pub mod Run
 pub mod Report
+pub mod Registers
 -- what only the code needs
 pub mod Marks

@@ -7,10 +7,12 @@
 
 pub mod debugger;
 mod listing;
+pub mod registers;
 pub mod stepped;
 pub mod stop;
 
 pub use debugger::Debugger;
 pub use exact_text::OutputFailed;
+pub use registers::{RegisterLine, register_line};
 pub use stepped::write_stepped;
 pub use stop::Stop;

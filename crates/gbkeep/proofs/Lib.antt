@@ -3,3 +3,4 @@ pub mod HeaderLines
 pub mod Plays
 pub mod Traces
 pub mod StreamTexts
+pub mod RecordTexts

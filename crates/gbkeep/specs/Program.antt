@@ -2,14 +2,14 @@
 use Rattle.std.specs.Prelude.{◌≡◌, ◌≤◌, ◌↔◌, ◌≢◌, ◌⊎◌, ℕ, List, codes, Option, None, Some, Result, Ok, Err, ⊤, Bool, true, false}
 use Rattle.std.specs.Io.KnownBytes.{Appends, Keeps}
 use Rattle.exact_text.specs.Written.{AppendsProperPrefix}
-use Rattle.cartridge.specs.Accepted.{refusal_of}
+use Rattle.cartridge.specs.Accepted.{IsAccepted, refusal_of}
 use Rattle.clap.specs.Words.{HasKind, fault_of, kind_of}
 use Rattle.clap.specs.declared.error.kind.ErrorKind.{ErrorKind}
 use Rattle.clap.specs.declared.error.kind.ErrorKind.TheVariants.{DisplayHelp, DisplayVersion, OutOfMemory}
 use Rattle.command_line.specs.Commands.{gbkeep as command}
 use Rattle.command_line.specs.Words.{AsksFor, AskForSome, Word as WordText}
 use Rattle.command_line.specs.declared.Request.{Request}
-use Rattle.command_line.specs.declared.Request.TheVariants.{Info, List as Listing, Step, New, Play, Frame, Trace, Stream}
+use Rattle.command_line.specs.declared.Request.TheVariants.{Info, List as Listing, Step, New, Play, Frame, Trace, Stream, NewRecording, Record, Recorded, Verify, Test}
 use Rattle.session.specs.declared.error.SessionError.TheVariants.{Memory as GameMemory, Device as GameDevice, NoSession as GameNoSession, OtherCartridge as GameOtherCartridge, Worn as GameWorn, Broken as GameBroken, SaveFirst as GameSaveFirst, CountFull as GameCountFull, Output as GameOutput, TooSmall as GameTooSmall, Damaged as GameDamaged}
 use Rattle.gbkeep.specs.declared.asked.Asked.{Asked}
 use Rattle.gbkeep.specs.declared.asked.Asked.TheVariants.{Command, Help, Misuse, OutOfRange}
@@ -20,14 +20,24 @@ use Rattle.gbkeep.specs.declared.error.PlayError.TheVariants.{Cart as PlayCart, 
 use Rattle.gbkeep.specs.declared.error.TraceError.{TraceError}
 use Rattle.gbkeep.specs.declared.error.TraceError.TheVariants.{Cart as TraceCart, Session as TraceSession, Memory as TraceMemory, Output as TraceOutput}
 use Rattle.gbkeep.specs.declared.fault.Fault.{Fault}
+use Rattle.test_run.specs.declared.error.TestError.{TestError}
+use Rattle.test_run.specs.declared.error.TestError.TheVariants.{Cart as TestCart, Script as TestScript, Memory as TestMemory, Output as TestOutput}
+use Rattle.test_run.specs.declared.verdict.Verdict.TheVariants.{Failed, Undecided}
+use Rattle.recorded_play.specs.declared.error.RecordError.{RecordError}
+use Rattle.recorded_play.specs.declared.error.RecordError.TheVariants.{Session as RecordSession, Recording as RecordRecording, Behind as RecordBehind, Line as RecordLine, Input as RecordInput}
+use Rattle.recording_lines.specs.declared.error.ScriptLinesError.{ScriptLinesError}
+use Rattle.recording_lines.specs.declared.error.ScriptLinesError.TheVariants.{Cart as ScriptCart, Recording as ScriptRecording, Output as ScriptOutput}
+use Rattle.recording_lines.specs.declared.error.VerifyLineError.{VerifyLineError}
+use Rattle.recording_lines.specs.declared.error.VerifyLineError.TheVariants.{Cart as VerifyCart, Verify as Verified, Output as VerifyOutput}
+use Rattle.replaying.specs.declared.error.VerifyError.TheVariants.{Save as NoSave, Recording as NoRecording, Behind as RecordingBehind, Memory as NoMemory, Differ as MachinesDiffer}
 use Rattle.gbkeep.specs.declared.error.StreamPlayError.{StreamPlayError}
 use Rattle.gbkeep.specs.declared.error.StreamPlayError.TheVariants.{Cart as StreamCart, Stream as StreamFault}
 use Rattle.streaming.specs.declared.obeying.End.TheVariants.{Whole, Wrong as WrongLine, Failed as FailedRead}
 use Rattle.streaming.specs.declared.error.StreamError.TheVariants.{Session as StreamSession, Line as StreamLine, Input as StreamInput}
-use Rattle.gbkeep.specs.declared.fault.Fault.TheVariants.{Cart, Memory, File, Output, Address, Word, Device, Script, Session, Line, Input}
+use Rattle.gbkeep.specs.declared.fault.Fault.TheVariants.{Cart, Memory, File, Output, Address, Word, Device, Script, Session, Line, Input, Recording, Behind, Differ, TestFailed, TestUndecided}
 use Rattle.script.specs.Script.{IsRefused as IsScriptRefused}
 use Rattle.gbkeep.specs.Text.{Exchange, Text, IsUnread, IsUnwritten}
-use Rattle.gbkeep.specs.Request.{HasAddress, HasSave, HasScript, IsDone, IsGameRefused, IsOutputRefused, IsStreamStopped, IsStreamedTo}
+use Rattle.gbkeep.specs.Request.{HasAddress, HasDevice, HasScript, IsDone, IsCompared, IsGameRefused, IsOutputRefused, IsRecordingRefused, IsTestDecided, IsStreamStopped, IsStreamedTo, IsRecordStopped, IsRecordEnded, IsRecordedTo}
 
 abbrev pub status_of : Fault → ℕ
 status_of (Cart fault) = 1
@@ -41,6 +51,11 @@ status_of (Script fault) = 1
 status_of (Session fault) = 1
 status_of (Line number) = 1
 status_of Input = 1
+status_of (Recording fault) = 1
+status_of (Behind count) = 1
+status_of Differ = 1
+status_of TestFailed = 1
+status_of TestUndecided = 1
 
 -- what a text that was refused is for the program
 abbrev pub fault_of_text : TextError → Fault
@@ -69,8 +84,45 @@ fault_of_stream (StreamFault (StreamSession fault)) = Session fault
 fault_of_stream (StreamFault (StreamLine number)) = Line number
 fault_of_stream (StreamFault StreamInput) = Input
 
--- its line on standard error; None for a fault of the cartridge, of a save file, of a script, of a line of the input, or of a game that is too large
--- for its file or damaged, whose text no definition gives
+-- and what a recorded play that was refused is
+abbrev pub fault_of_record : RecordError → Fault
+fault_of_record (RecordSession fault) = Session fault
+fault_of_record (RecordRecording fault) = Recording fault
+fault_of_record (RecordBehind count) = Behind count
+fault_of_record (RecordLine number) = Line number
+fault_of_record RecordInput = Input
+
+-- what a recording that is not written, or not all of it, is
+abbrev pub fault_of_script : ScriptLinesError → Fault
+fault_of_script (ScriptCart fault) = Cart fault
+fault_of_script (ScriptRecording fault) = Recording fault
+fault_of_script ScriptOutput = Output
+
+-- and what a game that does not agree with its recording, or is not compared, is
+abbrev pub fault_of_verifying : VerifyLineError → Fault
+fault_of_verifying (VerifyCart fault) = Cart fault
+fault_of_verifying (Verified (NoSave fault)) = Session fault
+fault_of_verifying (Verified (NoRecording fault)) = Recording fault
+fault_of_verifying (Verified (RecordingBehind count)) = Behind count
+fault_of_verifying (Verified NoMemory) = Memory
+fault_of_verifying (Verified MachinesDiffer) = Differ
+fault_of_verifying VerifyOutput = Output
+
+-- and what a test that was not run to its end is
+abbrev pub fault_of_test : TestError → Fault
+fault_of_test (TestCart fault) = Cart fault
+fault_of_test (TestScript fault) = Script fault
+fault_of_test TestMemory = Memory
+fault_of_test TestOutput = Output
+
+-- why the files of a game and its recording are not opened
+abbrev pub IsPairFault : Fault → Type 0
+IsPairFault File = ⊤
+IsPairFault (Device fault) = ⊤
+IsPairFault fault = ⊥
+
+-- its line on standard error; None for a fault of the cartridge, of a save file, of a script, of a line of the input, of a recording, or of a game
+-- that is too large for its file or damaged, whose text no definition gives
 abbrev pub line_of : Fault → Option (List ℕ)
 line_of (Cart fault) = None
 line_of Memory = Some (codes "gbkeep: no memory\n")
@@ -93,6 +145,11 @@ line_of (Session (GameTooSmall needed)) = None
 line_of (Session (GameDamaged damage)) = None
 line_of (Line number) = None
 line_of Input = Some (codes "gbkeep: input failed\n")
+line_of (Recording fault) = None
+line_of (Behind count) = None
+line_of Differ = Some (codes "gbkeep: machines differ\n")
+line_of TestFailed = Some (codes "gbkeep: test failed\n")
+line_of TestUndecided = Some (codes "gbkeep: test undecided\n")
 
 -- the line went out, or a proper prefix of it; nothing is said of a line that is not given
 abbrev pub HasLine : Option (List ℕ) → Option (List ℕ) → Option (List ℕ) → Type 0
@@ -111,11 +168,16 @@ IsRefused request File old new = HasAddress request × Keeps old new
 IsRefused request Output old new = HasAddress request × IsOutputRefused request old new
 IsRefused request Address old new = (¬ (HasAddress request)) × Keeps old new
 IsRefused request Word old new = ⊥
-IsRefused request (Device fault) old new = HasSave request × Keeps old new
+IsRefused request (Device fault) old new = HasDevice request × Keeps old new
 IsRefused request (Script fault) old new = HasScript request × Keeps old new × ((script : List ℕ) × IsScriptRefused script fault)
 IsRefused request (Session fault) old new = IsGameRefused request fault old new
 IsRefused request (Line number) old new = ⊥
 IsRefused request Input old new = ⊥
+IsRefused request (Recording fault) old new = IsRecordingRefused request fault old new
+IsRefused request (Behind count) old new = IsCompared request old new
+IsRefused request Differ old new = IsCompared request old new
+IsRefused request TestFailed old new = IsTestDecided request Failed old new
+IsRefused request TestUndecided old new = IsTestDecided request Undecided old new
 
 -- a request that reads no input was done or refused
 abbrev pub IsServed : Request → Result Unit Fault → Option (List ℕ) → Option (List ℕ) → Type 0
@@ -135,13 +197,42 @@ IsStreamRefused (Script fault) input output = ⊥
 IsStreamRefused (Session why) input output = IsStreamStopped why input output
 IsStreamRefused (Line number) input output = IsStreamedTo (WrongLine number) input output
 IsStreamRefused Input input output = IsStreamedTo FailedRead input output
+IsStreamRefused (Recording fault) input output = ⊥
+IsStreamRefused (Behind count) input output = ⊥
+IsStreamRefused Differ input output = ⊥
+IsStreamRefused TestFailed input output = ⊥
+IsStreamRefused TestUndecided input output = ⊥
 
 -- a stream was done or refused
 abbrev pub IsStreamServed : Result Unit Fault → (input output : Text) → Type 0
 IsStreamServed (Ok u) input output = IsStreamedTo Whole input output
 IsStreamServed (Err fault) input output = IsStreamRefused fault input output
 
--- ---- any request: only a stream reads the input
+-- why a recorded play was refused, and what was read and went out then
+abbrev pub IsRecordRefused : Fault → (input output : Text) → Type 0
+IsRecordRefused (Cart fault) input output = IsUnread input × IsUnwritten output × ((rom : List ℕ) × (refusal_of rom ≡ Some fault))
+IsRecordRefused Memory input output = IsUnread input × IsUnwritten output
+IsRecordRefused File input output = IsUnread input × IsUnwritten output
+IsRecordRefused Output input output = ⊥
+IsRecordRefused Address input output = ⊥
+IsRecordRefused Word input output = ⊥
+IsRecordRefused (Device fault) input output = IsUnread input × IsUnwritten output
+IsRecordRefused (Script fault) input output = ⊥
+IsRecordRefused (Session why) input output = IsRecordStopped why input output
+IsRecordRefused (Line number) input output = IsRecordEnded (WrongLine number) input output
+IsRecordRefused Input input output = IsRecordEnded FailedRead input output
+IsRecordRefused (Recording fault) input output = IsRecordStopped GameDevice input output
+IsRecordRefused (Behind count) input output = IsUnread input × IsUnwritten output × ((rom : List ℕ) × IsAccepted rom)
+IsRecordRefused Differ input output = ⊥
+IsRecordRefused TestFailed input output = ⊥
+IsRecordRefused TestUndecided input output = ⊥
+
+-- a recorded play was done or refused
+abbrev pub IsRecordServed : Result Unit Fault → (input output : Text) → Type 0
+IsRecordServed (Ok u) input output = IsRecordedTo Whole input output
+IsRecordServed (Err fault) input output = IsRecordRefused fault input output
+
+-- ---- any request: only a stream and a recorded play read the input
 
 abbrev pub IsDoneReading : Request → (input output : Text) → Type 0
 IsDoneReading (Info cart) input output = IsUnread input × IsDone (Info cart) output.before output.since
@@ -152,6 +243,11 @@ IsDoneReading (Play cart save script) input output = IsUnread input × IsDone (P
 IsDoneReading (Frame cart save out) input output = IsUnread input × IsDone (Frame cart save out) output.before output.since
 IsDoneReading (Trace cart save count) input output = IsUnread input × IsDone (Trace cart save count) output.before output.since
 IsDoneReading (Stream cart save) input output = IsStreamedTo Whole input output
+IsDoneReading (NewRecording cart recording sectors) input output = IsUnread input × IsDone (NewRecording cart recording sectors) output.before output.since
+IsDoneReading (Record cart save recording) input output = IsRecordedTo Whole input output
+IsDoneReading (Recorded cart recording) input output = IsUnread input × IsDone (Recorded cart recording) output.before output.since
+IsDoneReading (Test cart frames script) input output = IsUnread input × IsDone (Test cart frames script) output.before output.since
+IsDoneReading (Verify cart save recording) input output = IsUnread input × IsDone (Verify cart save recording) output.before output.since
 
 abbrev pub IsRefusedReading : Request → Fault → (input output : Text) → Type 0
 IsRefusedReading (Info cart) fault input output = IsUnread input × IsRefused (Info cart) fault output.before output.since
@@ -162,6 +258,11 @@ IsRefusedReading (Play cart save script) fault input output = IsUnread input × 
 IsRefusedReading (Frame cart save out) fault input output = IsUnread input × IsRefused (Frame cart save out) fault output.before output.since
 IsRefusedReading (Trace cart save count) fault input output = IsUnread input × IsRefused (Trace cart save count) fault output.before output.since
 IsRefusedReading (Stream cart save) fault input output = IsStreamRefused fault input output
+IsRefusedReading (NewRecording cart recording sectors) fault input output = IsUnread input × IsRefused (NewRecording cart recording sectors) fault output.before output.since
+IsRefusedReading (Record cart save recording) fault input output = IsRecordRefused fault input output
+IsRefusedReading (Recorded cart recording) fault input output = IsUnread input × IsRefused (Recorded cart recording) fault output.before output.since
+IsRefusedReading (Test cart frames script) fault input output = IsUnread input × IsRefused (Test cart frames script) fault output.before output.since
+IsRefusedReading (Verify cart save recording) fault input output = IsUnread input × IsRefused (Verify cart save recording) fault output.before output.since
 
 abbrev pub IsServedReading : Request → Result Unit Fault → (input output : Text) → Type 0
 IsServedReading request (Ok u) input output = IsDoneReading request input output

@@ -1,18 +1,23 @@
 -- What a request wants of a ROM, and when the program has done it.
-use Rattle.std.specs.Prelude.{◌⊎◌, ◌≤◌, ℕ, List, [], length, Option, unwrap_or, IsOk, All}
+use Rattle.std.specs.Prelude.{◌≡◌, ◌⊎◌, ◌≤◌, ℕ, List, [], length, Option, unwrap_or, IsOk, All}
 use Rattle.std.specs.Str.Parse.{IsNumeral, digits_value}
 use Rattle.std.specs.Io.KnownBytes.{Appends, Keeps}
 use Rattle.exact_text.specs.Written.{AppendsProperPrefix}
 use Rattle.cartridge.specs.Accepted.{IsAccepted}
 use Rattle.cartridge.specs.Header.{ram_length_of}
 use Rattle.command_line.specs.declared.Request.{Request}
-use Rattle.command_line.specs.declared.Request.TheVariants.{Info, List as Listing, Step, New, Play, Frame, Trace, Stream}
+use Rattle.command_line.specs.declared.Request.TheVariants.{Info, List as Listing, Step, New, Play, Frame, Trace, Stream, NewRecording, Record, Recorded, Verify, Test}
 use Rattle.machine.specs.Machine.{start}
+use Rattle.machine.specs.declared.input.Input.{Input}
 use Rattle.snapshot.specs.Legal.{IsMachineOf}
 use Rattle.snapshot.specs.Encoding.{snapshot_length}
 use Rattle.sector_log.specs.Content.{need}
 use Rattle.script.specs.Script.{moves_of}
 use Rattle.script.specs.declared.moves.Move.{Move}
+use Rattle.recording.specs.declared.fault.RecordingFault.{RecordingFault}
+use Rattle.recording.specs.declared.fault.RecordingFault.TheVariants.{Device}
+use Rattle.recorded_play.specs.Whole.{behind}
+use Rattle.recording_lines.specs.Verifying.{agree_line}
 use Rattle.session.specs.declared.error.SessionError.{SessionError}
 use Rattle.session.specs.Found.{IsNewGameCause}
 use Rattle.session.specs.Stands.{Position}
@@ -22,6 +27,9 @@ use Rattle.streaming.specs.Orders.{orders_of, IsRight}
 use Rattle.streaming.specs.Reading.{ReadsLines, ReadsTo}
 use Rattle.streaming.specs.declared.obeying.End.{End}
 use Rattle.debugger.specs.Listing.{lines_from}
+use Rattle.test_run.specs.Refusals.{IsTested, IsCutOff}
+use Rattle.test_run.specs.declared.verdict.Verdict.{Verdict}
+use Rattle.test_run.specs.declared.verdict.Verdict.TheVariants.{Passed}
 use Rattle.gbkeep.specs.Beginning.{begun_line}
 use Rattle.gbkeep.specs.Info.{info_of}
 use Rattle.gbkeep.specs.Playing.{moves_in}
@@ -47,8 +55,13 @@ HasAddress (Play cart save script) = Unit {0}
 HasAddress (Frame cart save out) = Unit {0}
 HasAddress (Trace cart save count) = Unit {0}
 HasAddress (Stream cart save) = Unit {0}
+HasAddress (NewRecording cart recording sectors) = Unit {0}
+HasAddress (Record cart save recording) = Unit {0}
+HasAddress (Recorded cart recording) = Unit {0}
+HasAddress (Verify cart save recording) = Unit {0}
+HasAddress (Test cart frames script) = Unit {0}
 
--- what it prints of a ROM; not here the report of a play, a trace and a stream, which are of a game of the ROM
+-- what it prints of a ROM; not here the report of a play, a trace, a stream and a recorded play, which are of a game of the ROM
 abbrev pub printed : Request → List ℕ → List ℕ
 printed (Info cart) rom = info_of rom
 printed (Listing cart address count) rom = lines_from (start rom) (digits_value 16 address.now) count
@@ -58,6 +71,11 @@ printed (Play cart save script) rom = []
 printed (Frame cart save out) rom = []
 printed (Trace cart save count) rom = []
 printed (Stream cart save) rom = []
+printed (NewRecording cart recording sectors) rom = begun_line
+printed (Record cart save recording) rom = []
+printed (Recorded cart recording) rom = []
+printed (Verify cart save recording) rom = []
+printed (Test cart frames script) rom = []
 
 -- a count of inputs and a machine of this ROM, of which the text of a trace has P
 abbrev pub OfATrace : (rom : List ℕ) → (steps : ℕ) → (List ℕ → Type 0) → Type 0
@@ -76,35 +94,46 @@ IsCutShort moves why old new = Keeps old new ⊎ ((count saved : ℕ) × HasTold
 abbrev pub OfAScript : (List Move → Type 0) → Type 0
 OfAScript P = (script : List ℕ) × IsOk (moves_of script) × P (moves_in script)
 
--- it was done on this ROM; a stream has words of its own below
+-- It was done on this ROM; what reads the input has words of its own below. What goes out of a recording is stated where its device is a value, by `recorded_lines`.
 abbrev pub IsDoneOn : List ℕ → Request → Option (List ℕ) → Option (List ℕ) → Type 0
 IsDoneOn rom (Play cart save script) old new = IsAccepted rom × OfAScript (λ moves. IsReported moves old new)
 IsDoneOn rom (Frame cart save out) old new = IsAccepted rom × IsReported [] old new
 IsDoneOn rom (Trace cart save count) old new = IsAccepted rom × OfATrace rom count (Appends old new)
 IsDoneOn rom (Stream cart save) old new = ⊥
+IsDoneOn rom (Record cart save recording) old new = ⊥
 IsDoneOn rom (New cart save sectors) old new =
     IsAccepted rom × (need (snapshot_length (ram_length_of rom)) ≤ sectors_for rom sectors) × Appends old new (printed (New cart save sectors) rom)
+IsDoneOn rom (NewRecording cart recording sectors) old new = IsAccepted rom × (2 ≤ sectors) × Appends old new (printed (NewRecording cart recording sectors) rom)
+IsDoneOn rom (Recorded cart recording) old new = IsAccepted rom
+IsDoneOn rom (Verify cart save recording) old new = IsAccepted rom × ((count : ℕ) × Appends old new (agree_line count))
+IsDoneOn rom (Test cart frames script) old new = (moves : List ℕ) × IsTested rom moves frames old new Passed
 IsDoneOn rom request old new = IsAccepted rom × HasAddress request × Appends old new (printed request rom)
 
 -- it was done, on what its file gave
 abbrev pub IsDone : Request → Option (List ℕ) → Option (List ℕ) → Type 0
 IsDone request old new = (rom : List ℕ) × IsDoneOn rom request old new
 
--- it names a save file
-abbrev pub HasSave : Request → Type 0
-HasSave (Info cart) = ⊥
-HasSave (Listing cart address count) = ⊥
-HasSave (Step cart count) = ⊥
-HasSave (New cart save sectors) = Unit {0}
-HasSave (Play cart save script) = Unit {0}
-HasSave (Frame cart save out) = Unit {0}
-HasSave (Trace cart save count) = Unit {0}
-HasSave (Stream cart save) = Unit {0}
+-- it names a save file or a recording
+abbrev pub HasDevice : Request → Type 0
+HasDevice (Info cart) = ⊥
+HasDevice (Listing cart address count) = ⊥
+HasDevice (Step cart count) = ⊥
+HasDevice (New cart save sectors) = Unit {0}
+HasDevice (Play cart save script) = Unit {0}
+HasDevice (Frame cart save out) = Unit {0}
+HasDevice (Trace cart save count) = Unit {0}
+HasDevice (Stream cart save) = Unit {0}
+HasDevice (NewRecording cart recording sectors) = Unit {0}
+HasDevice (Record cart save recording) = Unit {0}
+HasDevice (Recorded cart recording) = Unit {0}
+HasDevice (Verify cart save recording) = Unit {0}
+HasDevice (Test cart frames script) = ⊥
 
 -- it plays a script, which is empty where it names none
 abbrev pub HasScript : Request → Type 0
 HasScript (Play cart save script) = Unit {0}
 HasScript (Frame cart save out) = Unit {0}
+HasScript (Test cart frames script) = Unit {0}
 HasScript request = ⊥
 
 -- why no game is begun or taken up to be traced, and then nothing went out; or why a play ended, and then its report was cut short
@@ -114,7 +143,25 @@ IsGameRefused (New cart save sectors) why old new =
 IsGameRefused (Play cart save script) why old new = (rom : List ℕ) × IsAccepted rom × OfAScript (λ moves. IsCutShort moves why old new)
 IsGameRefused (Frame cart save out) why old new = (rom : List ℕ) × IsAccepted rom × IsCutShort [] why old new
 IsGameRefused (Trace cart save count) why old new = Keeps old new × ((rom : List ℕ) × IsAccepted rom)
+IsGameRefused (Verify cart save recording) why old new = Keeps old new × ((rom : List ℕ) × IsAccepted rom)
 IsGameRefused request why old new = ⊥
+
+-- why no recording is begun, read or compared; nothing went out, unless a call failed while a recording was written
+abbrev pub IsRecordingRefused : Request → RecordingFault → Option (List ℕ) → Option (List ℕ) → Type 0
+IsRecordingRefused (NewRecording cart recording sectors) why old new = Keeps old new × ((rom : List ℕ) × IsAccepted rom)
+IsRecordingRefused (Recorded cart recording) why old new = ((rom : List ℕ) × IsAccepted rom) × (Keeps old new ⊎ (why ≡ Device))
+IsRecordingRefused (Verify cart save recording) why old new = Keeps old new × ((rom : List ℕ) × IsAccepted rom)
+IsRecordingRefused request why old new = ⊥
+
+-- a test was run, all of its text went out, and this is its verdict
+abbrev pub IsTestDecided : Request → Verdict → Option (List ℕ) → Option (List ℕ) → Type 0
+IsTestDecided (Test cart frames script) verdict old new = (rom moves : List ℕ) × IsTested rom moves frames old new verdict
+IsTestDecided request verdict old new = ⊥
+
+-- the game and its recording were compared on a ROM that is accepted, and nothing went out
+abbrev pub IsCompared : Request → Option (List ℕ) → Option (List ℕ) → Type 0
+IsCompared (Verify cart save recording) old new = Keeps old new × ((rom : List ℕ) × IsAccepted rom)
+IsCompared request old new = ⊥
 
 -- the output failed on a ROM that is accepted: a proper prefix of the text went out, or before a picture the whole report. A report ends
 -- as a game that is refused.
@@ -129,8 +176,14 @@ IsOutputRefused (Play cart save script) old new = ⊥
 IsOutputRefused (Frame cart save out) old new = (rom : List ℕ) × IsAccepted rom × IsReported [] old new
 IsOutputRefused (Trace cart save count) old new = (rom : List ℕ) × IsAccepted rom × OfATrace rom count (AppendsProperPrefix old new)
 IsOutputRefused (Stream cart save) old new = ⊥
+IsOutputRefused (Record cart save recording) old new = ⊥
+IsOutputRefused (NewRecording cart recording sectors) old new =
+    (rom : List ℕ) × IsAccepted rom × (2 ≤ sectors) × AppendsProperPrefix old new (printed (NewRecording cart recording sectors) rom)
+IsOutputRefused (Test cart frames script) old new = (rom moves : List ℕ) × IsCutOff rom moves frames old new
+IsOutputRefused (Recorded cart recording) old new = (rom : List ℕ) × IsAccepted rom
+IsOutputRefused (Verify cart save recording) old new = (rom : List ℕ) × IsAccepted rom × ((count : ℕ) × AppendsProperPrefix old new (agree_line count))
 
--- ---- a stream, the only request that reads the input
+-- ---- a stream and a recorded play, the only requests that read the input
 
 -- of the answers to some lines of the input, from some position of this ROM, P holds: those up to this end
 abbrev pub OfAStream : (rom : List ℕ) → End → (input : Text) → (List Line → Type 0) → Type 0
@@ -156,3 +209,35 @@ IsStreamStopped why input output =
     (rom : List ℕ) × IsAccepted rom
     × ((IsUnread input × IsUnwritten output)
     ⊎ OfABrokenStream rom input (λ lines. (saved : ℕ) × HasTold why saved lines output.before output.since))
+
+-- ---- a recorded play, from some position of this ROM and the inputs that the recording has beyond it
+
+abbrev pub OfARecordedPlay : (rom : List ℕ) → End → (input : Text) → (List Line → Type 0) → Type 0
+OfARecordedPlay rom end input P =
+    (from : Position) × IsMachineOf rom from.machine
+    × ((beyond : List Input) × ((lines : List (List ℕ)) × All IsRight lines × ReadsTo end lines input.before input.since
+    × P (stream_lines (behind from beyond) (orders_of lines))))
+
+-- or the lines that were read, with some bytes more, when one of them was refused
+abbrev pub OfABrokenRecordedPlay : (rom : List ℕ) → (input : Text) → (List Line → Type 0) → Type 0
+OfABrokenRecordedPlay rom input P =
+    (from : Position) × IsMachineOf rom from.machine
+    × ((beyond : List Input) × ((lines : List (List ℕ)) × All IsRight lines
+    × ((more : List ℕ) × ReadsLines lines more input.before input.since) × P (stream_lines (behind from beyond) (orders_of lines))))
+
+-- all that the lines up to this end ask for was done and answered
+abbrev pub IsRecordedTo : End → (input output : Text) → Type 0
+IsRecordedTo end input output =
+    (rom : List ℕ) × IsAccepted rom × OfARecordedPlay rom end input (λ lines. Appends output.before output.since (texts lines))
+
+-- Why the game was not taken up, with nothing read and nothing written; or why a line was refused, with what was answered up to there. To
+-- the report a recording that is refused is what a device that failed is.
+abbrev pub IsRecordStopped : SessionError → (input output : Text) → Type 0
+IsRecordStopped why input output =
+    (rom : List ℕ) × IsAccepted rom
+    × ((IsUnread input × IsUnwritten output)
+    ⊎ OfABrokenRecordedPlay rom input (λ lines. (saved : ℕ) × HasTold why saved lines output.before output.since))
+
+-- the lines up to this end were obeyed; or devices that are not honest kept the game from being taken up, with nothing read and nothing written
+abbrev pub IsRecordEnded : End → (input output : Text) → Type 0
+IsRecordEnded end input output = ((rom : List ℕ) × IsAccepted rom × IsUnread input × IsUnwritten output) ⊎ IsRecordedTo end input output

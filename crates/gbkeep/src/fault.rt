@@ -2,17 +2,22 @@
 
 ghost use Rattle.std.specs.Prelude.{◌≡◌, Some};
 ghost use Rattle.gbkeep.specs.declared.fault.Fault.TheVariants.{Cart, Device};
-ghost use Rattle.gbkeep.specs.Program.{HasLine, fault_of_play, fault_of_stream, fault_of_text, fault_of_trace, line_of, status_of};
+ghost use Rattle.gbkeep.specs.Program.{HasLine, fault_of_play, fault_of_record, fault_of_script, fault_of_stream, fault_of_test, fault_of_text, fault_of_trace, fault_of_verifying, line_of, status_of};
 
 use crate::error::{PlayError, StreamPlayError, TextError, TraceError};
 use cartridge::CartError;
 use exact_text::write_whole;
+use recorded_play::RecordError;
+use recording::RecordingFault;
+use recording_lines::{ScriptLinesError, VerifyLineError};
+use replaying::VerifyError;
 use script::ScriptError;
 use sector_device::DeviceFault;
 use session::SessionError;
 use std::fmt::Display;
 use std::io::Write;
 use streaming::StreamError;
+use test_run::TestError;
 
 /// The statuses of the program.
 pub(crate) const DONE: u8 = 0;
@@ -38,6 +43,16 @@ pub(crate) enum Fault {
     Line(u64),
     /// The input can't be read.
     Input,
+    /// A recording is not begun, read or appended to.
+    Recording(RecordingFault),
+    /// The recording has fewer inputs than the game: so many.
+    Behind(u64),
+    /// The game is not the one after the recorded inputs.
+    Differ,
+    /// A test ROM says that it has failed.
+    TestFailed,
+    /// It says neither that nor that it has passed.
+    TestUndecided,
 }
 
 impl From<CartError> for Fault {
@@ -107,6 +122,61 @@ impl From<StreamPlayError> for Fault {
     }
 }
 
+impl From<RecordError> for Fault {
+    ghost from_gives = { λ why fault. fault ≡ fault_of_record why };
+
+    fn from(why: RecordError) -> Fault {
+        match why {
+            RecordError::Session(why) => Fault::Session(why),
+            RecordError::Recording(why) => Fault::Recording(why),
+            RecordError::Behind(count) => Fault::Behind(count),
+            RecordError::Line(number) => Fault::Line(number),
+            RecordError::Input => Fault::Input,
+        }
+    }
+}
+
+impl From<ScriptLinesError> for Fault {
+    ghost from_gives = { λ why fault. fault ≡ fault_of_script why };
+
+    fn from(why: ScriptLinesError) -> Fault {
+        match why {
+            ScriptLinesError::Cart(why) => Fault::Cart(why),
+            ScriptLinesError::Recording(why) => Fault::Recording(why),
+            ScriptLinesError::Output => Fault::Output,
+        }
+    }
+}
+
+impl From<VerifyLineError> for Fault {
+    ghost from_gives = { λ why fault. fault ≡ fault_of_verifying why };
+
+    fn from(why: VerifyLineError) -> Fault {
+        match why {
+            VerifyLineError::Cart(why) => Fault::Cart(why),
+            VerifyLineError::Verify(VerifyError::Save(why)) => Fault::Session(why),
+            VerifyLineError::Verify(VerifyError::Recording(why)) => Fault::Recording(why),
+            VerifyLineError::Verify(VerifyError::Behind(count)) => Fault::Behind(count),
+            VerifyLineError::Verify(VerifyError::Memory) => Fault::Memory,
+            VerifyLineError::Verify(VerifyError::Differ) => Fault::Differ,
+            VerifyLineError::Output => Fault::Output,
+        }
+    }
+}
+
+impl From<TestError> for Fault {
+    ghost from_gives = { λ why fault. fault ≡ fault_of_test why };
+
+    fn from(why: TestError) -> Fault {
+        match why {
+            TestError::Cart(why) => Fault::Cart(why),
+            TestError::Script(why) => Fault::Script(why),
+            TestError::Memory => Fault::Memory,
+            TestError::Output => Fault::Output,
+        }
+    }
+}
+
 impl Fault {
     fn status(self) -> u8
         ensures { result ≡ status_of self }
@@ -135,6 +205,11 @@ pub(crate) fn report<E: Write>(fault: Fault, err: &mut E) -> u8
         Fault::Session(why) => write_session_line(why, err),
         Fault::Line(number) => write_number_line(number, err),
         Fault::Input => write_line("gbkeep: input failed\n", err),
+        Fault::Recording(why) => write_text_line(why, err),
+        Fault::Behind(count) => write_behind_line(count, err),
+        Fault::Differ => write_line("gbkeep: machines differ\n", err),
+        Fault::TestFailed => write_line("gbkeep: test failed\n", err),
+        Fault::TestUndecided => write_line("gbkeep: test undecided\n", err),
     }
     fault.status()
 }
@@ -163,6 +238,10 @@ fn write_text_line<T: Display + Copy, E: Write>(fault: T, err: &mut E) {
 
 fn write_number_line<E: Write>(number: u64, err: &mut E) {
     let _ = writeln!(err, "gbkeep: script line {number}");
+}
+
+fn write_behind_line<E: Write>(count: u64, err: &mut E) {
+    let _ = writeln!(err, "gbkeep: recording behind, {count} inputs");
 }
 
 fn write_cart_line<E: Write>(fault: CartError, err: &mut E) {

@@ -1,4 +1,4 @@
-//! The file of a new game, and what an interrupted `new` leaves.
+//! The file of a new game or recording, and what an interrupted command leaves of it.
 
 ghost use Rattle.std.specs.Prelude.{◌≡◌, IfOk, IfErr, replicate};
 ghost use Rattle.sector_device.specs.FileDevice.{file_disk};
@@ -26,6 +26,51 @@ pub(crate) fn new_file<R: Files<File = File> + AllocGlobal>(
         return created_file(rt, save, sectors);
     }
     created
+}
+
+/// Makes a file of blank sectors, also where an interrupted command left one of the same size.
+pub(crate) fn blank_file<R: Files<File = File> + AllocGlobal>(
+    rt: &R,
+    path: &str,
+    sectors: u64,
+) -> Result<FileDevice, DeviceFault>
+    ensures zero { IfOk result (λ d. (file_disk d).sectors ≡ replicate sectors (replicate 512 0)) }
+    ensures fault { IfErr result (λ fault. fault ≡ DeviceFault.Device) }
+{
+    let created = created_file(rt, path, sectors);
+    if created.is_err() && clear_blank(rt, path, sectors) {
+        return created_file(rt, path, sectors);
+    }
+    created
+}
+
+/// Takes away the file at this path if it has so many sectors and each is blank, and answers whether it did.
+fn clear_blank<R: Files<File = File> + AllocGlobal>(rt: &R, path: &str, sectors: u64) -> bool {
+    let Ok(mut left) = FileDevice::attach(rt, Path::new(path)) else {
+        return false;
+    };
+    is_blank(&mut left, sectors) && fs::remove_file(rt, path).is_ok()
+}
+
+/// Whether a device has so many sectors, and each is blank.
+fn is_blank<D: SectorDevice>(left: &mut D, sectors: u64) -> bool {
+    if left.count() != sectors {
+        return false;
+    }
+    for at in 0..left.count() {
+        if !is_blank_at(left, at) {
+            return false;
+        }
+    }
+    true
+}
+
+fn is_blank_at<D: SectorDevice>(left: &mut D, at: u64) -> bool {
+    let mut sector = [0; 512];
+    if at >= left.count() {
+        return false;
+    }
+    left.read(at, &mut sector).is_ok() && sector == [0; 512]
 }
 
 fn created_file<R: Files<File = File> + AllocGlobal>(

@@ -15,9 +15,11 @@ mod line;
 mod listing;
 mod picture;
 pub mod program;
+mod recordings;
 mod saves;
 mod steps;
 mod streams;
+mod testing;
 mod trace;
 
 pub use begin::begin_game;

@@ -8,8 +8,10 @@ use crate::bytes::{MOST_ROM, file_bytes};
 use crate::fault::{DONE, Fault, NOT_UNDERSTOOD, report};
 use crate::info::info_lines;
 use crate::listing::list_lines;
+use crate::recordings::{new_recording, record, recorded, verify};
 use crate::saves::{frame, new, play, stream, trace};
 use crate::steps::step_line;
+use crate::testing::test;
 use clap::Error;
 use command_line::Request;
 use std::convert::AsStr;
@@ -52,7 +54,7 @@ fn words<R: Env + AllocGlobal>(rt: &R) -> Result<Vec<String>, Fault>
 /// Runs the program on its words, the first of which is its own name, and answers its status:
 /// 0 done, 1 refused, 2 words not understood.
 ///
-/// `stream` reads its lines from `input`; nothing else reads it. What is asked for goes to `out`, which gets nothing where the status is 2. A fault is one line on `err`, `gbkeep: ` and its text; of words
+/// `stream` and `record` read their lines from `input`; nothing else reads it. What is asked for goes to `out`, which gets nothing where the status is 2. A fault is one line on `err`, `gbkeep: ` and its text; of words
 /// that are not understood `err` gets `clap`'s text.
 pub fn run<R: Files<File = File> + AllocGlobal, S: AsStr, I: Read, O: Write, E: Write>(
     rt: &R,
@@ -144,6 +146,27 @@ fn serve<R: Files<File = File> + AllocGlobal, I: Read, O: Write>(
         } => frame(rt, cart, save, picture, out),
         Request::Trace { cart, save, count } => trace(rt, cart, save, count, out),
         Request::Stream { cart, save } => stream(rt, cart, save, input, out),
+        Request::NewRecording {
+            cart,
+            recording,
+            sectors,
+        } => new_recording(rt, cart, recording, sectors, out),
+        Request::Record {
+            cart,
+            save,
+            recording,
+        } => record(rt, cart, save, recording, input, out),
+        Request::Recorded { cart, recording } => recorded(rt, cart, recording, out),
+        Request::Verify {
+            cart,
+            save,
+            recording,
+        } => verify(rt, cart, save, recording, out),
+        Request::Test {
+            cart,
+            frames,
+            script,
+        } => test(rt, cart, frames, script, out),
     }
 }
 

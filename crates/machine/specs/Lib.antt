@@ -2,5 +2,9 @@ pub mod Machine
 pub mod MachineStores
 pub mod MachineLaws
 pub mod Legal
+pub mod Sent
+pub mod Watched
+pub mod WatchedLaws
 -- what only the code needs
 pub mod Waiting
+pub mod Watching

@@ -4,6 +4,7 @@ ghost use Rattle.std.specs.Prelude.{◌≡◌, ◌<◌, ◌≤◌, ◌+◌, ◌-
 ghost use Rattle.picture_unit.specs.PictureJump.{IsSteady};
 ghost use Rattle.memory_map.specs.BusRules.{bus_rules};
 ghost use Rattle.machine.specs.Waiting.{Waits, within};
+ghost use Rattle.machine.specs.Watching.{IsSilent};
 ghost use Rattle.machine.specs.Machine.{cycles_per_frame, frame_of};
 ghost use Rattle.memory_map.specs.Quiet.{IsCalm};
 ghost use Rattle.sm83_processor.specs.FastStep.{IsFast, IsUsual};
@@ -13,22 +14,22 @@ use memory_map::Bus;
 use sm83_processor::{FIRST_OWN_LOOP, Processor, StepKind};
 
 /// The M-cycles of a frame.
-const FRAME: u32 = 17_556;
+pub(crate) const FRAME: u32 = 17_556;
 
 /// The loop of fast steps in the lower half of ROM.
-const IN_LOWER_ROM: u8 = FIRST_OWN_LOOP;
+pub(crate) const IN_LOWER_ROM: u8 = FIRST_OWN_LOOP;
 
 /// The loop of fast steps in the upper half of ROM.
-const IN_UPPER_ROM: u8 = FIRST_OWN_LOOP + 1;
+pub(crate) const IN_UPPER_ROM: u8 = FIRST_OWN_LOOP + 1;
 
 /// The loop of fast steps in WRAM.
-const IN_WRAM: u8 = FIRST_OWN_LOOP + 2;
+pub(crate) const IN_WRAM: u8 = FIRST_OWN_LOOP + 2;
 
 /// The loop of fast steps in HRAM.
-const IN_HRAM: u8 = FIRST_OWN_LOOP + 3;
+pub(crate) const IN_HRAM: u8 = FIRST_OWN_LOOP + 3;
 
 /// The loop of fast steps above ROM.
-const ABOVE_ROM: u8 = FIRST_OWN_LOOP + 4;
+pub(crate) const ABOVE_ROM: u8 = FIRST_OWN_LOOP + 4;
 
 /// The address of the joypad's register P1.
 const JOYPAD: u16 = 0xff00;
@@ -112,7 +113,7 @@ fn run_fast_steps_here(processor: &mut Processor<Bus>, passed: u32) -> (u32, boo
 /// in the upper half, in WRAM, in HRAM, or above ROM. A loop that runs only there need not test it for
 /// each byte.
 #[inline(always)]
-fn is_there<const LOOP: u8>(pc: u16) -> bool {
+pub(crate) fn is_there<const LOOP: u8>(pc: u16) -> bool {
     if LOOP == IN_LOWER_ROM {
         pc < 0x3ffe
     } else if LOOP == IN_UPPER_ROM {
@@ -188,21 +189,25 @@ fn run_calm_steps<const LOOP: u8>(processor: &mut Processor<Bus>, passed: u32) -
 
 /// Where a frame is after a fast step.
 #[derive(Clone, Copy)]
-struct AfterStep {
+pub(crate) struct AfterStep {
     /// How many M-cycles of the frame have passed, if not all of them were calm.
-    now: u32,
+    pub(crate) now: u32,
     /// How many of the calm M-cycles are left, if all that passed were calm.
-    left: u32,
+    pub(crate) left: u32,
     /// Whether the next step is known to be fast.
-    is_fast: bool,
+    pub(crate) is_fast: bool,
     /// Whether all M-cycles that passed were calm, and more are left.
-    is_calm: bool,
+    pub(crate) is_calm: bool,
 }
 
 /// Makes a fast step where `left` M-cycles are known to be calm, which end with M-cycle `end` of the
 /// frame.
 #[inline(always)]
-fn run_fast_step<const LOOP: u8>(processor: &mut Processor<Bus>, left: u32, end: u32) -> AfterStep
+pub(crate) fn run_fast_step<const LOOP: u8>(
+    processor: &mut Processor<Bus>,
+    left: u32,
+    end: u32,
+) -> AfterStep
     requires fast { IsFast bus_rules processor.old }
     requires calm { IsCalm left processor.old.memory }
     requires within { left ≤ end }
@@ -214,6 +219,7 @@ fn run_fast_step<const LOOP: u8>(processor: &mut Processor<Bus>, left: u32, end:
     ensures left { result.is_calm ≡ true → result.left ≡ left - (step_of bus_rules processor.old).stepped.cycles }
     ensures still_fast { result.is_calm ≡ true → IsFast bus_rules processor.new }
     ensures calm { result.is_calm ≡ true → IsCalm result.left processor.new.memory }
+    ensures silent { result.is_calm ≡ true → IsSilent processor.new.memory }
 {
     let opcode = Bus::read(&processor.memory, processor.registers.pc);
     let (cycles, usual, is_memory_kept) = processor.run_opcode::<LOOP>(opcode);
@@ -344,7 +350,7 @@ fn step_and_wait(processor: &mut Processor<Bus>, passed: u32) -> u32
 /// For how many of the M-cycles that are left a halted processor is sure to wait, by what the
 /// bus knows.
 #[inline(always)]
-fn sure_waits(processor: &Processor<Bus>, left: u32) -> u32
+pub(crate) fn sure_waits(processor: &Processor<Bus>, left: u32) -> u32
     ensures few { result ≤ left }
     ensures waits { Waits result processor.now }
 {

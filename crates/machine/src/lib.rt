@@ -9,9 +9,12 @@ pub mod input;
 pub mod laws;
 pub mod machine;
 pub mod machine_without_memory;
+mod untimed;
+pub mod watched;
 
 pub use input::Input;
 pub use machine::Machine;
 pub use machine_without_memory::MachineWithoutMemory;
 pub use memory_map::{BusWithoutMemory, Region};
 pub use sm83_processor::{Executed, Memory, Processor, ProcessorState, StepKind, Stepped};
+pub use watched::{Watched, WatchedFrame};

@@ -94,6 +94,21 @@ fn run_and_report(processor: &mut Processor<Bus>, ran: &mut Executed) -> bool
 }
 
 impl Machine {
+    pub(crate) fn of(processor: Processor<Bus>, overrun: u8) -> Machine
+        requires { overrun < 6 }
+        ensures { result ≡ record { processor = processor; overrun = overrun } }
+    {
+        Machine { processor, overrun }
+    }
+
+    pub(crate) fn into_parts(self) -> (Processor<Bus>, u8)
+        ensures processor { result.0 ≡ self.processor }
+        ensures overrun { result.1 ≡ self.overrun }
+    {
+        let Machine { processor, overrun } = self;
+        (processor, overrun)
+    }
+
     ghost use Rattle.memory_map.specs.Bus.{peeked};
     ghost use Rattle.memory_map.specs.Stores.{region_of, region_filled, FitsRegion};
     ghost use Rattle.machine.specs.Machine.{start, frame_played, applied, picture_rows};

@@ -7,5 +7,5 @@ mod report;
 mod whole;
 
 pub use moves::make_move;
-pub use report::write_resumed;
+pub use report::{write_resumed, write_saved};
 pub use whole::play;

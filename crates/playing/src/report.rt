@@ -40,8 +40,8 @@ pub fn write_resumed<W: Write>(out: &mut W, count: u64) -> Result<(), OutputFail
     }
 }
 
-/// Writes that this count is saved.
-pub(crate) fn write_saved<W: Write>(out: &mut W, count: u64) -> Result<(), OutputFailed>
+/// Writes the line `saved N`: this count of inputs is saved.
+pub fn write_saved<W: Write>(out: &mut W, count: u64) -> Result<(), OutputFailed>
     ensures ok { OnOk result (Appends (W.contents out.old) (W.contents out.new) (saved_line count).text) }
     ensures err { OnErr result (AppendsProperPrefix (W.contents out.old) (W.contents out.new) (saved_line count).text) }
 {

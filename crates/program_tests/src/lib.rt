@@ -4,6 +4,8 @@
 #[cfg(test)]
 mod debuggers;
 #[cfg(test)]
+mod recordings;
+#[cfg(test)]
 mod runs;
 #[cfg(test)]
 mod saves;

@@ -10,18 +10,22 @@ const WORDS: &[&str] = &["gbkeep", "stream", "stream.gb", "stream.save"];
 
 /// What an input is answered with.
 #[derive(Clone, Copy)]
-struct Answered {
-    input: &'static str,
-    status: u8,
-    out: &'static str,
-    err: &'static str,
+pub(crate) struct Answered {
+    pub(crate) words: &'static [&'static str],
+    pub(crate) input: &'static str,
+    pub(crate) status: u8,
+    pub(crate) out: &'static str,
+    pub(crate) err: &'static str,
 }
 
-fn is_answered<R: Files<File = File> + AllocGlobal + Abort>(rt: &R, answered: &Answered) {
+pub(crate) fn is_answered<R: Files<File = File> + AllocGlobal + Abort>(
+    rt: &R,
+    answered: &Answered,
+) {
     let mut input: &[u8] = answered.input.as_bytes();
     let mut out = Vec::new(rt.alloc());
     let mut err = Vec::new(rt.alloc());
-    let status = run(rt, WORDS, &mut input, &mut out, &mut err);
+    let status = run(rt, answered.words, &mut input, &mut out, &mut err);
     assert_eq!(rt; status, answered.status);
     assert!(rt; out.as_slice() == answered.out.as_bytes());
     assert!(rt; err.as_slice() == answered.err.as_bytes());
@@ -43,30 +47,35 @@ fn lines_are_obeyed_and_answered(rt: HostRuntime) -> Result<(), Fail> {
     );
     let streams = [
         Answered {
+            words: WORDS,
             input: "frames 00 3\n\nseconds 60\nsave\n",
             status: 0,
             out: "resumed 0\nsaved 4\n",
             err: "",
         },
         Answered {
+            words: WORDS,
             input: "frame 01\nsave\nsave\nframe 02",
             status: 0,
             out: "resumed 4\nsaved 5\nsaved 5\nsaved 6\n",
             err: "",
         },
         Answered {
+            words: WORDS,
             input: "frame 00\n\nframe 1G\nframe 00\n",
             status: 1,
             out: "resumed 6\nsaved 7\n",
             err: "gbkeep: script line 3\n",
         },
         Answered {
+            words: WORDS,
             input: "wait",
             status: 1,
             out: "resumed 7\n",
             err: "gbkeep: script line 1\n",
         },
         Answered {
+            words: WORDS,
             input: "",
             status: 0,
             out: "resumed 7\n",

@@ -32,6 +32,28 @@ fn reads_each_command(rt: HostRuntime) -> Result<(), Fail> {
         })
     );
     assert_eq!(rt;
+        request_of(
+            alloc,
+            ["gbkeep", "record", "a.gb", "a.save", "a.rec"].as_slice()
+        )?,
+        Some(Request::Record {
+            cart: "a.gb",
+            save: "a.save",
+            recording: "a.rec"
+        })
+    );
+    assert_eq!(rt;
+        request_of(
+            alloc,
+            ["gbkeep", "new-recording", "a.gb", "a.rec", "2"].as_slice()
+        )?,
+        Some(Request::NewRecording {
+            cart: "a.gb",
+            recording: "a.rec",
+            sectors: 2
+        })
+    );
+    assert_eq!(rt;
         request_of(alloc, ["gbkeep", "list", "a.gb", "0100", "4096"].as_slice())?,
         Some(Request::List {
             cart: "a.gb",

@@ -98,6 +98,13 @@ impl<D: SectorDevice> Opened<D> {
         }
     }
 
+    /// A read-only view of the device.
+    pub fn device(&self) -> &D
+        ensures { result.now ≡ device_under self.now }
+    {
+        &self.device
+    }
+
     /// The device as it is.
     pub fn into_device(self) -> D
         ensures { result ≡ device_under self }

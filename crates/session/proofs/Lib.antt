@@ -7,3 +7,4 @@ pub mod Answering
 pub mod Finding
 pub mod Saving
 pub mod SameSession
+pub mod Looks

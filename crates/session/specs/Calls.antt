@@ -42,6 +42,13 @@ pub record CanBeginGame (rom : List ℕ) (old : DiskState) : Type 0 where
   pub enough : need (snapshot_length (ram_length_of rom)) ≤ length old.sectors
   pub unworn : old.honest → generation_in old.sectors < 2 ^ 64 - 1
 
+-- ---- a game looked at
+
+-- what reads give stands for a position: only memory or a failed call refuses a look at it
+pub record CanBeLookedAt (rom : List ℕ) (old : DiskState) : Type 0 where
+  pub from : Position
+  pub stood : stands rom (content old.sectors) ≡ Some from
+
 -- ---- a game taken up
 
 -- what reads give stands for a position, and its generation has a next one: only memory or a failed call refuses it

@@ -57,6 +57,26 @@ IsResumeCause rom generation held SaveFirst = ⊥
 IsResumeCause rom generation held CountFull = ⊥
 IsResumeCause rom generation held Output = ⊥
 
+-- why a game is not looked at: as it is not taken up, but that generations used up are no reason
+abbrev pub IsLookCause : (rom : List ℕ) → Option ImageContent → SessionError → Type 0
+IsLookCause rom held Worn = ⊥
+IsLookCause rom held why = IsResumeCause rom 0 held why
+
+-- why a game that was looked at is not taken up: the generations used up, else a failed call; nothing is said of running out
+-- of memory
+abbrev pub IsTakeUpCause : (generation : ℕ) → SessionError → Type 0
+IsTakeUpCause generation Memory = ⊤
+IsTakeUpCause generation Device = generation < 2 ^ 64 - 1
+IsTakeUpCause generation Worn = generation ≡ 2 ^ 64 - 1
+IsTakeUpCause generation NoSession = ⊥
+IsTakeUpCause generation (TooSmall needed) = ⊥
+IsTakeUpCause generation OtherCartridge = ⊥
+IsTakeUpCause generation (Damaged damage) = ⊥
+IsTakeUpCause generation Broken = ⊥
+IsTakeUpCause generation SaveFirst = ⊥
+IsTakeUpCause generation CountFull = ⊥
+IsTakeUpCause generation Output = ⊥
+
 -- why no new game is begun on a device of so many sectors; nothing is said of running out of memory, nor of a failed call
 abbrev pub IsNewGameCause : (blob_length count : ℕ) → SessionError → Type 0
 IsNewGameCause blob_length count Memory = ⊤

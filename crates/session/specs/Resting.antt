@@ -1,12 +1,14 @@
 -- What a session knows of its device and of its machine; a reader needs none of this.
-use Rattle.std.specs.Prelude.{◌≡◌, ℕ, List, length, Bool, false}
+use Rattle.std.specs.Prelude.{◌≡◌, ◌≤◌, ℕ, List, [], length, Bool, false}
 use Rattle.std.proofs.Props.{props}
 use Rattle.cartridge.specs.Header.{has_rumble, ram_length_of}
 use Rattle.machine.specs.Machine.{MachineState}
+use Rattle.snapshot.specs.Encoding.{snapshot_length}
 use Rattle.snapshot.specs.Table.{kind_of_image}
 use Rattle.sector_device.specs.DiskState.{DiskState}
-use Rattle.sector_log.specs.Content.{content}
+use Rattle.sector_log.specs.Content.{content, generation_in, need}
 use Rattle.sector_log.specs.Found.{log_of}
+use Rattle.input_entries.specs.Inputs.{inputs}
 use Rattle.input_entries.specs.declared.Entry.{Entry}
 use Rattle.input_entries.specs.declared.StoredEntry.{StoredEntry}
 use Rattle.session.specs.Calls.{IsAtRest}
@@ -29,3 +31,16 @@ RestsUnlessBroken now log acknowledged pending machine broken = broken ≡ false
 
 pub rests_prop : (now : DiskState) (log : List StoredEntry) (acknowledged : ℕ) (pending : List Entry) (machine : MachineState) (broken : Bool) → IsProp (RestsUnlessBroken now log acknowledged pending machine broken)
 rests_prop now log acknowledged pending machine broken = hlevel props
+
+-- what was seen of a device: it rests at this machine, so many inputs are in its log, and it can hold a snapshot again
+pub record IsLookedAt (now : DiskState) (generation count logged : ℕ) (machine : MachineState) : Type 0 where
+  pub at_rest : IsAtRest machine.processor.memory.banks.rom now count [] machine
+  pub generation_is : generation_in now.sectors ≡ generation
+  pub logged_is : length (inputs (log_of (content now.sectors))) ≡ logged
+  pub enough : need (snapshot_length (ram_length_of machine.processor.memory.banks.rom)) ≤ length now.sectors
+
+abbrev pub LooksAt : DiskState → (generation count logged : ℕ) → MachineState → Type 0
+LooksAt now generation count logged machine = now.honest → IsLookedAt now generation count logged machine
+
+pub looks_prop : (now : DiskState) (generation count logged : ℕ) (machine : MachineState) → IsProp (LooksAt now generation count logged machine)
+looks_prop now generation count logged machine = hlevel props

@@ -63,15 +63,31 @@ pub(crate) struct Room {
     pub encoded: Vec<u8>,
 }
 
+/// Allocates room for a snapshot of this cartridge's machines.
+pub(crate) fn blank_snapshot(alloc: Global, cartridge: &Cartridge) -> Result<Vec<u8>, AllocError>
+    ensures { IfOk result (λ blank.
+        (length blank.items ≡ snapshot_length (ram_length_of cartridge.now)) × (length blank.items < 2 ^ 32)) }
+{
+    vec![in alloc; 0u8; snapshot_length(cartridge)]
+}
+
+/// Allocates the room that a session needs besides that for a snapshot.
+pub(crate) fn room_with(alloc: Global, encoded: Vec<u8>) -> Result<Room, AllocError>
+    ensures pending { IfOk result (λ room. (room.pending.items ≡ []) × (most_unsaved ≤ vec_capacity room.pending)) }
+    ensures encoded { IfOk result (λ room. room.encoded.items ≡ encoded.items) }
+{
+    let pending = Vec::with_capacity(alloc, MOST_UNSAVED as usize)?;
+    Ok(Room { pending, encoded })
+}
+
 /// Allocates the room that a session of this cartridge needs.
 pub(crate) fn make_room(alloc: Global, cartridge: &Cartridge) -> Result<Room, AllocError>
     ensures pending { IfOk result (λ room. (room.pending.items ≡ []) × (most_unsaved ≤ vec_capacity room.pending)) }
     ensures encoded { IfOk result (λ room.
         (length room.encoded.items ≡ snapshot_length (ram_length_of cartridge.now)) × (length room.encoded.items < 2 ^ 32)) }
 {
-    let pending = Vec::with_capacity(alloc, MOST_UNSAVED as usize)?;
-    let encoded = vec![in alloc; 0u8; snapshot_length(cartridge)]?;
-    Ok(Room { pending, encoded })
+    let encoded = blank_snapshot(alloc, cartridge)?;
+    room_with(alloc, encoded)
 }
 
 /// Begins a game at power-on, whatever the device holds. A power cut at any moment leaves what the

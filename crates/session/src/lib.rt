@@ -11,6 +11,8 @@ mod begin;
 mod entry;
 pub mod error;
 pub mod laws;
+pub mod look;
+mod looking;
 mod recovery;
 mod resuming;
 mod save;
@@ -18,5 +20,7 @@ pub mod session;
 
 pub use begin::{new_game, sectors_needed};
 pub use error::{Damage, Refused, SessionError};
+pub use look::Look;
+pub use looking::look_at;
 pub use resuming::resume;
 pub use session::{Counts, MOST_UNSAVED, Session};

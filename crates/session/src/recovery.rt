@@ -8,7 +8,7 @@ ghost use Rattle.input_entries.specs.Inputs.{inputs, inputs_in, is_entry};
 ghost use Rattle.sector_log.specs.Inputs.{first_wrong, counted};
 ghost use Rattle.sector_log.specs.Found.{IsSound};
 ghost use Rattle.sector_log.specs.Sizes.{most_entries_read};
-ghost use Rattle.sector_log.specs.Words.{seen, found_generation, longest_blob};
+ghost use Rattle.sector_log.specs.Words.{seen, longest_blob};
 ghost use Rattle.session.specs.Inputs.{logged, inputs_of};
 ghost use Rattle.session.specs.Recovery.{IsHeader, IsHeaderCause, IsRebuilt, IsRebuildCause, IsLogCause, IsRecovered, IsRecoveryCause};
 
@@ -134,17 +134,19 @@ fn rebuilt(
     }
 }
 
-/// The count of inputs and the machine that an opened log stands for, or why there is none.
+/// The count of inputs and the machine that an opened log stands for, or why there is none. The
+/// greatest `generation` is refused: after it there is no other.
 pub(crate) fn recovered<D: SectorDevice>(
     alloc: Global,
     opened: &Opened<D>,
+    generation: u64,
     cartridge: &Cartridge,
 ) -> Result<(u64, Machine), SessionError>
     requires most { longest_blob opened.now ≡ snapshot_length (ram_length_of cartridge.now) }
     requires sound { IsSound (seen opened.now) }
-    ensures ok { IfOk result (λ found. IsRecovered cartridge.now (seen opened.now) (found_generation opened.now) found.0 found.1) }
+    ensures ok { IfOk result (λ found. IsRecovered cartridge.now (seen opened.now) generation found.0 found.1) }
     ensures fits { IfOk result (λ found. found.0 < 2 ^ 64) }
-    ensures err { IfErr result (IsRecoveryCause cartridge.now (seen opened.now) (found_generation opened.now)) }
+    ensures err { IfErr result (IsRecoveryCause cartridge.now (seen opened.now) generation) }
 {
     let header = match header_of(opened.found(), cartridge.digest()) {
         Ok(header) => header,
@@ -159,7 +161,7 @@ pub(crate) fn recovered<D: SectorDevice>(
         &header,
         encoded,
         opened.entries(),
-        opened.generation(),
+        generation,
         cartridge,
     )
 }

@@ -73,7 +73,8 @@ pub fn resume<D: SectorDevice>(
             device: refused.device,
         }),
     };
-    match recovered(alloc, &opened, cartridge) {
+    let generation = opened.generation();
+    match recovered(alloc, &opened, generation, cartridge) {
         Ok((count, machine)) => begin_with(opened, cartridge, count, machine, room),
         Err(why) => Err(Refused {
             why,

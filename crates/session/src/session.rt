@@ -117,6 +117,14 @@ impl<D: SectorDevice> Session<D> {
         &self.machine
     }
 
+    /// The inputs that are not saved, the first of them first.
+    pub fn unsaved(&self) -> &[Entry]
+        ensures pending { result.now ≡ pending_of self.now }
+        ensures inputs { list_all is_input result.now ≡ true }
+    {
+        &self.pending
+    }
+
     /// A read-only view of the device. Unless the session is broken, every image of it stands for
     /// the saved inputs.
     pub fn device(&self) -> &D

@@ -14,7 +14,7 @@ const NEWLINE: u8 = b'\n';
 const MOST: usize = 64;
 
 /// What was read and not yet examined.
-pub(crate) type Held = ArrayVec<u8, 1024>;
+pub type Held = ArrayVec<u8, 1024>;
 
 /// How a read went.
 #[derive(Clone, Copy, Debug, PartialEq, Eq)]
@@ -133,8 +133,9 @@ fn take_line(held: &mut Held) -> Next
     next
 }
 
-/// Reads the next line.
-pub(crate) fn read_next<R: Read>(held: &mut Held, input: &mut R) -> Next
+/// Reads the next line: first of what is held, then of the input. A line of more than 64 bytes is
+/// wrong as soon as that many are read.
+pub fn read_next<R: Read>(held: &mut Held, input: &mut R) -> Next
     ensures { IsNext result (left_of held.old.items (R.remaining input.old)) (left_of held.new.items (R.remaining input.new))
         (R.remaining input.new) }
 {

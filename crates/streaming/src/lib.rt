@@ -2,11 +2,12 @@
 #![tactic(auto)]
 
 pub mod error;
-mod held;
+pub mod held;
 mod obeying;
 pub mod order;
 mod whole;
 
 pub use error::{StreamError, StreamRefused};
+pub use obeying::End;
 pub use order::{Order, read_order};
 pub use whole::stream;

@@ -11,6 +11,7 @@ use super::clock::clock_of;
 use super::{Bus, NOTHING_KNOWN};
 use crate::control::select_bits;
 use picture_unit::{LCDC, LYC, STAT};
+use timer_unit::SerialState;
 
 /// The addresses of the registers but those of the picture unit (Pan Docs, "I/O Ranges").
 const P1: u16 = 0xff00;
@@ -32,6 +33,14 @@ const IF: u16 = 0xff0f;
 const DMA: u16 = 0xff46;
 
 impl Bus {
+    /// The serial port: its registers, and the M-cycles that are left of a transfer.
+    #[inline]
+    pub fn serial(&self) -> SerialState
+        ensures { result ≡ self.now.serial.serial }
+    {
+        self.serial.state()
+    }
+
     /// The bits that IE and IF share, of the low five: VBlank 0, STAT 1, timer 2, serial 3, joypad
     /// 4.
     #[inline]

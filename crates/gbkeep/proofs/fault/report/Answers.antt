@@ -1,5 +1,5 @@
 use Rattle.gbkeep.proofs.fault.report.Goals as goal
-use Rattle.gbkeep.proofs.fault.report.Goals.{in-Cart, in-Memory, in-File, in-Output, in-Address, in-Word, in-Device, in-Script, in-Session, in-Line, in-Input}
+use Rattle.gbkeep.proofs.fault.report.Goals.{in-Cart, in-Memory, in-File, in-Output, in-Address, in-Word, in-Device, in-Script, in-Session, in-Line, in-Input, in-Recording, in-Behind, in-Differ, in-TestFailed, in-TestUndecided}
 
 pub returns-clause-line : goal.returns-clause-line
 returns-clause-line g c =
@@ -15,4 +15,9 @@ returns-clause-line g c =
       | in-Session w ↦ rw (w.in-Session.is, w.err-is) w.write_session_line.ensures
       | in-Line w ↦ rw w.in-Line.is tt
       | in-Input w ↦ rw (w.in-Input.is, w.err-is) w.write_line-in-Input.ensures
+      | in-Recording w ↦ rw w.in-Recording.is tt
+      | in-Behind w ↦ rw w.in-Behind.is tt
+      | in-Differ w ↦ rw (w.in-Differ.is, w.err-is) w.write_line-in-Differ.ensures
+      | in-TestFailed w ↦ rw (w.in-TestFailed.is, w.err-is) w.write_line-in-TestFailed.ensures
+      | in-TestUndecided w ↦ rw (w.in-TestUndecided.is, w.err-is) w.write_line-in-TestUndecided.ensures
     ]

@@ -7,7 +7,9 @@ use Rattle.memory_map.specs.Quiet.{IsCalm}
 use Rattle.memory_map.proofs.QuietCycles.{fewer_are_quiet, calm_after}
 use Rattle.sm83_processor.proofs.FastSteps.{fast_after, fast_cycles}
 use Rattle.sm83_processor.proofs.StepCycles.{step-bounds}
+use Rattle.machine.specs.Watching.{IsSilent}
 use Rattle.machine.proofs.FastFrames.{uninterrupted}
+use Rattle.machine.proofs.Sent.{stays_silent}
 use Rattle.machine.proofs.frame.run_fast_step.Goals as goal
 
 pub returns-then-not-usual-clause-after : goal.returns-then-not-usual-clause-after
@@ -117,3 +119,12 @@ returns-clause-calm g c =
     let calm = subst (IsCalm (c.args.left - run.result.0)) (sym c.move_on.ensures) (calm_after c.args.left run.result.0 q.memory few still) in
     let same : (c.args.left + (4294967296 - run.result.0)) % 4294967296 ≡ c.args.left - run.result.0 = omega (arith, few) in
     λ _. rw same calm
+
+pub returns-clause-silent : goal.returns-clause-silent
+returns-clause-silent g c =
+    let run = c.run_opcode-cycles in
+    let q = run.new.self in
+    let bounds = step-bounds bus_rules c.args.processor.now in
+    let took = fast_cycles bus_rules c.read-opcode.result run.result.0 c.args.processor.now c.requires.fast c.read-opcode.ensures run.ensures.cycles in
+    let still = c.stays_calm-is_calm.ensures c.if-not-is_calm.false in
+    λ _. subst IsSilent (sym c.move_on.ensures) (stays_silent run.result.0 q.memory (still.quiet.serial (omega (arith, took, bounds.some, c.if-cycles-left.false))))

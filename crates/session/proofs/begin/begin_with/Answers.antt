@@ -1,5 +1,4 @@
-use Rattle.std.proofs.Common.{◌≡◌, ◌++◌, List, ℕ, length, take, drop, refl, sym, ap, ◌∙◌, subst, arith}
-use Rattle.std.proofs.lemmas.List.{take-append-le, take_all}
+use Rattle.std.proofs.Common.{◌≡◌, List, ℕ, length, drop, refl, sym, ap, ◌∙◌, subst, arith}
 use Rattle.sha2.specs.Sha256.{sha256}
 use Rattle.cartridge.specs.Header.{ram_length_of}
 use Rattle.snapshot.specs.Encoding.{encoded, snapshot_length}
@@ -11,12 +10,8 @@ use Rattle.sector_log.specs.declared.fault.LogFault.TheVariants.{Memory as LogMe
 use Rattle.session.specs.Beginning.{session_fault, IsBeginRefusal}
 use Rattle.session.specs.Calls.{faults_after}
 use Rattle.session.proofs.Beginnings.{machine_of_rom, begun_rests, begun_of, images_of}
+use Rattle.session.proofs.Looks.{filled}
 use Rattle.session.proofs.begin.begin_with.Goals as goal
-
--- a buffer that was written whole
-filled : (bytes out all rest : List ℕ) (n : ℕ) → bytes ≡ take n (out ++ rest) → n ≡ length out → out ≡ all → bytes ≡ all
-filled bytes out all rest n is size same =
-    is ∙ take-append-le n out rest (omega (arith, size)) ∙ take_all n out (omega (arith, size)) ∙ same
 
 pub at-requires-clause-rests : goal.at-requires-clause-rests
 at-requires-clause-rests g c = λ whole honest_now.

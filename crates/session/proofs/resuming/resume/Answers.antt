@@ -19,10 +19,10 @@ use Rattle.session.proofs.Finding.{cause_found, recovered_stands, recovered_mach
 use Rattle.session.proofs.resuming.resume.Goals as goal
 
 pub begin_with-requires-clause-rom : goal.begin_with-requires-clause-rom
-begin_with-requires-clause-rom g c = (recovered_machine c.args.cartridge.now (found_generation c.in-Ok-open_log.opened) c.in-Ok-recovered.count (seen c.in-Ok-open_log.opened) c.in-Ok-recovered.machine c.in-Ok-recovered.ensures.ok).0
+begin_with-requires-clause-rom g c = (recovered_machine c.args.cartridge.now c.generation-generation.result c.in-Ok-recovered.count (seen c.in-Ok-open_log.opened) c.in-Ok-recovered.machine c.in-Ok-recovered.ensures.ok).0
 
 pub begin_with-requires-clause-own : goal.begin_with-requires-clause-own
-begin_with-requires-clause-own g c = (recovered_machine c.args.cartridge.now (found_generation c.in-Ok-open_log.opened) c.in-Ok-recovered.count (seen c.in-Ok-open_log.opened) c.in-Ok-recovered.machine c.in-Ok-recovered.ensures.ok).1
+begin_with-requires-clause-own g c = (recovered_machine c.args.cartridge.now c.generation-generation.result c.in-Ok-recovered.count (seen c.in-Ok-open_log.opened) c.in-Ok-recovered.machine c.in-Ok-recovered.ensures.ok).1
 
 pub returns-in-Ok-recovered-clause-begun : goal.returns-in-Ok-recovered-clause-begun
 returns-in-Ok-recovered-clause-begun g c =
@@ -31,14 +31,14 @@ returns-in-Ok-recovered-clause-begun g c =
       begun.1,
       begun.2,
       ap (λ (m : MachineState). m.processor.memory.banks.rom) begun.3
-          ∙ (recovered_machine c.args.cartridge.now (found_generation c.in-Ok-open_log.opened) c.in-Ok-recovered.count (seen c.in-Ok-open_log.opened) c.in-Ok-recovered.machine c.in-Ok-recovered.ensures.ok).0,
+          ∙ (recovered_machine c.args.cartridge.now c.generation-generation.result c.in-Ok-recovered.count (seen c.in-Ok-open_log.opened) c.in-Ok-recovered.machine c.in-Ok-recovered.ensures.ok).0,
     ))
 
 pub returns-in-Ok-recovered-clause-stands : goal.returns-in-Ok-recovered-clause-stands
 returns-in-Ok-recovered-clause-stands g c =
     if_ok c.begin_with.result c.begin_with.ensures.begun
     (λ s begun honest.
-    recovered_stands c.args.cartridge.now (found_generation c.in-Ok-open_log.opened) c.snapshot_length.result c.in-Ok-recovered.count (g.D.SectorDevice.disk c.args.device).sectors (seen c.in-Ok-open_log.opened) c.in-Ok-recovered.machine
+    recovered_stands c.args.cartridge.now c.generation-generation.result c.snapshot_length.result c.in-Ok-recovered.count (g.D.SectorDevice.disk c.args.device).sectors (seen c.in-Ok-open_log.opened) c.in-Ok-recovered.machine
     (c.in-Ok-open_log.ensures.opened.seen_is honest) c.in-Ok-recovered.ensures.ok
     ∙ (λ i. Some (record { count = sym begun.0 i; machine = sym begun.3 i })))
 
@@ -55,13 +55,13 @@ pub returns-in-Ok-recovered-clause-images : goal.returns-in-Ok-recovered-clause-
 returns-in-Ok-recovered-clause-images g c = λ honest.
     resume_images c.args.cartridge.now (g.D.SectorDevice.disk c.args.device) (g.D.SectorDevice.disk (device_under c.in-Ok-open_log.opened)) (g.D.SectorDevice.disk (left_by c.begin_with.result))
     c.in-Ok-recovered.count c.in-Ok-recovered.machine (g.met.D.SectorDevice.reads_are_an_image c.args.device honest) (c.in-Ok-open_log.ensures.looked honest) c.begin_with.ensures.of c.in-Ok-recovered.ensures.fits
-    (recovered_stands c.args.cartridge.now (found_generation c.in-Ok-open_log.opened) c.snapshot_length.result c.in-Ok-recovered.count (g.D.SectorDevice.disk c.args.device).sectors (seen c.in-Ok-open_log.opened) c.in-Ok-recovered.machine
+    (recovered_stands c.args.cartridge.now c.generation-generation.result c.snapshot_length.result c.in-Ok-recovered.count (g.D.SectorDevice.disk c.args.device).sectors (seen c.in-Ok-open_log.opened) c.in-Ok-recovered.machine
     (c.in-Ok-open_log.ensures.opened.seen_is honest) c.in-Ok-recovered.ensures.ok)
     (c.begin_with.ensures.images (c.in-Ok-open_log.ensures.answered.honest.1 honest))
 
 pub returns-in-Ok-recovered-clause-nothing : goal.returns-in-Ok-recovered-clause-nothing
 returns-in-Ok-recovered-clause-nothing g c = λ honest none.
-    let stood = recovered_stands c.args.cartridge.now (found_generation c.in-Ok-open_log.opened) c.snapshot_length.result c.in-Ok-recovered.count (g.D.SectorDevice.disk c.args.device).sectors (seen c.in-Ok-open_log.opened) c.in-Ok-recovered.machine
+    let stood = recovered_stands c.args.cartridge.now c.generation-generation.result c.snapshot_length.result c.in-Ok-recovered.count (g.D.SectorDevice.disk c.args.device).sectors (seen c.in-Ok-open_log.opened) c.in-Ok-recovered.machine
     (c.in-Ok-open_log.ensures.opened.seen_is honest) c.in-Ok-recovered.ensures.ok in
     let wrong : None ≡ Some (record { count = c.in-Ok-recovered.count; machine = c.in-Ok-recovered.machine }) = sym none ∙ stood in
     absurd (cc)
@@ -77,10 +77,10 @@ returns-in-Ok-recovered-clause-cause g c =
     (λ refused cause honest.
     begin_cause c.args.cartridge.now (generation_in (g.D.SectorDevice.disk c.args.device).sectors) (content (g.D.SectorDevice.disk c.args.device).sectors) (snapshot_length (ram_length_of c.args.cartridge.now)) _ (found_generation c.in-Ok-open_log.opened) refused.why
     (subst (λ (n : ℕ). need (snapshot_length (ram_length_of c.args.cartridge.now)) ≤ n) (sym c.in-Ok-open_log.ensures.answered.count)
-    (recovered_fits c.args.cartridge.now (found_generation c.in-Ok-open_log.opened) c.snapshot_length.result c.in-Ok-recovered.count (g.D.SectorDevice.disk c.args.device).sectors (seen c.in-Ok-open_log.opened) c.in-Ok-recovered.machine
+    (recovered_fits c.args.cartridge.now c.generation-generation.result c.snapshot_length.result c.in-Ok-recovered.count (g.D.SectorDevice.disk c.args.device).sectors (seen c.in-Ok-open_log.opened) c.in-Ok-recovered.machine
     (g.met.D.SectorDevice.images_are_sized c.args.device (g.D.SectorDevice.disk c.args.device).sectors honest (g.met.D.SectorDevice.reads_are_an_image c.args.device honest))
     (c.in-Ok-open_log.ensures.opened.seen_is honest) c.in-Ok-recovered.ensures.ok))
-    c.in-Ok-recovered.ensures.ok.rebuilt.unworn cause)
+    (subst (λ (n : ℕ). n < 18446744073709551615) c.generation-generation.ensures.generation c.in-Ok-recovered.ensures.ok.rebuilt.unworn) cause)
 
 pub returns-in-Ok-recovered-clause-answered : goal.returns-in-Ok-recovered-clause-answered
 returns-in-Ok-recovered-clause-answered g c = answered_then c.begin_with.result c.in-Ok-open_log.ensures.answered c.begin_with.ensures.answered
@@ -97,8 +97,8 @@ returns-in-Err-recovered-clause-images g c = λ honest.
 
 pub returns-in-Err-recovered-clause-cause : goal.returns-in-Err-recovered-clause-cause
 returns-in-Err-recovered-clause-cause g c = λ honest.
-    subst (λ (n : ℕ). IsResumeCause c.args.cartridge.now n (content (g.D.SectorDevice.disk c.args.device).sectors) c.in-Err-recovered.why) (c.in-Ok-open_log.ensures.opened.generation_is honest)
-    (cause_found c.args.cartridge.now (found_generation c.in-Ok-open_log.opened) c.snapshot_length.result (g.D.SectorDevice.disk c.args.device).sectors (seen c.in-Ok-open_log.opened) c.in-Err-recovered.why
+    subst (λ (n : ℕ). IsResumeCause c.args.cartridge.now n (content (g.D.SectorDevice.disk c.args.device).sectors) c.in-Err-recovered.why) (c.generation-generation.ensures.generation ∙ c.in-Ok-open_log.ensures.opened.generation_is honest)
+    (cause_found c.args.cartridge.now c.generation-generation.result c.snapshot_length.result (g.D.SectorDevice.disk c.args.device).sectors (seen c.in-Ok-open_log.opened) c.in-Err-recovered.why
     c.snapshot_length.ensures.length
     (g.met.D.SectorDevice.images_are_sized c.args.device (g.D.SectorDevice.disk c.args.device).sectors honest (g.met.D.SectorDevice.reads_are_an_image c.args.device honest))
     (c.in-Ok-open_log.ensures.opened.seen_is honest) c.in-Err-recovered.ensures.err)
@@ -124,12 +124,12 @@ returns-in-Err-clause-failed g c = λ failed honest. inl (c.in-Err.ensures.looke
 pub returns-in-Err-recovered-clause-memory : goal.returns-in-Err-recovered-clause-memory
 returns-in-Err-recovered-clause-memory g c = λ wanted. inr (λ honest.
     let opened = c.in-Ok-open_log.opened in
-    let found = memory_found c.args.cartridge.now (found_generation opened) c.snapshot_length.result (g.D.SectorDevice.disk c.args.device).sectors (seen opened) (c.in-Ok-open_log.ensures.opened.seen_is honest)
-    (subst (λ why. IsRecoveryCause c.args.cartridge.now (seen opened) (found_generation opened) why) wanted c.in-Err-recovered.ensures.err) in
+    let found = memory_found c.args.cartridge.now c.generation-generation.result c.snapshot_length.result (g.D.SectorDevice.disk c.args.device).sectors (seen opened) (c.in-Ok-open_log.ensures.opened.seen_is honest)
+    (subst (λ why. IsRecoveryCause c.args.cartridge.now (seen opened) c.generation-generation.result why) wanted c.in-Err-recovered.ensures.err) in
     record {
       from = found.0.0;
       stood = found.0.1;
-      unworn = subst (λ (n : ℕ). n < 18446744073709551615) (c.in-Ok-open_log.ensures.opened.generation_is honest) found.1;
+      unworn = subst (λ (n : ℕ). n < 18446744073709551615) (c.generation-generation.ensures.generation ∙ c.in-Ok-open_log.ensures.opened.generation_is honest) found.1;
     })
 
 pub returns-in-Err-recovered-clause-failed : goal.returns-in-Err-recovered-clause-failed
@@ -147,7 +147,7 @@ returns-in-Ok-recovered-clause-failed g c =
     if_err c.begin_with.result c.begin_with.ensures.cause
     (λ refused cause failed honest. inr (record {
       from = record { count = c.in-Ok-recovered.count; machine = c.in-Ok-recovered.machine };
-      stood = recovered_stands c.args.cartridge.now (found_generation c.in-Ok-open_log.opened) c.snapshot_length.result c.in-Ok-recovered.count (g.D.SectorDevice.disk c.args.device).sectors (seen c.in-Ok-open_log.opened) c.in-Ok-recovered.machine
+      stood = recovered_stands c.args.cartridge.now c.generation-generation.result c.snapshot_length.result c.in-Ok-recovered.count (g.D.SectorDevice.disk c.args.device).sectors (seen c.in-Ok-open_log.opened) c.in-Ok-recovered.machine
           (c.in-Ok-open_log.ensures.opened.seen_is honest) c.in-Ok-recovered.ensures.ok;
-      unworn = subst (λ (n : ℕ). n < 18446744073709551615) (c.in-Ok-open_log.ensures.opened.generation_is honest) c.in-Ok-recovered.ensures.ok.rebuilt.unworn;
+      unworn = subst (λ (n : ℕ). n < 18446744073709551615) (c.generation-generation.ensures.generation ∙ c.in-Ok-open_log.ensures.opened.generation_is honest) c.in-Ok-recovered.ensures.ok.rebuilt.unworn;
     }))

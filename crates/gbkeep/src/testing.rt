@@ -1,0 +1,34 @@
+//! Test ROMs in files.
+
+ghost use Rattle.gbkeep.specs.Program.{IsServed};
+
+use crate::bytes::{MOST_ROM, MOST_SCRIPT, file_bytes};
+use crate::fault::Fault;
+use command_line::Request;
+use std::fs::File;
+use std::io::Write;
+use std::rt::Files;
+use test_run::{Verdict, run_test};
+
+/// Runs a test ROM, with the moves of a script first if one is named, and prints what it sends and how it ended. Done: it has passed.
+pub(crate) fn test<R: Files<File = File> + AllocGlobal, O: Write>(
+    rt: &R,
+    cart: &str,
+    frames: u32,
+    script: Option<&str>,
+    out: &mut O,
+) -> Result<(), Fault>
+    ensures { IsServed (Request.Test cart.entry frames script.entry) result (O.contents out.old) (O.contents out.new) }
+{
+    let rom = file_bytes(rt, cart, MOST_ROM)?;
+    let script = match script {
+        Some(path) => file_bytes(rt, path, MOST_SCRIPT)?,
+        None => Vec::new(rt.alloc()),
+    };
+    match run_test(rt.alloc(), rom, script.as_slice(), frames, out) {
+        Ok(Verdict::Passed) => Ok(()),
+        Ok(Verdict::Failed) => Err(Fault::TestFailed),
+        Ok(Verdict::Undecided) => Err(Fault::TestUndecided),
+        Err(why) => Err(Fault::from(why)),
+    }
+}

@@ -1,0 +1,18 @@
+use Rattle.std.proofs.Common.{◌≡◌, ◌<◌, ◌≤◌, ◌-◌}
+use Rattle.memory_map.specs.BusRules.{bus_rules}
+use Rattle.sm83_processor.specs.FastStep.{IsFast}
+use Rattle.machine.specs.Watched.{seen_in}
+use Rattle.machine.specs.Watching.{in_frame, IsSilent}
+use Rattle.machine.proofs.watched.run_fast_unseen.Given as goal
+
+abbrev pub invariant-loop-passed : goal.invariant-loop-passed
+invariant-loop-passed l = record {
+  run : seen_in (in_frame l.passed l.processor) ≡ seen_in (in_frame l.fn.passed l.fn.processor);
+  start : l.fn.passed ≤ l.passed;
+  few : l.passed < 17562;
+  fast : IsFast bus_rules l.processor;
+  silent : IsSilent l.processor.memory;
+}
+
+abbrev pub decreases-loop-passed : goal.decreases-loop-passed
+decreases-loop-passed l = 17556 - l.passed

@@ -1,0 +1,232 @@
+-- How a SAVE and a recording come on together, and where they stop.
+use Rattle.std.proofs.Common.{◌≡◌, ℕ, ◌+◌, ◌≤◌, List, [], ◌++◌, length, take, Option, None, Some, refl, sym, ap, ◌∙◌, subst, arith, append_assoc, append-nil, length-append}
+use Rattle.std.proofs.lemmas.List.{take-take, take-map, take-append-le, length-take-le, length-map}
+use Rattle.std.specs.Option.{option_map}
+use Rattle.sha2.specs.Sha256.{sha256}
+use Rattle.machine.specs.Machine.{MachineState, start, after}
+use Rattle.machine.specs.declared.input.Input.{Input}
+use Rattle.sector_device.specs.DiskState.{DiskState}
+use Rattle.sector_device.specs.Runs.{HoldsSince}
+use Rattle.sector_log.specs.Content.{content}
+use Rattle.input_entries.specs.declared.Entry.{Entry}
+use Rattle.recording.specs.Recorded.{recorded}
+use Rattle.session.specs.Inputs.{input_of, inputs_of}
+use Rattle.session.specs.Stands.{Position, stands}
+use Rattle.session.specs.declared.error.SessionError.TheVariants.{Output}
+use Rattle.session.proofs.Answering.{answered_both, answered_nothing, answered_otherwise, answered_refused}
+use Rattle.session.proofs.StandsLaws.{after_append, after_none}
+use Rattle.session.proofs.Writes.{since_weaker}
+use Rattle.session.proofs.Beginnings.{since_then}
+use Rattle.playing.specs.Played.{Reaches}
+use Rattle.playing.proofs.PlayLaws.{going_nowhere, going_then, going_by, stopped_after, stopped_then, stopped_by, stopped_more}
+use Rattle.playing.proofs.Stops.{stops_among}
+use Rattle.streaming.specs.Obeying.{all_of}
+use Rattle.replaying.specs.Agreeing.{Agrees}
+use Rattle.recorded_play.specs.Agreeing.{AllAgree}
+use Rattle.recorded_play.specs.Steps.{Game, power_on, HoldsFirst, IsInStep, IsBehind, Comes, Halts, IsRecordStop}
+use Rattle.recorded_play.specs.declared.error.RecordError.{RecordError}
+use Rattle.recorded_play.specs.declared.error.RecordError.TheVariants.{Session, Recording, Behind, Line, Input as FailedInput}
+use Rattle.recorded_play.proofs.Recordings.{first_since_here, first_more, holds_here, records_by, records_then}
+
+-- no call of a device that is at this moment
+abbrev pub IsNow : DiskState → Type 0
+IsNow now = (image : List (List ℕ)) → now.since now.moment image → now.image image
+
+-- ---- what agrees
+
+-- the entries of these inputs
+pub entries_of : (found : Option (List Entry)) (all : List Input) → option_map inputs_of found ≡ Some all → (entries : List Entry) × (found ≡ Some entries) × (inputs_of entries ≡ all)
+entries_of None all is = absurd (cc)
+entries_of (Some entries) all is = (entries, refl, cc)
+
+-- an image that stands for some of these inputs, and one that holds at least these
+pub reached_agrees : (rom : List ℕ) (all : List Input) (most : ℕ) (s r : List (List ℕ)) → Reaches rom (power_on rom) 0 (take most all) s → HoldsFirst rom most all r → Agrees rom s r
+reached_agrees rom all most s r reaches held = λ position stood.
+    let is : Some position ≡ Some (record { count = 0 + reaches.count; machine = after (start rom) (take reaches.count (take most all)) }) = sym stood ∙ reaches.is in
+    let same : position ≡ record { count = 0 + reaches.count; machine = after (start rom) (take reaches.count (take most all)) } = cc in
+    let counts : position.count ≡ 0 + reaches.count = ap (λ (p : Position). p.count) same in
+    let count_is : position.count ≡ reaches.count = omega (arith, counts) in
+    let enough : most ≤ length all = omega (arith, held.at_least, held.within) in
+    let below : reaches.count ≤ most = omega (arith, reaches.within, length-take-le most all enough) in
+    let front : take reaches.count (take most all) ≡ take reaches.count (take held.count all) =
+    take-take reaches.count most all below ∙ sym (take-take reaches.count held.count all (omega (arith, below, held.at_least))) in
+    let found = entries_of (recorded (sha256 rom) r) (take held.count all) held.is in
+    let size : length found.0 ≡ held.count = sym (length-map found.0 input_of) ∙ ap length found.2 ∙ length-take-le held.count all held.within in
+    record {
+      entries = found.0;
+      holds = found.1;
+      enough = omega (arith, count_is, below, held.at_least, size);
+      machine_is =
+          ap (λ (p : Position). p.machine) same ∙ ap (after (start rom)) front
+          ∙ ap (λ (n : ℕ). after (start rom) (take n (take held.count all))) (sym count_is)
+          ∙ ap (λ (l : List Input). after (start rom) (take position.count l)) (sym found.2)
+          ∙ ap (after (start rom)) (take-map input_of position.count found.0);
+    }
+
+pub behind_agree : (rom : List ℕ) (old now : Game) (all : List Input) → IsBehind rom old now all → AllAgree rom now.save.disk now.recording
+behind_agree rom old now all behind = λ s r is_save is_recording. reached_agrees rom all behind.most s r (behind.saves s is_save) (behind.recordings r is_recording)
+
+-- ---- at rest
+
+-- the one image of the SAVE stands for what is acknowledged
+pub save_reaches : (rom : List ℕ) (now : Game) (all : List Input) → IsInStep rom now all → (image : List (List ℕ)) → now.save.disk.image image → Reaches rom (power_on rom) 0 (take now.save.acknowledged all) image
+save_reaches rom now all step image here =
+    let played = step.played in
+    let whole : take now.save.acknowledged (take now.save.acknowledged all) ≡ take now.save.acknowledged all = take-take now.save.acknowledged now.save.acknowledged all (omega arith) in
+    let saved : now.save.acknowledged ≡ played.saved = omega (arith, played.acknowledged_is) in
+    let count_is : now.save.acknowledged ≡ 0 + now.save.acknowledged = omega arith in
+    let machine_is : after (start rom) (take played.saved all) ≡ after (start rom) (take now.save.acknowledged (take now.save.acknowledged all)) =
+    ap (after (start rom)) (ap (λ (n : ℕ). take n all) (sym saved) ∙ sym whole) in
+    record {
+      count = now.save.acknowledged;
+      at_least = omega arith;
+      within = omega (arith, length-take-le now.save.acknowledged all step.holds.within);
+      is = ap (λ (i : List (List ℕ)). stands rom (content i)) (played.settled image here) ∙ played.stands_is
+          ∙ (λ i. Some (record { count = count_is i; machine = machine_is i }));
+    }
+
+pub behind_here : (rom : List ℕ) (now : Game) (all : List Input) → IsInStep rom now all → IsNow now.recording → IsBehind rom now now all
+behind_here rom now all step only = record {
+  honest = step.holds.honest;
+  moments = first_since_here rom now.recording now.save.acknowledged now.save.pending all step.holds only;
+  most = now.save.acknowledged;
+  within = step.holds.within;
+  least = omega arith;
+  saves = save_reaches rom now all step;
+  recordings = holds_here rom now.recording now.save.acknowledged now.save.pending all step.holds;
+}
+
+-- ---- one after the other
+
+pub behind_then : (rom : List ℕ) (a b c : Game) (all more : List Input) → HoldsSince a.recording b.recording (HoldsFirst rom 0 all) → IsBehind rom b c (all ++ more) → IsBehind rom a c (all ++ more)
+behind_then rom a b c all more first second = record {
+  honest = second.honest;
+  moments = since_then (since_weaker first (first_more rom 0 all more)) second.moments;
+  most = second.most;
+  within = second.within;
+  least = second.least;
+  saves = second.saves;
+  recordings = second.recordings;
+}
+
+pub behind_by : {rom : List ℕ} {old now : Game} {all all' : List Input} → all ≡ all' → IsBehind rom old now all → IsBehind rom old now all'
+behind_by {rom} {old} {now} {all} {all'} same behind = subst (IsBehind rom old now) same behind
+
+-- the same, with no more inputs
+pub behind_on : (rom : List ℕ) (a b c : Game) (all : List Input) → HoldsSince a.recording b.recording (HoldsFirst rom 0 all) → IsBehind rom b c all → IsBehind rom a c all
+behind_on rom a b c all first second = record {
+  honest = second.honest;
+  moments = since_then first second.moments;
+  most = second.most;
+  within = second.within;
+  least = second.least;
+  saves = second.saves;
+  recordings = second.recordings;
+}
+
+-- more inputs that were not given
+pub behind_more : (rom : List ℕ) (old now : Game) (all more : List Input) → IsBehind rom old now all → IsBehind rom old now (all ++ more)
+behind_more rom old now all more behind = record {
+  honest = behind.honest;
+  moments = since_weaker behind.moments (first_more rom 0 all more);
+  most = behind.most;
+  within = omega (arith, behind.within, length-append all more);
+  least = behind.least;
+  saves = λ image here. subst (λ (l : List Input). Reaches rom (power_on rom) 0 l image) (sym (take-append-le behind.most all more behind.within)) (behind.saves image here);
+  recordings = λ image here. first_more rom behind.most all more image (behind.recordings image here);
+}
+
+module _ (rom : List ℕ) (a b : Game) (all more : List Input) (comes : Comes a b more) (step : IsInStep rom a all) where
+  pub in_step_then : IsInStep rom b (all ++ more)
+  in_step_then = record { played = (comes.going rom (power_on rom) all step.played).played; holds = (comes.records rom all step.holds).holds }
+
+  pub behind_after : IsNow b.recording → IsBehind rom a b (all ++ more)
+  behind_after only = behind_on rom a b b (all ++ more) (comes.records rom all step.holds).moments (behind_here rom b (all ++ more) in_step_then only)
+
+-- ---- steps
+
+pub comes_nothing : (a : Game) → IsNow a.save.disk → IsNow a.recording → Comes a a []
+comes_nothing a only_save only_recording = record {
+  going = λ rom from given played. going_nowhere rom a.save.disk a.save.acknowledged a.save.pending a.save.machine from given played only_save;
+  records = λ rom all held. records_by (sym (append-nil all)) (record { moments = first_since_here rom a.recording a.save.acknowledged a.save.pending all held only_recording; holds = held });
+  machine_is = sym (after_none a.save.machine);
+  all_is = omega arith;
+  later = omega arith;
+  save_calls = answered_nothing;
+  recording_calls = answered_nothing;
+  rom = refl;
+}
+
+pub comes_then : (a b c : Game) (first second : List Input) → Comes a b first → Comes b c second → Comes a c (first ++ second)
+comes_then a b c first second one two = record {
+  going = λ rom from given played.
+      let before = one.going rom from given played in
+      going_by (append_assoc given first second)
+      (going_then rom a.save.disk b.save.disk c.save.disk c.save.acknowledged c.save.pending c.save.machine from (given ++ first) second before.moments (two.going rom from (given ++ first) before.played));
+  records = λ rom all held.
+      let before = one.records rom all held in
+      records_by (append_assoc all first second)
+      (records_then rom a.recording b.recording c.recording c.save.acknowledged c.save.pending (all ++ first) second before.moments (two.records rom (all ++ first) before.holds));
+  machine_is = two.machine_is ∙ ap (λ (m : MachineState). after m second) one.machine_is ∙ after_append a.save.machine first second;
+  all_is = omega (arith, two.all_is, one.all_is, length-append first second);
+  later = omega (arith, one.later, two.later);
+  save_calls = answered_both one.save_calls two.save_calls;
+  recording_calls = answered_both one.recording_calls two.recording_calls;
+  rom = two.rom ∙ one.rom;
+}
+
+pub comes_by : {a b : Game} {more more' : List Input} → more ≡ more' → Comes a b more → Comes a b more'
+comes_by {a} {b} same comes = subst (Comes a b) same comes
+
+pub record_stops_among : (why : RecordError) (less all : ℕ) (now : DiskState) → less ≤ all → IsRecordStop why less now → IsRecordStop why all now
+record_stops_among (Session why) less all now more stop = stops_among why less all now more stop
+record_stops_among (Recording why) less all now more stop = stop
+record_stops_among (Behind count) less all now more stop = stop
+record_stops_among (Line number) less all now more stop = stop
+record_stops_among FailedInput less all now more stop = stop
+
+pub halts_then : (a b c : Game) (first second : List Input) (why : RecordError) → Comes a b first → Halts b c second why → Halts a c (first ++ second) why
+halts_then a b c first second why one two = record {
+  stopped = λ rom from given played.
+      let before = one.going rom from given played in
+      stopped_by (append_assoc given first second)
+      (stopped_then rom a.save.disk b.save.disk c.save.disk c.save.acknowledged from (given ++ first) second before.moments (two.stopped rom from (given ++ first) before.played));
+  behind = λ rom all step.
+      behind_by (append_assoc all first second)
+      (behind_then rom a b c (all ++ first) second (one.records rom all step.holds).moments (two.behind rom (all ++ first) (in_step_then rom a b all first one step)));
+  cause =
+      let size : all_of b.save + length second ≤ all_of a.save + length (first ++ second) = omega (arith, one.all_is, length-append first second) in
+      record_stops_among why (all_of b.save + length second) (all_of a.save + length (first ++ second)) c.save.disk size two.cause;
+  later = omega (arith, one.later, two.later);
+  save_calls = answered_refused one.save_calls two.save_calls (λ n. refl);
+  recording_calls = answered_refused one.recording_calls two.recording_calls (λ n. refl);
+}
+
+-- before more inputs
+pub halts_more : (a b : Game) (first second : List Input) (why : RecordError) → Halts a b first why → Halts a b (first ++ second) why
+halts_more a b first second why halts = record {
+  stopped = λ rom from given played.
+      stopped_by (append_assoc given first second) (stopped_more rom a.save.disk b.save.disk b.save.acknowledged from (given ++ first) second (halts.stopped rom from given played));
+  behind = λ rom all step. behind_by (append_assoc all first second) (behind_more rom a b (all ++ first) second (halts.behind rom all step));
+  cause =
+      let size : all_of a.save + length first ≤ all_of a.save + length (first ++ second) = omega (arith, length-append first second) in
+      record_stops_among why (all_of a.save + length first) (all_of a.save + length (first ++ second)) b.save.disk size halts.cause;
+  later = halts.later;
+  save_calls = halts.save_calls;
+  recording_calls = halts.recording_calls;
+}
+
+pub halts_by : {a b : Game} {more more' : List Input} {why : RecordError} → more ≡ more' → Halts a b more why → Halts a b more' why
+halts_by {a} {b} {more} {more'} {why} same halts = subst (λ (l : List Input). Halts a b l why) same halts
+
+-- an output that failed behind them
+pub halts_at_output : (a b : Game) (more : List Input) → Comes a b more → IsNow b.recording → Halts a b more (Session Output)
+halts_at_output a b more comes only = record {
+  stopped = λ rom from given played.
+      stopped_after rom a.save.disk b.save.disk b.save.acknowledged b.save.pending b.save.machine from (given ++ more) (comes.going rom from given played);
+  behind = λ rom all step. behind_after rom a b all more comes step only;
+  cause = tt;
+  later = comes.later;
+  save_calls = answered_otherwise comes.save_calls (λ n. refl);
+  recording_calls = answered_otherwise comes.recording_calls (λ n. refl);
+}

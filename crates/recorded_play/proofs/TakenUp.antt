@@ -1,0 +1,254 @@
+-- A game that is taken up with its recording: both are in step then, and agree wherever it stops.
+use Rattle.std.proofs.Common.{◌≡◌, ◌⊎◌, inl, inr, ⊎_elim, ℕ, zero, suc, ◌+◌, ◌≤◌, ◌<◌, List, [], length, take, drop, Option, Some, refl, sym, ap, ◌∙◌, subst, arith, length-drop}
+use Rattle.std.proofs.Math.Seq.{take-add}
+use Rattle.std.proofs.lemmas.List.{take_all, drop_all, length-map, take-map}
+use Rattle.std.specs.Option.{option_map}
+use Rattle.sha2.specs.Sha256.{sha256}
+use Rattle.machine.specs.Machine.{MachineState, start, after}
+use Rattle.machine.specs.declared.input.Input.{Input}
+use Rattle.sector_device.specs.DiskState.{DiskState, Settled}
+use Rattle.sector_device.specs.Looking.{HasLooked, LooksOnly}
+use Rattle.sector_device.proofs.Looking.{looked_then, looked_self, settled_looked, has_looked}
+use Rattle.sector_device.specs.Runs.{HoldsSince}
+use Rattle.sector_log.specs.Content.{ImageContent, content, generation_in}
+use Rattle.input_entries.specs.Inputs.{inputs}
+use Rattle.input_entries.specs.declared.Entry.{Entry}
+use Rattle.recording.specs.Calls.{IsOpenCause}
+use Rattle.recording.specs.Recorded.{recorded, entries}
+use Rattle.recording.specs.declared.fault.RecordingFault.{RecordingFault}
+use Rattle.recording.specs.declared.fault.RecordingFault.TheVariants.{NoRecording, OtherCartridge}
+use Rattle.session.specs.Calls.{IsAtRest, StandsAsBefore}
+use Rattle.session.specs.Found.{IsResumeCause, IsLookCause}
+use Rattle.session.specs.Inputs.{input_of, inputs_of}
+use Rattle.session.specs.declared.error.SessionError.{SessionError}
+use Rattle.session.specs.declared.error.SessionError.TheVariants.{Memory, Device, NoSession, TooSmall, OtherCartridge as SessionOtherCartridge, Damaged, Worn, Broken as SessionBroken, SaveFirst, CountFull, Output}
+use Rattle.session.specs.Stands.{Position, stands}
+use Rattle.snapshot.specs.Legal.{IsMachineOf}
+use Rattle.session.proofs.Writes.{since_weaker}
+use Rattle.session.proofs.Beginnings.{since_then}
+use Rattle.session.proofs.StandsLaws.{after_append, after_none}
+use Rattle.playing.specs.Played.{IsPlayed, Reaches, IsStop}
+use Rattle.playing.proofs.PlayLaws.{begun_played}
+use Rattle.replaying.specs.Agreeing.{IsRecorded, Agrees}
+use Rattle.recorded_play.specs.Agreeing.{AllAgree, recorded_inputs}
+use Rattle.recorded_play.specs.Steps.{power_on}
+use Rattle.recorded_play.specs.CatchingUp.{recorded_in}
+use Rattle.recorded_play.specs.GoingOn.{GoesOn, StopsGoingOn, IsGoOnCause, GoesOnImage}
+use Rattle.recorded_play.specs.Whole.{IsTakenUp, HasTakenUp, IsNotTakenUp, IsTakeUpCause, IsForeign, IsStopAtRecorded, IsBehindBy}
+use Rattle.recorded_play.specs.declared.error.RecordError.{RecordError}
+use Rattle.recorded_play.specs.declared.error.RecordError.TheVariants.{Session, Recording, Behind, Line, Input as FailedInput}
+use Rattle.recorded_play.proofs.Stepping.{IsNow, entries_of, reached_agrees}
+use Rattle.recorded_play.proofs.Passing.{looks_of}
+
+none_taken : (n : ℕ) → take {A = Input} n [] ≡ []
+none_taken zero = refl
+none_taken (suc n) = refl
+
+-- a session at rest, whose machine is the one after these inputs from power-on
+pub begun_from : (rom : List ℕ) (now : DiskState) (acknowledged : ℕ) (pending : List Entry) (machine : MachineState) (given : List Input) → now.honest → machine.processor.memory.banks.rom ≡ rom → pending ≡ []
+    → IsAtRest rom now acknowledged [] machine → acknowledged ≡ length given → machine ≡ after (start rom) given → IsPlayed rom now acknowledged pending machine (power_on rom) given
+begun_from rom now acknowledged pending machine given honest rom_is empty rests count_is machine_is =
+    let begun = begun_played rom now acknowledged pending machine honest rom_is empty rests in
+    let whole : take (length given) given ≡ given = take_all (length given) given (omega arith) in
+    let here : after machine (take begun.saved []) ≡ after (start rom) (take (length given) given) = ap (after machine) (none_taken begun.saved) ∙ after_none machine ∙ machine_is ∙ ap (after (start rom)) (sym whole) in
+    record {
+      honest = honest;
+      rom_is = rom_is;
+      saved = length given;
+      within = omega arith;
+      acknowledged_is = omega (arith, count_is);
+      pending_is = ap inputs_of empty ∙ sym (drop_all (length given) given (omega arith));
+      machine_is = machine_is;
+      settled = begun.settled;
+      stands_is = begun.stands_is ∙ (λ i. Some (record { count = acknowledged; machine = here i }));
+    }
+
+-- what is recorded leads to the machine of the SAVE
+pub recorded_leads : (rom : List ℕ) (recording : List (List ℕ)) (at : Position) (played : List Input) → recorded_inputs rom recording ≡ Some played → IsRecorded rom recording at → at.machine ≡ after (start rom) (take at.count played)
+recorded_leads rom recording at played holds is =
+    let found = entries_of (recorded (sha256 rom) recording) played holds in
+    let same : is.entries ≡ found.0 = cc (is.holds, found.1) in
+    is.machine_is ∙ ap (λ (l : List Entry). after (start rom) (inputs_of (take at.count l))) same
+    ∙ ap (after (start rom)) (sym (take-map input_of at.count found.0)) ∙ ap (λ (l : List Input). after (start rom) (take at.count l)) found.2
+
+-- one image that stands for what another stands for
+agree_one : (rom : List ℕ) (before s r there : List (List ℕ)) → stands rom (content s) ≡ stands rom (content before) → r ≡ there → Agrees rom before there → Agrees rom s r
+agree_one rom before s r there same r_is agree = λ at stood. subst (λ (i : List (List ℕ)). IsRecorded rom i at) (sym r_is) (agree at (sym same ∙ stood))
+
+-- one that reaches some of what is recorded, from a machine that it leads to
+agree_reached : (rom : List ℕ) (at : Position) (played : List Input) (s r : List (List ℕ)) → at.count ≤ length played → at.machine ≡ after (start rom) (take at.count played) → recorded_inputs rom r ≡ Some played → Reaches rom at 0 (drop at.count played) s → Agrees rom s r
+agree_reached rom at played s r enough machine_is holds reaches =
+    let whole : take (length played) played ≡ played = take_all (length played) played (omega arith) in
+    let within : at.count + reaches.count ≤ length played = omega (arith, reaches.within, length-drop at.count played, enough) in
+    let count_is : at.count + reaches.count ≡ 0 + (at.count + reaches.count) = omega arith in
+    let here : after at.machine (take reaches.count (drop at.count played)) ≡ after (start rom) (take (at.count + reaches.count) (take (length played) played)) =
+    ap (λ (m : MachineState). after m (take reaches.count (drop at.count played))) machine_is
+    ∙ after_append (start rom) (take at.count played) (take reaches.count (drop at.count played))
+    ∙ ap (after (start rom)) (sym (take-add at.count reaches.count played))
+    ∙ ap (λ (l : List Input). after (start rom) (take (at.count + reaches.count) l)) (sym whole) in
+    reached_agrees rom played (length played) s r
+    (record {
+      count = at.count + reaches.count;
+      at_least = omega arith;
+      within = omega (arith, within, ap length whole);
+      is = reaches.is ∙ (λ i. Some (record { count = count_is i; machine = here i }));
+    })
+    (record { count = length played; at_least = omega arith; within = omega arith; is = holds ∙ ap (λ (l : List Input). Some l) (sym whole) })
+
+-- ---- from the look to the end
+
+module _ (rom : List ℕ) (save looked now : DiskState) (recording opened now_recording : DiskState) (at : Position)
+    (look : save.honest → HasLooked save looked) (stood : save.honest → stands rom (content save.sectors) ≡ Some at)
+    (opens : recording.honest → HasLooked recording opened) (settled : recording.honest → Settled opened)
+    (held : recording.honest → recorded (sha256 rom) recording.sectors ≡ Some (inputs (entries recording.sectors)))
+    (enough : recording.honest → at.count ≤ length (inputs (entries recording.sectors))) where
+  recorded_here : recording.honest → recorded_in opened ≡ recorded_in recording
+  recorded_here honest = ap (λ (s : List (List ℕ)). inputs_of (inputs (entries s))) (opens honest).sectors
+
+  is_taken_up : (more : List Input) → (opened.honest → more ≡ drop at.count (recorded_in opened)) → save.honest → recording.honest → IsTakenUp rom save.sectors recording.sectors at more
+  is_taken_up more more_is honest recording_honest = record {
+    stands_is = stood honest;
+    played = recorded_in recording;
+    recorded_is = ap (option_map inputs_of) (held recording_honest);
+    enough = omega (arith, enough recording_honest, length-map (inputs (entries recording.sectors)) input_of);
+    more_is = more_is (opens recording_honest).honest ∙ ap (drop at.count) (recorded_here recording_honest);
+  }
+
+  as_before : (image : List (List ℕ)) → save.honest → StandsAsBefore rom looked image → StandsAsBefore rom save image
+  as_before image honest s = record { before = s.before; stood = (look honest).images s.before s.stood; is = s.is }
+
+  only_looked : (honest : save.honest) → HoldsSince save looked (StandsAsBefore rom save)
+  only_looked honest = since_weaker (look honest).since (λ image stood_before. record { before = image; stood = stood_before; is = refl })
+
+  recording_looked : IsNow recording → (opened.honest → LooksOnly opened now_recording) → recording.honest → HasLooked recording now_recording
+  recording_looked only looks honest = has_looked only (looked_then (looks_of (opens honest)) (looks (opens honest).honest))
+
+  pub taken_up : (count : ℕ) (machine : MachineState) → IsMachineOf rom at.machine → IsNow recording → GoesOn rom looked now opened now_recording at count machine → HasTakenUp rom save now recording now_recording count machine
+  taken_up count machine of_rom only goes = record {
+    at = at;
+    of_rom = of_rom;
+    stood = stood;
+    more = goes.more;
+    count_is = goes.count_is;
+    machine_is = goes.machine_is;
+    taken_up = is_taken_up goes.more goes.more_is;
+    rests = λ honest. goes.rests (look honest).honest;
+    images = λ honest.
+        since_then (since_weaker (only_looked honest) (λ image s. inl s))
+        (since_weaker (goes.images (look honest).honest)
+        (λ image one. ⊎_elim (λ s. inl (as_before image honest s)) (λ r. inr (record { from = at; stood = stood honest; reaches = r })) one));
+    looked = recording_looked only goes.looks;
+    settled = λ honest. settled_looked (settled honest) (goes.looks (opens honest).honest);
+  }
+
+  all_recorded : recording.honest → recorded_inputs rom recording.sectors ≡ Some (recorded_in recording)
+  all_recorded honest = ap (option_map inputs_of) (held honest)
+
+  size_recorded : recording.honest → at.count ≤ length (recorded_in recording)
+  size_recorded honest = omega (arith, enough honest, length-map (inputs (entries recording.sectors)) input_of)
+
+  -- why it was not
+  stop_recorded : (why : SessionError) → recording.honest → IsStop why (at.count + length (drop at.count (recorded_in opened))) now → IsStopAtRecorded rom why now recording
+  stop_recorded why honest stop =
+      let size : at.count + length (drop at.count (recorded_in opened)) ≡ length (recorded_in recording) =
+      omega (arith, length-drop at.count (recorded_in opened), ap length (recorded_here honest), size_recorded honest) in
+      record { played = recorded_in recording; recorded_is = all_recorded honest; stop = subst (λ (n : ℕ). IsStop why n now) size stop }
+
+  session_cause : (why : SessionError) → recording.honest → IsGoOnCause (Session why) (at.count + length (drop at.count (recorded_in opened))) now
+      → IsResumeCause rom (generation_in save.sectors) (content save.sectors) why ⊎ IsStopAtRecorded rom why now recording
+  session_cause Memory honest cause = inl tt
+  session_cause Device honest cause = inr (stop_recorded Device honest cause)
+  session_cause NoSession honest cause = inr (stop_recorded NoSession honest cause)
+  session_cause (TooSmall needed) honest cause = inr (stop_recorded (TooSmall needed) honest cause)
+  session_cause SessionOtherCartridge honest cause = inr (stop_recorded SessionOtherCartridge honest cause)
+  session_cause (Damaged damage) honest cause = inr (stop_recorded (Damaged damage) honest cause)
+  session_cause Worn honest cause = inr (stop_recorded Worn honest cause)
+  session_cause SessionBroken honest cause = inr (stop_recorded SessionBroken honest cause)
+  session_cause SaveFirst honest cause = inr (stop_recorded SaveFirst honest cause)
+  session_cause CountFull honest cause = inr (stop_recorded CountFull honest cause)
+  session_cause Output honest cause = inr (stop_recorded Output honest cause)
+
+  cause_is : (why : RecordError) → StopsGoingOn rom looked now opened now_recording at why → (save.honest → recording.honest → IsTakeUpCause why rom save now recording) × (IsForeign why → save.honest → recording.honest → HasLooked save now)
+  cause_is (Session why) stops = (λ honest recording_honest. session_cause why recording_honest (stops.cause (look honest).honest (opens recording_honest).honest), λ foreign. absurd foreign)
+  cause_is (Recording why) stops = (
+    λ honest recording_honest. subst (λ (w : RecordingFault). IsOpenCause w (sha256 rom) recording) (sym (stops.cause (look honest).honest (opens recording_honest).honest)) tt,
+    λ foreign honest recording_honest.
+        let device = stops.cause (look honest).honest (opens recording_honest).honest in
+        ⊎_elim (λ (none : why ≡ NoRecording). absurd (cc)) (λ (other : why ≡ OtherCartridge). absurd (cc)) foreign,
+  )
+  cause_is (Behind count) stops = (λ honest recording_honest. absurd (stops.cause (look honest).honest (opens recording_honest).honest), λ foreign honest recording_honest. absurd (stops.cause (look honest).honest (opens recording_honest).honest))
+  cause_is (Line number) stops = (λ honest recording_honest. absurd (stops.cause (look honest).honest (opens recording_honest).honest), λ foreign. absurd foreign)
+  cause_is FailedInput stops = (λ honest recording_honest. absurd (stops.cause (look honest).honest (opens recording_honest).honest), λ foreign. absurd foreign)
+
+  pub not_taken_up : (why : RecordError) → IsNow recording → StopsGoingOn rom looked now opened now_recording at why → IsNotTakenUp rom save now recording now_recording why
+  not_taken_up why only stops = record {
+    cause = (cause_is why stops).0;
+    images = λ honest recording_honest.
+        since_then (since_weaker (only_looked honest) (λ image s. inl s))
+        (since_weaker (stops.images (look honest).honest (opens recording_honest).honest)
+        (λ image one. ⊎_elim (λ s. inl (as_before image honest s))
+        (λ r. inr (record { at = at; more = drop at.count (recorded_in opened); taken_up = is_taken_up (drop at.count (recorded_in opened)) (λ h. refl) honest recording_honest; reaches = r })) one));
+    looked = recording_looked only stops.looks;
+    untouched = (cause_is why stops).1;
+  }
+
+  -- whatever is left agrees, where both agreed
+  pub agree_on : (more : List Input) → save.image save.sectors → recording.image recording.sectors → ((t : ℕ) (c : List (List ℕ)) → t ≤ now.moment → now.image c → now.since t c) → save.honest → recording.honest
+      → AllAgree rom save recording → more ≡ drop at.count (recorded_in opened) → HoldsSince looked now (GoesOnImage rom looked at more) → (opened.honest → LooksOnly opened now_recording) → AllAgree rom now now_recording
+  agree_on more save_here recording_here counts honest recording_honest agree more_is since looks = λ s r is_save is_recording.
+      let machine_is : at.machine ≡ after (start rom) (take at.count (recorded_in recording)) =
+      recorded_leads rom recording.sectors at (recorded_in recording) (all_recorded recording_honest) (agree save.sectors recording.sectors save_here recording_here at (stood honest)) in
+      let only = looks (opens recording_honest).honest in
+      let r_is : r ≡ recording.sectors = settled_looked (settled recording_honest) only r is_recording ∙ only.sectors ∙ (opens recording_honest).sectors in
+      let here : more ≡ drop at.count (recorded_in recording) = more_is ∙ ap (drop at.count) (recorded_here recording_honest) in
+      ⊎_elim
+      (λ before. let b = as_before s honest before in agree_one rom b.before s r recording.sectors b.is r_is (agree b.before recording.sectors b.stood recording_here))
+      (λ reaches.
+      subst (λ (i : List (List ℕ)). Agrees rom s i) (sym r_is)
+      (agree_reached rom at (recorded_in recording) s recording.sectors (size_recorded recording_honest) machine_is (all_recorded recording_honest) (subst (λ (l : List Input). Reaches rom at 0 l s) here reaches)))
+      (since.each s (counts looked.moment s since.moments.later is_save))
+
+-- ---- refused before anything was written
+
+look_is_resume : (rom : List ℕ) (generation : ℕ) (held : Option ImageContent) (why : SessionError) → IsLookCause rom held why → IsResumeCause rom generation held why
+look_is_resume rom generation held Memory cause = cause
+look_is_resume rom generation held Device cause = cause
+look_is_resume rom generation held NoSession cause = cause
+look_is_resume rom generation held (TooSmall needed) cause = cause
+look_is_resume rom generation held SessionOtherCartridge cause = cause
+look_is_resume rom generation held (Damaged damage) cause = cause
+look_is_resume rom generation held Worn cause = absurd cause
+look_is_resume rom generation held SessionBroken cause = cause
+look_is_resume rom generation held SaveFirst cause = cause
+look_is_resume rom generation held CountFull cause = cause
+look_is_resume rom generation held Output cause = cause
+
+pub look_refused : (rom : List ℕ) (save now recording : DiskState) (why : SessionError) → (save.honest → IsLookCause rom (content save.sectors) why) → save.honest → recording.honest → IsTakeUpCause (Session why) rom save now recording
+look_refused rom save now recording why cause honest recording_honest = inl (look_is_resume rom (generation_in save.sectors) (content save.sectors) why (cause honest))
+
+pub refused_looking : (rom : List ℕ) (save now recording opened : DiskState) (why : RecordError) → (save.honest → recording.honest → IsTakeUpCause why rom save now recording) → (save.honest → HasLooked save now) → (recording.honest → HasLooked recording opened) → IsNotTakenUp rom save now recording opened why
+refused_looking rom save now recording opened why cause look opens = record {
+  cause = cause;
+  images = λ honest recording_honest. since_weaker (look honest).since (λ image stood. inl (record { before = image; stood = stood; is = refl }));
+  looked = opens;
+  untouched = λ foreign honest recording_honest. look honest;
+}
+
+pub agree_looking : (rom : List ℕ) (save now recording opened : DiskState) → (save.honest → HasLooked save now) → (recording.honest → HasLooked recording opened) → save.honest → recording.honest → AllAgree rom save recording → AllAgree rom now opened
+agree_looking rom save now recording opened look opens honest recording_honest agree =
+    λ s r is_save is_recording. agree s r ((look honest).images s is_save) ((opens recording_honest).images r is_recording)
+
+pub looked_same : (now : DiskState) → IsNow now → now.honest → HasLooked now now
+looked_same now only honest = has_looked only (looked_self now honest)
+
+-- fewer inputs than the SAVE
+pub behind_by : (rom : List ℕ) (save recording : DiskState) (at : Position) (count : ℕ) → (save.honest → stands rom (content save.sectors) ≡ Some at) → (recording.honest → recorded (sha256 rom) recording.sectors ≡ Some (inputs (entries recording.sectors)))
+    → (recording.honest → count ≡ length (inputs (entries recording.sectors))) → count < at.count → save.honest → recording.honest → IsBehindBy rom save.sectors recording.sectors count
+behind_by rom save recording at count stood held counted less honest recording_honest = record {
+  at = at;
+  stands_is = stood honest;
+  played = recorded_in recording;
+  recorded_is = ap (option_map inputs_of) (held recording_honest);
+  count_is = counted recording_honest ∙ sym (length-map (inputs (entries recording.sectors)) input_of);
+  fewer = less;
+}

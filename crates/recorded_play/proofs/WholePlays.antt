@@ -1,0 +1,221 @@
+-- A whole recorded play: from a game that is taken up to what is left.
+use Rattle.std.proofs.Common.{◌≡◌, inl, inr, ℕ, suc, ◌+◌, ◌-◌, List, [], ◌∷◌, ◌++◌, length, take, drop, Option, Some, sym, ap, ◌∙◌, subst, arith, length-append, length-drop}
+use Rattle.std.proofs.lemmas.List.{take_all, drop_all, take-append-drop, length-take-le}
+use Rattle.std.specs.Io.KnownBytes.{Appends}
+use Rattle.exact_text.proofs.Writes.{appends_twice}
+use Rattle.machine.specs.Machine.{MachineState, start, after}
+use Rattle.machine.specs.declared.input.Input.{Input}
+use Rattle.sector_device.specs.DiskState.{DiskState}
+use Rattle.sector_device.specs.Runs.{HoldsSince}
+use Rattle.session.specs.Calls.{IsAtRest}
+use Rattle.session.specs.Inputs.{inputs_of}
+use Rattle.session.specs.Stands.{Position}
+use Rattle.session.proofs.StandsLaws.{after_append}
+use Rattle.session.proofs.Writes.{since_weaker}
+use Rattle.session.proofs.Beginnings.{since_then}
+use Rattle.playing.specs.Played.{PlayImage, Reaches}
+use Rattle.playing.specs.Report.{Line, texts, resumed_line, HasTold}
+use Rattle.playing.proofs.PlayLaws.{begun_played, all_saved, reaches_more, reaches_none}
+use Rattle.playing.proofs.Telling.{told_by}
+use Rattle.streaming.specs.Orders.{orders_of}
+use Rattle.streaming.specs.Answers.{inputs_of_orders, lines_of_orders, ended, stream_lines}
+use Rattle.streaming.specs.Obeying.{all_of, answers_from}
+use Rattle.streaming.specs.declared.order.Order.{Order}
+use Rattle.streaming.specs.declared.obeying.End.{End}
+use Rattle.streaming.proofs.Wholes.{ended_gives}
+use Rattle.recorded_play.specs.Agreeing.{AllAgree, recorded_inputs}
+use Rattle.recorded_play.specs.Steps.{Game, IsPlayedAt, HoldsSaved, IsInStep, Comes, Halts, IsRecordStop}
+use Rattle.recorded_play.specs.Obeying.{told_as, Streams, StopsStream}
+use Rattle.recorded_play.specs.Whole.{behind, IsTakenUp, HoldsAtLeast, HoldsAll, HasTakenUp, HasRecorded, HasStopped, IsEndCause}
+use Rattle.recorded_play.specs.declared.error.RecordError.{RecordError}
+use Rattle.recorded_play.specs.declared.error.RecordError.TheVariants.{Session, Recording, Behind, Line as WrongLine, Input as FailedInput}
+use Rattle.recorded_play.proofs.Stepping.{IsNow, comes_by, behind_after, behind_agree}
+use Rattle.recorded_play.proofs.TakenUp.{begun_from, recorded_leads}
+
+module _ (rom : List ℕ) (save recording : DiskState) (a b : Game) (before_in since_in before since : Option (List ℕ))
+    (none : a.save.pending ≡ []) (rom_is : a.save.machine.processor.memory.banks.rom ≡ rom) (honest_then : save.honest → a.save.disk.honest)
+    (up : HasTakenUp rom save a.save.disk recording a.recording a.save.acknowledged a.save.machine) where
+  abbrev pub from : Position
+  from = record { count = a.save.acknowledged; machine = a.save.machine }
+
+  from_is : from ≡ behind up.at up.more
+  from_is = λ i. record { count = up.count_is i; machine = up.machine_is i }
+
+  begun : save.honest → IsPlayedAt rom a.save from []
+  begun honest = begun_played rom a.save.disk a.save.acknowledged a.save.pending a.save.machine (honest_then honest) rom_is none (up.rests honest)
+
+  all_from : all_of a.save ≡ from.count
+  all_from = omega (arith, ap length none)
+
+  lines_from : (orders : List Order) → resumed_line (all_of a.save) ∷ answers_from a.save (ended (length a.save.pending) orders) ≡ stream_lines (behind up.at up.more) orders
+  lines_from orders =
+      ap (λ (n : ℕ). resumed_line n ∷ lines_of_orders a.save.machine n (length a.save.pending) (ended (length a.save.pending) orders)) all_from
+      ∙ ap (λ (n : ℕ). resumed_line from.count ∷ lines_of_orders a.save.machine from.count n (ended n orders)) (ap length none)
+      ∙ ap (λ (p : Position). stream_lines p orders) from_is
+
+  -- an image that stands for some inputs from there stands for some more from where the SAVE was
+  further_back : (least : ℕ) (given : List Input) (image : List (List ℕ)) → Reaches rom from least given image → Reaches rom up.at (length up.more + least) (up.more ++ given) image
+  further_back least given image r =
+      let count_is : from.count + r.count ≡ up.at.count + (length up.more + r.count) = omega (arith, up.count_is) in
+      let machine_is : after from.machine (take r.count given) ≡ after up.at.machine (take (length up.more + r.count) (up.more ++ given)) =
+      ap (λ (m : MachineState). after m (take r.count given)) up.machine_is ∙ after_append up.at.machine up.more (take r.count given)
+      ∙ ap (after up.at.machine) (front up.more given r.count) in
+      record {
+        count = length up.more + r.count;
+        at_least = omega (arith, r.at_least);
+        within = omega (arith, r.within, length-append up.more given);
+        is = r.is ∙ (λ i. Some (record { count = count_is i; machine = machine_is i }));
+      }
+    where
+      front : (more given : List Input) (n : ℕ) → more ++ take n given ≡ take (length more + n) (more ++ given)
+      front [] given n =
+          let e : n ≡ length {A = Input} [] + n = omega arith in
+          ap (λ (k : ℕ). take k given) e
+      front (i ∷ more) given n =
+          let e : suc (length more + n) ≡ length (i ∷ more) + n = omega arith in
+          ap (λ (l : List Input). i ∷ l) (front more given n) ∙ ap (λ (k : ℕ). take k (i ∷ (more ++ given))) e
+
+  image_more : (given : List Input) (image : List (List ℕ)) → PlayImage rom save up.more image → PlayImage rom save (up.more ++ given) image
+  image_more given image (inl before) = inl before
+  image_more given image (inr r) = inr (record { from = r.from; stood = r.stood; reaches = reaches_more rom r.from 0 up.more given image r.reaches })
+
+  images_since : (given : List Input) → save.honest → HoldsSince a.save.disk b.save.disk (Reaches rom from 0 given) → HoldsSince save b.save.disk (PlayImage rom save (up.more ++ given))
+  images_since given honest held =
+      since_then (since_weaker (up.images honest) (image_more given))
+      (since_weaker held (λ image r. inr (record {
+        from = up.at;
+        stood = up.stood honest;
+        reaches = reaches_none rom up.at (length up.more + 0) (up.more ++ given) image (further_back 0 given image r);
+      })))
+
+  module _ (honest : save.honest) (recording_honest : recording.honest) where
+    abbrev taken : IsTakenUp rom save.sectors recording.sectors up.at up.more
+    taken = up.taken_up honest recording_honest
+
+    count_here : a.save.acknowledged ≡ length taken.played
+    count_here = omega (arith, up.count_is, ap length taken.more_is, length-drop up.at.count taken.played, taken.enough)
+
+    holds : HoldsSaved rom a.recording a.save.acknowledged a.save.pending taken.played
+    holds = record {
+      honest = (up.looked recording_honest).honest;
+      settled = up.settled recording_honest;
+      within = omega (arith, count_here);
+      pending_is = ap inputs_of none ∙ sym (drop_all a.save.acknowledged taken.played (omega (arith, count_here)));
+      recorded_is = ap (recorded_inputs rom) (up.looked recording_honest).sectors ∙ taken.recorded_is
+          ∙ ap (λ (l : List Input). Some l) (sym (take_all a.save.acknowledged taken.played (omega (arith, count_here))));
+    }
+
+    -- what is recorded at an end
+    pub ended_holds : (more : List Input) → Comes a b more → b.save.pending ≡ [] → HoldsAll rom b.recording (taken.played ++ more)
+    ended_holds more comes saved =
+        let step = (comes.records rom taken.played holds).holds in
+        let none_left : length (drop b.save.acknowledged (taken.played ++ more)) ≡ 0 = ap length (sym step.pending_is ∙ ap inputs_of saved) in
+        let all : b.save.acknowledged ≡ length (taken.played ++ more) = omega (arith, none_left, length-drop b.save.acknowledged (taken.played ++ more), step.within) in
+        record {
+          settled = step.settled;
+          recorded_is = step.recorded_is ∙ ap (λ (l : List Input). Some l) (take_all b.save.acknowledged (taken.played ++ more) (omega (arith, all)));
+        }
+
+    -- both are in step where they agreed
+    module _ (save_here : save.image save.sectors) (recording_here : recording.image recording.sectors) (agree : AllAgree rom save recording) where
+      machine_here : a.save.machine ≡ after (start rom) taken.played
+      machine_here =
+          up.machine_is ∙ ap (after up.at.machine) taken.more_is
+          ∙ ap (λ (m : MachineState). after m (drop up.at.count taken.played))
+          (recorded_leads rom recording.sectors up.at taken.played taken.recorded_is (agree save.sectors recording.sectors save_here recording_here up.at taken.stands_is))
+          ∙ after_append (start rom) (take up.at.count taken.played) (drop up.at.count taken.played)
+          ∙ ap (after (start rom)) (take-append-drop up.at.count taken.played)
+
+      pub in_step : IsInStep rom a taken.played
+      in_step = record {
+        played = begun_from rom a.save.disk a.save.acknowledged a.save.pending a.save.machine taken.played (honest_then honest) rom_is none (up.rests honest) count_here machine_here;
+        holds = holds;
+      }
+
+      -- at an end
+      pub ended_agree : (more : List Input) → Comes a b more → IsNow b.recording → AllAgree rom b.save.disk b.recording
+      ended_agree more comes only = behind_agree rom a b (taken.played ++ more) (behind_after rom a b taken.played more comes in_step only)
+
+      -- where it stopped
+      pub stopped_agree : (more : List Input) (why : RecordError) → Halts a b more why → AllAgree rom b.save.disk b.recording
+      stopped_agree more why halts = behind_agree rom a b (taken.played ++ more) (halts.behind rom taken.played in_step)
+
+      pub stopped_holds : (more : List Input) (why : RecordError) → Halts a b more why → (image : List (List ℕ)) → b.recording.image image → HoldsAtLeast rom b.save.acknowledged image
+      stopped_holds more why halts image here =
+          let left = halts.behind rom taken.played in_step in
+          let held = left.recordings image here in
+          record {
+            played = take held.count (taken.played ++ more);
+            recorded_is = held.is;
+            at_least = omega (arith, left.least, held.at_least, length-take-le held.count (taken.played ++ more) held.within);
+          }
+
+  -- ---- to an end
+
+  pub recorded_to : (end : End) → Streams a b before_in since_in before since end → b.save.pending ≡ [] → HasRecorded rom save b.save.disk recording b.recording end before_in since_in before since
+  recorded_to end streams saved =
+      let orders = orders_of streams.lines in
+      let all = ended (length a.save.pending) orders in
+      let given = inputs_of_orders orders in
+      let gives : inputs_of_orders all ≡ given = ended_gives (length a.save.pending) orders in
+      let comes : Comes a b given = comes_by gives streams.obeys.comes in
+      record {
+        lines = streams.lines;
+        right = streams.right;
+        read = streams.read;
+        at = up.at;
+        of_rom = up.of_rom;
+        stood = up.stood;
+        more = up.more;
+        taken_up = up.taken_up;
+        answered =
+            subst (λ (l : List Line). Appends before since (texts l)) (lines_from orders)
+            (appends_twice before streams.resumed since (resumed_line (all_of a.save)).text (texts (answers_from a.save all)) streams.begins streams.obeys.answered);
+        rests = λ honest.
+            let rests = all_saved rom b.save.disk b.save.acknowledged b.save.pending b.save.machine from given (comes.going rom from [] (begun honest)).played saved in
+            let count_is : from.count + length given ≡ up.at.count + length (up.more ++ given) = omega (arith, up.count_is, length-append up.more given) in
+            let machine_is : after from.machine given ≡ after up.at.machine (up.more ++ given) = ap (λ (m : MachineState). after m given) up.machine_is ∙ after_append up.at.machine up.more given in
+            subst (λ (m : MachineState). IsAtRest rom b.save.disk (up.at.count + length (up.more ++ given)) [] m) machine_is
+            (subst (λ (n : ℕ). IsAtRest rom b.save.disk n [] (after from.machine given)) count_is rests);
+        images = λ honest. images_since given honest (comes.going rom from [] (begun honest)).moments;
+        recorded = λ honest recording_honest. ended_holds honest recording_honest given comes saved;
+      }
+
+  -- ---- stopped
+
+  pub stopped_record : (why : RecordError) → (save.honest → save.image save.sectors) → (recording.honest → recording.image recording.sectors) → StopsStream a b before_in since_in before since why → HasStopped rom save b.save.disk recording b.recording why before_in since_in before since
+  stopped_record why save_here recording_here stops =
+      let orders = orders_of stops.lines in
+      let given = inputs_of_orders orders in
+      let least : ℕ = b.save.acknowledged - a.save.acknowledged in
+      let saved_is : b.save.acknowledged ≡ up.at.count + length up.more + least = omega (arith, stops.halts.later, up.count_is) in
+      let all_is : all_of a.save + length given ≡ up.at.count + length up.more + length given = omega (arith, all_from, up.count_is) in
+      record {
+        lines = stops.lines;
+        right = stops.right;
+        unread = stops.more;
+        read = stops.read;
+        at = up.at;
+        of_rom = up.of_rom;
+        stood = up.stood;
+        more = up.more;
+        taken_up = up.taken_up;
+        cause = subst (λ (n : ℕ). IsRecordStop why n b.save.disk) all_is stops.halts.cause;
+        least = least;
+        told = told_by (lines_from orders) (subst (λ (n : ℕ). HasTold (told_as why) n (resumed_line (all_of a.save) ∷ answers_from a.save (ended (length a.save.pending) orders)) before since) saved_is stops.told);
+        images = λ honest. images_since given honest (stops.halts.stopped rom from [] (begun honest)).moments;
+        left = λ honest image here.
+            let stopped = stops.halts.stopped rom from [] (begun honest) in
+            let same : stopped.least ≡ least = omega (arith, stopped.acknowledged_is, saved_is, up.count_is) in
+            subst (λ (n : ℕ). Reaches rom up.at (length up.more + n) (up.more ++ given) image) same (further_back stopped.least given image (stopped.images image here));
+        recorded = λ honest recording_honest agree image here.
+            subst (λ (n : ℕ). HoldsAtLeast rom n image) saved_is (stopped_holds honest recording_honest (save_here honest) (recording_here recording_honest) agree given why stops.halts image here);
+      }
+
+  -- as the refusal of a play
+  pub stopped_end : (why : RecordError) → (save.honest → save.image save.sectors) → (recording.honest → recording.image recording.sectors) → StopsStream a b before_in since_in before since why → IsEndCause why rom save b.save.disk recording b.recording before_in since_in before since
+  stopped_end (Session why) save_here recording_here stops = stopped_record (Session why) save_here recording_here stops
+  stopped_end (Recording why) save_here recording_here stops = stopped_record (Recording why) save_here recording_here stops
+  stopped_end (Behind count) save_here recording_here stops = stops.halts.cause
+  stopped_end (WrongLine number) save_here recording_here stops = absurd stops.halts.cause
+  stopped_end FailedInput save_here recording_here stops = absurd stops.halts.cause

@@ -1,0 +1,16 @@
+use Rattle.std.proofs.Common.{◌≡◌, ◌<◌, length, take, false}
+use Rattle.session.specs.Words.{device_of, pending_of, is_broken}
+use Rattle.streaming.specs.Obeying.{place}
+use Rattle.recorded_play.specs.CatchingUp.{given_by_all, Passes}
+use Rattle.recorded_play.proofs.catching_up.pass_entries.Given as goal
+
+-- the entries so far were passed over
+abbrev pub invariant-loop-entry : goal.invariant-loop-entry
+invariant-loop-entry g l =
+    let first = l.initial.session in
+    let now = l.session in
+    record {
+      whole : is_broken now ≡ false;
+      few : length (pending_of now) < 3200;
+      passes : Passes (place (g.D.SectorDevice.disk (device_of first)) first) (place (g.D.SectorDevice.disk (device_of now)) now) l.skip l.left (given_by_all (take l.entry-index l.entries));
+    }

@@ -1,0 +1,17 @@
+use Rattle.std.proofs.Common.{◌≡◌, ◌<◌, length, replicate, false}
+use Rattle.machine.specs.declared.input.Input.TheVariants.{Frame}
+use Rattle.session.specs.Words.{device_of, pending_of, is_broken}
+use Rattle.streaming.specs.Obeying.{place}
+use Rattle.recorded_play.specs.CatchingUp.{Passes}
+use Rattle.recorded_play.proofs.catching_up.pass_frames.Given as goal
+
+-- the frames so far were passed over
+abbrev pub invariant-loop-i : goal.invariant-loop-i
+invariant-loop-i g l =
+    let first = l.initial.session in
+    let now = l.session in
+    record {
+      whole : is_broken now ≡ false;
+      few : length (pending_of now) < 3200;
+      passes : Passes (place (g.D.SectorDevice.disk (device_of first)) first) (place (g.D.SectorDevice.disk (device_of now)) now) l.skip l.left (replicate l._i (Frame l.buttons));
+    }

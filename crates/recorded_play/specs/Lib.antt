@@ -1,0 +1,7 @@
+pub mod Agreeing
+pub mod Steps
+pub mod Obeying
+pub mod Whole
+-- what only the code needs
+pub mod CatchingUp
+pub mod GoingOn

@@ -1,0 +1,150 @@
+//! Recorded plays cut at any call of either device.
+use crate::asserting::{OrStop, holds, same};
+use crate::common::{
+    Pair, agree, both, cartridge_of, image, new_recording, new_save, plays, records,
+};
+use cartridge::Cartridge;
+use recorded_play::RecordError;
+use recording::RecordingFault;
+use session::SessionError;
+use std::alloc::Global;
+use std::process::Abort;
+
+/// The greatest count that a report tells.
+fn told(text: &[u8]) -> u64 {
+    let mut most = 0;
+    let mut number: u64 = 0;
+    for byte in text {
+        if byte.is_ascii_digit() {
+            number = number
+                .saturating_mul(10)
+                .saturating_add(u64::from(*byte - b'0'));
+        }
+        if *byte == b'\n' {
+            most = number;
+            number = 0;
+        }
+    }
+    most
+}
+
+/// Which of the unsynced writes of the SAVE and of the recording a cut keeps, by their place modulo two.
+const KEPT: [([bool; 2], [bool; 2]); 3] = [
+    ([false, false], [false, false]),
+    ([false, false], [true, true]),
+    ([true, false], [false, true]),
+];
+
+/// Whatever is kept of the unsynced writes of both, they agree, and each has what was told. Taken up again, both have all that the
+/// recording had.
+fn all_agree(rt: &impl Abort, alloc: Global, pair: &Pair, cartridge: &Cartridge, told: u64) {
+    for (keeps, others) in KEPT {
+        let left = Pair {
+            save: image(alloc, &pair.save, keeps).or_stop(rt),
+            recording: image(alloc, &pair.recording, others).or_stop(rt),
+        };
+        goes_on(rt, alloc, left, cartridge, told);
+    }
+}
+
+fn goes_on(rt: &impl Abort, alloc: Global, left: Pair, cartridge: &Cartridge, told: u64) {
+    let (count, recorded) = agree(rt, alloc, both(rt, alloc, &left), cartridge);
+    holds!(rt; told <= count);
+    holds!(rt; told <= recorded);
+    let mut out = Vec::new(alloc);
+    let (why, again) = records(alloc, left, cartridge, b"", &mut out);
+    same!(rt; why, None);
+    same!(rt; agree(rt, alloc, again, cartridge), (recorded, recorded));
+}
+
+/// Cuts a play of the lines after so many calls of each device.
+fn cut_at(
+    rt: &impl Abort,
+    alloc: Global,
+    old: &Pair,
+    cartridge: &Cartridge,
+    lines: &[u8],
+    save_calls: u64,
+    recording_calls: u64,
+) -> Option<RecordError> {
+    let mut pair = both(rt, alloc, old);
+    pair.save.fuse(save_calls);
+    pair.recording.fuse(recording_calls);
+    let mut out = Vec::new(alloc);
+    let (why, left) = records(alloc, pair, cartridge, lines, &mut out);
+    all_agree(rt, alloc, &left, cartridge, told(&out));
+    why
+}
+
+/// A SAVE without inputs, and a recording with some.
+fn ahead(rt: &impl Abort, alloc: Global, cartridge: &Cartridge) -> Pair {
+    let new = Pair {
+        save: new_save(rt, alloc, cartridge),
+        recording: new_recording(rt, alloc, cartridge, 8),
+    };
+    let lines = b"seconds 3\nsave\nseconds 4\nseconds 6\n".as_slice();
+    let text = b"resumed 0\nsaved 1\nsaved 3\n".as_slice();
+    let played = plays(rt, alloc, &new, cartridge, lines, None, text);
+    Pair {
+        save: new.save,
+        recording: played.recording,
+    }
+}
+
+const LINES: &[u8] = b"seconds 1\nseconds 2\nsave\nseconds 3\nsave\nseconds 4\n";
+
+/// The SAVE's device is cut before any of its calls: it looks by 65 calls and begins a generation by 96.
+#[test]
+fn a_cut_save_agrees(rt: HostRuntime) {
+    let alloc = rt.alloc();
+    let cartridge = cartridge_of(alloc, b'A').or_stop(&rt);
+    let old = ahead(&rt, alloc, &cartridge);
+    let mut calls = 0;
+    for k in [0, 65, 66, 159, 160] {
+        let why = cut_at(&rt, alloc, &old, &cartridge, LINES, k, 10_000);
+        same!(rt; why, Some(RecordError::Session(SessionError::Device)));
+    }
+    for k in 161..180 {
+        let why = cut_at(&rt, alloc, &old, &cartridge, LINES, k, 10_000);
+        if why.is_none() {
+            calls = k;
+            break;
+        }
+        same!(rt; why, Some(RecordError::Session(SessionError::Device)));
+    }
+    // The inputs of the recording, and each of three saves, take a write and a sync.
+    same!(rt; calls, 169);
+}
+
+/// The recording's device is cut before any of its calls.
+#[test]
+fn a_cut_recording_agrees(rt: HostRuntime) {
+    let alloc = rt.alloc();
+    let cartridge = cartridge_of(alloc, b'A').or_stop(&rt);
+    let old = ahead(&rt, alloc, &cartridge);
+    let mut calls = 0;
+    for k in 0..40 {
+        let why = cut_at(&rt, alloc, &old, &cartridge, LINES, 10_000, k);
+        if why.is_none() {
+            calls = k;
+            break;
+        }
+        same!(rt; why, Some(RecordError::Recording(RecordingFault::Device)));
+    }
+    // It looks by a sync and two reads, is read once more, cleared by 6 reads and a sync, and each save takes a write and a sync.
+    same!(rt; calls, 17);
+}
+
+/// Both are cut.
+#[test]
+fn both_cut_agree(rt: HostRuntime) {
+    let alloc = rt.alloc();
+    let cartridge = cartridge_of(alloc, b'A').or_stop(&rt);
+    let old = ahead(&rt, alloc, &cartridge);
+    for k in [3, 11, 13] {
+        for n in [161, 163, 165] {
+            let why = cut_at(&rt, alloc, &old, &cartridge, LINES, n, k);
+            holds!(rt; why.is_some());
+        }
+    }
+}

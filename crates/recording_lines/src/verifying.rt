@@ -1,0 +1,101 @@
+//! A game compared with its recording, and the line that says so.
+
+ghost use Rattle.std.specs.Prelude.{◌≡◌, IfErr, IfOk, IfSome, OnErr, OnOk};
+ghost use Rattle.std.specs.Io.KnownBytes.{Appends};
+ghost use Rattle.cartridge.specs.Accepted.{IsAccepted};
+ghost use Rattle.exact_text.specs.Written.{AppendsProperPrefix};
+ghost use Rattle.sector_device.specs.DiskState.{HasAnswered};
+ghost use Rattle.sector_device.specs.Looking.{HasLooked};
+ghost use Rattle.recording_lines.specs.Verifying.{HasAgreed, IsLineCause, agree_line, save_faults_after_line, recording_faults_after_line};
+
+use crate::error::VerifyLineError;
+use arrayvec::ArrayString;
+use cartridge::Cartridge;
+use exact_text::{OutputFailed, write_whole};
+use replaying::verify;
+use sector_device::SectorDevice;
+use std::alloc::Global;
+use std::fmt::Write as FormatWrite;
+use std::io::Write;
+
+/// What `verify_line` did, and both devices.
+#[derive(Drop)]
+pub struct Compared<S: SectorDevice, D: SectorDevice> {
+    /// How many inputs lead to the machine of the game, or why its line was not written.
+    pub answer: Result<u64, VerifyLineError>,
+    pub save: S,
+    pub recording: D,
+}
+
+/// Compares the game on a device with the recording on another one, and writes `agree N`, N the count of the game's inputs, if the game is
+/// exactly the one after the first N inputs of the recording from power-on. Nothing is written to either device.
+///
+/// Refusals, in this order: what is wrong with the image; those of `verify`, with nothing written; that the line could not be written.
+pub fn verify_line<S: SectorDevice, D: SectorDevice, W: Write>(
+    alloc: Global,
+    save: S,
+    recording: D,
+    rom: Vec<u8>,
+    out: &mut W,
+) -> Compared<S, D>
+    ensures accepted { IfOk result.answer (λ count. IsAccepted rom.items) }
+    ensures agreed { IfOk result.answer (λ count.
+        HasAgreed rom.items (S.disk save) (D.disk recording) count (W.contents out.old) (W.contents out.new)) }
+    ensures looked_save { (S.disk save).honest → HasLooked (S.disk save) (S.disk result.save) }
+    ensures looked_recording { (D.disk recording).honest → HasLooked (D.disk recording) (D.disk result.recording) }
+    ensures cause { IfErr result.answer (λ why.
+        IsLineCause rom.items (S.disk save) (D.disk recording) (W.contents out.old) (W.contents out.new) why) }
+    ensures answered_save { HasAnswered save_faults_after_line (S.disk save) (S.disk result.save) result.answer }
+    ensures answered_recording { HasAnswered recording_faults_after_line (D.disk recording) (D.disk result.recording) result.answer }
+{
+    let cartridge = match Cartridge::read(rom) {
+        Ok(cartridge) => cartridge,
+        Err(fault) => return Compared {
+            answer: Err(VerifyLineError::Cart(fault)),
+            save,
+            recording,
+        },
+    };
+    let verified = verify(alloc, save, recording, &cartridge);
+    let count = match verified.answer {
+        Ok(count) => count,
+        Err(why) => return Compared {
+            answer: Err(VerifyLineError::Verify(why)),
+            save: verified.save,
+            recording: verified.recording,
+        },
+    };
+    match write_agreed(out, count) {
+        Ok(()) => Compared {
+            answer: Ok(count),
+            save: verified.save,
+            recording: verified.recording,
+        },
+        Err(_) => Compared {
+            answer: Err(VerifyLineError::Output),
+            save: verified.save,
+            recording: verified.recording,
+        },
+    }
+}
+
+fn agree_text(count: u64) -> Option<ArrayString<32>>
+    ensures { IfSome result (λ text. text.bytes ≡ agree_line count) }
+{
+    let mut text = ArrayString::new();
+    match writeln!(text, "agree {count}") {
+        Ok(()) => Some(text),
+        Err(_) => None,
+    }
+}
+
+/// Writes the line `agree N`.
+fn write_agreed<W: Write>(out: &mut W, count: u64) -> Result<(), OutputFailed>
+    ensures ok { OnOk result (Appends (W.contents out.old) (W.contents out.new) (agree_line count)) }
+    ensures err { OnErr result (AppendsProperPrefix (W.contents out.old) (W.contents out.new) (agree_line count)) }
+{
+    match agree_text(count) {
+        Some(text) => write_whole(out, text.as_bytes()),
+        None => Err(OutputFailed),
+    }
+}

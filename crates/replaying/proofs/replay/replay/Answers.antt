@@ -1,0 +1,46 @@
+use Rattle.std.proofs.Common.{◌≡◌, ◌+◌, ◌∙◌, ⊎_elim, ℕ, List, true, false, refl, sym, ap, subst, arith}
+use Rattle.sector_device.specs.DiskState.{sector_at}
+use Rattle.sector_device.proofs.Looking.{looked_self, looked_then}
+use Rattle.machine.specs.Machine.{after}
+use Rattle.input_entries.specs.Inputs.{inputs, all_entries}
+use Rattle.input_entries.specs.declared.Entry.{Entry}
+use Rattle.input_entries.specs.declared.StoredEntry.{StoredEntry}
+use Rattle.recording.specs.Format.{entries_at}
+use Rattle.recording.specs.Recorded.{entries_up_to}
+use Rattle.recording.specs.Words.{device_of, is_broken}
+use Rattle.session.proofs.Answering.{answered_nothing, answered_both}
+use Rattle.replaying.specs.Replayed.{HasReplayed}
+use Rattle.replaying.proofs.Looking.{looks_only, false_by}
+use Rattle.replaying.proofs.Replayed.{played_nothing, played_then, replayed_nothing, replayed_then}
+use Rattle.replaying.proofs.Sectors.{entries_more, sector_entries}
+use Rattle.replaying.proofs.replay.replay.Goals as goal
+
+pub loop-index-init : goal.loop-index-init
+loop-index-init g c = record {
+  whole = c.requires;
+  same = (refl, refl);
+  answered = answered_nothing;
+  looked = λ honest. looked_self (g.D.SectorDevice.disk (device_of c.args.recording.now)) honest;
+  played = played_nothing c.args.machine.now;
+  replayed = λ honest. replayed_nothing c.args.machine.now c.args.most;
+}
+
+pub loop-index-preserved : goal.loop-index-preserved
+loop-index-preserved g c =
+    let i = c.loop-index.index in
+    let image = (g.D.SectorDevice.disk (device_of c.args.recording.now)).sectors in
+    let before = c.loop-index.invariant in
+    record {
+      whole = false_by (is_broken c.read_sector.new.self) (λ broken. ⊎_elim (λ was. let wrong : false ≡ true = sym before.whole ∙ was in cc) (λ failed. cc) (c.in_default.ensures.broken.0 broken));
+      same = (c.read_sector.ensures.same.0 ∙ before.same.0, c.read_sector.ensures.same.1 ∙ before.same.1);
+      answered = answered_both before.answered c.in_default.ensures.answered;
+      looked = λ honest. looked_then (before.looked honest) (looks_only (c.read_sector.ensures.looked (before.answered.honest.1 honest)));
+      played = played_then before.played c.replay_entries-left.ensures.played;
+      replayed = λ honest.
+          let page = c.entries.ensures ∙ c.in_default.ensures.page (before.answered.honest.1 honest)
+          ∙ ap (λ (s : List (List ℕ)). entries_at (i + 1) (sector_at s (i + 1))) (before.looked honest).sectors in
+          let step = c.replay_entries-left.ensures.replayed (subst all_entries (sym page) (sector_entries (i + 1) (sector_at image (i + 1)))) in
+          subst (λ (l : List Entry). HasReplayed c.args.machine.now c.replay_entries-left.new.machine c.args.most c.replay_entries-left.result l) (sym (entries_more i image))
+          (replayed_then (before.replayed honest)
+          (subst (λ (l : List StoredEntry). HasReplayed c.loop-index.machine c.replay_entries-left.new.machine c.loop-index.left c.replay_entries-left.result (inputs l)) page step));
+    }

@@ -1,0 +1,19 @@
+-- The law of scripts, which a public function states.
+use Rattle.std.specs.Prelude.{◌≡◌, ◌<◌, ◌^◌, ℕ, List, Ok}
+use Rattle.std.specs.List.{All}
+use Rattle.machine.specs.declared.input.Input.{Input}
+use Rattle.machine.specs.declared.input.Input.TheVariants.{Frame, Seconds}
+use Rattle.script.specs.Script.{lines_of, moves_from}
+use Rattle.script.specs.declared.moves.Move.{Move}
+use Rattle.playing.specs.Report.{inputs_of_moves}
+use Rattle.replaying.specs.Script.{script_of}
+
+-- its buttons are a byte, its seconds a `u32`
+abbrev pub HasWidth : Input → Type 0
+HasWidth (Frame buttons) = buttons < 256
+HasWidth (Seconds seconds) = seconds < 2 ^ 32
+
+-- each line of the script of inputs is right, and the moves of its lines are these inputs
+abbrev pub TheScriptGivesTheInputsBack : Type 0
+TheScriptGivesTheInputsBack =
+    (inputs : List Input) → All HasWidth inputs → (moves : List Move) × (moves_from 1 (lines_of (script_of inputs)) ≡ Ok moves) × (inputs_of_moves moves ≡ inputs)

@@ -1,0 +1,56 @@
+-- Whether a SAVE and a recording agree, as `verify` answers it.
+use Rattle.std.specs.Prelude.{◌≡◌, ◌≢◌, ◌≤◌, ◌<◌, ℕ, List, length, take, Some, ⊤}
+use Rattle.sha2.specs.Sha256.{sha256}
+use Rattle.machine.specs.Machine.{after, start}
+use Rattle.sector_device.specs.DiskState.{DiskState}
+use Rattle.input_entries.specs.declared.Entry.{Entry}
+use Rattle.recording.specs.Calls.{IsOpenCause, faults_after as faults_after_recording}
+use Rattle.recording.specs.Recorded.{recorded}
+use Rattle.sector_log.specs.Content.{content}
+use Rattle.session.specs.Calls.{faults_after as faults_after_session}
+use Rattle.session.specs.Found.{IsLookCause}
+use Rattle.session.specs.Inputs.{inputs_of}
+use Rattle.session.specs.Stands.{Position, stands}
+use Rattle.replaying.specs.Agreeing.{IsRecorded}
+use Rattle.replaying.specs.declared.error.VerifyError.{VerifyError}
+use Rattle.replaying.specs.declared.error.VerifyError.TheVariants.{Save, Recording, Behind, Memory, Differ}
+
+-- the SAVE stands for a machine after so many inputs, and the recording holds them and leads to this machine
+pub record IsVerified (rom : List ℕ) (save recording : List (List ℕ)) (count : ℕ) : Type 0 where
+  pub at : Position
+  pub stood : stands rom (content save) ≡ Some at
+  pub count_is : at.count ≡ count
+  pub holds : IsRecorded rom recording at
+
+-- both hold a game of this ROM: the SAVE a machine after so many inputs, the recording these inputs
+pub record AreFound (rom : List ℕ) (save recording : List (List ℕ)) (P : Position → List Entry → Type 0) : Type 0 where
+  pub at : Position
+  pub entries : List Entry
+  pub stood : stands rom (content save) ≡ Some at
+  pub recorded_is : recorded (sha256 rom) recording ≡ Some entries
+  pub holds : P at entries
+
+-- why a SAVE is not verified; nothing is said of running out of memory
+abbrev pub IsVerifyCause : (rom : List ℕ) → (save recording : DiskState) → VerifyError → Type 0
+IsVerifyCause rom save recording (Save why) = IsLookCause rom (content save.sectors) why
+IsVerifyCause rom save recording (Recording why) = ((at : Position) × (stands rom (content save.sectors) ≡ Some at)) × IsOpenCause why (sha256 rom) recording
+IsVerifyCause rom save recording (Behind count) = AreFound rom save.sectors recording.sectors (λ at entries. (count ≡ length entries) × (count < at.count))
+IsVerifyCause rom save recording Memory = ⊤
+IsVerifyCause rom save recording Differ =
+    AreFound rom save.sectors recording.sectors (λ at entries. (at.count ≤ length entries) × (at.machine ≢ after (start rom) (inputs_of (take at.count entries))))
+
+-- the count of failed calls of the SAVE's device after an answer
+abbrev pub save_faults_after : VerifyError → ℕ → ℕ
+save_faults_after (Save why) faults = faults_after_session why faults
+save_faults_after (Recording why) faults = faults
+save_faults_after (Behind count) faults = faults
+save_faults_after Memory faults = faults
+save_faults_after Differ faults = faults
+
+-- and of the recording's
+abbrev pub recording_faults_after : VerifyError → ℕ → ℕ
+recording_faults_after (Save why) faults = faults
+recording_faults_after (Recording why) faults = faults_after_recording why faults
+recording_faults_after (Behind count) faults = faults
+recording_faults_after Memory faults = faults
+recording_faults_after Differ faults = faults

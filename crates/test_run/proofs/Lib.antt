@@ -1,0 +1,4 @@
+pub mod Telling
+pub mod Frames
+pub mod Reaching
+pub mod Ending

@@ -1,0 +1,11 @@
+use Rattle.std.proofs.Common.{◌-◌, replicate}
+use Rattle.machine.specs.declared.input.Input.TheVariants.{Frame}
+use Rattle.test_run.specs.declared.run.Went.TheVariants.{On}
+use Rattle.test_run.specs.Playing.{HasReached}
+use Rattle.test_run.proofs.run.test_frames.Given as goal
+
+-- the frames so far were played
+abbrev pub invariant-loop-i : goal.invariant-loop-i
+invariant-loop-i g l =
+    HasReached l.limit (replicate l.times (Frame l.buttons)) (replicate (l.times - l._i) (Frame l.buttons)) l.fn.machine l.fn.progress l.progress
+    (g.W.Write.contents l.fn.out) (g.W.Write.contents l.out) (On l.machine)

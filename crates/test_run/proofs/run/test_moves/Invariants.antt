@@ -1,0 +1,11 @@
+use Rattle.std.proofs.Common.{drop}
+use Rattle.test_run.specs.declared.run.Went.TheVariants.{On}
+use Rattle.test_run.specs.Tested.{inputs_of_moves}
+use Rattle.test_run.specs.Playing.{HasReached}
+use Rattle.test_run.proofs.run.test_moves.Given as goal
+
+-- the moves so far were made
+abbrev pub invariant-loop-one : goal.invariant-loop-one
+invariant-loop-one g l =
+    HasReached l.limit (inputs_of_moves l.moves) (inputs_of_moves (drop l.one-index l.moves)) l.fn.machine l.fn.progress l.progress
+    (g.W.Write.contents l.fn.out) (g.W.Write.contents l.out) (On l.machine)

@@ -1,0 +1,270 @@
+//! A whole test.
+
+ghost use Rattle.std.specs.Prelude.{◌≡◌, ◌≤◌, ◌<◌, ◌++◌, [], ◌∷◌, IfOk, IfErr, OnErr, OnOk, replicate};
+ghost use Rattle.std.specs.Io.KnownBytes.{Appends};
+ghost use Rattle.exact_text.specs.Written.{AppendsProperPrefix};
+ghost use Rattle.machine.specs.declared.input.Input.TheVariants.{Frame};
+ghost use Rattle.debugger.specs.Registers.{register_line};
+ghost use Rattle.test_run.specs.Tested.{tested, frames_with, inputs_of_move, inputs_of_moves};
+ghost use Rattle.test_run.specs.Text.{test_text};
+ghost use Rattle.test_run.specs.Verdict.{verdict_of};
+ghost use Rattle.test_run.specs.Playing.{HasReached, HasEnded, StopsIn};
+ghost use Rattle.test_run.specs.Refusals.{IsTested, IsTestRefused};
+
+use crate::ends::End;
+use crate::error::TestError;
+use crate::frame::play_frame;
+use crate::told::Told;
+use crate::verdict::{Verdict, verdict_by};
+use crate::writing::write_end;
+use cartridge::Cartridge;
+use debugger::{RegisterLine, register_line};
+use exact_text::OutputFailed;
+use machine::{Input, Machine, Processor};
+use memory_map::Bus;
+use script::{Move, read_script};
+use sm83_alu::Registers;
+use std::alloc::Global;
+use std::io::Write;
+
+/// What is kept of a machine at the end of a test.
+#[derive(Drop)]
+pub(crate) struct Ended {
+    pub(crate) line: RegisterLine,
+    pub(crate) registers: Registers,
+    pub(crate) why: End,
+}
+
+/// Whether a test goes on.
+#[derive(Drop)]
+pub(crate) enum Went {
+    On(Machine),
+    Over(Ended),
+}
+
+/// How far a test is.
+#[derive(Drop)]
+pub(crate) struct Progress {
+    /// The frames that are done.
+    pub(crate) done: u32,
+    /// The bytes that were sent.
+    pub(crate) told: Told,
+}
+
+fn ended_at(processor: &Processor<Bus>, why: End) -> Ended
+    ensures line { result.line.bytes ≡ register_line processor.now }
+    ensures registers { result.registers ≡ processor.now.registers }
+    ensures why { result.why ≡ why }
+{
+    Ended {
+        line: register_line(processor),
+        registers: processor.registers,
+        why,
+    }
+}
+
+fn frames_with(why: End, done: u32) -> u32
+    requires { done < 4294967295 }
+    ensures { result ≡ frames_with why done }
+{
+    match why {
+        End::Breakpoint => done,
+        End::Frames | End::Locked | End::Loop => done + 1,
+    }
+}
+
+/// Plays a frame of a test, if one is left.
+fn test_frame<W: Write>(
+    machine: Machine,
+    buttons: u8,
+    limit: u32,
+    progress: &mut Progress,
+    out: &mut W,
+) -> Result<Went, OutputFailed>
+    requires { progress.old.done ≤ limit }
+    ensures ok { IfOk result (HasReached limit (Frame buttons ∷ []) [] machine progress.old progress.new (W.contents out.old) (W.contents out.new)) }
+    ensures err { OnErr result (StopsIn limit (Frame buttons ∷ []) machine progress.old (W.contents out.old) (W.contents out.new)) }
+{
+    if progress.done >= limit {
+        return Ok(Went::Over(ended_at(machine.processor(), End::Frames)));
+    }
+    let played = match play_frame(machine, buttons, &mut progress.told, out) {
+        Ok(played) => played,
+        Err(fault) => return Err(fault),
+    };
+    match played.end {
+        Some(why) => {
+            progress.done = frames_with(why, progress.done);
+            Ok(Went::Over(ended_at(played.frame.processor(), why)))
+        }
+        None => {
+            progress.done += 1;
+            Ok(Went::On(played.frame.end()))
+        }
+    }
+}
+
+/// Plays so many frames of a test.
+fn test_frames<W: Write>(
+    machine: Machine,
+    buttons: u8,
+    times: u32,
+    limit: u32,
+    progress: &mut Progress,
+    out: &mut W,
+) -> Result<Went, OutputFailed>
+    requires { progress.old.done ≤ limit }
+    ensures ok { IfOk result (HasReached limit (replicate times (Frame buttons)) [] machine progress.old progress.new (W.contents out.old) (W.contents out.new)) }
+    ensures err { OnErr result (StopsIn limit (replicate times (Frame buttons)) machine progress.old (W.contents out.old) (W.contents out.new)) }
+{
+    let mut machine = machine;
+    for _i in 0..times {
+        match test_frame(machine, buttons, limit, progress, out) {
+            Ok(Went::On(after)) => machine = after,
+            Ok(Went::Over(ended)) => return Ok(Went::Over(ended)),
+            Err(fault) => return Err(fault),
+        }
+    }
+    Ok(Went::On(machine))
+}
+
+/// Makes a move of a test.
+fn test_move<W: Write>(
+    machine: Machine,
+    one: Move,
+    limit: u32,
+    progress: &mut Progress,
+    out: &mut W,
+) -> Result<Went, OutputFailed>
+    requires { progress.old.done ≤ limit }
+    ensures ok { IfOk result (HasReached limit (inputs_of_move one) [] machine progress.old progress.new (W.contents out.old) (W.contents out.new)) }
+    ensures err { OnErr result (StopsIn limit (inputs_of_move one) machine progress.old (W.contents out.old) (W.contents out.new)) }
+{
+    match one {
+        Move::Frames { buttons, times } => test_frames(
+            machine, buttons, times, limit, progress, out,
+        ),
+        Move::Seconds(seconds) => {
+            let mut machine = machine;
+            machine.apply(Input::Seconds(seconds));
+            Ok(Went::On(machine))
+        }
+        Move::Save => Ok(Went::On(machine)),
+    }
+}
+
+/// Makes the moves of a test, one after another.
+fn test_moves<W: Write>(
+    machine: Machine,
+    moves: &[Move],
+    limit: u32,
+    progress: &mut Progress,
+    out: &mut W,
+) -> Result<Went, OutputFailed>
+    requires { progress.old.done ≤ limit }
+    ensures ok { IfOk result (HasReached limit (inputs_of_moves moves.now) [] machine progress.old progress.new (W.contents out.old) (W.contents out.new)) }
+    ensures err { OnErr result (StopsIn limit (inputs_of_moves moves.now) machine progress.old (W.contents out.old) (W.contents out.new)) }
+{
+    let mut machine = machine;
+    for one in moves {
+        match test_move(machine, *one, limit, progress, out) {
+            Ok(Went::On(after)) => machine = after,
+            Ok(Went::Over(ended)) => return Ok(Went::Over(ended)),
+            Err(fault) => return Err(fault),
+        }
+    }
+    Ok(Went::On(machine))
+}
+
+/// Makes the moves of a test, and then plays frames without buttons, up to its end.
+fn test_to_end<W: Write>(
+    machine: Machine,
+    moves: &[Move],
+    limit: u32,
+    progress: &mut Progress,
+    out: &mut W,
+) -> Result<Ended, OutputFailed>
+    requires { progress.old.done ≤ limit }
+    ensures ok { IfOk result (HasEnded (tested limit progress.old.done (inputs_of_moves moves.now ++ replicate limit (Frame 0)) machine)
+        progress.old progress.new (W.contents out.old) (W.contents out.new)) }
+    ensures err { OnErr result (AppendsProperPrefix (W.contents out.old) (W.contents out.new)
+        (tested limit progress.old.done (inputs_of_moves moves.now ++ replicate limit (Frame 0)) machine).sent) }
+{
+    let machine = match test_moves(machine, moves, limit, progress, out) {
+        Ok(Went::On(machine)) => machine,
+        Ok(Went::Over(ended)) => return Ok(ended),
+        Err(fault) => return Err(fault),
+    };
+    match test_frames(machine, 0, limit, limit, progress, out) {
+        Ok(Went::On(machine)) => Ok(ended_at(machine.processor(), End::Frames)),
+        Ok(Went::Over(ended)) => Ok(ended),
+        Err(fault) => Err(fault),
+    }
+}
+
+/// Runs a test ROM from power-on: the moves of a script, of which a save does nothing, and then frames without buttons, until `frames`
+/// frames are done, `LD B,B` (opcode 40) was run, or after a frame nothing can happen any more: no byte is being sent, and the
+/// processor is locked, or at a jump to itself with interrupts off. It writes each byte that is sent over the serial port, then,
+/// on a new line, the registers, `frames` with the number of frames that were done, and `ended` with why.
+///
+/// Refusals, in this order: what is wrong with the image; with the script; no memory, all with nothing written; output failed, where a
+/// proper prefix of the text went out.
+pub fn run_test<W: Write>(
+    alloc: Global,
+    rom: Vec<u8>,
+    script: &[u8],
+    frames: u32,
+    out: &mut W,
+) -> Result<Verdict, TestError>
+    ensures tested { IfOk result (IsTested rom.items script.now frames (W.contents out.old) (W.contents out.new)) }
+    ensures refused { IfErr result (IsTestRefused rom.items script.now frames (W.contents out.old) (W.contents out.new)) }
+{
+    let cartridge = match Cartridge::read(rom) {
+        Ok(cartridge) => cartridge,
+        Err(fault) => return Err(TestError::Cart(fault)),
+    };
+    let moves = match read_script(alloc, script) {
+        Ok(moves) => moves,
+        Err(fault) => return Err(TestError::Script(fault)),
+    };
+    let machine = match Machine::power_on(alloc, &cartridge) {
+        Ok(machine) => machine,
+        Err(_) => return Err(TestError::Memory),
+    };
+    match test_machine(machine, &moves, frames, out) {
+        Ok(verdict) => Ok(verdict),
+        Err(_) => Err(TestError::Output),
+    }
+}
+
+/// Tests a machine, and writes how it ended.
+fn test_machine<W: Write>(
+    machine: Machine,
+    moves: &[Move],
+    frames: u32,
+    out: &mut W,
+) -> Result<Verdict, OutputFailed>
+    ensures written { OnOk result (Appends (W.contents out.old) (W.contents out.new)
+        (test_text (tested frames 0 (inputs_of_moves moves.now ++ replicate frames (Frame 0)) machine))) }
+    ensures verdict { IfOk result (λ v. v ≡ verdict_of (tested frames 0 (inputs_of_moves moves.now ++ replicate frames (Frame 0)) machine)) }
+    ensures err { OnErr result (AppendsProperPrefix (W.contents out.old) (W.contents out.new)
+        (test_text (tested frames 0 (inputs_of_moves moves.now ++ replicate frames (Frame 0)) machine))) }
+{
+    let mut progress = Progress {
+        done: 0,
+        told: Told::new(),
+    };
+    let ended = match test_to_end(machine, moves, frames, &mut progress, out) {
+        Ok(ended) => ended,
+        Err(fault) => return Err(fault),
+    };
+    if let Err(fault) = write_end(&ended, &progress, out) {
+        return Err(fault);
+    }
+    Ok(verdict_by(
+        ended.why,
+        &ended.registers,
+        progress.told.has_passed(),
+        progress.told.has_failed(),
+    ))
+}
