@@ -72,7 +72,7 @@ bench:
 	cd crates/bench && $(RT) run -- storage
 	cd crates/bench && RT_SECONDS=600 $(RT) run -- sessions
 	$(MAKE) bin/gbkeep
-	python3 -B scripts/stream_cost.py bin/gbkeep
+	python3 -B scripts/program_cost.py bin/gbkeep
 
 SECONDS ?= 20
 

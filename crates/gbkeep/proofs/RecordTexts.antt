@@ -27,7 +27,7 @@ module _ (rom : List ℕ) (accepted : IsAccepted rom) (save now_save recording n
   record_refused (Recording why) (inr it) = stopped (Recording why) it
   record_refused (Behind count) (inl it) = (it.2, it.1, (rom, accepted))
   record_refused (Behind count) (inr never) = absurd never
-  record_refused (Line number) (inl it) = inl (rom, accepted, it.2, it.1)
-  record_refused (Line number) (inr it) = inr (recorded_to _ it)
-  record_refused Input (inl it) = inl (rom, accepted, it.2, it.1)
-  record_refused Input (inr it) = inr (recorded_to _ it)
+  record_refused (Line number) (inl it) = absurd it.0.kind
+  record_refused (Line number) (inr it) = recorded_to _ it
+  record_refused Input (inl it) = absurd it.0.kind
+  record_refused Input (inr it) = recorded_to _ it

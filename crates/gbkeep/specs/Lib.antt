@@ -1,6 +1,5 @@
 pub mod Text
 pub mod Info
-pub mod Line
 pub mod StepLine
 pub mod Beginning
 pub mod Playing

@@ -37,7 +37,7 @@ use Rattle.streaming.specs.declared.error.StreamError.TheVariants.{Session as St
 use Rattle.gbkeep.specs.declared.fault.Fault.TheVariants.{Cart, Memory, File, Output, Address, Word, Device, Script, Session, Line, Input, Recording, Behind, Differ, TestFailed, TestUndecided}
 use Rattle.script.specs.Script.{IsRefused as IsScriptRefused}
 use Rattle.gbkeep.specs.Text.{Exchange, Text, IsUnread, IsUnwritten}
-use Rattle.gbkeep.specs.Request.{HasAddress, HasDevice, HasScript, IsDone, IsCompared, IsGameRefused, IsOutputRefused, IsRecordingRefused, IsTestDecided, IsStreamStopped, IsStreamedTo, IsRecordStopped, IsRecordEnded, IsRecordedTo}
+use Rattle.gbkeep.specs.Request.{HasAddress, HasDevice, HasScript, IsDone, IsCompared, IsGameRefused, IsOutputRefused, IsRecordingRefused, IsTestDecided, IsStreamStopped, IsStreamedTo, IsRecordStopped, IsRecordedTo}
 
 abbrev pub status_of : Fault → ℕ
 status_of (Cart fault) = 1
@@ -219,8 +219,8 @@ IsRecordRefused Word input output = ⊥
 IsRecordRefused (Device fault) input output = IsUnread input × IsUnwritten output
 IsRecordRefused (Script fault) input output = ⊥
 IsRecordRefused (Session why) input output = IsRecordStopped why input output
-IsRecordRefused (Line number) input output = IsRecordEnded (WrongLine number) input output
-IsRecordRefused Input input output = IsRecordEnded FailedRead input output
+IsRecordRefused (Line number) input output = IsRecordedTo (WrongLine number) input output
+IsRecordRefused Input input output = IsRecordedTo FailedRead input output
 IsRecordRefused (Recording fault) input output = IsRecordStopped GameDevice input output
 IsRecordRefused (Behind count) input output = IsUnread input × IsUnwritten output × ((rom : List ℕ) × IsAccepted rom)
 IsRecordRefused Differ input output = ⊥

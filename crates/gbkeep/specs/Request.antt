@@ -237,7 +237,3 @@ IsRecordStopped why input output =
     (rom : List ℕ) × IsAccepted rom
     × ((IsUnread input × IsUnwritten output)
     ⊎ OfABrokenRecordedPlay rom input (λ lines. (saved : ℕ) × HasTold why saved lines output.before output.since))
-
--- the lines up to this end were obeyed; or devices that are not honest kept the game from being taken up, with nothing read and nothing written
-abbrev pub IsRecordEnded : End → (input output : Text) → Type 0
-IsRecordEnded end input output = ((rom : List ℕ) × IsAccepted rom × IsUnread input × IsUnwritten output) ⊎ IsRecordedTo end input output

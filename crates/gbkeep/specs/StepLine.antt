@@ -8,7 +8,7 @@ use Rattle.machine.specs.Machine.{start}
 use Rattle.sm83_processor.specs.Steps.{after_steps}
 use Rattle.gbkeep.specs.declared.error.TextError.{TextError}
 use Rattle.gbkeep.specs.declared.error.TextError.TheVariants.{Cart, Memory, Output}
-use Rattle.gbkeep.specs.Line.{register_line}
+use Rattle.debugger.specs.Registers.{register_line}
 
 -- the line of the machine after so many steps from power-on
 unfoldable pub line_after : List ℕ → ℕ → List ℕ

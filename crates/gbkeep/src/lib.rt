@@ -11,7 +11,6 @@ pub mod error;
 mod fault;
 mod info;
 mod interrupted;
-mod line;
 mod listing;
 mod picture;
 pub mod program;

@@ -6,8 +6,8 @@ ghost use Rattle.cartridge.specs.Accepted.{IsAccepted};
 ghost use Rattle.gbkeep.specs.StepLine.{Refuses, line_after};
 
 use crate::error::TextError;
-use crate::line::register_line;
 use cartridge::Cartridge;
+use debugger::register_line;
 use exact_text::write_whole;
 use machine::Machine;
 use std::alloc::Global;

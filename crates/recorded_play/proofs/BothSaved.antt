@@ -1,5 +1,5 @@
 -- A save of both devices: the recording first, and then the SAVE.
-use Rattle.std.proofs.Common.{◌≡◌, inl, ℕ, ◌+◌, ◌≤◌, List, [], ◌++◌, length, take, Bool, false, refl, sym, subst, arith, append-nil}
+use Rattle.std.proofs.Common.{◌≡◌, inl, ℕ, ◌+◌, ◌≤◌, List, [], ◌++◌, length, take, drop, Some, Bool, false, refl, sym, ap, ◌∙◌, subst, arith, append-nil, length-append}
 use Rattle.std.proofs.lemmas.List.{take_all}
 use Rattle.machine.specs.declared.input.Input.{Input}
 use Rattle.sector_device.specs.DiskState.{DiskState}
@@ -7,14 +7,16 @@ use Rattle.sector_device.specs.Runs.{HoldsSince}
 use Rattle.sector_device.proofs.Runs.{holds_since}
 use Rattle.input_entries.specs.declared.Entry.{Entry}
 use Rattle.recording.specs.Calls.{HoldsPrefix, IsAppended, IsAppendCause}
+use Rattle.recording.specs.Growing.{fits_image}
 use Rattle.recording.specs.declared.fault.RecordingFault.{RecordingFault}
 use Rattle.recording.specs.declared.fault.RecordingFault.TheVariants.{Memory, Device, TooSmall, NotBlank, NoRecording, OtherCartridge, Full, Broken}
+use Rattle.session.specs.Inputs.{inputs_of}
 use Rattle.session.proofs.Writes.{since_weaker}
 use Rattle.playing.specs.Played.{Reaches, Stopped}
 use Rattle.playing.proofs.PlayLaws.{reaches_none}
 use Rattle.streaming.specs.Obeying.{Place, all_of}
 use Rattle.replaying.specs.Agreeing.{Agrees}
-use Rattle.recorded_play.specs.Steps.{Game, power_on, HoldsFirst, HoldsSaved, Records, IsInStep, IsBehind, StopsAppend}
+use Rattle.recorded_play.specs.Steps.{Game, power_on, HoldsFirst, HoldsSaved, Records, IsFull, IsInStep, IsBehind, StopsAppend}
 use Rattle.recorded_play.proofs.Recordings.{unsaved, holds_first, holds_here, saved_all, first_none, records_by}
 use Rattle.recorded_play.proofs.Stepping.{IsNow, reached_agrees, save_reaches, behind_by}
 
@@ -49,6 +51,21 @@ module _ (rom : List ℕ) (old new : DiskState) (acknowledged : ℕ) (pending : 
   pub appended : (then : ℕ) (cleared : List Entry) → new.honest → then ≡ acknowledged + length pending → cleared ≡ [] → IsAppended old new pending → Records rom old new then cleared (all ++ [])
   appended then cleared honest then_is empty done =
       records_by (sym (append-nil all)) (record { moments = appending_some; holds = saved_all rom old acknowledged pending all held new then cleared honest then_is empty done })
+
+-- the inputs that were refused are what is pending, and the recording is as it was
+pub is_full_of : (rom : List ℕ) (old new : DiskState) (acknowledged : ℕ) (pending given : List Entry) (all : List Input) → given ≡ pending → new ≡ old → HoldsSaved rom old acknowledged pending all → fits_image old.sectors given ≡ false → IsFull rom new (all ++ [])
+is_full_of rom old new acknowledged pending given all same stays held too_many =
+    let whole : take (length all) (all ++ []) ≡ all = ap (take (length all)) (append-nil all) ∙ take_all (length all) all (omega arith) in
+    subst (λ (d : DiskState). IsFull rom d (all ++ [])) (sym stays) (record {
+      saved = acknowledged;
+      recorded_is = held.recorded_is ∙ ap (λ (l : List Input). Some (take acknowledged l)) (sym (append-nil all));
+      given = length all;
+      saved_given = held.within;
+      within = omega (arith, length-append all []);
+      unsaved = given;
+      unsaved_is = ap inputs_of same ∙ held.pending_is ∙ ap (drop acknowledged) (sym whole);
+      too_many = too_many;
+    })
 
 -- ---- both
 

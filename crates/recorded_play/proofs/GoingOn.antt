@@ -75,6 +75,7 @@ module _ (rom : List ℕ) (old : DiskState) (a b : Place) (old_recording new_rec
     cause = λ honest recording_honest.
         let all : all_of a + length (drop a.acknowledged (recorded_in old_recording)) ≡ a.acknowledged + length (drop a.acknowledged (recorded_in old_recording)) = omega (arith, ap length up.none) in
         go_on_stop why (a.acknowledged + length (drop a.acknowledged (recorded_in old_recording))) b.disk (subst (λ (n : ℕ). IsCatchUpStop why n b.disk) all (fails.cause recording_honest));
+    kind = fails.kind;
     images = λ honest recording_honest.
         since_then (since_weaker (up.images honest) (λ image stands. inl stands))
         (since_weaker (fails.stopped recording_honest rom at [] (begun honest)).moments (λ image reaches. inr reaches));
@@ -84,12 +85,12 @@ module _ (rom : List ℕ) (old : DiskState) (a b : Place) (old_recording new_rec
 -- why a game that was looked at is not resumed
 pub resume_stop : (why : SessionError) (generation all : ℕ) (now : DiskState) → (generation ≡ 2 ^ 64 - 1 → why ≡ Worn → now.honest → generation_in now.sectors ≡ 2 ^ 64 - 1) → IsTakeUpCause generation why → IsGoOnCause (Session why) all now
 resume_stop Memory generation all now worn cause = tt
-resume_stop Device generation all now worn cause = tt
+resume_stop Device generation all now worn cause = (tt, λ is. absurd (cc))
 resume_stop NoSession generation all now worn cause = absurd cause
 resume_stop (TooSmall needed) generation all now worn cause = absurd cause
 resume_stop OtherCartridge generation all now worn cause = absurd cause
 resume_stop (Damaged damage) generation all now worn cause = absurd cause
-resume_stop Worn generation all now worn cause = worn cause refl
+resume_stop Worn generation all now worn cause = (worn cause refl, λ is. absurd (cc))
 resume_stop Broken generation all now worn cause = absurd cause
 resume_stop SaveFirst generation all now worn cause = absurd cause
 resume_stop CountFull generation all now worn cause = absurd cause
@@ -100,6 +101,7 @@ pub stops_resuming : (rom : List ℕ) (old now : DiskState) (recording : DiskSta
     → StopsGoingOn rom old now recording recording from (Session why)
 stops_resuming rom old now recording from why cause images = record {
   cause = λ honest recording_honest. cause honest;
+  kind = tt;
   images = λ honest recording_honest. since_weaker (images honest) (λ image stands. inl stands);
   looks = looked_self recording;
 }

@@ -153,6 +153,7 @@ input_full a x input why is full only_save only_recording =
             (stopped_here rom a.save.disk a.save.acknowledged a.save.pending a.save.machine from given played only_save);
         behind = λ rom all step. behind_more rom a a all (input ∷ []) (behind_here rom a all step only_recording);
         cause = full_stops why (all_of a.save + 1) a.save.disk is (omega (arith, full));
+        full = λ same. absurd (cc);
         later = omega arith;
         save_calls = answered_refusal (λ n. ap (λ (w : SessionError). faults_after w n) is);
         recording_calls = answered_refusal (λ n. refl);

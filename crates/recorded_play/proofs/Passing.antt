@@ -29,7 +29,7 @@ use Rattle.session.proofs.Saving.{same_after}
 use Rattle.session.proofs.StandsLaws.{after_append, after_none, after_one, logged_append}
 use Rattle.playing.specs.Played.{IsStop}
 use Rattle.playing.proofs.PlayLaws.{going_nowhere, going_input, going_then, going_by, stopped_then, stopped_by, stopped_more, stopped_here}
-use Rattle.playing.proofs.Stops.{stops_among, full_stops}
+use Rattle.playing.proofs.Stops.{stops_among, full_stops, full_not_output}
 use Rattle.streaming.specs.Obeying.{Place, all_of}
 use Rattle.recorded_play.specs.CatchingUp.{given_by, given_by_all, recorded_in, Goes, Fails, Passes, PassesRecorded, FailsRecorded, HasCaughtUp, IsCatchUpStop}
 use Rattle.recorded_play.specs.declared.error.RecordError.{RecordError}
@@ -71,6 +71,7 @@ fails_then a b c first second why one two = record {
   cause =
       let size : all_of b + length second ≤ all_of a + length (first ++ second) = omega (arith, one.all_is, length-append first second) in
       stops_among why (all_of b + length second) (all_of a + length (first ++ second)) c.disk size two.cause;
+  silent = two.silent;
   later = omega (arith, one.later, two.later);
   calls = answered_refused one.calls two.calls (λ n. refl);
 }
@@ -82,6 +83,7 @@ fails_more a b first second why fails = record {
   cause =
       let size : all_of a + length first ≤ all_of a + length (first ++ second) = omega (arith, length-append first second) in
       stops_among why (all_of a + length first) (all_of a + length (first ++ second)) b.disk size fails.cause;
+  silent = fails.silent;
   later = fails.later;
   calls = fails.calls;
 }
@@ -185,6 +187,7 @@ pub input_fails : (a : Place) (input : Input) (why : SessionError) → why ≡ C
 input_fails a input why is full only = record {
   stopped = λ rom from given played. stopped_more rom a.disk a.disk a.acknowledged from given (input ∷ []) (stopped_here rom a.disk a.acknowledged a.pending a.machine from given played only);
   cause = full_stops why (all_of a + 1) a.disk is (omega (arith, full));
+  silent = full_not_output why is;
   later = omega arith;
   calls = answered_refusal (λ n. ap (λ (w : SessionError). faults_after w n) is);
 }
@@ -260,7 +263,7 @@ read_fails Full broken unbroken cause = absurd cause
 read_fails Broken broken unbroken cause = cc
 
 catch_up_among : (why : RecordError) (less all : ℕ) (now : DiskState) → less ≤ all → IsCatchUpStop why less now → IsCatchUpStop why all now
-catch_up_among (Session why) less all now more stop = stops_among why less all now more stop
+catch_up_among (Session why) less all now more stop = (stops_among why less all now more stop.0, stop.1)
 catch_up_among (Recording why) less all now more stop = stop
 catch_up_among (Behind count) less all now more stop = stop
 catch_up_among (Line number) less all now more stop = stop
@@ -272,6 +275,7 @@ pub fails_reading : (a : Place) (old new : DiskState) (skip : ℕ) (recorded : L
 fails_reading a old new skip recorded why only stop looked answered = record {
   stopped = λ honest rom from given played. stopped_more rom a.disk a.disk a.acknowledged from given (drop skip recorded) (stopped_here rom a.disk a.acknowledged a.pending a.machine from given played only);
   cause = λ honest. stop;
+  kind = tt;
   looks = λ honest. looks_of (looked honest);
   later = omega arith;
   save_calls = answered_refusal (λ n. refl);
@@ -288,7 +292,8 @@ pub fails_giving : (a b : Place) (old new : DiskState) (skip : ℕ) (passed reco
     → Fails a b (drop skip passed) why → FailsRecorded a b old new skip recorded (Session why)
 fails_giving a b old new skip passed recorded why same looked answered fails = record {
   stopped = λ honest rom from given played. stopped_by (ap (λ (l : List Input). given ++ drop skip l) (same honest)) (fails.stopped rom from given played);
-  cause = λ honest. subst (λ (l : List Input). IsStop why (all_of a + length (drop skip l)) b.disk) (same honest) fails.cause;
+  cause = λ honest. (subst (λ (l : List Input). IsStop why (all_of a + length (drop skip l)) b.disk) (same honest) fails.cause, fails.silent);
+  kind = tt;
   looks = λ honest. looks_of (looked honest);
   later = fails.later;
   save_calls = answered_error fails.calls (λ n. refl);
@@ -331,6 +336,7 @@ module _ (a b c : Place) (old mid new : DiskState) (skip there : ℕ) (first sec
             let size : all_of b + length (drop there second) ≤ all_of a + length (drop skip all) =
             omega (arith, one.passes.goes.all_is, ap length (whole honest), length-append (drop skip one.passed) (drop there second), length-append (drop skip one.passed ++ drop there second) (drop (skip - length (first ++ second)) rest)) in
             catch_up_among why (all_of b + length (drop there second)) (all_of a + length (drop skip all)) c.disk size (two.cause (mid_honest honest));
+        kind = two.kind;
         looks = λ honest. looked_then (one.looks honest) (two.looks (mid_honest honest));
         later = omega (arith, one.passes.goes.later, two.later);
         save_calls = answered_refused one.passes.goes.calls two.save_calls (λ n. refl);
@@ -391,6 +397,7 @@ pub fails_is : (a b : Place) (old new : DiskState) (skip : ℕ) (recorded others
 fails_is a b old new skip recorded others why same fails = record {
   stopped = λ honest rom from given played. stopped_by (ap (λ (l : List Input). given ++ drop skip l) (same honest)) (fails.stopped honest rom from given played);
   cause = λ honest. subst (λ (l : List Input). IsCatchUpStop why (all_of a + length (drop skip l)) b.disk) (same honest) (fails.cause honest);
+  kind = fails.kind;
   looks = fails.looks;
   later = fails.later;
   save_calls = fails.save_calls;
@@ -432,7 +439,8 @@ module _ (a b c : Place) (old new : DiskState) (skip left : ℕ) (recorded : Lis
       λ honest. append-nil (drop skip one.passed) ∙ ap (λ (n : ℕ). drop n one.passed) skip_is ∙ ap (drop a.acknowledged) (one.passed_is honest) in
       record {
         stopped = λ honest rom from given played. stopped_by (ap (λ (l : List Input). given ++ l) (same honest)) (fails.stopped rom from given played);
-        cause = λ honest. subst (λ (l : List Input). IsStop why (all_of a + length l) c.disk) (same honest) fails.cause;
+        cause = λ honest. (subst (λ (l : List Input). IsStop why (all_of a + length l) c.disk) (same honest) fails.cause, fails.silent);
+        kind = tt;
         looks = one.looks;
         later = fails.later;
         save_calls = answered_error fails.calls (λ n. refl);

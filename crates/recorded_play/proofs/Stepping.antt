@@ -1,5 +1,5 @@
 -- How a SAVE and a recording come on together, and where they stop.
-use Rattle.std.proofs.Common.{◌≡◌, ℕ, ◌+◌, ◌≤◌, List, [], ◌++◌, length, take, Option, None, Some, refl, sym, ap, ◌∙◌, subst, arith, append_assoc, append-nil, length-append}
+use Rattle.std.proofs.Common.{◌≡◌, ℕ, ◌+◌, ◌≤◌, List, [], ◌++◌, length, take, drop, Option, None, Some, refl, sym, ap, ◌∙◌, subst, arith, append_assoc, append-nil, length-append}
 use Rattle.std.proofs.lemmas.List.{take-take, take-map, take-append-le, length-take-le, length-map}
 use Rattle.std.specs.Option.{option_map}
 use Rattle.sha2.specs.Sha256.{sha256}
@@ -23,7 +23,7 @@ use Rattle.playing.proofs.Stops.{stops_among}
 use Rattle.streaming.specs.Obeying.{all_of}
 use Rattle.replaying.specs.Agreeing.{Agrees}
 use Rattle.recorded_play.specs.Agreeing.{AllAgree}
-use Rattle.recorded_play.specs.Steps.{Game, power_on, HoldsFirst, IsInStep, IsBehind, Comes, Halts, IsRecordStop}
+use Rattle.recorded_play.specs.Steps.{Game, power_on, HoldsFirst, IsFull, IsInStep, IsBehind, Comes, Halts, IsRecordStop}
 use Rattle.recorded_play.specs.declared.error.RecordError.{RecordError}
 use Rattle.recorded_play.specs.declared.error.RecordError.TheVariants.{Session, Recording, Behind, Line, Input as FailedInput}
 use Rattle.recorded_play.proofs.Recordings.{first_since_here, first_more, holds_here, records_by, records_then}
@@ -185,6 +185,23 @@ record_stops_among (Behind count) less all now more stop = stop
 record_stops_among (Line number) less all now more stop = stop
 record_stops_among FailedInput less all now more stop = stop
 
+full_by : {rom : List ℕ} {recording : DiskState} {all all' : List Input} → all ≡ all' → IsFull rom recording all → IsFull rom recording all'
+full_by {rom} {recording} {all} {all'} same full = subst (IsFull rom recording) same full
+
+-- more inputs that were not given
+pub full_more : (rom : List ℕ) (recording : DiskState) (all more : List Input) → IsFull rom recording all → IsFull rom recording (all ++ more)
+full_more rom recording all more full =
+    record {
+      saved = full.saved;
+      recorded_is = full.recorded_is ∙ ap (λ (l : List Input). Some l) (sym (take-append-le full.saved all more (omega (arith, full.saved_given, full.within))));
+      given = full.given;
+      saved_given = full.saved_given;
+      within = omega (arith, full.within, length-append all more);
+      unsaved = full.unsaved;
+      unsaved_is = full.unsaved_is ∙ ap (drop full.saved) (sym (take-append-le full.given all more full.within));
+      too_many = full.too_many;
+    }
+
 pub halts_then : (a b c : Game) (first second : List Input) (why : RecordError) → Comes a b first → Halts b c second why → Halts a c (first ++ second) why
 halts_then a b c first second why one two = record {
   stopped = λ rom from given played.
@@ -197,6 +214,7 @@ halts_then a b c first second why one two = record {
   cause =
       let size : all_of b.save + length second ≤ all_of a.save + length (first ++ second) = omega (arith, one.all_is, length-append first second) in
       record_stops_among why (all_of b.save + length second) (all_of a.save + length (first ++ second)) c.save.disk size two.cause;
+  full = λ is rom all held. full_by (append_assoc all first second) (two.full is rom (all ++ first) (one.records rom all held).holds);
   later = omega (arith, one.later, two.later);
   save_calls = answered_refused one.save_calls two.save_calls (λ n. refl);
   recording_calls = answered_refused one.recording_calls two.recording_calls (λ n. refl);
@@ -211,6 +229,7 @@ halts_more a b first second why halts = record {
   cause =
       let size : all_of a.save + length first ≤ all_of a.save + length (first ++ second) = omega (arith, length-append first second) in
       record_stops_among why (all_of a.save + length first) (all_of a.save + length (first ++ second)) b.save.disk size halts.cause;
+  full = λ is rom all held. full_by (append_assoc all first second) (full_more rom b.recording (all ++ first) second (halts.full is rom all held));
   later = halts.later;
   save_calls = halts.save_calls;
   recording_calls = halts.recording_calls;
@@ -226,6 +245,7 @@ halts_at_output a b more comes only = record {
       stopped_after rom a.save.disk b.save.disk b.save.acknowledged b.save.pending b.save.machine from (given ++ more) (comes.going rom from given played);
   behind = λ rom all step. behind_after rom a b all more comes step only;
   cause = tt;
+  full = λ is. absurd (cc);
   later = comes.later;
   save_calls = answered_otherwise comes.save_calls (λ n. refl);
   recording_calls = answered_otherwise comes.recording_calls (λ n. refl);

@@ -31,7 +31,7 @@ use Rattle.playing.specs.Played.{IsPlayed, Reaches, IsStop}
 use Rattle.playing.proofs.PlayLaws.{begun_played}
 use Rattle.replaying.specs.Agreeing.{IsRecorded, Agrees}
 use Rattle.recorded_play.specs.Agreeing.{AllAgree, recorded_inputs}
-use Rattle.recorded_play.specs.Steps.{power_on}
+use Rattle.recorded_play.specs.Steps.{power_on, IsOfDevices}
 use Rattle.recorded_play.specs.CatchingUp.{recorded_in}
 use Rattle.recorded_play.specs.GoingOn.{GoesOn, StopsGoingOn, IsGoOnCause, GoesOnImage}
 use Rattle.recorded_play.specs.Whole.{IsTakenUp, HasTakenUp, IsNotTakenUp, IsTakeUpCause, IsForeign, IsStopAtRecorded, IsBehindBy}
@@ -148,25 +148,25 @@ module _ (rom : List ℕ) (save looked now : DiskState) (recording opened now_re
   size_recorded honest = omega (arith, enough honest, length-map (inputs (entries recording.sectors)) input_of)
 
   -- why it was not
-  stop_recorded : (why : SessionError) → recording.honest → IsStop why (at.count + length (drop at.count (recorded_in opened))) now → IsStopAtRecorded rom why now recording
-  stop_recorded why honest stop =
+  stop_recorded : (why : SessionError) → recording.honest → IsStop why (at.count + length (drop at.count (recorded_in opened))) now → (why ≡ Output → ⊥) → IsStopAtRecorded rom why now recording
+  stop_recorded why honest stop silent =
       let size : at.count + length (drop at.count (recorded_in opened)) ≡ length (recorded_in recording) =
       omega (arith, length-drop at.count (recorded_in opened), ap length (recorded_here honest), size_recorded honest) in
-      record { played = recorded_in recording; recorded_is = all_recorded honest; stop = subst (λ (n : ℕ). IsStop why n now) size stop }
+      record { played = recorded_in recording; recorded_is = all_recorded honest; stop = subst (λ (n : ℕ). IsStop why n now) size stop; silent = silent }
 
   session_cause : (why : SessionError) → recording.honest → IsGoOnCause (Session why) (at.count + length (drop at.count (recorded_in opened))) now
       → IsResumeCause rom (generation_in save.sectors) (content save.sectors) why ⊎ IsStopAtRecorded rom why now recording
   session_cause Memory honest cause = inl tt
-  session_cause Device honest cause = inr (stop_recorded Device honest cause)
-  session_cause NoSession honest cause = inr (stop_recorded NoSession honest cause)
-  session_cause (TooSmall needed) honest cause = inr (stop_recorded (TooSmall needed) honest cause)
-  session_cause SessionOtherCartridge honest cause = inr (stop_recorded SessionOtherCartridge honest cause)
-  session_cause (Damaged damage) honest cause = inr (stop_recorded (Damaged damage) honest cause)
-  session_cause Worn honest cause = inr (stop_recorded Worn honest cause)
-  session_cause SessionBroken honest cause = inr (stop_recorded SessionBroken honest cause)
-  session_cause SaveFirst honest cause = inr (stop_recorded SaveFirst honest cause)
-  session_cause CountFull honest cause = inr (stop_recorded CountFull honest cause)
-  session_cause Output honest cause = inr (stop_recorded Output honest cause)
+  session_cause Device honest cause = inr (stop_recorded Device honest cause.0 cause.1)
+  session_cause NoSession honest cause = inr (stop_recorded NoSession honest cause.0 cause.1)
+  session_cause (TooSmall needed) honest cause = inr (stop_recorded (TooSmall needed) honest cause.0 cause.1)
+  session_cause SessionOtherCartridge honest cause = inr (stop_recorded SessionOtherCartridge honest cause.0 cause.1)
+  session_cause (Damaged damage) honest cause = inr (stop_recorded (Damaged damage) honest cause.0 cause.1)
+  session_cause Worn honest cause = inr (stop_recorded Worn honest cause.0 cause.1)
+  session_cause SessionBroken honest cause = inr (stop_recorded SessionBroken honest cause.0 cause.1)
+  session_cause SaveFirst honest cause = inr (stop_recorded SaveFirst honest cause.0 cause.1)
+  session_cause CountFull honest cause = inr (stop_recorded CountFull honest cause.0 cause.1)
+  session_cause Output honest cause = absurd (cause.1 refl)
 
   cause_is : (why : RecordError) → StopsGoingOn rom looked now opened now_recording at why → (save.honest → recording.honest → IsTakeUpCause why rom save now recording) × (IsForeign why → save.honest → recording.honest → HasLooked save now)
   cause_is (Session why) stops = (λ honest recording_honest. session_cause why recording_honest (stops.cause (look honest).honest (opens recording_honest).honest), λ foreign. absurd foreign)
@@ -183,6 +183,7 @@ module _ (rom : List ℕ) (save looked now : DiskState) (recording opened now_re
   pub not_taken_up : (why : RecordError) → IsNow recording → StopsGoingOn rom looked now opened now_recording at why → IsNotTakenUp rom save now recording now_recording why
   not_taken_up why only stops = record {
     cause = (cause_is why stops).0;
+    kind = stops.kind;
     images = λ honest recording_honest.
         since_then (since_weaker (only_looked honest) (λ image s. inl s))
         (since_weaker (stops.images (look honest).honest (opens recording_honest).honest)
@@ -226,9 +227,10 @@ look_is_resume rom generation held Output cause = cause
 pub look_refused : (rom : List ℕ) (save now recording : DiskState) (why : SessionError) → (save.honest → IsLookCause rom (content save.sectors) why) → save.honest → recording.honest → IsTakeUpCause (Session why) rom save now recording
 look_refused rom save now recording why cause honest recording_honest = inl (look_is_resume rom (generation_in save.sectors) (content save.sectors) why (cause honest))
 
-pub refused_looking : (rom : List ℕ) (save now recording opened : DiskState) (why : RecordError) → (save.honest → recording.honest → IsTakeUpCause why rom save now recording) → (save.honest → HasLooked save now) → (recording.honest → HasLooked recording opened) → IsNotTakenUp rom save now recording opened why
-refused_looking rom save now recording opened why cause look opens = record {
+pub refused_looking : (rom : List ℕ) (save now recording opened : DiskState) (why : RecordError) → (save.honest → recording.honest → IsTakeUpCause why rom save now recording) → IsOfDevices why → (save.honest → HasLooked save now) → (recording.honest → HasLooked recording opened) → IsNotTakenUp rom save now recording opened why
+refused_looking rom save now recording opened why cause kind look opens = record {
   cause = cause;
+  kind = kind;
   images = λ honest recording_honest. since_weaker (look honest).since (λ image stood. inl (record { before = image; stood = stood; is = refl }));
   looked = opens;
   untouched = λ foreign honest recording_honest. look honest;

@@ -7,6 +7,7 @@ use Rattle.machine.specs.Machine.{MachineState, start, after}
 use Rattle.machine.specs.declared.input.Input.{Input}
 use Rattle.sector_device.specs.DiskState.{DiskState}
 use Rattle.sector_device.specs.Runs.{HoldsSince}
+use Rattle.recording.specs.declared.fault.RecordingFault.TheVariants.{Full}
 use Rattle.session.specs.Calls.{IsAtRest}
 use Rattle.session.specs.Inputs.{inputs_of}
 use Rattle.session.specs.Stands.{Position}
@@ -24,9 +25,9 @@ use Rattle.streaming.specs.declared.order.Order.{Order}
 use Rattle.streaming.specs.declared.obeying.End.{End}
 use Rattle.streaming.proofs.Wholes.{ended_gives}
 use Rattle.recorded_play.specs.Agreeing.{AllAgree, recorded_inputs}
-use Rattle.recorded_play.specs.Steps.{Game, IsPlayedAt, HoldsSaved, IsInStep, Comes, Halts, IsRecordStop}
+use Rattle.recorded_play.specs.Steps.{Game, IsPlayedAt, HoldsFirst, HoldsSaved, IsFull, IsInStep, Comes, Halts, IsRecordStop}
 use Rattle.recorded_play.specs.Obeying.{told_as, Streams, StopsStream}
-use Rattle.recorded_play.specs.Whole.{behind, IsTakenUp, HoldsAtLeast, HoldsAll, HasTakenUp, HasRecorded, HasStopped, IsEndCause}
+use Rattle.recorded_play.specs.Whole.{behind, IsTakenUp, HoldsAll, HasTakenUp, HasRecorded, HasStopped, IsEndCause}
 use Rattle.recorded_play.specs.declared.error.RecordError.{RecordError}
 use Rattle.recorded_play.specs.declared.error.RecordError.TheVariants.{Session, Recording, Behind, Line as WrongLine, Input as FailedInput}
 use Rattle.recorded_play.proofs.Stepping.{IsNow, comes_by, behind_after, behind_agree}
@@ -140,15 +141,15 @@ module _ (rom : List ℕ) (save recording : DiskState) (a b : Game) (before_in s
       pub stopped_agree : (more : List Input) (why : RecordError) → Halts a b more why → AllAgree rom b.save.disk b.recording
       stopped_agree more why halts = behind_agree rom a b (taken.played ++ more) (halts.behind rom taken.played in_step)
 
-      pub stopped_holds : (more : List Input) (why : RecordError) → Halts a b more why → (image : List (List ℕ)) → b.recording.image image → HoldsAtLeast rom b.save.acknowledged image
+      pub stopped_holds : (more : List Input) (why : RecordError) → Halts a b more why → (image : List (List ℕ)) → b.recording.image image → HoldsFirst rom b.save.acknowledged (taken.played ++ more) image
       stopped_holds more why halts image here =
           let left = halts.behind rom taken.played in_step in
           let held = left.recordings image here in
-          record {
-            played = take held.count (taken.played ++ more);
-            recorded_is = held.is;
-            at_least = omega (arith, left.least, held.at_least, length-take-le held.count (taken.played ++ more) held.within);
-          }
+          record { count = held.count; at_least = omega (arith, left.least, held.at_least); within = held.within; is = held.is }
+
+    -- where the recording is full
+    pub stopped_full : (more : List Input) (why : RecordError) → Halts a b more why → why ≡ Recording Full → IsFull rom b.recording (taken.played ++ more)
+    stopped_full more why halts is = halts.full is rom taken.played holds
 
   -- ---- to an end
 
@@ -201,6 +202,7 @@ module _ (rom : List ℕ) (save recording : DiskState) (a b : Game) (before_in s
         more = up.more;
         taken_up = up.taken_up;
         cause = subst (λ (n : ℕ). IsRecordStop why n b.save.disk) all_is stops.halts.cause;
+        full = λ is honest recording_honest. stopped_full honest recording_honest given why stops.halts is;
         least = least;
         told = told_by (lines_from orders) (subst (λ (n : ℕ). HasTold (told_as why) n (resumed_line (all_of a.save) ∷ answers_from a.save (ended (length a.save.pending) orders)) before since) saved_is stops.told);
         images = λ honest. images_since given honest (stops.halts.stopped rom from [] (begun honest)).moments;
@@ -209,7 +211,7 @@ module _ (rom : List ℕ) (save recording : DiskState) (a b : Game) (before_in s
             let same : stopped.least ≡ least = omega (arith, stopped.acknowledged_is, saved_is, up.count_is) in
             subst (λ (n : ℕ). Reaches rom up.at (length up.more + n) (up.more ++ given) image) same (further_back stopped.least given image (stopped.images image here));
         recorded = λ honest recording_honest agree image here.
-            subst (λ (n : ℕ). HoldsAtLeast rom n image) saved_is (stopped_holds honest recording_honest (save_here honest) (recording_here recording_honest) agree given why stops.halts image here);
+            subst (λ (n : ℕ). HoldsFirst rom n ((up.taken_up honest recording_honest).played ++ given) image) saved_is (stopped_holds honest recording_honest (save_here honest) (recording_here recording_honest) agree given why stops.halts image here);
       }
 
   -- as the refusal of a play

@@ -12,9 +12,10 @@ use Rattle.session.specs.Calls.{faults_after}
 use Rattle.session.specs.Inputs.{inputs_of}
 use Rattle.session.specs.Stands.{Position}
 use Rattle.session.specs.declared.error.SessionError.{SessionError}
+use Rattle.session.specs.declared.error.SessionError.TheVariants.{Output}
 use Rattle.playing.specs.Played.{IsStop, Going, Stopped}
 use Rattle.streaming.specs.Obeying.{Place, all_of}
-use Rattle.recorded_play.specs.Steps.{IsPlayedAt, save_faults_after, recording_faults_after}
+use Rattle.recorded_play.specs.Steps.{IsPlayedAt, IsOfDevices, save_faults_after, recording_faults_after}
 use Rattle.recorded_play.specs.declared.error.RecordError.{RecordError}
 use Rattle.recorded_play.specs.declared.error.RecordError.TheVariants.{Session, Recording, Behind, Line, Input as FailedInput}
 
@@ -43,6 +44,7 @@ pub record Goes (old new : Place) (more : List Input) : Type 0 where
 pub record Fails (old new : Place) (more : List Input) (why : SessionError) : Type 0 where
   pub stopped : (rom : List ℕ) (from : Position) (given : List Input) → IsPlayedAt rom old from given → Stopped rom old.disk new.disk new.acknowledged from (given ++ more)
   pub cause : IsStop why (all_of old + length more) new.disk
+  pub silent : why ≡ Output → ⊥
   pub later : old.acknowledged ≤ new.acknowledged
   pub calls : HasAnswered {T = Unit {0}} faults_after old.disk new.disk (Err why)
 
@@ -51,9 +53,9 @@ pub record Passes (old new : Place) (skip left : ℕ) (passed : List Input) : Ty
   pub goes : Goes old new (drop skip passed)
   pub left_is : left ≡ skip - length passed
 
--- why a game is not given what its recording has beyond it: as a play stops, or a call of the recording's device failed
+-- why a game is not given what its recording has beyond it: as a play stops that writes nothing, or a call of the recording's device failed
 abbrev pub IsCatchUpStop : RecordError → (all : ℕ) → (now : DiskState) → Type 0
-IsCatchUpStop (Session why) all now = IsStop why all now
+IsCatchUpStop (Session why) all now = IsStop why all now × (why ≡ Output → ⊥)
 IsCatchUpStop (Recording why) all now = why ≡ Device
 IsCatchUpStop (Behind count) all now = ⊥
 IsCatchUpStop (Line number) all now = ⊥
@@ -73,6 +75,7 @@ pub record FailsRecorded (old new : Place) (old_recording new_recording : DiskSt
   pub stopped : old_recording.honest → (rom : List ℕ) (from : Position) (given : List Input) → IsPlayedAt rom old from given
       → Stopped rom old.disk new.disk new.acknowledged from (given ++ drop skip recorded)
   pub cause : old_recording.honest → IsCatchUpStop why (all_of old + length (drop skip recorded)) new.disk
+  pub kind : IsOfDevices why
   pub looks : old_recording.honest → LooksOnly old_recording new_recording
   pub later : old.acknowledged ≤ new.acknowledged
   pub save_calls : HasAnswered {T = Unit {0}} save_faults_after old.disk new.disk (Err why)

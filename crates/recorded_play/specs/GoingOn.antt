@@ -10,6 +10,7 @@ use Rattle.session.specs.Stands.{Position}
 use Rattle.playing.specs.Played.{Reaches}
 use Rattle.session.specs.declared.error.SessionError.TheVariants.{Memory}
 use Rattle.recorded_play.specs.CatchingUp.{recorded_in, IsCatchUpStop}
+use Rattle.recorded_play.specs.Steps.{IsOfDevices}
 use Rattle.recorded_play.specs.declared.error.RecordError.{RecordError}
 use Rattle.recorded_play.specs.declared.error.RecordError.TheVariants.{Session}
 
@@ -33,5 +34,6 @@ IsGoOnCause why all now = IsCatchUpStop why all now
 
 pub record StopsGoingOn (rom : List ℕ) (old_save now_save old_recording now_recording : DiskState) (at : Position) (why : RecordError) : Type 0 where
   pub cause : old_save.honest → old_recording.honest → IsGoOnCause why (at.count + length (drop at.count (recorded_in old_recording))) now_save
+  pub kind : IsOfDevices why
   pub images : old_save.honest → old_recording.honest → HoldsSince old_save now_save (GoesOnImage rom old_save at (drop at.count (recorded_in old_recording)))
   pub looks : old_recording.honest → LooksOnly old_recording now_recording

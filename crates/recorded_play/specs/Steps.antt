@@ -1,5 +1,5 @@
 -- How far a SAVE and a recording have come together.
-use Rattle.std.specs.Prelude.{◌≡◌, ◌≤◌, ◌+◌, ℕ, List, ◌++◌, length, take, drop, Some, Ok, Err, ⊤}
+use Rattle.std.specs.Prelude.{◌≡◌, ◌≤◌, ◌+◌, ℕ, List, ◌++◌, length, take, drop, false, Some, Ok, Err, ⊤}
 use Rattle.machine.specs.Machine.{start, after}
 use Rattle.machine.specs.declared.input.Input.{Input}
 use Rattle.sector_device.specs.DiskState.{DiskState, Settled, HasAnswered}
@@ -7,6 +7,7 @@ use Rattle.sector_device.specs.Runs.{HoldsSince}
 use Rattle.sector_device.specs.declared.device.SectorDevice.{Ghosts}
 use Rattle.input_entries.specs.declared.Entry.{Entry}
 use Rattle.recording.specs.Calls.{faults_after as faults_after_recording}
+use Rattle.recording.specs.Growing.{fits_image}
 use Rattle.recording.specs.declared.fault.RecordingFault.{RecordingFault}
 use Rattle.recording.specs.declared.fault.RecordingFault.TheVariants.{Memory, Device, TooSmall, NotBlank, NoRecording, OtherCartridge, Full, Broken}
 use Rattle.session.specs.Calls.{faults_after as faults_after_save}
@@ -78,6 +79,25 @@ pub record IsBehind (rom : List ℕ) (old now : Game) (all : List Input) : Type 
 
 -- ---- refusals
 
+-- The recording holds the first of these inputs, and has too few sectors for those behind them that were given and are not saved.
+pub record IsFull (rom : List ℕ) (recording : DiskState) (all : List Input) : Type 0 where
+  pub saved : ℕ
+  pub recorded_is : recorded_inputs rom recording.sectors ≡ Some (take saved all)
+  pub given : ℕ
+  pub saved_given : saved ≤ given
+  pub within : given ≤ length all
+  pub unsaved : List Entry
+  pub unsaved_is : inputs_of unsaved ≡ drop saved (take given all)
+  pub too_many : fits_image recording.sectors unsaved ≡ false
+
+-- a refusal of one of the devices, or of what they hold, and of no line
+abbrev pub IsOfDevices : RecordError → Type 0
+IsOfDevices (Session why) = ⊤
+IsOfDevices (Recording why) = ⊤
+IsOfDevices (Behind count) = ⊤
+IsOfDevices (Line number) = ⊥
+IsOfDevices FailedInput = ⊥
+
 -- the count of failed calls of the SAVE's device after a refusal, and that of the recording's
 abbrev pub save_faults_after : RecordError → ℕ → ℕ
 save_faults_after (Session why) faults = faults_after_save why faults
@@ -137,6 +157,7 @@ pub record Halts (old new : Game) (more : List Input) (why : RecordError) : Type
   -- and the recording has at least what the SAVE has
   pub behind : (rom : List ℕ) (all : List Input) → IsInStep rom old all → IsBehind rom old new (all ++ more)
   pub cause : IsRecordStop why (all_of old.save + length more) new.save.disk
+  pub full : why ≡ Recording Full → (rom : List ℕ) (all : List Input) → HoldsSaved rom old.recording old.save.acknowledged old.save.pending all → IsFull rom new.recording (all ++ more)
   pub later : old.save.acknowledged ≤ new.save.acknowledged
   pub save_calls : HasAnswered {T = Unit {0}} save_faults_after old.save.disk new.save.disk (Err why)
   pub recording_calls : HasAnswered {T = Unit {0}} recording_faults_after old.recording new.recording (Err why)

@@ -12,12 +12,13 @@ use Rattle.sector_device.specs.declared.device.SectorDevice.{Ghosts}
 use Rattle.sector_log.specs.Content.{content, generation_in}
 use Rattle.recording.specs.Calls.{IsOpenCause}
 use Rattle.recording.specs.Words.{device_of as device_of_recording}
-use Rattle.recording.specs.declared.fault.RecordingFault.TheVariants.{NoRecording, OtherCartridge}
+use Rattle.recording.specs.declared.fault.RecordingFault.TheVariants.{NoRecording, OtherCartridge, Full}
 use Rattle.session.specs.Calls.{IsAtRest, StandsAsBefore}
 use Rattle.session.specs.Found.{IsResumeCause}
 use Rattle.session.specs.Stands.{Position, stands}
 use Rattle.session.specs.Words.{device_of}
 use Rattle.session.specs.declared.error.SessionError.{SessionError}
+use Rattle.session.specs.declared.error.SessionError.TheVariants.{Output}
 use Rattle.playing.specs.Played.{PlayImage, Reaches, IsStop}
 use Rattle.playing.specs.Report.{texts, HasTold}
 use Rattle.streaming.specs.Orders.{orders_of, IsRight}
@@ -26,7 +27,7 @@ use Rattle.streaming.specs.Answers.{inputs_of_orders, stream_lines}
 use Rattle.streaming.specs.declared.obeying.End.{End}
 use Rattle.streaming.specs.declared.obeying.End.TheVariants.{Wrong, Failed}
 use Rattle.recorded_play.specs.Agreeing.{AllAgree, recorded_inputs}
-use Rattle.recorded_play.specs.Steps.{IsRecordStop}
+use Rattle.recorded_play.specs.Steps.{HoldsFirst, IsFull, IsOfDevices, IsRecordStop}
 use Rattle.recorded_play.specs.Obeying.{told_as}
 use Rattle.recorded_play.specs.declared.error.RecordError.{RecordError}
 use Rattle.recorded_play.specs.declared.error.RecordError.TheVariants.{Session, Recording, Behind, Line as WrongLine, Input as FailedInput}
@@ -45,12 +46,6 @@ pub record IsTakenUp (rom : List ℕ) (save recording : List (List ℕ)) (at : P
   pub recorded_is : recorded_inputs rom recording ≡ Some played
   pub enough : at.count ≤ length played
   pub more_is : more ≡ drop at.count played
-
--- the image of a recording holds at least so many inputs
-pub record HoldsAtLeast (rom : List ℕ) (least : ℕ) (image : List (List ℕ)) : Type 0 where
-  pub played : List Input
-  pub recorded_is : recorded_inputs rom image ≡ Some played
-  pub at_least : least ≤ length played
 
 -- one image of a recording is left, which holds exactly these inputs
 pub record HoldsAll (rom : List ℕ) (now : DiskState) (all : List Input) : Type 0 where
@@ -110,11 +105,14 @@ pub record HasStopped (rom : List ℕ) (old_save now_save old_recording now_reco
   pub more : List Input
   pub taken_up : old_save.honest → old_recording.honest → IsTakenUp rom old_save.sectors old_recording.sectors at more
   pub cause : IsRecordStop why (at.count + length more + length (inputs_of_orders (orders_of lines))) now_save
+  -- a recording is full only where what is unsaved does not fit it
+  pub full : why ≡ Recording Full → (honest : old_save.honest) (recording_honest : old_recording.honest) → IsFull rom now_recording ((taken_up honest recording_honest).played ++ inputs_of_orders (orders_of lines))
   pub least : ℕ
   pub told : HasTold (told_as why) (at.count + length more + least) (stream_lines (behind at more) (orders_of lines)) before since
   pub images : old_save.honest → HoldsSince old_save now_save (PlayImage rom old_save (more ++ inputs_of_orders (orders_of lines)))
   pub left : old_save.honest → (image : List (List ℕ)) → now_save.image image → Reaches rom at (length more + least) (more ++ inputs_of_orders (orders_of lines)) image
-  pub recorded : old_save.honest → old_recording.honest → AllAgree rom old_save old_recording → (image : List (List ℕ)) → now_recording.image image → HoldsAtLeast rom (at.count + length more + least) image
+  pub recorded : (honest : old_save.honest) (recording_honest : old_recording.honest) → AllAgree rom old_save old_recording → (image : List (List ℕ)) → now_recording.image image
+      → HoldsFirst rom (at.count + length more + least) ((taken_up honest recording_honest).played ++ inputs_of_orders (orders_of lines)) image
 
 -- the image stands for what the SAVE stood for, and some of what the recording has beyond it
 pub record IsCaughtUp (rom : List ℕ) (save recording : DiskState) (image : List (List ℕ)) : Type 0 where
@@ -126,11 +124,12 @@ pub record IsCaughtUp (rom : List ℕ) (save recording : DiskState) (image : Lis
 abbrev pub TakeUpImage : (rom : List ℕ) → (save recording : DiskState) → List (List ℕ) → Type 0
 TakeUpImage rom save recording image = StandsAsBefore rom save image ⊎ IsCaughtUp rom save recording image
 
--- a play with all inputs that are recorded would stop
+-- a play with all inputs that are recorded, which writes nothing, would stop
 pub record IsStopAtRecorded (rom : List ℕ) (why : SessionError) (now recording : DiskState) : Type 0 where
   pub played : List Input
   pub recorded_is : recorded_inputs rom recording.sectors ≡ Some played
   pub stop : IsStop why (length played) now
+  pub silent : why ≡ Output → ⊥
 
 -- the recording has so many inputs, fewer than the SAVE stands for
 pub record IsBehindBy (rom : List ℕ) (save recording : List (List ℕ)) (count : ℕ) : Type 0 where
@@ -162,6 +161,8 @@ IsForeign FailedInput = ⊥
 -- It was not taken up, and the recording was only looked at.
 pub record IsNotTakenUp (rom : List ℕ) (old_save now_save old_recording now_recording : DiskState) (why : RecordError) : Type 0 where
   pub cause : old_save.honest → old_recording.honest → IsTakeUpCause why rom old_save now_save old_recording
+  -- whatever the devices do, no line is the cause
+  pub kind : IsOfDevices why
   pub images : old_save.honest → old_recording.honest → HoldsSince old_save now_save (TakeUpImage rom old_save old_recording)
   pub looked : old_recording.honest → HasLooked old_recording now_recording
   -- a recording that is not that of the SAVE is refused before anything is written to either

@@ -1,6 +1,6 @@
 -- What images hold: their sectors one by one, their list, and what is recorded.
 use Rattle.std.proofs.Common.{◌≡◌, ◌⊎◌, ◌==◌, inl, inr, ⊎_elim, ℕ, zero, suc, ◌+◌, ◌-◌, ◌*◌, ◌<◌, ◌≤◌, List, [], ◌∷◌, ◌++◌, length, take, drop, get_or, Bool, true, false, if◌then◌else◌, Some, None, refl, sym, ap, ◌∙◌, arith, append_assoc, length-append, length-drop, length-take}
-use Rattle.std.proofs.lemmas.List.{append-nil, length-take-le, length-replicate, get_or_append_left, get_or-append_right, get_or-take, get_or-drop, get_or-replicate, ext_get_or, drop-drop, take_more}
+use Rattle.std.proofs.lemmas.List.{append-nil, length-take-le, length-replicate, drop-append-le, drop_all, get_or_append_left, get_or-append_right, get_or-take, get_or-drop, get_or-replicate, ext_get_or, drop-drop, take_more}
 use Rattle.std.proofs.lemmas.Bool.{cases_lt, cases_eq}
 use lib.ListN.{replicate}
 use Rattle.sector_device.specs.DiskState.{sector_at}
@@ -11,13 +11,13 @@ use Rattle.input_entries.proofs.CodeLengths.{AreCodes}
 use Rattle.input_entries.proofs.Runs.{inputs-append}
 use Rattle.recording.specs.Calls.{HoldsPrefix, with_more}
 use Rattle.recording.specs.Format.{blank, is_head_of, entries_at, list_from, list_sector}
-use Rattle.recording.specs.Growing.{with_inputs}
+use Rattle.recording.specs.Growing.{with_inputs, fits, full_sectors, last_entries, fits_image}
 use Rattle.recording.specs.Keeping.{EndsAt, BlankFrom, blanked, written, grown_image}
 use Rattle.recording.specs.Recorded.{entries, recorded, entries_up_to}
 use Rattle.recording.specs.Sizes.{most_sectors, list_sectors, list_sectors_in, sectors_for}
 use Rattle.recording.proofs.Growing.{Whole, prefix, whole, length-with_inputs}
 use Rattle.recording.proofs.ListBytes.{nothing_has_none}
-use Rattle.recording.proofs.ListLaw.{chunk, list_last, list_full, list_split, cut_after, all_written}
+use Rattle.recording.proofs.ListLaw.{chunk, list_last, list_full, list_split, full_length, cut_after, all_written}
 
 pub most_is : most_sectors ≡ 4294967295
 unfolding most_sectors
@@ -43,6 +43,9 @@ pub list_sector_in : (image : List (List ℕ)) (k : ℕ) → k < length (list_se
 list_sector_in image k le = list_sector_at image k (omega (arith, le, length-take most_sectors (drop 1 image)))
 
 -- ---- a list of an image in parts
+
+behind : (front rest : List StoredEntry) → drop (length front) (front ++ rest) ≡ rest
+behind front rest = drop-append-le (length front) front rest (omega arith) ∙ ap (λ l. l ++ rest) (drop_all (length front) front (omega arith))
 
 module _ (image : List (List ℕ)) (full : ℕ) (tail : List StoredEntry) (ends : EndsAt image full tail) (short : length tail < 83) where
   abbrev ss : List (List ℕ)
@@ -71,6 +74,25 @@ module _ (image : List (List ℕ)) (full : ℕ) (tail : List StoredEntry) (ends 
   pub entries_of_image : entries image ≡ list_from 1 (take full ss) ++ tail
   unfolding entries
   entries_of_image = front_of ∙ ap (λ l. list_from 1 (take full ss) ++ l) tail_of_rest
+
+  front_size : length (list_from 1 (take full ss)) ≡ 83 * full
+  front_size = full_length full 1 ss ends.within (λ k le. (let n : 1 + k ≡ k + 1 = omega arith in ap (λ m. length (entries_at m (sector_at ss k))) n) ∙ ends.each_full k le)
+
+  size_of_image : length (entries image) ≡ 83 * full + length tail
+  size_of_image = ap length entries_of_image ∙ length-append (list_from 1 (take full ss)) tail ∙ ap (λ n. n + length tail) front_size
+
+  pub full_of_image : full_sectors image ≡ full
+  full_of_image = omega (arith, size_of_image, short)
+
+  pub last_of_image : last_entries image ≡ tail
+  last_of_image =
+      ap (λ (l : List StoredEntry). drop (83 * full_sectors image) l) entries_of_image
+      ∙ ap (λ n. drop n (list_from 1 (take full ss) ++ tail)) (ap (λ n. 83 * n) full_of_image ∙ sym front_size)
+      ∙ behind (list_from 1 (take full ss)) tail
+
+  pub fits_of_image : (more : List Entry) → fits_image image more ≡ fits tail (list_sectors_in (length image) - full) more
+  unfolding fits_image
+  fits_of_image more = λ i. fits (last_of_image i) (list_sectors_in (length image) - full_of_image i) more
 
 -- what is recorded, by the head and the inputs
 pub recorded_more : (old image : List (List ℕ)) (more : List Entry) (id : List ℕ) → sector_at image 0 ≡ sector_at old 0 → inputs (entries image) ≡ inputs (entries old) ++ more → recorded id image ≡ with_more more (recorded id old)

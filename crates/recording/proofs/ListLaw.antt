@@ -1,5 +1,5 @@
 -- The list that sectors hold, after any of the writes of one append.
-use Rattle.std.proofs.Common.{◌≡◌, ◌⊎◌, ◌==◌, inl, inr, ⊎_elim, ℕ, zero, suc, ◌+◌, ◌*◌, ◌<◌, ◌≤◌, List, [], ◌∷◌, ◌++◌, length, take, drop, Bool, false, if◌then◌else◌, refl, sym, ap, ◌∙◌, arith, append_assoc, length-drop, length-take}
+use Rattle.std.proofs.Common.{◌≡◌, ◌⊎◌, ◌==◌, inl, inr, ⊎_elim, ℕ, zero, suc, ◌+◌, ◌*◌, ◌<◌, ◌≤◌, List, [], ◌∷◌, ◌++◌, length, take, drop, Bool, false, if◌then◌else◌, refl, sym, ap, ◌∙◌, arith, append_assoc, length-append, length-drop, length-take}
 use Rattle.std.proofs.lemmas.List.{take_all, append-nil, take-append-drop, drop-drop}
 use lib.Seq.{take-add}
 use Rattle.std.proofs.lemmas.Bool.{cases_lt}
@@ -37,6 +37,17 @@ list_split (suc n) number (s ∷ ss) within full =
     ∙ ap (λ l. entries_at number s ++ l) later
     ∙ sym (append_assoc (entries_at number s) (list_from (suc number) (take n ss)) (list_from (suc number + n) (drop n ss)))
     ∙ (λ i. sym (list_full number s (take n ss) (entries_at number s) refl first) i ++ list_from (sym next i) (drop n ss))
+
+-- so many full sectors have 83 entries each
+pub full_length : (n number : ℕ) (ss : List (List ℕ)) → n ≤ length ss → ((k : ℕ) → k < n → length (entries_at (number + k) (sector_at ss k)) ≡ 83)
+    → length (list_from number (take n ss)) ≡ 83 * n
+full_length zero number ss within full = refl
+full_length (suc n) number [] within full = absurd (omega arith)
+full_length (suc n) number (s ∷ ss) within full =
+    let first : length (entries_at number s) ≡ 83 = (let e : number ≡ number + 0 = omega arith in ap (λ m. length (entries_at m s)) e) ∙ full 0 (omega arith) in
+    let later = full_length n (suc number) ss (omega arith) (λ k le. (let e : suc number + k ≡ number + suc k = omega arith in ap (λ m. length (entries_at m (sector_at ss k))) e) ∙ full (suc k) (omega arith)) in
+    let size = ap length (list_full number s (take n ss) (entries_at number s) refl first) ∙ length-append (entries_at number s) (list_from (suc number) (take n ss)) in
+    omega (arith, size, first, later)
 
 -- the entries of the sector with this index after the first of these
 abbrev pub chunk : ℕ → List StoredEntry → List StoredEntry

@@ -6,11 +6,11 @@ ghost use Rattle.sector_device.specs.Runs.{HoldsSince};
 ghost use Rattle.input_entries.specs.Inputs.{all_input};
 ghost use Rattle.recording.specs.Calls.{HoldsPrefix, KeepsFull, IsAppendCause, IsReadCause, faults_after};
 ghost use Rattle.recording.specs.Format.{entries_at};
-ghost use Rattle.recording.specs.Growing.{fits};
+ghost use Rattle.recording.specs.Growing.{fits, fits_image};
 ghost use Rattle.recording.specs.Keeping.{Kept, IsStored, KeptUnlessBroken, kept_prop, StoredUnlessBroken, stored_prop};
 ghost use Rattle.recording.specs.Recorded.{entries, entries_up_to};
 ghost use Rattle.recording.specs.Sizes.{entries_per_sector, list_sectors_in};
-ghost use Rattle.recording.specs.declared.fault.RecordingFault.TheVariants.{Device};
+ghost use Rattle.recording.specs.declared.fault.RecordingFault.TheVariants.{Device, Full};
 
 use crate::fault::RecordingFault;
 use crate::packing::fits;
@@ -120,7 +120,8 @@ impl<D: SectorDevice> Recording<D> {
 
     /// Adds inputs behind those that are there. A power cut at any moment leaves the old list with a
     /// prefix of them, and no sector that is full is written. Adding none makes no device call.
-    /// `Err`: `Broken` or `Full`, with the recording as it was, or `Device`, which breaks it.
+    /// `Err`: `Broken`, or `Full` if the device has too few sectors for their entries, with the
+    /// recording as it was, or `Device`, which breaks it.
     pub fn append(&mut self, more: &[Entry]) -> Result<(), RecordingFault>
         requires { all_input more.now }
         ensures images { is_broken self.old ≡ false → (D.disk (device_of self.old)).honest →
@@ -130,6 +131,8 @@ impl<D: SectorDevice> Recording<D> {
         ensures appended { OnOk result (HasAppended (D.disk (device_of self.old)) (D.disk (device_of self.new)) self.old self.new more.now) }
         ensures cause { IfErr result (λ why. IsAppendCause why (is_broken self.old)
             (fits (tail_of self.old) (list_sectors_in (length (D.disk (device_of self.old)).sectors) - full_of self.old) more.now)) }
+        ensures full { IfErr result (λ why. why ≡ Full → (D.disk (device_of self.old)).honest →
+            fits_image (D.disk (device_of self.old)).sectors more.now ≡ false) }
         ensures unchanged { IfErr result (λ why. (why ≡ Device) ⊎ (self.new ≡ self.old)) }
         ensures nothing { length more.now ≡ 0 → self.new ≡ self.old }
         ensures broken { (is_broken self.new ≡ true) ↔ ((is_broken self.old ≡ true) ⊎ IsErrOf result RecordingFault.Device) }

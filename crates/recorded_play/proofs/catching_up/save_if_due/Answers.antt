@@ -4,7 +4,7 @@ use Rattle.session.specs.Words.{device_of, machine_of, rom_of, pending_of, ackno
 use Rattle.session.proofs.Answering.{answered_value, answered_error}
 use Rattle.session.proofs.StandsLaws.{after_none}
 use Rattle.playing.proofs.PlayLaws.{going_saved, going_by, stopped_failed, stopped_by}
-use Rattle.playing.proofs.Stops.{save_stops}
+use Rattle.playing.proofs.Stops.{save_stops, save_not_output}
 use Rattle.streaming.specs.Obeying.{place}
 use Rattle.recorded_play.proofs.Passing.{goes_nothing}
 use Rattle.recorded_play.proofs.catching_up.save_if_due.Goals as goal
@@ -45,6 +45,7 @@ returns-in-Err-clause-fails g c =
           (stopped_failed rom (g.D.SectorDevice.disk (device_of was)) (acknowledged_of was) (pending_of was) (machine_of was) from given played (rom_of was) refl
           moved (acknowledged_of now) (failed.answered.honest.1 played.honest) failed.refused.1 (g.met.D.SectorDevice.counts_now (device_of now)) (failed.images c.requires.whole played.honest));
       cause = save_stops c.in-Err.why (is_broken was) (fits (log_in was) (pending_of was)) (generation_in_use was) (acknowledged_of was + length (pending_of was) + 0) moved c.requires.whole failed.cause failed.worn;
+      silent = save_not_output c.in-Err.why (is_broken was) (fits (log_in was) (pending_of was)) (generation_in_use was) failed.cause;
       later = omega (arith, failed.refused.1);
       calls = answered_error failed.answered (λ n. refl);
     }

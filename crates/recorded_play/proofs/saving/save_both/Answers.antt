@@ -1,7 +1,8 @@
-use Rattle.std.proofs.Common.{◌≡◌, ◌+◌, ◌-◌, ◌∙◌, ◌++◌, [], length, refl, sym, ap, arith, append-nil}
+use Rattle.std.proofs.Common.{◌≡◌, ⊎_elim, ◌+◌, ◌-◌, ◌∙◌, ◌++◌, [], length, refl, sym, ap, arith, append-nil}
 use Rattle.recording.specs.Growing.{fits as fits_recording}
 use Rattle.recording.specs.Sizes.{list_sectors_in}
 use Rattle.recording.specs.Words.{device_of as device_of_recording, is_broken as is_broken_recording, tail_of, full_of}
+use Rattle.recording.specs.declared.fault.RecordingFault.TheVariants.{Device, Full}
 use Rattle.sector_log.specs.Inputs.{fits}
 use Rattle.session.specs.Words.{device_of, machine_of, rom_of, pending_of, acknowledged_of, is_broken, log_in, generation_in_use}
 use Rattle.session.specs.declared.error.SessionError.TheVariants.{Output}
@@ -13,7 +14,7 @@ use Rattle.streaming.specs.Obeying.{place}
 use Rattle.recorded_play.specs.Steps.{game, power_on}
 use Rattle.recorded_play.proofs.Recordings.{are_all_inputs}
 use Rattle.recorded_play.proofs.Stepping.{behind_agree, behind_after}
-use Rattle.recorded_play.proofs.BothSaved.{append_stops, appending_of, appended_of, appended, recording_moves, behind_appended, behind_failed, save_stays, save_moves}
+use Rattle.recorded_play.proofs.BothSaved.{append_stops, is_full_of, appending_of, appended_of, appended, recording_moves, behind_appended, behind_failed, save_stays, save_moves}
 use Rattle.recorded_play.proofs.saving.save_both.Goals as goal
 
 pub append-requires : goal.append-requires
@@ -35,6 +36,10 @@ returns-in-Err-clause-halts g c =
           behind_appended rom a all step new (appending_of old new (pending_of was) c.unsaved.result.now c.unsaved.ensures.pending (c.append.ensures.images c.requires.open step.holds.honest))
           (g.met.E.SectorDevice.counts_now (device_of_recording c.append.new.self)) (c.append.ensures.answered.honest.1 step.holds.honest);
       cause = append_stops c.in-Err.why (is_broken_recording c.args.recording.now) (fits_recording (tail_of c.args.recording.now) (list_sectors_in (length old.sectors) - full_of c.args.recording.now) c.unsaved.result.now) c.requires.open c.in-Err.ensures.cause;
+      full = λ is rom all held.
+          let full : c.in-Err.why ≡ Full = cc in
+          let same : new ≡ old = ⊎_elim (λ (device : c.in-Err.why ≡ Device). absurd (cc)) (λ stays. ap (λ r. g.E.SectorDevice.disk (device_of_recording r)) stays) c.in-Err.ensures.unchanged in
+          is_full_of rom old new (acknowledged_of was) (pending_of was) c.unsaved.result.now all c.unsaved.ensures.pending same held (c.in-Err.ensures.full full held.honest);
       later = omega arith;
       save_calls = answered_refusal (λ n. refl);
       recording_calls = answered_error c.in-Err.ensures.answered (λ n. refl);
@@ -155,6 +160,7 @@ returns-in-Err-save-clause-halts g c =
           (stopped_failed rom disk (acknowledged_of was) (pending_of was) (machine_of was) (power_on rom) all played (rom_of was) refl
           moved (acknowledged_of now) (c.in-Err-save.ensures.answered.honest.1 played.honest) c.in-Err-save.ensures.refused.1 (g.met.D.SectorDevice.counts_now (device_of now)) (c.in-Err-save.ensures.images c.requires.whole played.honest));
       cause = cause;
+      full = λ is. absurd (cc);
       later = omega (arith, c.in-Err-save.ensures.refused.1);
       save_calls = answered_error c.in-Err-save.ensures.answered (λ n. refl);
       recording_calls = answered_otherwise c.in_default.ensures.answered (λ n. refl);

@@ -26,7 +26,7 @@ returns-in-Err-clause-refused g c =
     let other = g.E.SectorDevice.disk in
     let save = disk c.args.save in
     let recording = other c.args.recording in
-    refused_looking rom save (disk c.in-Err.refused.device) recording recording (Session c.in-Err.refused.why) (look_refused rom save (disk c.in-Err.refused.device) recording c.in-Err.refused.why c.in-Err.ensures.cause) c.in-Err.ensures.looked (looked_same recording (g.met.E.SectorDevice.only_now c.args.recording))
+    refused_looking rom save (disk c.in-Err.refused.device) recording recording (Session c.in-Err.refused.why) (look_refused rom save (disk c.in-Err.refused.device) recording c.in-Err.refused.why c.in-Err.ensures.cause) tt c.in-Err.ensures.looked (looked_same recording (g.met.E.SectorDevice.only_now c.args.recording))
 
 pub returns-in-Err-clause-agree : goal.returns-in-Err-clause-agree
 returns-in-Err-clause-agree g c =
@@ -67,7 +67,7 @@ returns-in-Err-open_recording-clause-refused g c =
     let at : Position = record { count = count_of_look look; machine = machine_of_look look } in
     subst (λ d. IsNotTakenUp rom save (disk d) recording (other c.in-Err-open_recording.refused.device) (Recording c.in-Err-open_recording.refused.why)) (sym c.into_device.ensures.device)
     (refused_looking rom save looked recording (other c.in-Err-open_recording.refused.device) (Recording c.in-Err-open_recording.refused.why)
-    (λ honest other_honest. subst (λ (id : List ℕ). IsOpenCause c.in-Err-open_recording.refused.why id recording) c.digest.ensures c.in-Err-open_recording.ensures.cause) c.in-Ok.ensures.looked c.in-Err-open_recording.ensures.looked)
+    (λ honest other_honest. subst (λ (id : List ℕ). IsOpenCause c.in-Err-open_recording.refused.why id recording) c.digest.ensures c.in-Err-open_recording.ensures.cause) tt c.in-Ok.ensures.looked c.in-Err-open_recording.ensures.looked)
 
 pub returns-in-Err-open_recording-clause-agree : goal.returns-in-Err-open_recording-clause-agree
 returns-in-Err-open_recording-clause-agree g c =
@@ -125,7 +125,7 @@ returns-then-count-clause-refused g c =
     subst (λ d. IsNotTakenUp rom save (disk d) recording (other c.into_device-then-count-2.result) (Behind c.input_count-count.result)) (sym c.into_device-then-count.ensures.device)
     (subst (λ e. IsNotTakenUp rom save looked recording (other e) (Behind c.input_count-count.result)) (sym c.into_device-then-count-2.ensures)
     (refused_looking rom save looked recording opened (Behind c.input_count-count.result)
-    (λ honest other_honest. behind_by rom save recording at c.input_count-count.result c.in-Ok.ensures.stands held counted (omega (arith, c.count.ensures, c.if-count.true)) honest other_honest) c.in-Ok.ensures.looked c.in-Ok-open_recording.ensures.looked))
+    (λ honest other_honest. behind_by rom save recording at c.input_count-count.result c.in-Ok.ensures.stands held counted (omega (arith, c.count.ensures, c.if-count.true)) honest other_honest) tt c.in-Ok.ensures.looked c.in-Ok-open_recording.ensures.looked))
 
 pub returns-then-count-clause-agree : goal.returns-then-count-clause-agree
 returns-then-count-clause-agree g c =

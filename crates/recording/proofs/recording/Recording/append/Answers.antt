@@ -1,17 +1,27 @@
-use Rattle.std.proofs.Common.{◌≡◌, ◌<◌, ◌+◌, ◌-◌, length, true, refl, sym, ap, ◌∙◌, subst, arith}
+use Rattle.std.proofs.Common.{◌≡◌, ◌<◌, ◌+◌, ◌-◌, length, true, false, refl, sym, ap, ◌∙◌, subst, arith}
 use Rattle.std.proofs.lemmas.Bool.Decides.{nat_tests}
 use Rattle.sector_device.specs.Runs.{HoldsThroughout, Mixed}
 use Rattle.recording.specs.Growing.{with_inputs, fits}
 use Rattle.recording.specs.Keeping.{BlankFrom, blanked, grown_image, Kept}
 use Rattle.recording.specs.Sizes.{list_sectors_in, sectors_for}
 use Rattle.recording.proofs.Appending.{fits_means, no_overflow, kept_after, clearing, clearing_keeps, writing, writing_keeps, blank_cleared, appended, stored'}
-use Rattle.recording.proofs.Images.{most_is}
+use Rattle.recording.proofs.Images.{most_is, fits_of_image}
 use Rattle.recording.proofs.recording.Recording.append.Goals as goal
 
 pub fits-requires-clause-sectors : goal.fits-requires-clause-sectors
 fits-requires-clause-sectors g c =
     let small : c.list_sectors_in.result - c.args.self.now.full < 4294967296 = omega (arith, c.list_sectors_in.ensures, most_is) in
     omega (arith, small)
+
+pub returns-then-not-fits-clause-full : goal.returns-then-not-fits-clause-full
+returns-then-not-fits-clause-full g c = λ is honest.
+    let self = c.args.self.now in
+    let old = g.D.SectorDevice.disk self.device in
+    let tail = self.tail.items in
+    let more = c.args.more.now in
+    let sectors : list_sectors_in (length old.sectors) ≡ c.list_sectors_in.result = sym (c.list_sectors_in.ensures ∙ ap list_sectors_in c.count.ensures) in
+    let not_fit : fits tail (list_sectors_in (length old.sectors) - self.full) more ≡ false = (λ i. fits (sym c.deref.ensures.value i) (sectors i - self.full) more) ∙ sym c.fits.ensures.fits ∙ c.if-not-fits.true in
+    fits_of_image old.sectors self.full tail (self.stored c.if-self.false honest).ends (self.kept c.if-self.false).short more ∙ not_fit
 
 pub returns-in_err-clear_rest-clause-images : goal.returns-in_err-clear_rest-clause-images
 returns-in_err-clear_rest-clause-images g c = λ open_before honest.

@@ -1,0 +1,4 @@
+pub mod Telling
+pub mod LifeLaws
+pub mod RoundLaws
+pub mod Behind

@@ -1,0 +1,78 @@
+-- What a stream tells is at most what it has at its end.
+use Rattle.std.proofs.Common.{◌≡◌, ℕ, ◌+◌, ◌≤◌, List, [], ◌∷◌, ◌++◌, length, inl, inr, sym, ap, subst, arith, length-append}
+use Rattle.std.specs.Prelude.{◌==◌, replicate, if◌then◌else◌, Bool}
+use Rattle.std.specs.List.{All}
+use Rattle.std.proofs.lemmas.Bool.{cases_Bool}
+use Rattle.std.proofs.lemmas.List.Elements.{All-nil, All-cons, All-append, All-weaker}
+use Rattle.machine.specs.Machine.{MachineState, after}
+use Rattle.machine.specs.declared.input.Input.{Input}
+use Rattle.machine.specs.declared.input.Input.TheVariants.{Frame}
+use Rattle.script.specs.declared.moves.Move.{Move}
+use Rattle.script.specs.declared.moves.Move.TheVariants.{Frames, Seconds, Save}
+use Rattle.session.specs.Stands.{Position}
+use Rattle.playing.specs.Report.{Line, resumed_line, saved_line, unsaved_after, line_due, lines_of_inputs, inputs_of_move, unsaved_behind_move, lines_of_move}
+use Rattle.streaming.specs.Answers.{inputs_of_order, inputs_of_orders, unsaved_behind_order, lines_of_order, lines_of_orders, picture_line, ended, stream_lines}
+use Rattle.streaming.specs.declared.order.Order.{Order}
+use Rattle.streaming.specs.declared.order.Order.TheVariants.{Make, Picture}
+use Rattle.streaming.proofs.Wholes.{ended_gives}
+
+-- no line tells more than this
+abbrev pub AreAtMost : (most : ℕ) → List Line → Type 0
+AreAtMost most lines = All (λ line. line.told ≤ most) lines
+
+pub more_at_most : (less most : ℕ) (lines : List Line) → less ≤ most → AreAtMost less lines → AreAtMost most lines
+more_at_most less most lines le all = All-weaker (λ (line : Line). line.told ≤ less) (λ line. line.told ≤ most) (λ line (within : line.told ≤ less). omega (arith, within, le)) lines all
+
+pub none_at_most : (most : ℕ) → AreAtMost most []
+none_at_most most = All-nil (λ (line : Line). line.told ≤ most)
+
+one_at_most : (most : ℕ) (line : Line) → line.told ≤ most → AreAtMost most (line ∷ [])
+one_at_most most line le = All-cons (λ (l : Line). l.told ≤ most) line [] le (none_at_most most)
+
+two_at_most : (most : ℕ) (lines others : List Line) → AreAtMost most lines → AreAtMost most others → AreAtMost most (lines ++ others)
+two_at_most most lines others one two = All-append (λ (line : Line). line.told ≤ most) lines others one two
+
+due_at_most : (unsaved count : ℕ) → AreAtMost count (line_due unsaved count)
+due_at_most unsaved count = elim (cases_Bool (unsaved + 1 == 3200)) [
+  | inl is ↦ subst (λ (t : Bool). AreAtMost count (if t then saved_line count ∷ [] else [])) (sym is) (one_at_most count (saved_line count) (omega arith))
+  | inr is ↦ subst (λ (t : Bool). AreAtMost count (if t then saved_line count ∷ [] else [])) (sym is) (none_at_most count)
+]
+
+inputs_at_most : (count unsaved : ℕ) (inputs : List Input) → AreAtMost (count + length inputs) (lines_of_inputs count unsaved inputs)
+inputs_at_most count unsaved [] = none_at_most (count + 0)
+inputs_at_most count unsaved (i ∷ inputs) =
+    let all : ℕ = count + length (i ∷ inputs) in
+    let first = line_due unsaved (count + 1) in
+    let others = lines_of_inputs (count + 1) (unsaved_after unsaved) inputs in
+    two_at_most all first others
+    (more_at_most (count + 1) all first (omega arith) (due_at_most unsaved (count + 1)))
+    (more_at_most (count + 1 + length inputs) all others (omega arith) (inputs_at_most (count + 1) (unsaved_after unsaved) inputs))
+
+move_at_most : (count unsaved : ℕ) (move : Move) → AreAtMost (count + length (inputs_of_move move)) (lines_of_move count unsaved move)
+move_at_most count unsaved (Frames buttons times) = inputs_at_most count unsaved (replicate times (Frame buttons))
+move_at_most count unsaved (Seconds n) = due_at_most unsaved (count + 1)
+move_at_most count unsaved Save = one_at_most (count + 0) (saved_line count) (omega arith)
+
+order_at_most : (machine : MachineState) (count unsaved : ℕ) (order : Order) → AreAtMost (count + length (inputs_of_order order)) (lines_of_order machine count unsaved order)
+order_at_most machine count unsaved (Make move) = move_at_most count unsaved move
+order_at_most machine count unsaved Picture = one_at_most (count + 0) (picture_line machine) (omega arith)
+
+orders_at_most : (machine : MachineState) (count unsaved : ℕ) (orders : List Order) → AreAtMost (count + length (inputs_of_orders orders)) (lines_of_orders machine count unsaved orders)
+orders_at_most machine count unsaved [] = none_at_most (count + 0)
+orders_at_most machine count unsaved (order ∷ orders) =
+    let all : ℕ = count + length (inputs_of_orders (order ∷ orders)) in
+    let size = length-append (inputs_of_order order) (inputs_of_orders orders) in
+    let here : ℕ = count + length (inputs_of_order order) in
+    let first = lines_of_order machine count unsaved order in
+    let others = lines_of_orders (after machine (inputs_of_order order)) here (unsaved_behind_order unsaved order) orders in
+    two_at_most all first others
+    (more_at_most here all first (omega (arith, size)) (order_at_most machine count unsaved order))
+    (more_at_most (here + length (inputs_of_orders orders)) all others (omega (arith, size)) (orders_at_most (after machine (inputs_of_order order)) here (unsaved_behind_order unsaved order) orders))
+
+pub stream_at_most : (from : Position) (orders : List Order) → AreAtMost (from.count + length (inputs_of_orders orders)) (stream_lines from orders)
+stream_at_most from orders =
+    let all : ℕ = from.count + length (inputs_of_orders orders) in
+    let whole = ended 0 orders in
+    let given = ap (λ (l : List Input). length l) (ended_gives 0 orders) in
+    All-cons (λ (line : Line). line.told ≤ all) (resumed_line from.count) (lines_of_orders from.machine from.count 0 whole) (omega arith)
+    (more_at_most (from.count + length (inputs_of_orders whole)) all (lines_of_orders from.machine from.count 0 whole) (omega (arith, given)) (orders_at_most from.machine from.count 0 whole))

@@ -1,0 +1,5 @@
+pub mod Lives
+pub mod Laws
+pub mod Devices
+-- what only the code needs
+pub mod Rounds
