@@ -9,17 +9,22 @@ FAULTS = [
     ('too many banks N', '', 'the file has more banks of 16 KiB than its controller can reach', 'use a ROM file that was not altered'),
     ('no memory', '', 'memory was refused; what was saved stays saved', 'end other programs, or raise the limit of memory'),
     ('output failed', '', 'a write to standard output or to OUT failed; what was saved stays saved', 'make room on the disk, or read the pipe to its end'),
-    ('file failed', '', "CART or SCRIPT is no plain file or can't be read, OUT can't be opened, is a pipe, or is SAVE or CART by any name, or SAVE and RECORDING are one file",
+    ('file failed', 'export', "CART is no plain file or can't be read, or OUT exists already or can't be made", 'take a name that is free, in a folder that can be written'),
+    ('file failed', '', "CART, SCRIPT or BATTERY is no plain file or can't be read, OUT can't be opened, is a pipe, or is SAVE or CART by any name, or SAVE and RECORDING are one file",
      'check the path and its permissions'),
     ('device failed', 'new', "SAVE exists already, or it can't be made", 'take a name that is free, in a folder that can be written'),
+    ('device failed', 'import', "SAVE exists already, or it can't be made", 'take a name that is free, in a folder that can be written'),
     ('device failed', 'new-recording', "RECORDING exists already, or it can't be made", 'take a name that is free, in a folder that can be written'),
     ('device failed', '', "SAVE or RECORDING can't be opened, read or written, or another `gbkeep` has it open",
      'end the other one; check the path, its permissions and the disk; then resume the game'),
     ('device size N', '', 'SAVE or RECORDING has N bytes, which are not whole sectors, 65,536 at most', 'it is no such file, or it was cut short: take a copy of it'),
     ('too small, N sectors needed', 'new', 'this game needs N sectors', 'ask for at least N'),
+    ('too small, N sectors needed', 'import', 'this game needs N sectors', 'ask for at least N'),
     ('too small, N sectors needed', 'new-recording', 'a recording needs at least N sectors', 'ask for at least N'),
     ('too small, N sectors needed', '', 'this game needs N sectors, and SAVE has fewer: it was cut short', 'take a copy of it'),
-    ('no session', '', 'there is no game in SAVE', 'begin one by `new`, under another name'),
+    ('no battery', '', "the cartridge's type names no battery, so the game keeps nothing", 'begin it by `new`'),
+    ('battery length N, M needed', '', "BATTERY has N bytes, and this cartridge's RAM has M", 'use the file of this game'),
+    ('no session', '', 'there is no game in SAVE', 'begin one by `new`, under another name, or by `import` if this is a battery file'),
     ('other cartridge', '', 'the game in SAVE, or RECORDING, is of another ROM', 'use the ROM that it was begun with'),
     ('damaged count', '', 'SAVE does not hold what `gbkeep` wrote: the sum of its inputs', 'nothing was written: take a copy of it'),
     ('damaged snapshot', '', 'SAVE does not hold what `gbkeep` wrote: its snapshot', 'nothing was written: take a copy of it'),
@@ -47,7 +52,7 @@ def explained(line, command):
     """What a line of this command means and what to do about it; None where it is none of the table."""
     text = line.strip().removeprefix('gbkeep: ')
     for fault, of, means, advice in FAULTS:
-        pattern = re.escape(fault).replace('XX', '[0-9A-F]{2}').replace('N', '[0-9]+')
+        pattern = re.escape(fault).replace('XX', '[0-9A-F]{2}').replace('N', '[0-9]+').replace('M', '[0-9]+')
         if of in ('', command) and re.fullmatch(pattern, text):
             return means, advice
     return None

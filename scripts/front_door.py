@@ -8,7 +8,7 @@ import definitions, functools, os, pty, re, select, shutil, subprocess, sys, tem
 from pathlib import Path
 
 FAULT_FILES = ['crates/cartridge/src/error.rt', 'crates/sector_device/src/device.rt', 'crates/script/src/error.rt', 'crates/session/src/error.rt',
-               'crates/streaming/src/error.rt', 'crates/recording/src/fault.rt', 'crates/replaying/src/error.rt', 'crates/recorded_play/src/error.rt']
+               'crates/streaming/src/error.rt', 'crates/recording/src/fault.rt', 'crates/replaying/src/error.rt', 'crates/recorded_play/src/error.rt', 'crates/battery_files/src/error.rt']
 FAULT_LINES, COMMANDS, LINES = 'crates/gbkeep/src/fault.rt', 'crates/command_line/specs/Commands.antt', 'crates/script/specs/Line.antt'
 README, MANUAL, MAN, COMPLETION, MAKE, TOOLS = 'README.md', 'docs/COMMANDS.md', 'docs/gbkeep.1', 'completions/gbkeep.bash', 'Makefile', 'players/faults.py'
 PLAYERS, TESTERS = 'docs/PLAYING.md', 'docs/TESTING_ROMS.md'
@@ -34,7 +34,7 @@ def faults_of(texts):
 
 def with_n(text):
     """A text with N for each number of sectors, inputs, .. in it."""
-    return re.sub(r'\{\w+\}|(?<=, )2(?= sectors)', 'N', text)
+    return re.sub(r'\{\w+\}|(?<=, )2(?= sectors)', 'N', text.replace('{needed}', 'M'))
 
 
 def commands_of(texts):
@@ -175,7 +175,7 @@ def walks(text):
 
 def parted(head):
     """The faults of an entry: `too small, N sectors needed` is one, as `recording behind, N inputs` is, and several may stand in a row."""
-    return [head] if head.startswith(('too small', 'recording behind')) else head.split(', ')
+    return [head] if head.startswith(('too small', 'recording behind', 'battery length')) else head.split(', ')
 
 
 def deletions(texts):

@@ -10,7 +10,7 @@ holds), places (no plain file, no room or no leave where one is wanted), pipes (
 room), shrinks (a save file that another process cuts while it is played), names (OUT is SAVE or CART by another name), closed (a standard
 stream is closed, also in a root without /dev), streams (lines as they come, whole, in pieces, wrong ones, pictures, and a kill), injected (a
 system call fails, is cut short, or is the last; needs strace), recordings (a game with its recording, damaged, full, of another ROM, ahead, behind,
-killed). The status is 1 where anything differs, where gbkeep dies by a signal, or where it takes longer than 10 seconds."""
+killed), batteries (battery files that are taken and written, and what `show` prints). The status is 1 where anything differs, where gbkeep dies by a signal, or where it takes longer than 10 seconds."""
 import fcntl, os, random, re, resource, shutil, signal, subprocess, sys, tempfile, threading, time
 import save_files as ref
 from save_files import get, put
@@ -820,8 +820,14 @@ def recordings(rnd, seed):
     kind.recordings(rnd, seed)
 
 
+def batteries(rnd, seed):
+    import batteries as kind
+    kind.batteries(rnd, seed)
+
+
 KINDS = {'saves': saves, 'scripts': scripts, 'bytes': arbitrary, 'kills': kills, 'holds': holds, 'places': places, 'pipes': pipes,
-         'shrinks': shrinks, 'names': names, 'closed': closed, 'streams': streams, 'injected': injected, 'recordings': recordings}
+         'shrinks': shrinks, 'names': names, 'closed': closed, 'streams': streams, 'injected': injected, 'recordings': recordings,
+         'batteries': batteries}
 
 
 def run(kind, seconds, first):

@@ -14,6 +14,7 @@ from save_files import get, put
 ROOM = tempfile.mkdtemp(prefix='refused-')
 CART, SAVE, NEW, SCRIPT, OUT, TOLD = (os.path.join(ROOM, name) for name in ('rom.gb', 'game.save', 'new.save', 'moves.script', 'out.pgm', 'told'))
 PAIR, RECORDING = os.path.join(ROOM, 'pair.save'), os.path.join(ROOM, 'pair.recording')     # a game and its recording
+BATTERY = os.path.join(ROOM, 'game.battery')
 # The count is of requests of the program, after the library is loaded. TOLD is made where one was refused.
 SOURCE = r'''
 #define _GNU_SOURCE
@@ -95,6 +96,7 @@ def commands(gbkeep, loaded):
     cart = ref.Cartridge(rom())
     put(CART, rom())
     put(SCRIPT, b'frames 01 2\nsave\nseconds 3\nsave\nframe 02\n')
+    put(BATTERY, bytes(8192 + 48))
     subprocess.run([gbkeep, 'new', CART, SAVE, '188'], check=True, capture_output=True)
     subprocess.run([gbkeep, 'play', CART, SAVE, SCRIPT], check=True, capture_output=True)
     subprocess.run([gbkeep, 'new', CART, PAIR, '188'], check=True, capture_output=True)
@@ -103,7 +105,8 @@ def commands(gbkeep, loaded):
     kept = {path: get(path) for path in (SAVE, PAIR, RECORDING)}
     for words in (['--help'], ['info', CART], ['list', CART, '100', '9'], ['step', CART, '9'], ['new', CART, NEW, '188'],
                   ['play', CART, SAVE, SCRIPT], ['frame', CART, SAVE, OUT], ['stream', CART, SAVE], ['trace', CART, SAVE, '9'],
-                  ['new-recording', CART, NEW, '3'], ['record', CART, PAIR, RECORDING], ['recorded', CART, RECORDING], ['verify', CART, PAIR, RECORDING]):
+                  ['new-recording', CART, NEW, '3'], ['record', CART, PAIR, RECORDING], ['recorded', CART, RECORDING], ['verify', CART, PAIR, RECORDING],
+                  ['show', CART, SAVE], ['export', CART, SAVE, NEW], ['import', CART, BATTERY, NEW, '188']):
         whole, answers, number = None, {}, 0
         save = PAIR if PAIR in words else SAVE
         before = count_of(kept[save], cart)

@@ -5,10 +5,11 @@ usage: traced.py GBKEEP [GAMES [SEED [FAILED_SYNCS]]]    FAILED_SYNCS is the bui
 It needs Debian's package strace. No clause can say that the program's file calls are those that a FileDevice notes: this shows that each write has the
 offset and the bytes that the second writer has (but for the snapshots of machines that were given inputs, which have their places and lengths), in its
 order, and that each sync of the record is an fsync of the file, before any line that tells of it goes out. `new`, `play`, `stream` and `frame` are
-followed, and `new-recording` and `record` with both of their files: the recording is synced before the save file is written. Of a device that has had a sync fail it shows that each later one fails too, without a call of the file."""
+followed, `export` with the file that it writes, and `new-recording` and `record` with both of their files: the recording is synced before the save file is written. Of a device that has had a sync fail it shows that each later one fails too, without a call of the file."""
 import os, random, re, shutil, subprocess, sys, tempfile
 sys.argv, words = sys.argv[:1], sys.argv[1:]
 import hostile
+import batteries
 import recorded
 import recordings
 import save_files as ref
@@ -164,13 +165,13 @@ def is_same(got, want):
     return got[0] == want[0] and (len(got[1]) == 512 if want[1] is None else got[1] == want[1])
 
 
-def trace(words, text=b''):
+def trace(words, text=b'', file=hostile.SAVE):
     path = os.path.join(hostile.ROOM, 'trace')
-    done = subprocess.run(['strace', '-f', '-o', path, '-xx', '-s', '1024', '-e', 'trace=openat,read,write,pread64,pwrite64,lseek,fsync,fdatasync,close', hostile.GB, *words],
+    done = subprocess.run(['strace', '-f', '-o', path, '-xx', '-s', '140000', '-e', 'trace=openat,read,write,pread64,pwrite64,lseek,fsync,fdatasync,close', hostile.GB, *words],
                           capture_output=True, timeout=60, input=text)
     if done.returncode != 0:
         sys.exit('%s: %r' % (words, done))
-    return calls_of(path, hostile.SAVE)
+    return calls_of(path, file)
 
 
 def compare(words, want, text=b''):
@@ -201,7 +202,22 @@ def game(rnd):
         want.play(ref.moves_of(script))
         last = {'play': [hostile.SCRIPT], 'stream': [], 'frame': [hostile.OUT]}[command]
         shown += compare([command, hostile.CART, hostile.SAVE, *last], want, script if command == 'stream' else b'')
-    return shown + recorded_game(rnd, cart)
+    return shown + exported(rom, cart) + recorded_game(rnd, cart)
+
+
+def exported(rom, cart):
+    """The battery file of the game: all of it is written and synced, and its folder too, before the line that tells of it."""
+    if rom[0x147] not in batteries.WITH_BATTERY:
+        return 0
+    hostile.gone(batteries.EXPORTED)
+    count, root, _ = ref.looked_at(get(hostile.SAVE), cart, is_resumed=False)
+    calls = trace(['export', hostile.CART, hostile.SAVE, batteries.EXPORTED], file=batteries.EXPORTED)
+    data = b''.join(one[1] for one in calls if not isinstance(one, str))
+    others = [one for one in calls if isinstance(one, str)]
+    wanted = ['sync', 'sync of the folder', 'exported %d\n' % count]
+    if others != wanted or calls[-3:] != wanted or len(data) != len(batteries.battery_of(ref.snapshot_of(get(hostile.SAVE), root), cart)):
+        sys.exit('export: %r, wanted %r' % (others, wanted))
+    return len(calls)
 
 
 def recorded_game(rnd, cart):

@@ -15,6 +15,7 @@ use Rattle.clap.specs.declared.builder.value_parser.ValueParser.TheVariants.{Sig
 use Rattle.clap.specs.Walk.{Held, Row, Text, finished, nothing_held, rows_after, settled, walked}
 use Rattle.command_line.specs.Commands.{IsFrameRow, IsInfoRow, IsListRow, IsNewRow, IsPlayRow, IsStepRow, IsStreamRow, IsTraceRow, frame, gbkeep, info, list, new, play, step, stream, trace}
 use Rattle.command_line.specs.Commands.{IsTestRow, IsNewRecordingRow, IsRecordRow, IsRecordedRow, IsVerifyRow, test_rom, new_recording, record_game, recorded, verify}
+use Rattle.command_line.specs.Commands.{IsShowRow, IsExportRow, IsImportRow, show, export, import}
 use Rattle.command_line.specs.Words.{operands_of}
 use Rattle.command_line.proofs.Walks.{Fails, Follows, at, follows, first_fails, is_plain_rule}
 
@@ -339,3 +340,68 @@ verify_wants (first ∷ second ∷ []) none = absurd (refuses none)
 verify_wants (first ∷ second ∷ third ∷ []) none =
     (first, second, third, refl, refl, refl, refl)
 verify_wants (first ∷ second ∷ third ∷ more ∷ rest) none = absurd (refuses none)
+
+-- `show`
+pub show_is_plain : list_all is_plain_rule (leaf show).rules ≡ true
+show_is_plain = refl
+
+show_fault : (first second : Text) → leaf_fault (leaf show) (first ∷ second ∷ []) ≡ []
+unfolding walked walk_fault defaults_fault
+show_fault first second = refl
+
+pub show_passes : (first second : Text) → leaf_fault (leaf show) (first ∷ second ∷ []) ≡ []
+show_passes first second = show_fault first second
+
+pub show_wants : Wants (leaf show) IsShowRow
+unfolding walked walk_fault defaults_fault
+show_wants [] none = absurd (refuses none)
+show_wants (first ∷ []) none = absurd (refuses none)
+show_wants (first ∷ second ∷ []) none = (first, second, refl, refl, refl)
+show_wants (first ∷ second ∷ more ∷ rest) none = absurd (refuses none)
+
+-- `export`
+pub export_is_plain : list_all is_plain_rule (leaf export).rules ≡ true
+export_is_plain = refl
+
+export_fault : (first second third : Text) → leaf_fault (leaf export) (first ∷ second ∷ third ∷ []) ≡ []
+unfolding walked walk_fault defaults_fault
+export_fault first second third = refl
+
+pub export_passes : (first second third : Text) → leaf_fault (leaf export) (first ∷ second ∷ third ∷ []) ≡ []
+export_passes first second third = export_fault first second third
+
+pub export_wants : Wants (leaf export) IsExportRow
+unfolding walked walk_fault defaults_fault
+export_wants [] none = absurd (refuses none)
+export_wants (first ∷ []) none = absurd (refuses none)
+export_wants (first ∷ second ∷ []) none = absurd (refuses none)
+export_wants (first ∷ second ∷ third ∷ []) none = (first, second, third, refl, refl, refl, refl)
+export_wants (first ∷ second ∷ third ∷ more ∷ rest) none = absurd (refuses none)
+
+-- `import`
+pub import_is_plain : list_all is_plain_rule (leaf import).rules ≡ true
+import_is_plain = refl
+
+import_fault : (first second third fourth : Text) → leaf_fault (leaf import) (first ∷ second ∷ third ∷ fourth ∷ []) ≡ value_kinds false (Signed (pos 1) (pos 65536)) fourth
+unfolding walked walk_fault defaults_fault
+import_fault first second third fourth = or_nothing _ ∙ or_nothing _
+
+import_unsized_fault : (first second third : Text) → leaf_fault (leaf import) (first ∷ second ∷ third ∷ []) ≡ []
+unfolding walked walk_fault defaults_fault
+import_unsized_fault first second third = refl
+
+pub import_unsized_passes : (first second third : Text) → leaf_fault (leaf import) (first ∷ second ∷ third ∷ []) ≡ []
+import_unsized_passes first second third = import_unsized_fault first second third
+
+pub import_passes : (first second third fourth : Text) → Accepts false (Signed (pos 1) (pos 65536)) fourth → leaf_fault (leaf import) (first ∷ second ∷ third ∷ fourth ∷ []) ≡ []
+import_passes first second third fourth h = import_fault first second third fourth ∙ no_kinds (Signed (pos 1) (pos 65536)) fourth (Accepts-accepts false (Signed (pos 1) (pos 65536)) fourth h)
+
+pub import_wants : Wants (leaf import) IsImportRow
+unfolding walked walk_fault defaults_fault
+import_wants [] none = absurd (refuses none)
+import_wants (first ∷ []) none = absurd (refuses none)
+import_wants (first ∷ second ∷ []) none = absurd (refuses none)
+import_wants (first ∷ second ∷ third ∷ []) none = inr (first, second, third, refl, refl, refl, refl, refl)
+import_wants (first ∷ second ∷ third ∷ fourth ∷ []) none =
+    inl (first, second, third, fourth, refl, refl, refl, refl, (refl, accepts-Accepts false (Signed (pos 1) (pos 65536)) fourth (kinds_of (Signed (pos 1) (pos 65536)) fourth (sym (import_fault first second third fourth) ∙ none))))
+import_wants (first ∷ second ∷ third ∷ fourth ∷ more ∷ rest) none = absurd (refuses none)

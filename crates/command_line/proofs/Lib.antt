@@ -3,3 +3,4 @@ pub mod Getters
 pub mod Leaves
 pub mod Tops
 pub mod Walks
+pub mod Named

@@ -22,12 +22,14 @@ use Rattle.clap.specs.declared.parser.matches.ArgMatches.{ArgMatches}
 use Rattle.clap.proofs.WalkLemmas.{walk_stopped}
 use Rattle.command_line.specs.Commands.{IsFrameRow, IsInfoRow, IsListRow, IsNewRow, IsPlayRow, IsMatched, IsRead, IsStepRow, IsStreamRow, IsTraceRow, frame, gbkeep, info, list, new, play, step, stream, trace}
 use Rattle.command_line.specs.Commands.{IsTestRow, IsNewRecordingRow, IsRecordRow, IsRecordedRow, IsVerifyRow, test_rom, new_recording, record_game, recorded, verify}
+use Rattle.command_line.specs.Commands.{IsShowRow, IsExportRow, IsImportRow, show, export, import}
 use Rattle.command_line.specs.Words.{AsksFor, AskForSome, IsAnswer, IsCommand, Word, WritesWithin, is_option, operands_of}
 use Rattle.command_line.specs.declared.Request.{Request}
-use Rattle.command_line.specs.declared.Request.TheVariants.{Info, List as Listing, Step as Steps, New, Play, Frame, Trace, Stream, Test, NewRecording, Record, Recorded, Verify}
+use Rattle.command_line.specs.declared.Request.TheVariants.{Info, List as Listing, Step as Steps, New, Play, Frame, Trace, Stream, Test, NewRecording, Record, Recorded, Verify, Show, Export, Import}
 use Rattle.command_line.proofs.Leaves.{Wants, fault_is, leaf, leaf_fault, or_nothing, refused_without, rows_are}
 use Rattle.command_line.proofs.Leaves.{info_is_plain, info_passes, info_wants, list_is_plain, list_passes, list_wants, step_is_plain, step_passes, step_wants, new_is_plain, new_passes, new_unsized_passes, new_wants, play_is_plain, play_passes, play_wants, frame_is_plain, frame_passes, frame_wants, trace_is_plain, trace_passes, trace_wants, stream_is_plain, stream_passes, stream_wants}
 use Rattle.command_line.proofs.Leaves.{test_rom_is_plain, test_rom_passes, test_rom_wants, test_rom_short_passes, new_recording_is_plain, new_recording_passes, new_recording_wants, record_game_is_plain, record_game_passes, record_game_wants, recorded_is_plain, recorded_passes, recorded_wants, verify_is_plain, verify_passes, verify_wants}
+use Rattle.command_line.proofs.Leaves.{show_is_plain, show_passes, show_wants, export_is_plain, export_passes, export_wants, import_is_plain, import_passes, import_unsized_passes, import_wants}
 use Rattle.command_line.proofs.Walks.{Classified, Fails, classify, dashes, first_fails, is_plain_rule, later_fails, option_fails, value_met}
 
 abbrev top : Shape
@@ -137,6 +139,15 @@ recorded_known = record { met = refl; is_not_help = refl; found = refl; named = 
 verify_known : IsNameOf (codes "verify") (leaf verify)
 verify_known = record { met = refl; is_not_help = refl; found = refl; named = refl }
 
+show_known : IsNameOf (codes "show") (leaf show)
+show_known = record { met = refl; is_not_help = refl; found = refl; named = refl }
+
+export_known : IsNameOf (codes "export") (leaf export)
+export_known = record { met = refl; is_not_help = refl; found = refl; named = refl }
+
+import_known : IsNameOf (codes "import") (leaf import)
+import_known = record { met = refl; is_not_help = refl; found = refl; named = refl }
+
 -- ---- a word that is no command
 
 abbrev NoCommand : Text → Type 0
@@ -224,7 +235,16 @@ recorded_reads : (program : Text) (rest : List Text) → Reads program rest (cod
 recorded_reads = read_as _ (leaf recorded) recorded_known recorded_is_plain IsRecordedRow recorded_wants (λ rows operands row. inr (inr (inr (inr (inr (inr (inr (inr (inr (inr (inr (inl (refl, row)))))))))))))
 
 verify_reads : (program : Text) (rest : List Text) → Reads program rest (codes "verify")
-verify_reads = read_as _ (leaf verify) verify_known verify_is_plain IsVerifyRow verify_wants (λ rows operands row. inr (inr (inr (inr (inr (inr (inr (inr (inr (inr (inr (inr (refl, row)))))))))))))
+verify_reads = read_as _ (leaf verify) verify_known verify_is_plain IsVerifyRow verify_wants (λ rows operands row. inr (inr (inr (inr (inr (inr (inr (inr (inr (inr (inr (inr (inl (refl, row))))))))))))))
+
+show_reads : (program : Text) (rest : List Text) → Reads program rest (codes "show")
+show_reads = read_as _ (leaf show) show_known show_is_plain IsShowRow show_wants (λ rows operands row. inr (inr (inr (inr (inr (inr (inr (inr (inr (inr (inr (inr (inr (inl (refl, row)))))))))))))))
+
+export_reads : (program : Text) (rest : List Text) → Reads program rest (codes "export")
+export_reads = read_as _ (leaf export) export_known export_is_plain IsExportRow export_wants (λ rows operands row. inr (inr (inr (inr (inr (inr (inr (inr (inr (inr (inr (inr (inr (inr (inl (refl, row))))))))))))))))
+
+import_reads : (program : Text) (rest : List Text) → Reads program rest (codes "import")
+import_reads = read_as _ (leaf import) import_known import_is_plain IsImportRow import_wants (λ rows operands row. inr (inr (inr (inr (inr (inr (inr (inr (inr (inr (inr (inr (inr (inr (inr (refl, row))))))))))))))))
 
 -- a word is a name, or it is tried with the others
 case_of : (name word : Text) (P : Text → Type 0) → P name → (bytes_eq name word ≡ false → P word) → P word
@@ -250,8 +270,11 @@ reads word program rest =
     case_of (codes "record") word P (record_game_reads program rest) (λ not_record_game.
     case_of (codes "recorded") word P (recorded_reads program rest) (λ not_recorded.
     case_of (codes "verify") word P (verify_reads program rest) (λ not_verify.
+    case_of (codes "show") word P (show_reads program rest) (λ not_show.
+    case_of (codes "export") word P (export_reads program rest) (λ not_export.
+    case_of (codes "import") word P (import_reads program rest) (λ not_import.
     case_of (codes "help") word P (λ none. absurd (help_fails program rest none)) (λ not_help.
-    λ none. absurd (unknown_fails word program rest (rw (not_info, not_list, not_step, not_new, not_play, not_frame, not_trace, not_stream, not_test_rom, not_new_recording, not_record_game, not_recorded, not_verify, not_help) refl) none)))))))))))))))
+    λ none. absurd (unknown_fails word program rest (rw (not_info, not_list, not_step, not_new, not_play, not_frame, not_trace, not_stream, not_test_rom, not_new_recording, not_record_game, not_recorded, not_verify, not_show, not_export, not_import, not_help) refl) none))))))))))))))))))
 
 understood : (words : List Text) → fault_of gbkeep words ≡ [] → IsRead words (subcommand_of gbkeep words)
 understood [] none = absurd (no_words [] (inl refl) none)
@@ -296,6 +319,14 @@ asked words (Recorded cart recording) command =
     command_passes _ (leaf recorded) recorded_known recorded_is_plain words _ (recorded_passes cart.now recording.now) command
 asked words (Verify cart save recording) command =
     command_passes _ (leaf verify) verify_known verify_is_plain words _ (verify_passes cart.now save.now recording.now) command
+asked words (Show cart save) command =
+    command_passes _ (leaf show) show_known show_is_plain words _ (show_passes cart.now save.now) command
+asked words (Export cart save out) command =
+    command_passes _ (leaf export) export_known export_is_plain words _ (export_passes cart.now save.now out.now) command
+asked words (Import cart battery save None) command =
+    command_passes _ (leaf import) import_known import_is_plain words _ (import_unsized_passes cart.now battery.now save.now) command
+asked words (Import cart battery save (Some sectors)) (number, command, within) =
+    command_passes _ (leaf import) import_known import_is_plain words _ (import_passes cart.now battery.now save.now number (accepted 1 65536 sectors number within (omega arith))) command
 
 -- ---- what `clap` answers
 

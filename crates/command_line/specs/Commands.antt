@@ -71,6 +71,15 @@ recorded = with_rule (over_cart (codes "recorded")) (operand (codes "RECORDING")
 abbrev pub verify : App
 verify = with_rule (over_save (codes "verify")) (operand (codes "RECORDING"))
 
+abbrev pub show : App
+show = over_save (codes "show")
+
+abbrev pub export : App
+export = with_rule (over_save (codes "export")) (operand (codes "OUT"))
+
+abbrev pub import : App
+import = with_rule (with_rule (with_rule (over_cart (codes "import")) (operand (codes "BATTERY"))) (operand (codes "SAVE"))) (optional_number (codes "SECTORS") 1 65536)
+
 abbrev pub bare : App
 bare = let named = new_app (codes "gbkeep") in record named { top = record named.top { has_version = true; subcommand_required = true } }
 
@@ -86,9 +95,13 @@ with_sessions = with_subcommand (with_subcommand (with_subcommand (with_subcomma
 abbrev pub with_recordings : App
 with_recordings = with_subcommand (with_subcommand (with_subcommand (with_subcommand with_sessions new_recording.top) record_game.top) recorded.top) verify.top
 
+-- and those that show a game or carry its battery file
+abbrev pub with_battery_files : App
+with_battery_files = with_subcommand (with_subcommand (with_subcommand with_recordings show.top) export.top) import.top
+
 -- the whole program's
 abbrev pub gbkeep : App
-gbkeep = with_subcommand with_recordings test_rom.top
+gbkeep = with_subcommand with_battery_files test_rom.top
 
 -- a command that `clap` reads so, none of whose operands is global
 pub record Reads (app : App) (command : Command) : Type 0 where
@@ -184,6 +197,28 @@ abbrev pub IsVerifyRow : List Row → List Word → Type 0
 IsVerifyRow rows operands = (first second third : Word) × (operands ≡ first ∷ second ∷ third ∷ [])
     × HasOperand rows (codes "CART") first × HasOperand rows (codes "SAVE") second × HasOperand rows (codes "RECORDING") third
 
+abbrev pub IsShowRow : List Row → List Word → Type 0
+IsShowRow rows operands = (first second : Word) × (operands ≡ first ∷ second ∷ [])
+    × HasOperand rows (codes "CART") first × HasOperand rows (codes "SAVE") second
+
+abbrev pub IsExportRow : List Row → List Word → Type 0
+IsExportRow rows operands = (first second third : Word) × (operands ≡ first ∷ second ∷ third ∷ [])
+    × HasOperand rows (codes "CART") first × HasOperand rows (codes "SAVE") second × HasOperand rows (codes "OUT") third
+
+-- `import` with the number of its sectors, and without
+abbrev pub IsSizedImportRow : List Row → List Word → Type 0
+IsSizedImportRow rows operands = (first second third fourth : Word) × (operands ≡ first ∷ second ∷ third ∷ fourth ∷ [])
+    × HasOperand rows (codes "CART") first × HasOperand rows (codes "BATTERY") second × HasOperand rows (codes "SAVE") third
+    × HasNumber rows (codes "SECTORS") 1 65536 fourth
+
+abbrev pub IsUnsizedImportRow : List Row → List Word → Type 0
+IsUnsizedImportRow rows operands = (first second third : Word) × (operands ≡ first ∷ second ∷ third ∷ [])
+    × HasOperand rows (codes "CART") first × HasOperand rows (codes "BATTERY") second × HasOperand rows (codes "SAVE") third
+    × HasNoNumber rows (codes "SECTORS")
+
+abbrev pub IsImportRow : List Row → List Word → Type 0
+IsImportRow rows operands = IsSizedImportRow rows operands ⊎ IsUnsizedImportRow rows operands
+
 -- this command was named, with these operands, and its matches hold them
 abbrev pub IsMatched : Word → List Row → List Word → Type 0
 IsMatched name rows operands = ((name ≡ codes "info") × IsInfoRow rows operands)
@@ -199,6 +234,9 @@ IsMatched name rows operands = ((name ≡ codes "info") × IsInfoRow rows operan
     ⊎ ((name ≡ codes "record") × IsRecordRow rows operands)
     ⊎ ((name ≡ codes "recorded") × IsRecordedRow rows operands)
     ⊎ ((name ≡ codes "verify") × IsVerifyRow rows operands)
+    ⊎ ((name ≡ codes "show") × IsShowRow rows operands)
+    ⊎ ((name ≡ codes "export") × IsExportRow rows operands)
+    ⊎ ((name ≡ codes "import") × IsImportRow rows operands)
 
 -- the words are a command with its operands, and the matches of a subcommand hold them
 abbrev pub IsRead : List Word → Option (Word × List Row) → Type 0

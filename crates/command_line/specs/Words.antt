@@ -7,7 +7,7 @@ use Rattle.clap.specs.Words.{kind_of}
 use Rattle.clap.specs.declared.error.Error.{Error}
 use Rattle.clap.specs.declared.error.kind.ErrorKind.TheVariants.{OutOfMemory}
 use Rattle.command_line.specs.declared.Request.{Request}
-use Rattle.command_line.specs.declared.Request.TheVariants.{Info, List as Listing, Step, New, Play, Frame, Trace, Stream, Test, NewRecording, Record, Recorded, Verify}
+use Rattle.command_line.specs.declared.Request.TheVariants.{Info, List as Listing, Step, New, Play, Frame, Trace, Stream, Test, NewRecording, Record, Recorded, Verify, Show, Export, Import}
 
 -- a word, as its bytes
 abbrev pub Word : Type 0
@@ -39,7 +39,7 @@ Writes word n = IsNumeral 10 (without_leading_sign word) × (signed_digits_value
 abbrev pub WritesWithin : ℕ → ℕ → Word → ℕ → Type 0
 WritesWithin least most word n = Writes word n × (least ≤ n) × (n ≤ most)
 
--- The words ask for this request. `list` prints 1 to 4,096 instructions, `step` does at most 1,000,000 steps, `new` makes a file of 1 to
+-- The words ask for this request. `list` prints 1 to 4,096 instructions, `step` does at most 1,000,000 steps, `new` and `import` make a file of 1 to
 -- 65,536 sectors, or of as many as the game needs where no number is given, and `trace` prints 1 to 1,024 steps.
 abbrev pub AsksFor : List Word → Request → Type 0
 AsksFor words (Info cart) = IsCommand words (codes "info") (cart.now ∷ [])
@@ -64,6 +64,11 @@ AsksFor words (NewRecording cart recording sectors) =
 AsksFor words (Record cart save recording) = IsCommand words (codes "record") (cart.now ∷ save.now ∷ recording.now ∷ [])
 AsksFor words (Recorded cart recording) = IsCommand words (codes "recorded") (cart.now ∷ recording.now ∷ [])
 AsksFor words (Verify cart save recording) = IsCommand words (codes "verify") (cart.now ∷ save.now ∷ recording.now ∷ [])
+AsksFor words (Show cart save) = IsCommand words (codes "show") (cart.now ∷ save.now ∷ [])
+AsksFor words (Export cart save out) = IsCommand words (codes "export") (cart.now ∷ save.now ∷ out.now ∷ [])
+AsksFor words (Import cart battery save None) = IsCommand words (codes "import") (cart.now ∷ battery.now ∷ save.now ∷ [])
+AsksFor words (Import cart battery save (Some sectors)) =
+    (number : Word) × IsCommand words (codes "import") (cart.now ∷ battery.now ∷ save.now ∷ number ∷ []) × WritesWithin 1 65536 number sectors
 
 -- the words ask for some request
 abbrev pub AskForSome : List Word → Type 0

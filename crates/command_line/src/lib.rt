@@ -9,6 +9,7 @@ ghost use Rattle.clap.specs.Words.{FailsBy, fault_of, found_of, rows_of, subcomm
 ghost use Rattle.command_line.specs.Commands.{HasNoNumber, HasNoOperand, HasNumber, HasOperand, IsFrameRow, IsInfoRow, IsListRow, IsMatched, IsRead};
 ghost use Rattle.command_line.specs.Commands.{IsNewRow, IsPlayRow, IsStepRow, IsStreamRow, IsTraceRow, gbkeep};
 ghost use Rattle.command_line.specs.Commands.{IsTestRow, IsNewRecordingRow, IsRecordRow, IsRecordedRow, IsVerifyRow};
+ghost use Rattle.command_line.specs.Commands.{IsShowRow, IsExportRow, IsImportRow};
 ghost use Rattle.command_line.specs.Words.{IsAnswer, IsCommand, Word, WritesWithin};
 
 mod words;
@@ -93,6 +94,24 @@ pub enum Request<'a> {
         save: &'a str,
         recording: &'a str,
     },
+    /// Prints what the game in a file holds, and writes nothing to the file.
+    Show {
+        cart: &'a str,
+        save: &'a str,
+    },
+    /// Writes the battery file of the game in a file to a new file.
+    Export {
+        cart: &'a str,
+        save: &'a str,
+        out: &'a str,
+    },
+    /// Begins a game with the RAM of a battery file in a new file of `sectors` sectors, 1 to 65,536; `None`: of as many as it needs.
+    Import {
+        cart: &'a str,
+        battery: &'a str,
+        save: &'a str,
+        sectors: Option<u32>,
+    },
 }
 
 /// The request that the words make, of which the first is the program's own name.
@@ -136,6 +155,9 @@ fn named_request<'a>(name: &str, values: &ArgMatches<'a>) -> Option<Request<'a>>
         "record" => record_game(values),
         "recorded" => recorded(values),
         "verify" => verify(values),
+        "show" => show(values),
+        "export" => export(values),
+        "import" => import(values),
         _ => None,
     }
 }
@@ -299,5 +321,38 @@ fn verify<'a>(values: &ArgMatches<'a>) -> Option<Request<'a>>
         cart: operand(values, "CART")?,
         save: operand(values, "SAVE")?,
         recording: operand(values, "RECORDING")?,
+    })
+}
+
+fn show<'a>(values: &ArgMatches<'a>) -> Option<Request<'a>>
+    ensures { (words operands : List Word) → IsCommand words (codes "show") operands
+        → IsShowRow (rows_of (found_of values.now)) operands → IsAnswer words (Ok result) }
+{
+    Some(Request::Show {
+        cart: operand(values, "CART")?,
+        save: operand(values, "SAVE")?,
+    })
+}
+
+fn export<'a>(values: &ArgMatches<'a>) -> Option<Request<'a>>
+    ensures { (words operands : List Word) → IsCommand words (codes "export") operands
+        → IsExportRow (rows_of (found_of values.now)) operands → IsAnswer words (Ok result) }
+{
+    Some(Request::Export {
+        cart: operand(values, "CART")?,
+        save: operand(values, "SAVE")?,
+        out: operand(values, "OUT")?,
+    })
+}
+
+fn import<'a>(values: &ArgMatches<'a>) -> Option<Request<'a>>
+    ensures { (words operands : List Word) → IsCommand words (codes "import") operands
+        → IsImportRow (rows_of (found_of values.now)) operands → IsAnswer words (Ok result) }
+{
+    Some(Request::Import {
+        cart: operand(values, "CART")?,
+        battery: operand(values, "BATTERY")?,
+        save: operand(values, "SAVE")?,
+        sectors: number(values, "SECTORS"),
     })
 }

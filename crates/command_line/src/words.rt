@@ -3,6 +3,7 @@ ghost use Rattle.std.specs.Prelude.{IfOk, codes};
 ghost use Rattle.command_line.specs.Commands.{Reads, ReadsOperand, number, operand, over_cart, over_save};
 ghost use Rattle.command_line.specs.Commands.{bare, frame, gbkeep, info, list, new, play, step, stream, trace, without_sessions};
 ghost use Rattle.command_line.specs.Commands.{test_rom, new_recording, record_game, recorded, verify, with_sessions, with_recordings};
+ghost use Rattle.command_line.specs.Commands.{show, export, import, optional_number, with_battery_files};
 
 use clap::{Arg, Command, value_parser};
 use std::alloc::{AllocError, Global};
@@ -30,7 +31,17 @@ const STREAM_LINES: &str = "Lines of the standard input:
 pub(crate) fn command<'a>(alloc: Global) -> Result<Command<'a>, AllocError>
     ensures { IfOk result (Reads gbkeep) }
 {
-    with_recordings(alloc)?.subcommand(test_rom(alloc)?)
+    with_battery_files(alloc)?.subcommand(test_rom(alloc)?)
+}
+
+/// So, and with those that show a game or carry its battery file.
+fn with_battery_files<'a>(alloc: Global) -> Result<Command<'a>, AllocError>
+    ensures { IfOk result (Reads with_battery_files) }
+{
+    with_recordings(alloc)?
+        .subcommand(show(alloc)?)?
+        .subcommand(export(alloc)?)?
+        .subcommand(import(alloc)?)
 }
 
 /// So, and with those over a recording.
@@ -136,13 +147,19 @@ fn over_save<'a>(alloc: Global, name: &'a str, about: &'a str) -> Result<Command
     over_cart(alloc, name, about)?.arg(word(alloc, "SAVE", "The file that keeps the game"))
 }
 
+/// How many sectors a new game's file has.
+fn sectors<'a>(alloc: Global) -> Arg<'a>
+    ensures { ReadsOperand (optional_number (codes "SECTORS") 1 65536) result }
+{
+    Arg::new(alloc, "SECTORS")
+        .help("How many sectors of 512 bytes the file has; as many as the game needs, if left out")
+        .value_parser(value_parser!(u32).range(1..=65_536))
+}
+
 fn new<'a>(alloc: Global) -> Result<Command<'a>, AllocError>
     ensures { IfOk result (Reads new) }
 {
-    let sectors = Arg::new(alloc, "SECTORS")
-        .help("How many sectors of 512 bytes the file has; as many as the game needs, if left out")
-        .value_parser(value_parser!(u32).range(1..=65_536));
-    over_save(alloc, "new", "Begins a game in a new file")?.arg(sectors)
+    over_save(alloc, "new", "Begins a game in a new file")?.arg(sectors(alloc))
 }
 
 fn play<'a>(alloc: Global) -> Result<Command<'a>, AllocError>
@@ -277,4 +294,38 @@ fn verify<'a>(alloc: Global) -> Result<Command<'a>, AllocError>
         "RECORDING",
         "The file that keeps every input since power-on",
     ))
+}
+
+fn show<'a>(alloc: Global) -> Result<Command<'a>, AllocError>
+    ensures { IfOk result (Reads show) }
+{
+    over_save(
+        alloc,
+        "show",
+        "Prints what a game's file holds, and writes nothing to it",
+    )
+}
+
+fn export<'a>(alloc: Global) -> Result<Command<'a>, AllocError>
+    ensures { IfOk result (Reads export) }
+{
+    over_save(
+        alloc,
+        "export",
+        "Writes the battery-backed RAM of a game to a new file, as other emulators read it",
+    )?
+    .arg(word(alloc, "OUT", "The new battery file"))
+}
+
+fn import<'a>(alloc: Global) -> Result<Command<'a>, AllocError>
+    ensures { IfOk result (Reads import) }
+{
+    over_cart(
+        alloc,
+        "import",
+        "Begins a game in a new file with the battery-backed RAM of another emulator",
+    )?
+    .arg(word(alloc, "BATTERY", "The battery file"))?
+    .arg(word(alloc, "SAVE", "The file that keeps the game"))?
+    .arg(sectors(alloc))
 }

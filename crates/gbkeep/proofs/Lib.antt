@@ -4,3 +4,5 @@ pub mod Plays
 pub mod Traces
 pub mod StreamTexts
 pub mod RecordTexts
+pub mod BatteryTexts
+pub mod Endings

@@ -1,8 +1,9 @@
 -- What `begin_game` writes and leaves, and when it refuses.
-use Rattle.std.specs.Prelude.{◌≡◌, ◌⊎◌, ◌-◌, ◌^◌, ℕ, List, [], codes, length, Result, Ok, Err}
+use Rattle.std.specs.Prelude.{◌≡◌, ◌⊎◌, ◌-◌, ◌^◌, ℕ, List, [], codes, length, Option, Result, Ok, Err}
+use Rattle.std.specs.Io.KnownBytes.{Keeps}
 use Rattle.exact_text.specs.Written.{AppendsProperPrefix}
 use Rattle.cartridge.specs.Header.{ram_length_of}
-use Rattle.machine.specs.Machine.{start}
+use Rattle.machine.specs.Machine.{MachineState, start}
 use Rattle.snapshot.specs.Encoding.{snapshot_length}
 use Rattle.sector_device.specs.DiskState.{DiskState}
 use Rattle.sector_device.specs.Looking.{HasLooked}
@@ -20,10 +21,14 @@ use Rattle.gbkeep.specs.Text.{Call, Text, IsUnwritten}
 abbrev pub begun_line : List ℕ
 begun_line = codes "begun 0\n"
 
--- a game of this ROM could be begun, and, if the device is honest, it is at rest with the game at power-on
-pub record IsBegun (rom : List ℕ) (old now : DiskState) : Type 0 where
+-- a game of this ROM could be begun, and, if the device is honest, it is at rest with the game that begins with this machine
+pub record IsBegunFrom (rom : List ℕ) (machine : MachineState) (old now : DiskState) : Type 0 where
   pub could : CanBeginGame rom old
-  pub rests : old.honest → IsAtRest rom now 0 [] (start rom)
+  pub rests : old.honest → IsAtRest rom now 0 [] machine
+
+-- with the game at power-on
+abbrev pub IsBegun : (rom : List ℕ) → (old now : DiskState) → Type 0
+IsBegun rom old now = IsBegunFrom rom (start rom) old now
 
 -- no game was begun, and nothing was written
 pub record IsNotBegun (rom : List ℕ) (old now : DiskState) (output : Text) (why : SessionError) : Type 0 where
@@ -36,10 +41,20 @@ pub record IsNotBegun (rom : List ℕ) (old now : DiskState) (output : Text) (wh
   -- where a call failed, nothing was written to the device, or no other reason holds
   pub failed : why ≡ Device → (old.honest → HasLooked old now) ⊎ CanBeginGame rom old
 
--- why a game is not begun, or its line is not written
+-- why a game that begins with this machine is not begun, or its line is not written
+abbrev pub IsBeginCauseFrom : (rom : List ℕ) → MachineState → Call → BeginError → Type 0
+IsBeginCauseFrom rom machine begin (Session why) = IsNotBegun rom begin.old begin.now begin.output why
+IsBeginCauseFrom rom machine begin Output =
+    IsBegunFrom rom machine begin.old begin.now × AppendsProperPrefix begin.output.before begin.output.since begun_line
+
+-- at power-on
 abbrev pub IsBeginCause : (rom : List ℕ) → Call → BeginError → Type 0
-IsBeginCause rom begin (Session why) = IsNotBegun rom begin.old begin.now begin.output why
-IsBeginCause rom begin Output = IsBegun rom begin.old begin.now × AppendsProperPrefix begin.output.before begin.output.since begun_line
+IsBeginCause rom begin why = IsBeginCauseFrom rom (start rom) begin why
+
+-- why no game begins on so many sectors, and nothing went out; or its line is cut short
+abbrev pub IsUnbegun : (rom : List ℕ) → (sectors : ℕ) → (before since : Option (List ℕ)) → BeginError → Type 0
+IsUnbegun rom sectors before since (Session why) = IsNewGameCause (snapshot_length (ram_length_of rom)) sectors why × Keeps before since
+IsUnbegun rom sectors before since Output = AppendsProperPrefix before since begun_line
 
 -- the device's count of failed calls after a refusal: one more after `Device`, and after no other
 abbrev pub faults_after_begin : BeginError → ℕ → ℕ

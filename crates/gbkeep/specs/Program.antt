@@ -3,13 +3,16 @@ use Rattle.std.specs.Prelude.{◌≡◌, ◌≤◌, ◌↔◌, ◌≢◌, ◌⊎
 use Rattle.std.specs.Io.KnownBytes.{Appends, Keeps}
 use Rattle.exact_text.specs.Written.{AppendsProperPrefix}
 use Rattle.cartridge.specs.Accepted.{IsAccepted, refusal_of}
+use Rattle.cartridge.specs.Header.{ram_length_of}
+use Rattle.battery_files.specs.Battery.{has_battery}
+use Rattle.battery_files.specs.Importing.{is_taken_length}
 use Rattle.clap.specs.Words.{HasKind, fault_of, kind_of}
 use Rattle.clap.specs.declared.error.kind.ErrorKind.{ErrorKind}
 use Rattle.clap.specs.declared.error.kind.ErrorKind.TheVariants.{DisplayHelp, DisplayVersion, OutOfMemory}
 use Rattle.command_line.specs.Commands.{gbkeep as command}
 use Rattle.command_line.specs.Words.{AsksFor, AskForSome, Word as WordText}
 use Rattle.command_line.specs.declared.Request.{Request}
-use Rattle.command_line.specs.declared.Request.TheVariants.{Info, List as Listing, Step, New, Play, Frame, Trace, Stream, NewRecording, Record, Recorded, Verify, Test}
+use Rattle.command_line.specs.declared.Request.TheVariants.{Info, List as Listing, Step, New, Play, Frame, Trace, Stream, NewRecording, Record, Recorded, Verify, Test, Show, Export, Import}
 use Rattle.session.specs.declared.error.SessionError.TheVariants.{Memory as GameMemory, Device as GameDevice, NoSession as GameNoSession, OtherCartridge as GameOtherCartridge, Worn as GameWorn, Broken as GameBroken, SaveFirst as GameSaveFirst, CountFull as GameCountFull, Output as GameOutput, TooSmall as GameTooSmall, Damaged as GameDamaged}
 use Rattle.gbkeep.specs.declared.asked.Asked.{Asked}
 use Rattle.gbkeep.specs.declared.asked.Asked.TheVariants.{Command, Help, Misuse, OutOfRange}
@@ -29,15 +32,21 @@ use Rattle.recording_lines.specs.declared.error.ScriptLinesError.{ScriptLinesErr
 use Rattle.recording_lines.specs.declared.error.ScriptLinesError.TheVariants.{Cart as ScriptCart, Recording as ScriptRecording, Output as ScriptOutput}
 use Rattle.recording_lines.specs.declared.error.VerifyLineError.{VerifyLineError}
 use Rattle.recording_lines.specs.declared.error.VerifyLineError.TheVariants.{Cart as VerifyCart, Verify as Verified, Output as VerifyOutput}
+use Rattle.save_lines.specs.declared.error.ShowError.{ShowError}
+use Rattle.save_lines.specs.declared.error.ShowError.TheVariants.{Cart as ShowCart, Session as ShowSession, Output as ShowOutput}
+use Rattle.battery_files.specs.declared.error.ExportError.{ExportError}
+use Rattle.battery_files.specs.declared.error.ExportError.TheVariants.{Cart as ExportCart, NoBattery as ExportNoBattery, Session as ExportSession}
+use Rattle.battery_files.specs.declared.error.ImportError.{ImportError}
+use Rattle.battery_files.specs.declared.error.ImportError.TheVariants.{NoBattery as ImportNoBattery, Length as ImportLength, Memory as ImportMemory}
 use Rattle.replaying.specs.declared.error.VerifyError.TheVariants.{Save as NoSave, Recording as NoRecording, Behind as RecordingBehind, Memory as NoMemory, Differ as MachinesDiffer}
 use Rattle.gbkeep.specs.declared.error.StreamPlayError.{StreamPlayError}
 use Rattle.gbkeep.specs.declared.error.StreamPlayError.TheVariants.{Cart as StreamCart, Stream as StreamFault}
 use Rattle.streaming.specs.declared.obeying.End.TheVariants.{Whole, Wrong as WrongLine, Failed as FailedRead}
 use Rattle.streaming.specs.declared.error.StreamError.TheVariants.{Session as StreamSession, Line as StreamLine, Input as StreamInput}
-use Rattle.gbkeep.specs.declared.fault.Fault.TheVariants.{Cart, Memory, File, Output, Address, Word, Device, Script, Session, Line, Input, Recording, Behind, Differ, TestFailed, TestUndecided}
+use Rattle.gbkeep.specs.declared.fault.Fault.TheVariants.{Cart, Memory, File, Output, Address, Word, Device, Script, Session, Line, Input, Recording, Behind, Differ, TestFailed, TestUndecided, NoBattery, BatteryLength}
 use Rattle.script.specs.Script.{IsRefused as IsScriptRefused}
 use Rattle.gbkeep.specs.Text.{Exchange, Text, IsUnread, IsUnwritten}
-use Rattle.gbkeep.specs.Request.{HasAddress, HasDevice, HasScript, IsDone, IsCompared, IsGameRefused, IsOutputRefused, IsRecordingRefused, IsTestDecided, IsStreamStopped, IsStreamedTo, IsRecordStopped, IsRecordedTo}
+use Rattle.gbkeep.specs.Request.{HasAddress, HasDevice, HasScript, IsDone, IsCompared, IsGameRefused, IsOutputRefused, IsRecordingRefused, IsTestDecided, IsWithoutBattery, IsOtherLength, IsStreamStopped, IsStreamedTo, IsRecordStopped, IsRecordedTo}
 
 abbrev pub status_of : Fault → ℕ
 status_of (Cart fault) = 1
@@ -56,6 +65,8 @@ status_of (Behind count) = 1
 status_of Differ = 1
 status_of TestFailed = 1
 status_of TestUndecided = 1
+status_of NoBattery = 1
+status_of (BatteryLength found needed) = 1
 
 -- what a text that was refused is for the program
 abbrev pub fault_of_text : TextError → Fault
@@ -115,14 +126,38 @@ fault_of_test (TestScript fault) = Script fault
 fault_of_test TestMemory = Memory
 fault_of_test TestOutput = Output
 
+-- what a game that is not shown is
+abbrev pub fault_of_show : ShowError → Fault
+fault_of_show (ShowCart fault) = Cart fault
+fault_of_show (ShowSession fault) = Session fault
+fault_of_show ShowOutput = Output
+
+-- and what a battery file that is not written is, or not taken
+abbrev pub fault_of_export : ExportError → Fault
+fault_of_export (ExportCart fault) = Cart fault
+fault_of_export ExportNoBattery = NoBattery
+fault_of_export (ExportSession fault) = Session fault
+
+abbrev pub fault_of_import : ImportError → Fault
+fault_of_import ImportNoBattery = NoBattery
+fault_of_import (ImportLength found needed) = BatteryLength found needed
+fault_of_import ImportMemory = Memory
+
+-- why a battery file is not taken for this cartridge
+abbrev pub IsBatteryFault : (rom : List ℕ) → Fault → Type 0
+IsBatteryFault rom Memory = ⊤
+IsBatteryFault rom NoBattery = has_battery rom ≡ false
+IsBatteryFault rom (BatteryLength found needed) = (has_battery rom ≡ true) × (is_taken_length rom found ≡ false) × (needed ≡ ram_length_of rom)
+IsBatteryFault rom fault = ⊥
+
 -- why the files of a game and its recording are not opened
 abbrev pub IsPairFault : Fault → Type 0
 IsPairFault File = ⊤
 IsPairFault (Device fault) = ⊤
 IsPairFault fault = ⊥
 
--- its line on standard error; None for a fault of the cartridge, of a save file, of a script, of a line of the input, of a recording, or of a game
--- that is too large for its file or damaged, whose text no definition gives
+-- its line on standard error; None for a fault of the cartridge, of a save file, of a script, of a line of the input, of a recording, for a
+-- battery file of another length, or of a game that is too large for its file or damaged, whose text no definition gives
 abbrev pub line_of : Fault → Option (List ℕ)
 line_of (Cart fault) = None
 line_of Memory = Some (codes "gbkeep: no memory\n")
@@ -150,6 +185,8 @@ line_of (Behind count) = None
 line_of Differ = Some (codes "gbkeep: machines differ\n")
 line_of TestFailed = Some (codes "gbkeep: test failed\n")
 line_of TestUndecided = Some (codes "gbkeep: test undecided\n")
+line_of NoBattery = Some (codes "gbkeep: no battery\n")
+line_of (BatteryLength found needed) = None
 
 -- the line went out, or a proper prefix of it; nothing is said of a line that is not given
 abbrev pub HasLine : Option (List ℕ) → Option (List ℕ) → Option (List ℕ) → Type 0
@@ -178,6 +215,8 @@ IsRefused request (Behind count) old new = IsCompared request old new
 IsRefused request Differ old new = IsCompared request old new
 IsRefused request TestFailed old new = IsTestDecided request Failed old new
 IsRefused request TestUndecided old new = IsTestDecided request Undecided old new
+IsRefused request NoBattery old new = IsWithoutBattery request old new
+IsRefused request (BatteryLength found needed) old new = IsOtherLength request found needed old new
 
 -- a request that reads no input was done or refused
 abbrev pub IsServed : Request → Result Unit Fault → Option (List ℕ) → Option (List ℕ) → Type 0
@@ -202,6 +241,8 @@ IsStreamRefused (Behind count) input output = ⊥
 IsStreamRefused Differ input output = ⊥
 IsStreamRefused TestFailed input output = ⊥
 IsStreamRefused TestUndecided input output = ⊥
+IsStreamRefused NoBattery input output = ⊥
+IsStreamRefused (BatteryLength found needed) input output = ⊥
 
 -- a stream was done or refused
 abbrev pub IsStreamServed : Result Unit Fault → (input output : Text) → Type 0
@@ -226,6 +267,8 @@ IsRecordRefused (Behind count) input output = IsUnread input × IsUnwritten outp
 IsRecordRefused Differ input output = ⊥
 IsRecordRefused TestFailed input output = ⊥
 IsRecordRefused TestUndecided input output = ⊥
+IsRecordRefused NoBattery input output = ⊥
+IsRecordRefused (BatteryLength found needed) input output = ⊥
 
 -- a recorded play was done or refused
 abbrev pub IsRecordServed : Result Unit Fault → (input output : Text) → Type 0
@@ -248,6 +291,9 @@ IsDoneReading (Record cart save recording) input output = IsRecordedTo Whole inp
 IsDoneReading (Recorded cart recording) input output = IsUnread input × IsDone (Recorded cart recording) output.before output.since
 IsDoneReading (Test cart frames script) input output = IsUnread input × IsDone (Test cart frames script) output.before output.since
 IsDoneReading (Verify cart save recording) input output = IsUnread input × IsDone (Verify cart save recording) output.before output.since
+IsDoneReading (Show cart save) input output = IsUnread input × IsDone (Show cart save) output.before output.since
+IsDoneReading (Export cart save out) input output = IsUnread input × IsDone (Export cart save out) output.before output.since
+IsDoneReading (Import cart battery save sectors) input output = IsUnread input × IsDone (Import cart battery save sectors) output.before output.since
 
 abbrev pub IsRefusedReading : Request → Fault → (input output : Text) → Type 0
 IsRefusedReading (Info cart) fault input output = IsUnread input × IsRefused (Info cart) fault output.before output.since
@@ -263,6 +309,9 @@ IsRefusedReading (Record cart save recording) fault input output = IsRecordRefus
 IsRefusedReading (Recorded cart recording) fault input output = IsUnread input × IsRefused (Recorded cart recording) fault output.before output.since
 IsRefusedReading (Test cart frames script) fault input output = IsUnread input × IsRefused (Test cart frames script) fault output.before output.since
 IsRefusedReading (Verify cart save recording) fault input output = IsUnread input × IsRefused (Verify cart save recording) fault output.before output.since
+IsRefusedReading (Show cart save) fault input output = IsUnread input × IsRefused (Show cart save) fault output.before output.since
+IsRefusedReading (Export cart save out) fault input output = IsUnread input × IsRefused (Export cart save out) fault output.before output.since
+IsRefusedReading (Import cart battery save sectors) fault input output = IsUnread input × IsRefused (Import cart battery save sectors) fault output.before output.since
 
 abbrev pub IsServedReading : Request → Result Unit Fault → (input output : Text) → Type 0
 IsServedReading request (Ok u) input output = IsDoneReading request input output

@@ -1,12 +1,12 @@
 -- What a request wants of a ROM, and when the program has done it.
-use Rattle.std.specs.Prelude.{◌≡◌, ◌⊎◌, ◌≤◌, ℕ, List, [], length, Option, unwrap_or, IsOk, All}
+use Rattle.std.specs.Prelude.{◌≡◌, ◌⊎◌, ◌≤◌, ◌++◌, ℕ, List, [], length, codes, decimal, true, false, Option, unwrap_or, IsOk, All}
 use Rattle.std.specs.Str.Parse.{IsNumeral, digits_value}
 use Rattle.std.specs.Io.KnownBytes.{Appends, Keeps}
 use Rattle.exact_text.specs.Written.{AppendsProperPrefix}
 use Rattle.cartridge.specs.Accepted.{IsAccepted}
 use Rattle.cartridge.specs.Header.{ram_length_of}
 use Rattle.command_line.specs.declared.Request.{Request}
-use Rattle.command_line.specs.declared.Request.TheVariants.{Info, List as Listing, Step, New, Play, Frame, Trace, Stream, NewRecording, Record, Recorded, Verify, Test}
+use Rattle.command_line.specs.declared.Request.TheVariants.{Info, List as Listing, Step, New, Play, Frame, Trace, Stream, NewRecording, Record, Recorded, Verify, Test, Show, Export, Import}
 use Rattle.machine.specs.Machine.{start}
 use Rattle.machine.specs.declared.input.Input.{Input}
 use Rattle.snapshot.specs.Legal.{IsMachineOf}
@@ -30,6 +30,9 @@ use Rattle.debugger.specs.Listing.{lines_from}
 use Rattle.test_run.specs.Refusals.{IsTested, IsCutOff}
 use Rattle.test_run.specs.declared.verdict.Verdict.{Verdict}
 use Rattle.test_run.specs.declared.verdict.Verdict.TheVariants.{Passed}
+use Rattle.save_lines.specs.Shown.{Seen, shown_text}
+use Rattle.battery_files.specs.Battery.{has_battery}
+use Rattle.battery_files.specs.Importing.{is_taken_length}
 use Rattle.gbkeep.specs.Beginning.{begun_line}
 use Rattle.gbkeep.specs.Info.{info_of}
 use Rattle.gbkeep.specs.Playing.{moves_in}
@@ -60,8 +63,12 @@ HasAddress (Record cart save recording) = Unit {0}
 HasAddress (Recorded cart recording) = Unit {0}
 HasAddress (Verify cart save recording) = Unit {0}
 HasAddress (Test cart frames script) = Unit {0}
+HasAddress (Show cart save) = Unit {0}
+HasAddress (Export cart save out) = Unit {0}
+HasAddress (Import cart battery save sectors) = Unit {0}
 
--- what it prints of a ROM; not here the report of a play, a trace, a stream and a recorded play, which are of a game of the ROM
+-- what it prints of a ROM; not here what is of a game of the ROM: the report of a play, a trace, a stream and a recorded play, and what a
+-- game holds
 abbrev pub printed : Request → List ℕ → List ℕ
 printed (Info cart) rom = info_of rom
 printed (Listing cart address count) rom = lines_from (start rom) (digits_value 16 address.now) count
@@ -76,10 +83,25 @@ printed (Record cart save recording) rom = []
 printed (Recorded cart recording) rom = []
 printed (Verify cart save recording) rom = []
 printed (Test cart frames script) rom = []
+printed (Show cart save) rom = []
+printed (Export cart save out) rom = []
+printed (Import cart battery save sectors) rom = begun_line
 
 -- a count of inputs and a machine of this ROM, of which the text of a trace has P
 abbrev pub OfATrace : (rom : List ℕ) → (steps : ℕ) → (List ℕ → Type 0) → Type 0
 OfATrace rom steps P = (from : Position) × IsMachineOf rom from.machine × P (trace_text from.count from.machine steps)
+
+-- some number of sectors and what was seen of a game of this ROM on them, of the lines of which P holds
+abbrev pub OfALook : (rom : List ℕ) → (List ℕ → Type 0) → Type 0
+OfALook rom P = (sectors : ℕ) × (seen : Seen) × IsMachineOf rom seen.machine × P (shown_text rom sectors seen)
+
+-- the line of a game whose battery file was written
+abbrev pub exported_line : ℕ → List ℕ
+exported_line count = codes "exported " ++ (decimal count ++ codes "\n")
+
+-- some battery file is taken for this cartridge
+abbrev pub IsBatteryTaken : (rom : List ℕ) → Type 0
+IsBatteryTaken rom = (has_battery rom ≡ true) × ((battery : List ℕ) × (is_taken_length rom (length battery) ≡ true))
 
 -- the whole report of these moves, from some count on
 pub record IsReported (moves : List Move) (old new : Option (List ℕ)) : Type 0 where
@@ -107,6 +129,10 @@ IsDoneOn rom (NewRecording cart recording sectors) old new = IsAccepted rom × (
 IsDoneOn rom (Recorded cart recording) old new = IsAccepted rom
 IsDoneOn rom (Verify cart save recording) old new = IsAccepted rom × ((count : ℕ) × Appends old new (agree_line count))
 IsDoneOn rom (Test cart frames script) old new = (moves : List ℕ) × IsTested rom moves frames old new Passed
+IsDoneOn rom (Show cart save) old new = IsAccepted rom × OfALook rom (Appends old new)
+IsDoneOn rom (Export cart save out) old new = IsAccepted rom × (has_battery rom ≡ true) × ((count : ℕ) × Appends old new (exported_line count))
+IsDoneOn rom (Import cart battery save sectors) old new = IsAccepted rom × IsBatteryTaken rom
+    × (need (snapshot_length (ram_length_of rom)) ≤ sectors_for rom sectors) × Appends old new (printed (Import cart battery save sectors) rom)
 IsDoneOn rom request old new = IsAccepted rom × HasAddress request × Appends old new (printed request rom)
 
 -- it was done, on what its file gave
@@ -128,6 +154,9 @@ HasDevice (Record cart save recording) = Unit {0}
 HasDevice (Recorded cart recording) = Unit {0}
 HasDevice (Verify cart save recording) = Unit {0}
 HasDevice (Test cart frames script) = ⊥
+HasDevice (Show cart save) = Unit {0}
+HasDevice (Export cart save out) = Unit {0}
+HasDevice (Import cart battery save sectors) = Unit {0}
 
 -- it plays a script, which is empty where it names none
 abbrev pub HasScript : Request → Type 0
@@ -144,6 +173,10 @@ IsGameRefused (Play cart save script) why old new = (rom : List ℕ) × IsAccept
 IsGameRefused (Frame cart save out) why old new = (rom : List ℕ) × IsAccepted rom × IsCutShort [] why old new
 IsGameRefused (Trace cart save count) why old new = Keeps old new × ((rom : List ℕ) × IsAccepted rom)
 IsGameRefused (Verify cart save recording) why old new = Keeps old new × ((rom : List ℕ) × IsAccepted rom)
+IsGameRefused (Show cart save) why old new = Keeps old new × ((rom : List ℕ) × IsAccepted rom)
+IsGameRefused (Export cart save out) why old new = Keeps old new × ((rom : List ℕ) × IsAccepted rom × (has_battery rom ≡ true))
+IsGameRefused (Import cart battery save sectors) why old new = Keeps old new
+    × ((rom : List ℕ) × IsAccepted rom × IsBatteryTaken rom × IsNewGameCause (snapshot_length (ram_length_of rom)) (sectors_for rom sectors) why)
 IsGameRefused request why old new = ⊥
 
 -- why no recording is begun, read or compared; nothing went out, unless a call failed while a recording was written
@@ -162,6 +195,18 @@ IsTestDecided request verdict old new = ⊥
 abbrev pub IsCompared : Request → Option (List ℕ) → Option (List ℕ) → Type 0
 IsCompared (Verify cart save recording) old new = Keeps old new × ((rom : List ℕ) × IsAccepted rom)
 IsCompared request old new = ⊥
+
+-- the cartridge has no battery, and nothing went out
+abbrev pub IsWithoutBattery : Request → Option (List ℕ) → Option (List ℕ) → Type 0
+IsWithoutBattery (Export cart save out) old new = Keeps old new × ((rom : List ℕ) × IsAccepted rom × (has_battery rom ≡ false))
+IsWithoutBattery (Import cart battery save sectors) old new = Keeps old new × ((rom : List ℕ) × IsAccepted rom × (has_battery rom ≡ false))
+IsWithoutBattery request old new = ⊥
+
+-- a battery file of so many bytes is not taken, where the RAM has so many, and nothing went out
+abbrev pub IsOtherLength : Request → (found needed : ℕ) → Option (List ℕ) → Option (List ℕ) → Type 0
+IsOtherLength (Import cart battery save sectors) found needed old new = Keeps old new
+    × ((rom : List ℕ) × IsAccepted rom × (has_battery rom ≡ true) × (is_taken_length rom found ≡ false) × (needed ≡ ram_length_of rom))
+IsOtherLength request found needed old new = ⊥
 
 -- the output failed on a ROM that is accepted: a proper prefix of the text went out, or before a picture the whole report. A report ends
 -- as a game that is refused.
@@ -182,6 +227,12 @@ IsOutputRefused (NewRecording cart recording sectors) old new =
 IsOutputRefused (Test cart frames script) old new = (rom moves : List ℕ) × IsCutOff rom moves frames old new
 IsOutputRefused (Recorded cart recording) old new = (rom : List ℕ) × IsAccepted rom
 IsOutputRefused (Verify cart save recording) old new = (rom : List ℕ) × IsAccepted rom × ((count : ℕ) × AppendsProperPrefix old new (agree_line count))
+IsOutputRefused (Show cart save) old new = (rom : List ℕ) × IsAccepted rom × OfALook rom (AppendsProperPrefix old new)
+IsOutputRefused (Export cart save out) old new =
+    (rom : List ℕ) × IsAccepted rom × (has_battery rom ≡ true) × ((count : ℕ) × AppendsProperPrefix old new (exported_line count))
+IsOutputRefused (Import cart battery save sectors) old new = (rom : List ℕ) × IsAccepted rom × IsBatteryTaken rom
+    × (need (snapshot_length (ram_length_of rom)) ≤ sectors_for rom sectors)
+    × AppendsProperPrefix old new (printed (Import cart battery save sectors) rom)
 
 -- ---- a stream and a recorded play, the only requests that read the input
 

@@ -4,8 +4,9 @@ ghost use Rattle.std.specs.Prelude.{◌≡◌, ◌⊎◌, IfErr};
 
 use crate::fault::Fault;
 use std::fs::{self, File, OpenOptions, TryLockError};
-use std::io::{self, ErrorKind, Read};
+use std::io::{self, ErrorKind, Read, Write};
 use std::os::unix::fs::{FileTypeExt, MetadataExt};
+use std::path::Path;
 use std::rt::Files;
 
 /// A ROM file is read up to this many bytes and one.
@@ -13,6 +14,9 @@ pub(crate) const MOST_ROM: u64 = 0x80_0000;
 
 /// A script is read up to this many bytes and one.
 pub(crate) const MOST_SCRIPT: u64 = 0x10_0000;
+
+/// A battery file is read up to this many bytes and one.
+pub(crate) const MOST_BATTERY: u64 = 0x10_0000;
 
 /// The bytes of the file at this path, and of a longer one the first `most` and one more.
 pub(crate) fn file_bytes<R: Files<File = File> + AllocGlobal>(
@@ -77,4 +81,44 @@ fn emptied<R: Files<File = File>>(rt: &R, path: &str, kept: [&str; 2]) -> io::Re
         file.set_len(0)?;
     }
     Ok(file)
+}
+
+/// Makes a file of these bytes, and makes it and its entry in its folder durable. Nothing may stand at the path. Where that fails once the
+/// file is made, it is taken away again.
+pub(crate) fn durable_file<R: Files<File = File>>(
+    rt: &R,
+    path: &str,
+    bytes: &[u8],
+) -> Result<(), Fault>
+    ensures { IfErr result (λ fault. fault ≡ Fault.File) }
+{
+    let Ok(mut file) = OpenOptions::new()
+        .write(true)
+        .create_new(true)
+        .open(rt, path)
+    else {
+        return Err(Fault::File);
+    };
+    match fill_durably(rt, &mut file, path, bytes) {
+        Ok(()) => Ok(()),
+        Err(_) => {
+            let _ = fs::remove_file(rt, path);
+            Err(Fault::File)
+        }
+    }
+}
+
+fn fill_durably<R: Files<File = File>>(
+    rt: &R,
+    file: &mut File,
+    path: &str,
+    bytes: &[u8],
+) -> io::Result<()> {
+    file.write_all(bytes)?;
+    file.sync_all()?;
+    let folder = match Path::new(path).parent() {
+        Some(folder) if !folder.as_str().is_empty() => folder,
+        _ => Path::new("."),
+    };
+    File::open(rt, folder)?.sync_all()
 }

@@ -2,15 +2,18 @@
 
 ghost use Rattle.std.specs.Prelude.{◌≡◌, Some};
 ghost use Rattle.gbkeep.specs.declared.fault.Fault.TheVariants.{Cart, Device};
+ghost use Rattle.gbkeep.specs.Program.{fault_of_show, fault_of_export, fault_of_import};
 ghost use Rattle.gbkeep.specs.Program.{HasLine, fault_of_play, fault_of_record, fault_of_script, fault_of_stream, fault_of_test, fault_of_text, fault_of_trace, fault_of_verifying, line_of, status_of};
 
 use crate::error::{PlayError, StreamPlayError, TextError, TraceError};
+use battery_files::{ExportError, ImportError};
 use cartridge::CartError;
 use exact_text::write_whole;
 use recorded_play::RecordError;
 use recording::RecordingFault;
 use recording_lines::{ScriptLinesError, VerifyLineError};
 use replaying::VerifyError;
+use save_lines::ShowError;
 use script::ScriptError;
 use sector_device::DeviceFault;
 use session::SessionError;
@@ -53,6 +56,10 @@ pub(crate) enum Fault {
     TestFailed,
     /// It says neither that nor that it has passed.
     TestUndecided,
+    /// The cartridge has no battery.
+    NoBattery,
+    /// A battery file of another length than the cartridge's: its bytes, and those that are needed.
+    BatteryLength { found: u64, needed: u64 },
 }
 
 impl From<CartError> for Fault {
@@ -177,6 +184,42 @@ impl From<TestError> for Fault {
     }
 }
 
+impl From<ShowError> for Fault {
+    ghost from_gives = { λ why fault. fault ≡ fault_of_show why };
+
+    fn from(why: ShowError) -> Fault {
+        match why {
+            ShowError::Cart(why) => Fault::Cart(why),
+            ShowError::Session(why) => Fault::Session(why),
+            ShowError::Output => Fault::Output,
+        }
+    }
+}
+
+impl From<ExportError> for Fault {
+    ghost from_gives = { λ why fault. fault ≡ fault_of_export why };
+
+    fn from(why: ExportError) -> Fault {
+        match why {
+            ExportError::Cart(why) => Fault::Cart(why),
+            ExportError::NoBattery => Fault::NoBattery,
+            ExportError::Session(why) => Fault::Session(why),
+        }
+    }
+}
+
+impl From<ImportError> for Fault {
+    ghost from_gives = { λ why fault. fault ≡ fault_of_import why };
+
+    fn from(why: ImportError) -> Fault {
+        match why {
+            ImportError::NoBattery => Fault::NoBattery,
+            ImportError::Length { found, needed } => Fault::BatteryLength { found, needed },
+            ImportError::Memory => Fault::Memory,
+        }
+    }
+}
+
 impl Fault {
     fn status(self) -> u8
         ensures { result ≡ status_of self }
@@ -210,6 +253,8 @@ pub(crate) fn report<E: Write>(fault: Fault, err: &mut E) -> u8
         Fault::Differ => write_line("gbkeep: machines differ\n", err),
         Fault::TestFailed => write_line("gbkeep: test failed\n", err),
         Fault::TestUndecided => write_line("gbkeep: test undecided\n", err),
+        Fault::NoBattery => write_line("gbkeep: no battery\n", err),
+        Fault::BatteryLength { found, needed } => write_length_line(found, needed, err),
     }
     fault.status()
 }
@@ -242,6 +287,10 @@ fn write_number_line<E: Write>(number: u64, err: &mut E) {
 
 fn write_behind_line<E: Write>(count: u64, err: &mut E) {
     let _ = writeln!(err, "gbkeep: recording behind, {count} inputs");
+}
+
+fn write_length_line<E: Write>(found: u64, needed: u64, err: &mut E) {
+    let _ = writeln!(err, "gbkeep: battery length {found}, {needed} needed");
 }
 
 fn write_cart_line<E: Write>(fault: CartError, err: &mut E) {

@@ -5,6 +5,7 @@
 #![tactic(auto)]
 
 mod asked;
+mod batteries;
 mod begin;
 mod bytes;
 pub mod error;
@@ -21,7 +22,7 @@ mod streams;
 mod testing;
 mod trace;
 
-pub use begin::begin_game;
+pub use begin::{begin_game, begin_game_from};
 pub use error::{
     BeginError, BeginRefused, PlayError, PlayRefused, StreamPlayError, StreamPlayRefused,
     TextError, TraceError, TraceRefused,

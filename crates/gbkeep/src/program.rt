@@ -4,12 +4,13 @@ ghost use Rattle.std.specs.Prelude.{◌≡◌, ◌≤◌, ◌⊎◌, IfErr, map}
 ghost use Rattle.gbkeep.specs.Program.{Ends, EndsOnSome, HasEnded, IsPossible, IsServed, IsServedReading, KeepsAtMisuse};
 
 use crate::asked::{Asked, address_of, asked_by};
+use crate::batteries::{export, import};
 use crate::bytes::{MOST_ROM, file_bytes};
 use crate::fault::{DONE, Fault, NOT_UNDERSTOOD, report};
 use crate::info::info_lines;
 use crate::listing::list_lines;
 use crate::recordings::{new_recording, record, recorded, verify};
-use crate::saves::{frame, new, play, stream, trace};
+use crate::saves::{frame, new, play, show, stream, trace};
 use crate::steps::step_line;
 use crate::testing::test;
 use clap::Error;
@@ -162,6 +163,18 @@ fn serve<R: Files<File = File> + AllocGlobal, I: Read, O: Write>(
             save,
             recording,
         } => verify(rt, cart, save, recording, out),
+        Request::Show { cart, save } => show(rt, cart, save, out),
+        Request::Export {
+            cart,
+            save,
+            out: battery,
+        } => export(rt, cart, save, battery, out),
+        Request::Import {
+            cart,
+            battery,
+            save,
+            sectors,
+        } => import(rt, cart, battery, save, sectors, out),
         Request::Test {
             cart,
             frames,

@@ -7,12 +7,13 @@ use crate::begin::begin_game;
 use crate::bytes::{MOST_ROM, MOST_SCRIPT, emptied_file, file_bytes, not_a_pipe};
 use crate::error::BeginError;
 use crate::fault::Fault;
-use crate::interrupted::new_file;
+use crate::interrupted::{Beginning, new_file};
 use crate::picture::play_to_picture;
 use crate::streams::stream_play;
 use crate::trace::trace_lines;
 use cartridge::Cartridge;
 use command_line::Request;
+use save_lines::show_lines;
 use sector_device::FileDevice;
 use session::{SessionError, sectors_needed};
 use std::fs;
@@ -40,7 +41,7 @@ pub(crate) fn new<R: Files<File = File> + AllocGlobal, O: Write>(
     if sectors < need {
         return Err(Fault::Session(SessionError::TooSmall { need }));
     }
-    let device = new_file(rt, save, sectors, &cartridge)?;
+    let device = new_file(rt, save, sectors, &cartridge, Beginning::PowerOn)?;
     match begin_game(rt.alloc(), device, &cartridge, out) {
         Ok(_) => Ok(()),
         Err(refused) => match refused.why {
@@ -54,7 +55,7 @@ pub(crate) fn new<R: Files<File = File> + AllocGlobal, O: Write>(
 }
 
 /// As many sectors as are asked for, or else as many as are needed.
-fn sectors_or(sectors: Option<u32>, need: u64) -> u64
+pub(crate) fn sectors_or(sectors: Option<u32>, need: u64) -> u64
     ensures { result ≡ unwrap_or sectors need }
 {
     match sectors {
@@ -105,6 +106,23 @@ pub(crate) fn frame<R: Files<File = File> + AllocGlobal, O: Write>(
     let device = FileDevice::attach(rt, Path::new(save))?;
     let mut picture = emptied_file(rt, picture, [cart, save])?;
     match play_to_picture(rt.alloc(), device, rom, b"", out, Some(&mut picture)) {
+        Ok(_) => Ok(()),
+        Err(refused) => Err(Fault::from(refused.why)),
+    }
+}
+
+/// Prints what the game in a file holds. Nothing is written to the file.
+pub(crate) fn show<R: Files<File = File> + AllocGlobal, O: Write>(
+    rt: &R,
+    cart: &str,
+    save: &str,
+    out: &mut O,
+) -> Result<(), Fault>
+    ensures { IsServed (Request.Show cart.entry save.entry) result (O.contents out.old) (O.contents out.new) }
+{
+    let rom = file_bytes(rt, cart, MOST_ROM)?;
+    let device = FileDevice::attach(rt, Path::new(save))?;
+    match show_lines(rt.alloc(), device, rom, out) {
         Ok(_) => Ok(()),
         Err(refused) => Err(Fault::from(refused.why)),
     }

@@ -2,6 +2,8 @@
 #![tactic(auto)]
 
 #[cfg(test)]
+mod batteries;
+#[cfg(test)]
 mod debuggers;
 #[cfg(test)]
 mod recordings;

@@ -71,20 +71,6 @@ pub(crate) fn copy(rt: &impl Abort, alloc: Global, device: &MemoryDevice) -> Mem
     device.image(alloc, &[]).or_stop(rt)
 }
 
-/// What a cut leaves where of the unsynced writes those are kept whose place modulo two is true.
-pub(crate) fn image(
-    alloc: Global,
-    device: &MemoryDevice,
-    keeps: [bool; 2],
-) -> Result<MemoryDevice, Fail> {
-    let mut kept = Vec::new(alloc);
-    for _i in 0..60 {
-        kept.push(keeps[0])?;
-        kept.push(keeps[1])?;
-    }
-    Ok(device.image(alloc, &kept)?)
-}
-
 /// Both devices.
 #[derive(Drop)]
 pub(crate) struct Pair {

@@ -1,14 +1,13 @@
 //! Recorded plays cut at any call of either device.
 use crate::asserting::{OrStop, holds, same};
-use crate::common::{
-    Pair, agree, both, cartridge_of, image, new_recording, new_save, plays, records,
-};
+use crate::common::{Pair, agree, both, cartridge_of, new_recording, new_save, plays, records};
 use cartridge::Cartridge;
 use recorded_play::RecordError;
 use recording::RecordingFault;
 use session::SessionError;
 use std::alloc::Global;
 use std::process::Abort;
+use std::test::Fail;
 
 /// The greatest count that a report tells.
 fn told(text: &[u8]) -> u64 {
@@ -28,21 +27,41 @@ fn told(text: &[u8]) -> u64 {
     most
 }
 
-/// Which of the unsynced writes of the SAVE and of the recording a cut keeps, by their place modulo two.
-const KEPT: [([bool; 2], [bool; 2]); 3] = [
-    ([false, false], [false, false]),
-    ([false, false], [true, true]),
-    ([true, false], [false, true]),
-];
+/// How many choices of the unsynced writes of both are tried for each cut: none, all, those of one file alone, and others.
+const CHOICES: u64 = 20;
+
+/// Which of the unsynced writes of one of both files a choice keeps. `other` is 0 for the SAVE and 1 for the recording.
+fn kept(alloc: Global, choice: u64, other: u64) -> Result<Vec<bool>, Fail> {
+    let mut kept = Vec::new(alloc);
+    let mut random = choice.wrapping_mul(2).wrapping_add(other);
+    for _i in 0..120 {
+        random = random
+            .wrapping_mul(6_364_136_223_846_793_005)
+            .wrapping_add(1_442_695_040_888_963_407);
+        kept.push(match choice {
+            0 => false,
+            1 => true,
+            2 => other == 0,
+            3 => other == 1,
+            _ => random >> 63 == 1,
+        })?;
+    }
+    Ok(kept)
+}
+
+/// What a cut leaves of both devices with this choice of the unsynced writes.
+fn left_by(alloc: Global, pair: &Pair, choice: u64) -> Result<Pair, Fail> {
+    Ok(Pair {
+        save: pair.save.image(alloc, &kept(alloc, choice, 0)?)?,
+        recording: pair.recording.image(alloc, &kept(alloc, choice, 1)?)?,
+    })
+}
 
 /// Whatever is kept of the unsynced writes of both, they agree, and each has what was told. Taken up again, both have all that the
 /// recording had.
 fn all_agree(rt: &impl Abort, alloc: Global, pair: &Pair, cartridge: &Cartridge, told: u64) {
-    for (keeps, others) in KEPT {
-        let left = Pair {
-            save: image(alloc, &pair.save, keeps).or_stop(rt),
-            recording: image(alloc, &pair.recording, others).or_stop(rt),
-        };
+    for choice in 0..CHOICES {
+        let left = left_by(alloc, pair, choice).or_stop(rt);
         goes_on(rt, alloc, left, cartridge, told);
     }
 }
@@ -93,18 +112,14 @@ fn ahead(rt: &impl Abort, alloc: Global, cartridge: &Cartridge) -> Pair {
 
 const LINES: &[u8] = b"seconds 1\nseconds 2\nsave\nseconds 3\nsave\nseconds 4\n";
 
-/// The SAVE's device is cut before any of its calls: it looks by 65 calls and begins a generation by 96.
+/// The SAVE's device is cut before each of its calls: it looks by 65 calls and begins a generation by 96.
 #[test]
 fn a_cut_save_agrees(rt: HostRuntime) {
     let alloc = rt.alloc();
     let cartridge = cartridge_of(alloc, b'A').or_stop(&rt);
     let old = ahead(&rt, alloc, &cartridge);
     let mut calls = 0;
-    for k in [0, 65, 66, 159, 160] {
-        let why = cut_at(&rt, alloc, &old, &cartridge, LINES, k, 10_000);
-        same!(rt; why, Some(RecordError::Session(SessionError::Device)));
-    }
-    for k in 161..180 {
+    for k in 0..180 {
         let why = cut_at(&rt, alloc, &old, &cartridge, LINES, k, 10_000);
         if why.is_none() {
             calls = k;
@@ -116,7 +131,8 @@ fn a_cut_save_agrees(rt: HostRuntime) {
     same!(rt; calls, 169);
 }
 
-/// The recording's device is cut before any of its calls.
+/// The recording's device is cut before each of its calls. With those of the SAVE these are the cuts before each call of a play: no
+/// call follows a cut, of either device.
 #[test]
 fn a_cut_recording_agrees(rt: HostRuntime) {
     let alloc = rt.alloc();
@@ -133,18 +149,4 @@ fn a_cut_recording_agrees(rt: HostRuntime) {
     }
     // It looks by a sync and two reads, is read once more, cleared by 6 reads and a sync, and each save takes a write and a sync.
     same!(rt; calls, 17);
-}
-
-/// Both are cut.
-#[test]
-fn both_cut_agree(rt: HostRuntime) {
-    let alloc = rt.alloc();
-    let cartridge = cartridge_of(alloc, b'A').or_stop(&rt);
-    let old = ahead(&rt, alloc, &cartridge);
-    for k in [3, 11, 13] {
-        for n in [161, 163, 165] {
-            let why = cut_at(&rt, alloc, &old, &cartridge, LINES, n, k);
-            holds!(rt; why.is_some());
-        }
-    }
 }

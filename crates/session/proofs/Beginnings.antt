@@ -16,15 +16,17 @@ use Rattle.sector_device.specs.DiskState.{DiskState}
 use Rattle.sector_device.specs.Runs.{HoldsSince}
 use Rattle.sector_device.proofs.Runs.{throughout_then, remembers_then, holds_since}
 use Rattle.sector_device.specs.Looking.{HasLooked}
-use Rattle.sector_log.specs.Calls.{HasBegun, HasOldOrNewContent}
+use Rattle.sector_log.specs.Calls.{HasBegun, HasOldOrNewContent, faults_after as log_faults_after}
 use Rattle.sector_log.specs.Content.{content, new_generation}
 use Rattle.sector_log.specs.Found.{log_of}
 use Rattle.input_entries.specs.declared.StoredEntry.{StoredEntry}
 use Rattle.sector_log.specs.declared.fault.LogFault.{LogFault}
-use Rattle.sector_log.specs.declared.fault.LogFault.TheVariants.{Memory as LogMemory, Device as LogDevice}
+use Rattle.sector_log.specs.declared.fault.LogFault.TheVariants.{Memory as LogMemory, Device as LogDevice, TooSmall as LogTooSmall, Worn as LogWorn, LogFull, Broken as LogBroken}
 use Rattle.session.specs.Beginning.{session_fault}
+use Rattle.session.specs.declared.error.SessionError.{SessionError}
 use Rattle.session.specs.declared.error.SessionError.TheVariants.{Memory, Device, Worn}
-use Rattle.session.specs.Calls.{IsAtRest, HasOldContentOrNewGame, StandsAsBefore}
+use Rattle.session.specs.Calls.{IsAtRest, HasOldContentOrGame, StandsAsBefore, faults_after}
+use Rattle.session.specs.Found.{IsNewGameCause}
 use Rattle.session.specs.Resting.{IsOfItsRom, Rests}
 use Rattle.session.specs.Stands.{stands, further}
 use Rattle.session.proofs.StandsLaws.{after_none, new_stands}
@@ -67,6 +69,20 @@ looking_is_not_worn why (inr device) worn = let same : Device ≡ Worn = sym (ap
 pub looking_wants_memory : {A : Type 0} (why : LogFault) → ((why ≡ LogMemory) × A) ⊎ (why ≡ LogDevice) → session_fault why ≡ Memory → A
 looking_wants_memory why (inl memory) wanted = memory.1
 looking_wants_memory why (inr device) wanted = let same : Memory ≡ Device = sym wanted ∙ ap session_fault device in absurd (cc)
+
+-- running out of memory and a failed call are causes enough
+pub looking_is_a_cause : {A : Type 0} (blob_length count : ℕ) {answer : SessionError} (why : LogFault) → ((why ≡ LogMemory) × A) ⊎ (why ≡ LogDevice) → answer ≡ session_fault why → IsNewGameCause blob_length count answer
+looking_is_a_cause blob_length count why (inl memory) is = subst (IsNewGameCause blob_length count) (sym (is ∙ ap session_fault memory.0)) tt
+looking_is_a_cause blob_length count why (inr device) is = subst (IsNewGameCause blob_length count) (sym (is ∙ ap session_fault device)) tt
+
+-- a refusal of the log leaves the count of faults that it leaves as one of a session
+pub same_faults : (why : LogFault) (faults : ℕ) → log_faults_after why faults ≡ faults_after (session_fault why) faults
+same_faults (LogTooSmall needed) faults = refl
+same_faults LogWorn faults = refl
+same_faults LogDevice faults = refl
+same_faults LogMemory faults = refl
+same_faults LogFull faults = refl
+same_faults LogBroken faults = refl
 
 -- ---- machines of a ROM
 
@@ -133,17 +149,17 @@ images_of {old} {now} {id} {written} {id'} {written'} base id_is written_is held
 
 -- ---- each moment
 
--- of a new game, whatever the device held
-pub new_game_images : (rom : List ℕ) (old mid new : DiskState) → old.image old.sectors → HasLooked old mid → HoldsSince mid new (HasOldOrNewContent mid.sectors (sha256 rom) 0 (encoded (start rom))) → HoldsSince old new (HasOldContentOrNewGame rom old)
-new_game_images rom old mid new reads looked held =
+-- of a game that begins, whatever the device held
+pub looked_game : (rom : List ℕ) (m : MachineState) (old mid : DiskState) → HasLooked old mid → HoldsSince old mid (HasOldContentOrGame rom m old)
+looked_game rom m old mid looked = since_weaker looked.since (λ image was. inl (record { before = image; stood = was; is = refl }))
+
+pub game_images : (rom : List ℕ) (m : MachineState) (old mid new : DiskState) → old.image old.sectors → HasLooked old mid → HoldsSince mid new (HasOldOrNewContent mid.sectors (sha256 rom) 0 (encoded m)) → HoldsSince old new (HasOldContentOrGame rom m old)
+game_images rom m old mid new reads looked held =
     since_then
-    (since_weaker looked.since (λ image was. inl (record { before = image; stood = was; is = refl })))
+    (looked_game rom m old mid looked)
     (since_weaker held (λ image. ⊎_elim
     (λ stays. inl (record { before = old.sectors; stood = reads; is = stays.content_is ∙ ap content looked.sectors }))
     (λ new. inr new.content_is)))
-
-pub looked_new_game : (rom : List ℕ) (old mid : DiskState) → HasLooked old mid → HoldsSince old mid (HasOldContentOrNewGame rom old)
-looked_new_game rom old mid looked = since_weaker looked.since (λ image was. inl (record { before = image; stood = was; is = refl }))
 
 -- of a game that is taken up
 pub resume_images : (rom : List ℕ) (old mid new : DiskState) (count : ℕ) (m : MachineState) → old.image old.sectors → HasLooked old mid → IsMachineOf rom m → count < 2 ^ 64 → stands rom (content old.sectors) ≡ Some (record { count = count; machine = m })

@@ -1,5 +1,5 @@
 -- The steps of a look, and of taking up what was seen.
-use Rattle.std.proofs.Common.{◌≡◌, inl, ℕ, ◌+◌, ◌-◌, ◌<◌, ◌≤◌, ◌^◌, List, [], ◌++◌, length, take, Option, Some, None, refl, sym, ap, ◌∙◌, subst, arith}
+use Rattle.std.proofs.Common.{◌≡◌, inl, ℕ, ◌+◌, ◌<◌, ◌≤◌, ◌^◌, List, [], ◌++◌, length, take, Option, Some, None, refl, sym, ap, ◌∙◌, subst, arith}
 use Rattle.std.proofs.lemmas.List.{take-append-le, take_all}
 use Rattle.cartridge.specs.Header.{ram_length_of}
 use Rattle.machine.specs.Machine.{MachineState}
@@ -14,7 +14,6 @@ use Rattle.sector_log.specs.Calls.{HasOldOrNewContent}
 use Rattle.sector_log.specs.Content.{ImageContent, content, generation_in, need}
 use Rattle.sector_log.specs.Found.{Seen, seen_in, log_of}
 use Rattle.sector_log.specs.declared.found.Header.{Header}
-use Rattle.sector_log.specs.declared.found.Found.{Found}
 use Rattle.sector_log.specs.declared.found.Found.TheVariants.{Intact}
 use Rattle.session.specs.Beginning.{IsBeginRefusal}
 use Rattle.session.specs.Calls.{IsAtRest, StandsAsBefore}

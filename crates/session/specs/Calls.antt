@@ -24,9 +24,13 @@ pub record IsAtRest (rom : List ℕ) (now : DiskState) (acknowledged : ℕ) (pen
 
 -- ---- a new game
 
--- a snapshot of the machine at power-on, behind which there is no input
+-- a snapshot of the machine that a game begins with, behind which there is no input
+abbrev pub game_content : (rom : List ℕ) → MachineState → ImageContent
+game_content rom machine = new_generation (sha256 rom) 0 (encoded machine)
+
+-- at power-on
 abbrev pub new_game_content : (rom : List ℕ) → ImageContent
-new_game_content rom = new_generation (sha256 rom) 0 (encoded (start rom))
+new_game_content rom = game_content rom (start rom)
 
 -- the image has the content of one that stood before
 pub record HasContentOf (old : DiskState) (image : List (List ℕ)) : Type 0 where
@@ -34,8 +38,13 @@ pub record HasContentOf (old : DiskState) (image : List (List ℕ)) : Type 0 whe
   pub stood : old.image before
   pub is : content image ≡ content before
 
+-- so it is, or it has the content of the game that begins with this machine
+abbrev pub HasOldContentOrGame : (rom : List ℕ) → MachineState → DiskState → List (List ℕ) → Type 0
+HasOldContentOrGame rom machine old image = HasContentOf old image ⊎ (content image ≡ Some (game_content rom machine))
+
+-- or of that which begins at power-on
 abbrev pub HasOldContentOrNewGame : (rom : List ℕ) → DiskState → List (List ℕ) → Type 0
-HasOldContentOrNewGame rom old image = HasContentOf old image ⊎ (content image ≡ Some (new_game_content rom))
+HasOldContentOrNewGame rom old image = HasOldContentOrGame rom (start rom) old image
 
 -- a game of this ROM fits the device, whose generation, if it is honest, has a next one: only a failed call refuses a new game
 pub record CanBeginGame (rom : List ℕ) (old : DiskState) : Type 0 where

@@ -50,7 +50,7 @@ module _ {D : Type 0} {disk : Ghosts D} where
     pub log : log_in new ≡ log_in old
     pub generation : generation_in_use new ≡ generation_in_use old
 
-  -- the device that `new_game` or `resume` leaves
+  -- the device that `new_game`, `new_game_from` or `resume` leaves
   abbrev pub left_by : Result (Session D disk) (Refused D) → D
   left_by (Ok session) = device_of session
   left_by (Err refused) = refused.device

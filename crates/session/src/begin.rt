@@ -11,7 +11,7 @@ ghost use Rattle.sector_device.specs.Runs.{HoldsSince};
 ghost use Rattle.sector_log.specs.Calls.{HasOldOrNewContent, HasBegun, CanBegin};
 ghost use Rattle.sector_log.specs.Content.{need, generation_in};
 ghost use Rattle.sector_log.specs.Words.{device_under, found_generation};
-ghost use Rattle.session.specs.Calls.{IsAtRest, CanBeginGame, HasOldContentOrNewGame, most_unsaved, faults_after};
+ghost use Rattle.session.specs.Calls.{IsAtRest, CanBeginGame, HasOldContentOrGame, HasOldContentOrNewGame, most_unsaved, faults_after};
 ghost use Rattle.session.specs.Beginning.{session_fault, IsBeginRefusal};
 ghost use Rattle.session.specs.Found.{IsNewGameCause};
 ghost use Rattle.session.specs.Resting.{IsOfItsRom};
@@ -90,6 +90,17 @@ pub(crate) fn make_room(alloc: Global, cartridge: &Cartridge) -> Result<Room, Al
     room_with(alloc, encoded)
 }
 
+/// The machine at power-on, as one of this cartridge: a game may begin with it. Refused if there is
+/// no memory.
+pub fn machine_at_power_on(alloc: Global, cartridge: &Cartridge) -> Result<Machine, AllocError>
+    ensures start { IfOk result (λ m. m ≡ start cartridge.now) }
+    ensures of { IfOk result (λ m. IsMachineOf cartridge.now m) }
+{
+    // its contract says that the image is an accepted one
+    let _ = cartridge.rom();
+    Machine::power_on(alloc, cartridge)
+}
+
 /// Begins a game at power-on, whatever the device holds. A power cut at any moment leaves what the
 /// device held or the new game.
 ///
@@ -125,13 +136,56 @@ pub fn new_game<D: SectorDevice>(
 
     ensures answered { HasAnswered (λ refused. faults_after refused.why) (D.disk device) (D.disk (left_by result)) result }
 {
-    let Ok(room) = make_room(alloc, cartridge) else {
+    let Ok(machine) = machine_at_power_on(alloc, cartridge) else {
         return Err(Refused {
             why: SessionError::Memory,
             device,
         });
     };
-    let Ok(machine) = Machine::power_on(alloc, cartridge) else {
+    new_game_from(alloc, device, cartridge, machine)
+}
+
+/// Begins a game with a machine of this cartridge, whatever the device holds. A power cut at any
+/// moment leaves what the device held or the new game, which stands for no input and this machine.
+///
+/// Condition: the machine has this cartridge's ROM, and the controller, the rumble motor and the
+/// length of RAM that this ROM asks for.
+///
+/// Refusals: those of `new_game`, in its order. None hands the machine back.
+pub fn new_game_from<D: SectorDevice>(
+    alloc: Global,
+    device: D,
+    cartridge: &Cartridge,
+    machine: Machine,
+) -> Result<Session<D>, Refused<D>>
+    requires { IsMachineOf cartridge.now machine }
+
+    // what is begun
+    ensures begun { IfOk result (λ s. (acknowledged_of s ≡ 0) × (pending_of s ≡ []) × (is_broken s ≡ false)) }
+    ensures machine { IfOk result (λ s. (machine_of s ≡ machine) × (rom_of s ≡ cartridge.now)) }
+
+    // what the device stands for, at Ok and at each moment
+    ensures rests { IfOk result (λ s. (D.disk device).honest → IsAtRest cartridge.now (D.disk (device_of s)) 0 [] machine) }
+    ensures images { (D.disk device).honest →
+        HoldsSince (D.disk device) (D.disk (left_by result)) (HasOldContentOrGame cartridge.now machine (D.disk device)) }
+    ensures untouched { IfErr result (λ refused. (refused.why ≡ Device) ⊎
+        ((D.disk device).honest → HoldsSince (D.disk device) (D.disk refused.device) (D.disk device).image)) }
+
+    // when it is refused
+    ensures can { IfOk result (λ s. (need (snapshot_length (ram_length_of cartridge.now)) ≤ length (D.disk device).sectors) ×
+        ((D.disk device).honest → generation_in (D.disk device).sectors < 2 ^ 64 - 1)) }
+    ensures cause { IfErr result (λ refused.
+        IsNewGameCause (snapshot_length (ram_length_of cartridge.now)) (length (D.disk device).sectors) refused.why) }
+    ensures worn { IfErr result (λ refused. refused.why ≡ Worn → (D.disk device).honest → generation_in (D.disk device).sectors ≡ 2 ^ 64 - 1) }
+
+    // before all other causes, or once none of them holds
+    ensures memory { IfErr result (λ refused. refused.why ≡ Memory → refused.device ≡ device) }
+    ensures failed { IfErr result (λ refused. refused.why ≡ Device → ((D.disk device).honest →
+        HasLooked (D.disk device) (D.disk refused.device)) ⊎ CanBeginGame cartridge.now (D.disk device)) }
+
+    ensures answered { HasAnswered (λ refused. faults_after refused.why) (D.disk device) (D.disk (left_by result)) result }
+{
+    let Ok(room) = make_room(alloc, cartridge) else {
         return Err(Refused {
             why: SessionError::Memory,
             device,

@@ -18,7 +18,7 @@ mod resuming;
 mod save;
 pub mod session;
 
-pub use begin::{new_game, sectors_needed};
+pub use begin::{machine_at_power_on, new_game, new_game_from, sectors_needed};
 pub use error::{Damage, Refused, SessionError};
 pub use look::Look;
 pub use looking::look_at;

@@ -37,8 +37,8 @@ pub struct Counts {
     pub pending: u64,
 }
 
-/// A game that is being played. `new_game` and `resume` allocate all that it needs: no call of it
-/// takes memory.
+/// A game that is being played. `new_game`, `new_game_from` and `resume` allocate all that it
+/// needs: no call of it takes memory.
 #[derive(Drop)]
 pub struct Session<D: SectorDevice> {
     pub(crate) store: Store<D>,

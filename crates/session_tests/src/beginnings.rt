@@ -1,9 +1,10 @@
 //! New games.
 use crate::asserting::{OrStop, holds, same};
 use crate::common::{
-    begun, calls, cartridge, cartridge_of, clock_snapshot, count, counts, fresh, game, has_bytes,
-    image, into_device, is_blank_from, left_by_new_game, other_cartridge, refused, resumed,
-    resumes_at, snapshot_of,
+    begun, begun_from, calls, cartridge, cartridge_of, clock_snapshot, count, counts,
+    frames_snapshot, fresh, game, give_frames, has_bytes, image, into_device, is_blank_from,
+    left_by_game_from, left_by_new_game, looks_at, other_cartridge, refused, resumed, resumes_at,
+    save, snapshot_of,
 };
 use sector_device::MemoryDevice;
 use session::{SessionError, sectors_needed};
@@ -142,5 +143,57 @@ fn a_cut_new_game_of_another_rom(rt: HostRuntime) {
                 same!(rt; resumed(&rt, alloc, left, &other).counts().all, 5);
             }
         }
+    }
+}
+
+/// A game begun with a machine that has run some frames counts none of them, and replaces what was there.
+#[test]
+fn a_game_begins_with_a_given_machine(rt: HostRuntime) {
+    let alloc = rt.alloc();
+    let cartridge = cartridge(alloc).or_stop(&rt);
+    let bytes = frames_snapshot(alloc, &cartridge, 3).or_stop(&rt);
+    let start = frames_snapshot(alloc, &cartridge, 0).or_stop(&rt);
+    holds!(rt; bytes.as_slice() != start.as_slice());
+    let old = game(&rt, alloc, &cartridge, 5);
+    let session = begun_from(&rt, alloc, old, &cartridge, &bytes);
+    same!(rt; counts(&session), [0, 0, 0]);
+    let device = looks_at(&rt, alloc, into_device(session), &cartridge, 0, &bytes);
+    resumes_at(&rt, alloc, device, &cartridge, 0, &bytes);
+}
+
+/// Its inputs are counted from 0, and lead on from its machine.
+#[test]
+fn a_game_with_a_given_machine_is_played_on(rt: HostRuntime) {
+    let alloc = rt.alloc();
+    let cartridge = cartridge(alloc).or_stop(&rt);
+    let bytes = frames_snapshot(alloc, &cartridge, 2).or_stop(&rt);
+    let device = fresh(alloc, 188).or_stop(&rt);
+    let mut session = begun_from(&rt, alloc, device, &cartridge, &bytes);
+    give_frames(&rt, &mut session, 2, 5);
+    save(&rt, &mut session, 3);
+    resumes_at(
+        &rt,
+        alloc,
+        into_device(session),
+        &cartridge,
+        3,
+        &frames_snapshot(alloc, &cartridge, 5).or_stop(&rt),
+    );
+}
+
+#[test]
+fn games_with_a_given_machine_are_refused(rt: HostRuntime) {
+    let alloc = rt.alloc();
+    let cartridge = cartridge(alloc).or_stop(&rt);
+    let bytes = clock_snapshot(alloc, &cartridge, 3).or_stop(&rt);
+    // A sector too few: it was synced, and nothing was written. Room for a call too few: all but the last one were made.
+    for (sectors, room, want, calls) in [
+        (187, 1000, SessionError::TooSmall { need: 188 }, 1),
+        (188, 96, SessionError::Device, 96),
+    ] {
+        let device = MemoryDevice::new(alloc, sectors, room).or_stop(&rt);
+        let (why, device) = left_by_game_from(&rt, alloc, device, &cartridge, &bytes);
+        same!(rt; why, Some(want));
+        same!(rt; device.calls(), calls);
     }
 }

@@ -1,5 +1,5 @@
 use Rattle.gbkeep.proofs.fault.report.Goals as goal
-use Rattle.gbkeep.proofs.fault.report.Goals.{in-Cart, in-Memory, in-File, in-Output, in-Address, in-Word, in-Device, in-Script, in-Session, in-Line, in-Input, in-Recording, in-Behind, in-Differ, in-TestFailed, in-TestUndecided}
+use Rattle.gbkeep.proofs.fault.report.Goals.{in-Cart, in-Memory, in-File, in-Output, in-Address, in-Word, in-Device, in-Script, in-Session, in-Line, in-Input, in-Recording, in-Behind, in-Differ, in-TestFailed, in-TestUndecided, in-NoBattery, in-BatteryLength}
 
 pub returns-clause-line : goal.returns-clause-line
 returns-clause-line g c =
@@ -20,4 +20,6 @@ returns-clause-line g c =
       | in-Differ w ↦ rw (w.in-Differ.is, w.err-is) w.write_line-in-Differ.ensures
       | in-TestFailed w ↦ rw (w.in-TestFailed.is, w.err-is) w.write_line-in-TestFailed.ensures
       | in-TestUndecided w ↦ rw (w.in-TestUndecided.is, w.err-is) w.write_line-in-TestUndecided.ensures
+      | in-NoBattery w ↦ rw (w.in-NoBattery.is, w.err-is) w.write_line-in-NoBattery.ensures
+      | in-BatteryLength w ↦ rw w.in-BatteryLength.is tt
     ]

@@ -1,15 +1,15 @@
-use Rattle.std.proofs.Common.{◌≡◌, List, ℕ, length, drop, refl, sym, ap, ◌∙◌, subst, arith}
+use Rattle.std.proofs.Common.{◌≡◌, ℕ, length, drop, refl, sym, ap, ◌∙◌, subst, arith}
 use Rattle.sha2.specs.Sha256.{sha256}
 use Rattle.cartridge.specs.Header.{ram_length_of}
 use Rattle.snapshot.specs.Encoding.{encoded, snapshot_length}
 use Rattle.sector_device.specs.Runs.{HoldsSince}
-use Rattle.sector_log.specs.Calls.{HasOldOrNewContent, HasBegun, IsBeginCause, faults_after as log_faults_after}
+use Rattle.sector_log.specs.Calls.{HasOldOrNewContent, HasBegun, IsBeginCause}
 use Rattle.sector_log.specs.Words.{device_under, device_of as device_of_store, entries_of, found_generation}
 use Rattle.sector_log.specs.declared.fault.LogFault.{LogFault}
 use Rattle.sector_log.specs.declared.fault.LogFault.TheVariants.{Memory as LogMemory, Device as LogDevice, TooSmall as LogTooSmall, Worn as LogWorn, LogFull, Broken as LogBroken}
 use Rattle.session.specs.Beginning.{session_fault, IsBeginRefusal}
 use Rattle.session.specs.Calls.{faults_after}
-use Rattle.session.proofs.Beginnings.{machine_of_rom, begun_rests, begun_of, images_of}
+use Rattle.session.proofs.Beginnings.{machine_of_rom, begun_rests, begun_of, images_of, same_faults}
 use Rattle.session.proofs.Looks.{filled}
 use Rattle.session.proofs.begin.begin_with.Goals as goal
 
@@ -47,14 +47,6 @@ refusal LogDevice blob_length count last cause = cause
 refusal LogMemory blob_length count last cause = cause
 refusal LogFull blob_length count last cause = cause
 refusal LogBroken blob_length count last cause = cause
-
-same_faults : (why : LogFault) (faults : ℕ) → log_faults_after why faults ≡ faults_after (session_fault why) faults
-same_faults (LogTooSmall needed) faults = refl
-same_faults LogWorn faults = refl
-same_faults LogDevice faults = refl
-same_faults LogMemory faults = refl
-same_faults LogFull faults = refl
-same_faults LogBroken faults = refl
 
 pub returns-in-Err-clause-cause : goal.returns-in-Err-clause-cause
 returns-in-Err-clause-cause g c =

@@ -1,90 +1,22 @@
-use Rattle.std.proofs.Common.{◌≤◌, ◌<◌, ⊎_elim, inl, inr, [], ℕ, length, refl, sym, ap, ◌∙◌, subst, arith}
-use Rattle.sha2.specs.Sha256.{sha256}
+use Rattle.std.proofs.Common.{[], inl, refl, subst}
 use Rattle.machine.specs.Machine.{MachineState}
-use Rattle.snapshot.specs.Encoding.{encoded, snapshot_length}
-use Rattle.cartridge.specs.Header.{ram_length_of}
 use Rattle.sector_device.specs.Runs.{HoldsSince}
-use Rattle.sector_log.specs.Calls.{HasOldOrNewContent}
-use Rattle.sector_log.specs.Content.{need}
-use Rattle.sector_log.specs.Words.{device_under, found_generation}
-use Rattle.session.specs.Beginning.{IsBeginRefusal}
-use Rattle.session.specs.Calls.{IsAtRest}
-use Rattle.session.specs.Resting.{IsOfItsRom}
+use Rattle.session.specs.Calls.{HasOldContentOrGame, IsAtRest}
 use Rattle.session.specs.Words.{device_of, left_by}
-use Rattle.session.proofs.Beginnings.{if_ok, if_err, since_now, start_rom, start_own, begun_at_rest, new_game_images, looked_new_game, looking_is_not_worn, looking_wants_memory}
+use Rattle.session.proofs.Beginnings.{if_ok, since_now}
 use Rattle.session.proofs.Writes.{since_weaker}
 use Rattle.session.proofs.begin.new_game.Goals as goal
 
-pub returns-in_default-power_on-clause-images : goal.returns-in_default-power_on-clause-images
-returns-in_default-power_on-clause-images g c = λ honest.
+pub returns-in_default-clause-images : goal.returns-in_default-clause-images
+returns-in_default-clause-images g c = λ honest.
     since_weaker (since_now (g.D.SectorDevice.disk c.args.device) (g.met.D.SectorDevice.only_now c.args.device)) (λ image was. inl (record { before = image; stood = was; is = refl }))
-
-pub returns-in-Err-clause-images : goal.returns-in-Err-clause-images
-returns-in-Err-clause-images g c = λ honest.
-    looked_new_game c.args.cartridge.now (g.D.SectorDevice.disk c.args.device) (g.D.SectorDevice.disk c.in-Err.refused.device) (c.in-Err.ensures.looked honest)
-
-pub begin_with-requires-clause-rom : goal.begin_with-requires-clause-rom
-begin_with-requires-clause-rom g c = ap (λ (m : MachineState). m.processor.memory.banks.rom) c.in-Ok-power_on.ensures ∙ start_rom c.args.cartridge.now
-
-pub begin_with-requires-clause-own : goal.begin_with-requires-clause-own
-begin_with-requires-clause-own g c = subst IsOfItsRom (sym c.in-Ok-power_on.ensures) (start_own c.args.cartridge.now)
 
 pub returns-clause-rests : goal.returns-clause-rests
 returns-clause-rests g c =
-    if_ok c.begin_with.result c.begin_with.ensures.new
-    (λ s new honest. subst (λ (m : MachineState). IsAtRest c.args.cartridge.now (g.D.SectorDevice.disk (device_of s)) 0 [] m) c.in-Ok-power_on.ensures
-    (begun_at_rest c.args.cartridge.now (sha256 c.args.cartridge.now) (encoded c.in-Ok-power_on.machine) c.in-Ok-power_on.machine 0
-    (g.D.SectorDevice.disk (device_under c.in-Ok-open_log.opened)) (g.D.SectorDevice.disk (device_of s)) c.begin_with.ensures.of (omega arith) refl refl (new (c.in-Ok-open_log.ensures.answered.honest.1 honest))))
+    if_ok c.new_game_from.result c.new_game_from.ensures.rests
+    (λ s rests honest. subst (λ (m : MachineState). IsAtRest c.args.cartridge.now (g.D.SectorDevice.disk (device_of s)) 0 [] m) c.in-Ok.ensures.start (rests honest))
 
 pub returns-clause-images : goal.returns-clause-images
 returns-clause-images g c = λ honest.
-    new_game_images c.args.cartridge.now (g.D.SectorDevice.disk c.args.device) (g.D.SectorDevice.disk (device_under c.in-Ok-open_log.opened)) (g.D.SectorDevice.disk (left_by c.begin_with.result))
-    (g.met.D.SectorDevice.reads_are_an_image c.args.device honest) (c.in-Ok-open_log.ensures.looked honest)
-    (subst (λ (m : MachineState). HoldsSince (g.D.SectorDevice.disk (device_under c.in-Ok-open_log.opened)) (g.D.SectorDevice.disk (left_by c.begin_with.result))
-    (HasOldOrNewContent (g.D.SectorDevice.disk (device_under c.in-Ok-open_log.opened)).sectors (sha256 c.args.cartridge.now) 0 (encoded m))) c.in-Ok-power_on.ensures
-    (c.begin_with.ensures.images (c.in-Ok-open_log.ensures.answered.honest.1 honest)))
-
-pub returns-clause-untouched : goal.returns-clause-untouched
-returns-clause-untouched g c =
-    if_err c.begin_with.result c.begin_with.ensures.untouched
-    (λ refused. ⊎_elim inl (λ same. inr (λ honest. subst (λ d. HoldsSince (g.D.SectorDevice.disk c.args.device) (g.D.SectorDevice.disk d) (g.D.SectorDevice.disk c.args.device).image) (sym same) (c.in-Ok-open_log.ensures.looked honest).since)))
-
-pub returns-clause-worn : goal.returns-clause-worn
-returns-clause-worn g c =
-    if_err c.begin_with.result c.begin_with.ensures.cause
-    (λ refused cause worn honest.
-    sym (c.in-Ok-open_log.ensures.opened.generation_is honest)
-    ∙ (subst (λ why. IsBeginRefusal why (snapshot_length (ram_length_of c.args.cartridge.now)) (length (g.D.SectorDevice.disk (device_under c.in-Ok-open_log.opened)).sectors) (found_generation c.in-Ok-open_log.opened)) worn cause).1)
-
-pub returns-in-Err-clause-worn : goal.returns-in-Err-clause-worn
-returns-in-Err-clause-worn g c = λ worn honest. absurd (looking_is_not_worn c.in-Err.refused.why c.in-Err.ensures.cause (sym c.fault_of.ensures ∙ worn))
-
-pub returns-clause-can : goal.returns-clause-can
-returns-clause-can g c =
-    if_ok c.begin_with.result c.begin_with.ensures.can
-    (λ s can. (
-      subst (λ (n : ℕ). need (snapshot_length (ram_length_of c.args.cartridge.now)) ≤ n) c.in-Ok-open_log.ensures.answered.count can.enough,
-      λ honest. subst (λ (n : ℕ). n < 18446744073709551615) (c.in-Ok-open_log.ensures.opened.generation_is honest) can.unworn,
-    ))
-
-pub returns-in-Err-clause-memory : goal.returns-in-Err-clause-memory
-returns-in-Err-clause-memory g c = λ wanted. looking_wants_memory c.in-Err.refused.why c.in-Err.ensures.cause (sym c.fault_of.ensures ∙ wanted)
-
-pub returns-in-Err-clause-failed : goal.returns-in-Err-clause-failed
-returns-in-Err-clause-failed g c = λ failed. inl (λ honest. c.in-Err.ensures.looked honest)
-
-pub returns-clause-memory : goal.returns-clause-memory
-returns-clause-memory g c =
-    if_err c.begin_with.result c.begin_with.ensures.cause
-    (λ refused cause wanted.
-    absurd (subst (λ why. IsBeginRefusal why (snapshot_length (ram_length_of c.args.cartridge.now)) (length (g.D.SectorDevice.disk (device_under c.in-Ok-open_log.opened)).sectors) (found_generation c.in-Ok-open_log.opened)) wanted cause))
-
-pub returns-clause-failed : goal.returns-clause-failed
-returns-clause-failed g c =
-    if_err c.begin_with.result c.begin_with.ensures.cause
-    (λ refused cause failed.
-    let can = subst (λ why. IsBeginRefusal why (snapshot_length (ram_length_of c.args.cartridge.now)) (length (g.D.SectorDevice.disk (device_under c.in-Ok-open_log.opened)).sectors) (found_generation c.in-Ok-open_log.opened)) failed cause in
-    inr (record {
-      enough = subst (λ (n : ℕ). need (snapshot_length (ram_length_of c.args.cartridge.now)) ≤ n) c.in-Ok-open_log.ensures.answered.count can.enough;
-      unworn = λ honest. subst (λ (n : ℕ). n < 18446744073709551615) (c.in-Ok-open_log.ensures.opened.generation_is honest) can.unworn;
-    }))
+    subst (λ (m : MachineState). HoldsSince (g.D.SectorDevice.disk c.args.device) (g.D.SectorDevice.disk (left_by c.new_game_from.result))
+    (HasOldContentOrGame c.args.cartridge.now m (g.D.SectorDevice.disk c.args.device))) c.in-Ok.ensures.start (c.new_game_from.ensures.images honest)

@@ -5,7 +5,7 @@ use Rattle.machine.specs.Machine.{MachineState}
 use Rattle.snapshot.specs.Encoding.{encoded, snapshot_length}
 use Rattle.sector_device.specs.Runs.{HoldsSince}
 use Rattle.sector_log.specs.Content.{need}
-use Rattle.sector_log.specs.Words.{device_under, found_generation}
+use Rattle.sector_log.specs.Words.{found_generation}
 use Rattle.session.specs.Calls.{IsAtRest, StandsAsBefore}
 use Rattle.session.specs.Words.{device_of, machine_of, device_of_look, left_by}
 use Rattle.session.proofs.Beginnings.{if_ok_both, if_err, begun_at_rest, looked_resume}

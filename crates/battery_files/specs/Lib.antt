@@ -1,0 +1,4 @@
+pub mod Battery
+pub mod Exporting
+pub mod Importing
+pub mod Laws

@@ -1,0 +1,135 @@
+-- How the program ends on a request that was refused.
+use Rattle.std.proofs.Common.{◌≡◌, Bor, List, ℕ, Ok, refl, sym, subst, arith}
+use Rattle.command_line.specs.declared.Request.{Request}
+use Rattle.command_line.specs.declared.Request.TheVariants.{Info, List as Listing, Step, New, Play, Frame, Trace, Stream, NewRecording, Record, Recorded, Verify, Test, Show, Export, Import}
+use Rattle.test_run.specs.declared.verdict.Verdict.TheVariants.{Failed, Undecided}
+use Rattle.gbkeep.specs.declared.asked.Asked.TheVariants.{Command}
+use Rattle.gbkeep.specs.declared.fault.Fault.{Fault}
+use Rattle.gbkeep.specs.declared.fault.Fault.TheVariants.{Cart, Memory, File, Output, Address, Word, Device, Script, Session, Line, Input, Recording, Behind, Differ, TestFailed, TestUndecided, NoBattery, BatteryLength}
+use Rattle.gbkeep.specs.Text.{Exchange, Text, IsUnread, IsUnwritten}
+use Rattle.gbkeep.specs.Request.{HasAddress, HasDevice, HasScript, IsCompared, IsGameRefused, IsRecordingRefused, IsTestDecided, IsWithoutBattery, IsOtherLength}
+use Rattle.gbkeep.specs.Program.{HasEnded, HasLine, IsRecordRefused, IsRefused, IsRefusedReading, IsStreamRefused, line_of, status_of}
+
+-- what never holds of a listing holds only of requests without an address
+elsewhere : (P : Request → Type 0) → ((cart address : Bor (List ℕ)) (count : ℕ) → P (Listing cart address count) → ⊥) → (request : Request) → P request → HasAddress request
+elsewhere P never (Info cart) p = tt
+elsewhere P never (Listing cart address count) p = absurd (never cart address count p)
+elsewhere P never (Step cart count) p = tt
+elsewhere P never (New cart save sectors) p = tt
+elsewhere P never (Play cart save script) p = tt
+elsewhere P never (Frame cart save out) p = tt
+elsewhere P never (Trace cart save count) p = tt
+elsewhere P never (Stream cart save) p = tt
+elsewhere P never (NewRecording cart recording sectors) p = tt
+elsewhere P never (Record cart save recording) p = tt
+elsewhere P never (Recorded cart recording) p = tt
+elsewhere P never (Verify cart save recording) p = tt
+elsewhere P never (Test cart frames script) p = tt
+elsewhere P never (Show cart save) p = tt
+elsewhere P never (Export cart save out) p = tt
+elsewhere P never (Import cart battery save sectors) p = tt
+
+refused_by : (request : Request) (fault : Fault) (run : Exchange) → status_of fault ≡ 1 → HasAddress request → IsRefusedReading request fault run.input run.output → HasLine (line_of fault) run.errors.before run.errors.since
+    → HasEnded (Ok (Command request)) run 1
+refused_by request fault run is address why line = record {
+  done = λ zero. absurd (cc);
+  refused = λ one. (fault, is, why, line);
+  misuse = (λ two. absurd (cc), λ none. absurd (none address));
+  misused = λ two. absurd (cc);
+  bound = omega arith;
+}
+
+misused_by : (request : Request) (run : Exchange) → ¬ (HasAddress request) → IsUnread run.input → IsUnwritten run.output → HasLine (line_of Address) run.errors.before run.errors.since
+    → HasEnded (Ok (Command request)) run 2
+misused_by request run none unread unwritten line = record {
+  done = λ zero. absurd (cc);
+  refused = λ one. absurd (cc);
+  misuse = (λ two. none, λ no. refl);
+  misused = λ two. (unread, unwritten, line);
+  bound = omega arith;
+}
+
+-- a request that reads no input
+unread_by : (request : Request) (fault : Fault) (run : Exchange) → IsUnread run.input → IsRefused request fault run.output.before run.output.since → IsRefusedReading request fault run.input run.output
+    → HasLine (line_of fault) run.errors.before run.errors.since → HasEnded (Ok (Command request)) run (status_of fault)
+unread_by request (Cart fault) run unread is why line = refused_by request (Cart fault) run refl is.0 why line
+unread_by request Memory run unread is why line = refused_by request Memory run refl is.0 why line
+unread_by request File run unread is why line = refused_by request File run refl is.0 why line
+unread_by request Output run unread is why line = refused_by request Output run refl is.0 why line
+unread_by request Address run unread is why line = misused_by request run is.0 unread is.1 line
+unread_by request Word run unread is why line = absurd is
+unread_by request (Device fault) run unread is why line = refused_by request (Device fault) run refl (elsewhere (λ r. HasDevice r) (λ cart address count no. no) request is.0) why line
+unread_by request (Script fault) run unread is why line = refused_by request (Script fault) run refl (elsewhere (λ r. HasScript r) (λ cart address count no. no) request is.0) why line
+unread_by request (Session fault) run unread is why line = refused_by request (Session fault) run refl (elsewhere (λ r. IsGameRefused r fault run.output.before run.output.since) (λ cart address count no. no) request is) why line
+unread_by request (Line number) run unread is why line = absurd is
+unread_by request Input run unread is why line = absurd is
+unread_by request (Recording fault) run unread is why line = refused_by request (Recording fault) run refl (elsewhere (λ r. IsRecordingRefused r fault run.output.before run.output.since) (λ cart address count no. no) request is) why line
+unread_by request (Behind count) run unread is why line = refused_by request (Behind count) run refl (elsewhere (λ r. IsCompared r run.output.before run.output.since) (λ cart address count no. no) request is) why line
+unread_by request Differ run unread is why line = refused_by request Differ run refl (elsewhere (λ r. IsCompared r run.output.before run.output.since) (λ cart address count no. no) request is) why line
+unread_by request TestFailed run unread is why line = refused_by request TestFailed run refl (elsewhere (λ r. IsTestDecided r Failed run.output.before run.output.since) (λ cart address count no. no) request is) why line
+unread_by request TestUndecided run unread is why line = refused_by request TestUndecided run refl (elsewhere (λ r. IsTestDecided r Undecided run.output.before run.output.since) (λ cart address count no. no) request is) why line
+unread_by request NoBattery run unread is why line = refused_by request NoBattery run refl (elsewhere (λ r. IsWithoutBattery r run.output.before run.output.since) (λ cart address count no. no) request is) why line
+unread_by request (BatteryLength found needed) run unread is why line = refused_by request (BatteryLength found needed) run refl (elsewhere (λ r. IsOtherLength r found needed run.output.before run.output.since) (λ cart address count no. no) request is) why line
+
+stream_status : (fault : Fault) (input output : Text) → IsStreamRefused fault input output → status_of fault ≡ 1
+stream_status (Cart fault) input output is = refl
+stream_status Memory input output is = refl
+stream_status File input output is = refl
+stream_status Output input output is = absurd is
+stream_status Address input output is = absurd is
+stream_status Word input output is = absurd is
+stream_status (Device fault) input output is = refl
+stream_status (Script fault) input output is = absurd is
+stream_status (Session fault) input output is = refl
+stream_status (Line number) input output is = refl
+stream_status Input input output is = refl
+stream_status (Recording fault) input output is = absurd is
+stream_status (Behind count) input output is = absurd is
+stream_status Differ input output is = absurd is
+stream_status TestFailed input output is = absurd is
+stream_status TestUndecided input output is = absurd is
+stream_status NoBattery input output is = absurd is
+stream_status (BatteryLength found needed) input output is = absurd is
+
+record_status : (fault : Fault) (input output : Text) → IsRecordRefused fault input output → status_of fault ≡ 1
+record_status (Cart fault) input output is = refl
+record_status Memory input output is = refl
+record_status File input output is = refl
+record_status Output input output is = absurd is
+record_status Address input output is = absurd is
+record_status Word input output is = absurd is
+record_status (Device fault) input output is = refl
+record_status (Script fault) input output is = absurd is
+record_status (Session fault) input output is = refl
+record_status (Line number) input output is = refl
+record_status Input input output is = refl
+record_status (Recording fault) input output is = refl
+record_status (Behind count) input output is = refl
+record_status Differ input output is = absurd is
+record_status TestFailed input output is = absurd is
+record_status TestUndecided input output is = absurd is
+record_status NoBattery input output is = absurd is
+record_status (BatteryLength found needed) input output is = absurd is
+
+pub refused_ends : (request : Request) (fault : Fault) (run : Exchange) → IsRefusedReading request fault run.input run.output → HasLine (line_of fault) run.errors.before run.errors.since
+    → HasEnded (Ok (Command request)) run (status_of fault)
+refused_ends (Info cart) fault run why line = unread_by (Info cart) fault run why.0 why.1 why line
+refused_ends (Listing cart address count) fault run why line = unread_by (Listing cart address count) fault run why.0 why.1 why line
+refused_ends (Step cart count) fault run why line = unread_by (Step cart count) fault run why.0 why.1 why line
+refused_ends (New cart save sectors) fault run why line = unread_by (New cart save sectors) fault run why.0 why.1 why line
+refused_ends (Play cart save script) fault run why line = unread_by (Play cart save script) fault run why.0 why.1 why line
+refused_ends (Frame cart save out) fault run why line = unread_by (Frame cart save out) fault run why.0 why.1 why line
+refused_ends (Trace cart save count) fault run why line = unread_by (Trace cart save count) fault run why.0 why.1 why line
+refused_ends (Stream cart save) fault run why line =
+    let is = stream_status fault run.input run.output why in
+    subst (λ (status : ℕ). HasEnded (Ok (Command (Stream cart save))) run status) (sym is) (refused_by (Stream cart save) fault run is tt why line)
+refused_ends (NewRecording cart recording sectors) fault run why line = unread_by (NewRecording cart recording sectors) fault run why.0 why.1 why line
+refused_ends (Record cart save recording) fault run why line =
+    let is = record_status fault run.input run.output why in
+    subst (λ (status : ℕ). HasEnded (Ok (Command (Record cart save recording))) run status) (sym is) (refused_by (Record cart save recording) fault run is tt why line)
+refused_ends (Recorded cart recording) fault run why line = unread_by (Recorded cart recording) fault run why.0 why.1 why line
+refused_ends (Verify cart save recording) fault run why line = unread_by (Verify cart save recording) fault run why.0 why.1 why line
+refused_ends (Test cart frames script) fault run why line = unread_by (Test cart frames script) fault run why.0 why.1 why line
+refused_ends (Show cart save) fault run why line = unread_by (Show cart save) fault run why.0 why.1 why line
+refused_ends (Export cart save out) fault run why line = unread_by (Export cart save out) fault run why.0 why.1 why line
+refused_ends (Import cart battery save sectors) fault run why line = unread_by (Import cart battery save sectors) fault run why.0 why.1 why line

@@ -1,0 +1,20 @@
+use Rattle.std.proofs.Common.{◌≡◌, Ok, sym, subst, ℕ, Result}
+use Rattle.gbkeep.specs.Program.{HasEnded}
+use Rattle.gbkeep.specs.Text.{Exchange}
+use Rattle.gbkeep.specs.declared.asked.Asked.{Asked}
+use Rattle.gbkeep.specs.declared.asked.Asked.TheVariants.{Command}
+use Rattle.gbkeep.specs.declared.fault.Fault.{Fault}
+use Rattle.gbkeep.proofs.Endings.{refused_ends}
+use Rattle.gbkeep.proofs.program.answer.Goals as goal
+
+pub returns-in-Err-serve : goal.returns-in-Err-serve
+returns-in-Err-serve g c =
+    let run : Exchange = record {
+      input = record { before = g.I.Read.remaining c.args.input.now; since = g.I.Read.remaining c.serve.new.input };
+      output = record { before = g.O.Write.contents c.args.out.now; since = g.O.Write.contents c.serve.new.out };
+      errors = record { before = g.E.Write.contents c.args.err.now; since = g.E.Write.contents c.report.new.err };
+    } in
+    let same : c.args.asked ≡ Ok (Command c.in-Ok-Command.request) = cc in
+    subst (λ (asked : Result Asked Fault). HasEnded asked run c.report.result) (sym same)
+    (subst (λ (status : ℕ). HasEnded (Ok (Command c.in-Ok-Command.request)) run status) (sym c.report.ensures.status)
+    (refused_ends c.in-Ok-Command.request c.in-Err-serve.fault run c.in-Err-serve.ensures c.report.ensures.line))

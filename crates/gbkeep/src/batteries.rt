@@ -1,0 +1,142 @@
+//! Battery files: out of a game, and into a new one.
+
+ghost use Rattle.std.specs.Prelude.{◌≡◌, length, IfErr, IfSome, OnErr, OnOk};
+ghost use Rattle.std.specs.Io.KnownBytes.{Appends};
+ghost use Rattle.exact_text.specs.Written.{AppendsProperPrefix};
+ghost use Rattle.sector_device.specs.FileDevice.{file_disk};
+ghost use Rattle.gbkeep.specs.Beginning.{IsUnbegun, begun_line};
+ghost use Rattle.gbkeep.specs.Program.{IsBatteryFault, IsServed};
+ghost use Rattle.gbkeep.specs.Request.{IsBatteryTaken, exported_line};
+
+use crate::begin::begin_game_from;
+use crate::bytes::{MOST_BATTERY, MOST_ROM, durable_file, file_bytes};
+use crate::error::BeginError;
+use crate::fault::Fault;
+use crate::interrupted::{Beginning, new_file};
+use crate::saves::sectors_or;
+use arrayvec::ArrayString;
+use battery_files::{export_battery, machine_with_battery};
+use cartridge::Cartridge;
+use command_line::Request;
+use exact_text::{OutputFailed, write_whole};
+use sector_device::FileDevice;
+use session::{SessionError, sectors_needed};
+use std::alloc::Global;
+use std::fmt::Write as FormatWrite;
+use std::fs;
+use std::fs::File;
+use std::io::Write;
+use std::path::Path;
+use std::rt::Files;
+
+/// Writes the battery file of the game in a file to a new file, and tells how many inputs the game has had once the new file is durable. Nothing
+/// is written to the game's file.
+pub(crate) fn export<R: Files<File = File> + AllocGlobal, O: Write>(
+    rt: &R,
+    cart: &str,
+    save: &str,
+    battery: &str,
+    out: &mut O,
+) -> Result<(), Fault>
+    ensures { IsServed (Request.Export cart.entry save.entry battery.entry) result (O.contents out.old) (O.contents out.new) }
+{
+    let rom = file_bytes(rt, cart, MOST_ROM)?;
+    let device = FileDevice::attach(rt, Path::new(save))?;
+    let exported = match export_battery(rt.alloc(), device, rom) {
+        Ok(exported) => exported,
+        Err(refused) => return Err(Fault::from(refused.why)),
+    };
+    durable_file(rt, battery, exported.bytes.as_slice())?;
+    match write_exported(out, exported.count) {
+        Ok(()) => Ok(()),
+        Err(_) => Err(Fault::Output),
+    }
+}
+
+fn exported_text(count: u64) -> Option<ArrayString<32>>
+    ensures { IfSome result (λ text. text.bytes ≡ exported_line count) }
+{
+    let mut text = ArrayString::new();
+    match writeln!(text, "exported {count}") {
+        Ok(()) => Some(text),
+        Err(_) => None,
+    }
+}
+
+/// Writes the line `exported N`.
+fn write_exported<W: Write>(out: &mut W, count: u64) -> Result<(), OutputFailed>
+    ensures ok { OnOk result (Appends (W.contents out.old) (W.contents out.new) (exported_line count)) }
+    ensures err { OnErr result (AppendsProperPrefix (W.contents out.old) (W.contents out.new) (exported_line count)) }
+{
+    match exported_text(count) {
+        Some(text) => write_whole(out, text.as_bytes()),
+        None => Err(OutputFailed),
+    }
+}
+
+/// Makes a file of so many sectors, or of as many as the game needs, and begins a game in it with the RAM of a battery file, also where an
+/// interrupted `import` of the same words left its file. Where that fails once the file is made, the file is taken away again. A game that is
+/// begun stays, also where its line can't be written.
+pub(crate) fn import<R: Files<File = File> + AllocGlobal, O: Write>(
+    rt: &R,
+    cart: &str,
+    battery: &str,
+    save: &str,
+    sectors: Option<u32>,
+    out: &mut O,
+) -> Result<(), Fault>
+    ensures { IsServed (Request.Import cart.entry battery.entry save.entry sectors) result (O.contents out.old) (O.contents out.new) }
+{
+    let rom = file_bytes(rt, cart, MOST_ROM)?;
+    let cartridge = Cartridge::read(rom)?;
+    let battery = file_bytes(rt, battery, MOST_BATTERY)?;
+    if let Err(fault) = taken(rt.alloc(), &cartridge, battery.as_slice()) {
+        return Err(fault);
+    }
+    let need = sectors_needed(&cartridge);
+    let sectors = sectors_or(sectors, need);
+    if sectors < need {
+        return Err(Fault::Session(SessionError::TooSmall { need }));
+    }
+    let beginning = Beginning::Battery(battery.as_slice());
+    let device = new_file(rt, save, sectors, &cartridge, beginning)?;
+    match begin_import(rt.alloc(), device, &cartridge, battery.as_slice(), out) {
+        Ok(()) => Ok(()),
+        Err(BeginError::Session(why)) => {
+            let _ = fs::remove_file(rt, save);
+            Err(Fault::Session(why))
+        }
+        Err(BeginError::Output) => Err(Fault::Output),
+    }
+}
+
+/// Whether a battery file is taken for the cartridge, or why it is not.
+fn taken(alloc: Global, cartridge: &Cartridge, battery: &[u8]) -> Result<(), Fault>
+    ensures ok { OnOk result (IsBatteryTaken cartridge.now) }
+    ensures err { IfErr result (IsBatteryFault cartridge.now) }
+{
+    match machine_with_battery(alloc, cartridge, battery) {
+        Ok(_) => Ok(()),
+        Err(why) => Err(Fault::from(why)),
+    }
+}
+
+/// Begins a game with the RAM of a battery file on a device, and tells of it.
+fn begin_import<W: Write>(
+    alloc: Global,
+    device: FileDevice,
+    cartridge: &Cartridge,
+    battery: &[u8],
+    out: &mut W,
+) -> Result<(), BeginError>
+    ensures written { OnOk result (Appends (W.contents out.old) (W.contents out.new) begun_line) }
+    ensures cause { IfErr result (IsUnbegun cartridge.now (length (file_disk device).sectors) (W.contents out.old) (W.contents out.new)) }
+{
+    let Ok(machine) = machine_with_battery(alloc, cartridge, battery) else {
+        return Err(BeginError::Session(SessionError::Memory));
+    };
+    match begin_game_from(alloc, device, cartridge, machine, out) {
+        Ok(_) => Ok(()),
+        Err(refused) => Err(refused.why),
+    }
+}
