@@ -20,6 +20,21 @@ fn printed<R: Files<File = File> + AllocGlobal + Abort>(
     out
 }
 
+fn put(rt: &HostRuntime, path: &str, bytes: Vec<u8>) -> Result<(), Fail> {
+    fs::write(rt, path, bytes.as_slice())?;
+    Ok(())
+}
+
+/// The file has these bytes.
+fn is_file<R: Files<File = File> + AllocGlobal + Abort>(
+    rt: &R,
+    path: &str,
+    wanted: Vec<u8>,
+) -> Result<(), Fail> {
+    assert!(rt; fs::read(rt, path)? == wanted);
+    Ok(())
+}
+
 /// RAM, and behind it the registers of the live clock and of the latched one, and a time of so many bytes.
 fn battery(
     rt: &HostRuntime,
@@ -49,19 +64,23 @@ fn battery(
 fn a_battery_file_comes_back(rt: HostRuntime) -> Result<(), Fail> {
     let alloc = rt.alloc();
     let code = &[0x18, 0xfe];
-    let plain = rom(alloc, code, &[(0x147, 0x03), (0x149, 0x02)])?;
-    let clock = rom(alloc, code, &[(0x147, 0x10), (0x149, 0x02)])?;
-    fs::write(&rt, "plain.gb", plain.as_slice())?;
-    fs::write(&rt, "clock.gb", clock.as_slice())?;
+    put(
+        &rt,
+        "plain.gb",
+        rom(alloc, code, &[(0x147, 0x03), (0x149, 0x02)])?,
+    )?;
+    put(
+        &rt,
+        "clock.gb",
+        rom(alloc, code, &[(0x147, 0x10), (0x149, 0x02)])?,
+    )?;
     for path in ["plain.save", "plain.out", "clock.save", "clock.out"] {
         // what an earlier run left
         let _ = fs::remove_file(&rt, path);
     }
-    let ram = battery(&rt, 8192, None, 0)?;
-    fs::write(&rt, "plain.sav", ram.as_slice())?;
     let registers = [59, 58, 23, 255, 0xc1, 1, 2, 3, 4, 0];
-    let short = battery(&rt, 8192, Some(registers), 4)?;
-    fs::write(&rt, "clock.sav", short.as_slice())?;
+    put(&rt, "plain.sav", battery(&rt, 8192, None, 0)?)?;
+    put(&rt, "clock.sav", battery(&rt, 8192, Some(registers), 4)?)?;
     let runs = [
         done(
             &["gbkeep", "import", "plain.gb", "plain.sav", "plain.save"],
@@ -83,18 +102,15 @@ fn a_battery_file_comes_back(rt: HostRuntime) -> Result<(), Fail> {
     for run in runs {
         is_as_written(&rt, run);
     }
-    assert!(rt; fs::read(&rt, "plain.out")? == ram);
-    let long = battery(&rt, 8192, Some(registers), 8)?;
-    assert!(rt; fs::read(&rt, "clock.out")? == long);
-    Ok(())
+    is_file(&rt, "plain.out", battery(&rt, 8192, None, 0)?)?;
+    is_file(&rt, "clock.out", battery(&rt, 8192, Some(registers), 8)?)
 }
 
 #[test]
 fn of_mbc2_the_lower_bits_count(rt: HostRuntime) -> Result<(), Fail> {
     let alloc = rt.alloc();
-    let half = rom(alloc, &[0x18, 0xfe], &[(0x147, 0x06)])?;
-    fs::write(&rt, "half.gb", half.as_slice())?;
-    fs::write(&rt, "half.sav", [0xabu8; 512].as_slice())?;
+    put(&rt, "half.gb", rom(alloc, &[0x18, 0xfe], &[(0x147, 0x06)])?)?;
+    put(&rt, "half.sav", vec![in alloc; 0xabu8; 512]?)?;
     fs::write(&rt, "half.frames", "frames 00 3\n")?;
     let _ = fs::remove_file(&rt, "half.save");
     let _ = fs::remove_file(&rt, "half.out");
@@ -127,22 +143,30 @@ fn of_mbc2_the_lower_bits_count(rt: HostRuntime) -> Result<(), Fail> {
     for run in runs {
         is_as_written(&rt, run);
     }
-    assert!(rt; fs::read(&rt, "half.out")?.as_slice() == [0x0bu8; 512].as_slice());
-    Ok(())
+    is_file(&rt, "half.out", vec![in alloc; 0x0bu8; 512]?)
 }
 
 #[test]
 fn battery_files_are_refused(rt: HostRuntime) -> Result<(), Fail> {
     let alloc = rt.alloc();
     let code = &[0x18, 0xfe];
-    let bare = rom(alloc, code, &[(0x147, 0x02), (0x149, 0x02)])?;
-    let kept = rom(alloc, code, &[(0x147, 0x03), (0x149, 0x02)])?;
-    let wrong = rom(alloc, code, &[(0x147, 0x03), (0x149, 0x01)])?;
-    fs::write(&rt, "bare.gb", bare.as_slice())?;
-    fs::write(&rt, "kept.gb", kept.as_slice())?;
-    fs::write(&rt, "wrong.gb", wrong.as_slice())?;
-    fs::write(&rt, "kept.sav", [7u8; 8192].as_slice())?;
-    fs::write(&rt, "long.sav", [7u8; 8240].as_slice())?;
+    put(
+        &rt,
+        "bare.gb",
+        rom(alloc, code, &[(0x147, 0x02), (0x149, 0x02)])?,
+    )?;
+    put(
+        &rt,
+        "kept.gb",
+        rom(alloc, code, &[(0x147, 0x03), (0x149, 0x02)])?,
+    )?;
+    put(
+        &rt,
+        "wrong.gb",
+        rom(alloc, code, &[(0x147, 0x03), (0x149, 0x01)])?,
+    )?;
+    put(&rt, "kept.sav", vec![in alloc; 7u8; 8192]?)?;
+    put(&rt, "long.sav", vec![in alloc; 7u8; 8240]?)?;
     fs::write(&rt, "taken.save", "x")?;
     let _ = fs::remove_file(&rt, "bare.save");
     let _ = fs::remove_file(&rt, "never.save");
@@ -197,33 +221,39 @@ fn battery_files_are_refused(rt: HostRuntime) -> Result<(), Fail> {
     Ok(())
 }
 
+/// What `show` prints of the game is this and two digests, and its file stays as it was.
+fn is_shown<R: Files<File = File> + AllocGlobal + Abort>(
+    rt: &R,
+    begins: &[u8],
+) -> Result<(), Fail> {
+    let before = fs::read(rt, "seen.save")?;
+    let text = printed(rt, &["gbkeep", "show", "seen.gb", "seen.save"]);
+    let again = printed(rt, &["gbkeep", "show", "seen.gb", "seen.save"]);
+    assert!(rt; text.starts_with(begins));
+    assert_eq!(rt; text.len(), 183);
+    assert!(rt; text == again);
+    is_file(rt, "seen.save", before)
+}
+
 #[test]
 fn a_save_file_is_shown_as_it_is(rt: HostRuntime) -> Result<(), Fail> {
     let alloc = rt.alloc();
     let code = &[0x18, 0xfe];
-    fs::write(&rt, "seen.gb", rom(alloc, code, &[])?.as_slice())?;
-    let other = rom(alloc, code, &[(0x134, b'B')])?;
-    fs::write(&rt, "unseen.gb", other.as_slice())?;
+    put(&rt, "seen.gb", rom(alloc, code, &[])?)?;
+    put(&rt, "unseen.gb", rom(alloc, code, &[(0x134, b'B')])?)?;
     fs::write(&rt, "seen.frames", "frames 00 3\n")?;
     let _ = fs::remove_file(&rt, "seen.save");
-    is_as_written(
-        &rt,
+    let begun = [
         done(&["gbkeep", "new", "seen.gb", "seen.save"], "begun 0\n"),
-    );
-    is_as_written(
-        &rt,
         done(
             &["gbkeep", "play", "seen.gb", "seen.save", "seen.frames"],
             "resumed 0\nsaved 3\n",
         ),
-    );
-    let before = fs::read(&rt, "seen.save")?;
-    let text = printed(&rt, &["gbkeep", "show", "seen.gb", "seen.save"]);
-    let begins = text.starts_with(b"inputs 3\nlogged 3\ngeneration 2\nsectors 156\nrom ");
-    assert!(rt; begins);
-    assert_eq!(rt; text.len(), 183);
-    assert!(rt; printed(&rt, &["gbkeep", "show", "seen.gb", "seen.save"]) == text);
-    assert!(rt; fs::read(&rt, "seen.save")? == before);
+    ];
+    for run in begun {
+        is_as_written(&rt, run);
+    }
+    is_shown(&rt, b"inputs 3\nlogged 3\ngeneration 2\nsectors 156\nrom ")?;
     is_as_written(
         &rt,
         refused(
