@@ -62,6 +62,16 @@ one_step rules p = refl
 abbrev pub history_as : MachineState → Buffer Executed → DebuggerState
 history_as m b = record { machine = m; size = b.capacity; history = b.items }
 
+abbrev as_parts : MachineState → ℕ → List Executed → DebuggerState
+as_parts m size history = record { machine = m; size = size; history = history }
+
+-- its machine and its buffer apart
+pub parts_are : (d : DebuggerState) (m : MachineState) (b : Buffer Executed) → m ≡ d.machine → b.items ≡ d.history → b.capacity ≡ d.size → history_as m b ≡ d
+parts_are d m b e f g =
+    ap (λ (x : MachineState). history_as x b) e
+    ∙ ap (λ (xs : List Executed). as_parts d.machine b.capacity xs) f
+    ∙ ap (λ (n : ℕ). as_parts d.machine n d.history) g
+
 -- a step whose instruction, if it had one, was put into the buffer
 pub step_kept : (m n : MachineState) (b k : Buffer Executed) (seen : List Executed) →
     instruction_in (step_of bus_rules m.processor).stepped.kind ≡ seen →

@@ -4,7 +4,11 @@ use Rattle.std.specs.Io.KnownBytes.{Appends}
 use Rattle.exact_text.specs.Written.{AppendsProperPrefix}
 use Rattle.exact_text.proofs.Writes.{appends_nothing, appends_twice, whole_then_prefix, prefix_of_longer}
 use Rattle.machine.specs.Machine.{MachineState}
+use Rattle.sm83_processor.specs.Rules.{Rules}
+use Rattle.sm83_processor.specs.Steps.{step_of, after_steps}
+use Rattle.sm83_processor.specs.declared.processor.Processor.{Processor}
 use Rattle.debugger.specs.Listing.{line_at, address_after, lines_from}
+use Rattle.debugger.specs.Report.{line_of, step_lines}
 
 -- ---- any text
 
@@ -59,3 +63,25 @@ unfolding lines_from
 no_line_left m count i here ended =
     let left : count - i ≡ 0 = omega arith in
     ap (lines_from m here) left
+
+-- ---- the lines of steps
+
+pub none_stepped : {M : Type 0} (rules : Rules M) (count : ℕ) (p : Processor M) (old : Option (List ℕ))
+    → IsWrittenBut (step_lines rules (count - 0) p) (step_lines rules count p) old old
+none_stepped rules count p old =
+    let all : count - 0 ≡ count = omega arith in
+    subst (λ (n : ℕ). IsWrittenBut (step_lines rules n p) (step_lines rules count p) old old) (sym all) (none_written (step_lines rules count p) old)
+
+-- what is left begins with the line of the next step
+pub next_step : {M : Type 0} (rules : Rules M) (count i : ℕ) (p : Processor M) → i < count
+    → step_lines rules (count - i) p ≡ line_of (step_of rules p).stepped.kind ++ step_lines rules (count - (i + 1)) (after_steps rules 1 p)
+unfolding step_lines after_steps
+next_step rules count i p below =
+    let left : count - i ≡ suc (count - (i + 1)) = omega arith in
+    ap (λ (n : ℕ). step_lines rules n p) left
+
+pub no_step_left : {M : Type 0} (rules : Rules M) (count i : ℕ) (p : Processor M) → count ≤ i → step_lines rules (count - i) p ≡ []
+unfolding step_lines
+no_step_left rules count i p ended =
+    let left : count - i ≡ 0 = omega arith in
+    ap (λ (n : ℕ). step_lines rules n p) left

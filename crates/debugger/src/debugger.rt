@@ -34,6 +34,15 @@ pub struct Debugger {
     history: HeapCircularBuffer<Executed>,
 }
 
+/// A debugger after a step, and what was seen in it.
+#[derive(Drop)]
+pub struct WatchedStep {
+    pub debugger: Debugger,
+    pub stepped: Stepped,
+    /// The byte that was sent over the serial port.
+    pub sent: Option<u8>,
+}
+
 impl Model for Debugger {
     ghost use Rattle.debugger.specs.History.{DebuggerState, HoldsAtMost};
 
@@ -46,6 +55,8 @@ impl Model for Debugger {
 
 impl Debugger {
     ghost use Rattle.memory_map.specs.BusRules.{bus_rules};
+    ghost use Rattle.machine.specs.Sent.{sent_in_step};
+    ghost use Rattle.machine.specs.Watched.{byte_list};
     ghost use Rattle.sm83_processor.specs.Steps.{step_of};
     ghost use Rattle.sm83_processor.specs.FastStep.{IsFast};
     ghost use Rattle.debugger.specs.History.{after_run};
@@ -77,6 +88,26 @@ impl Debugger {
             let _ = self.history.push_back(seen);
         }
         stepped
+    }
+
+    /// As `step`; also says which byte the step sent over the serial port.
+    pub fn step_watched(self) -> WatchedStep
+        ensures debugger { result.debugger ≡ after_run 1 self }
+        ensures stepped { result.stepped ≡ (step_of bus_rules self.machine.processor).stepped }
+        ensures sent { byte_list result.sent ≡ sent_in_step self.machine.processor }
+    {
+        // the history is within its size, so a step that puts nothing into it leaves it as it is
+        prove!(self.history.len() <= self.history.capacity());
+        let (machine, mut history) = self.into_parts();
+        let step = machine.step_watched();
+        if let StepKind::Ran(seen) = step.stepped.kind {
+            let _ = history.push_back(seen);
+        }
+        WatchedStep {
+            debugger: Debugger::from_parts(step.machine, history),
+            stepped: step.stepped,
+            sent: step.sent,
+        }
     }
 
     /// Makes steps until one that is not the first would begin at one of these addresses, but at
@@ -185,6 +216,25 @@ impl Debugger {
             history: _,
         } = self;
         machine
+    }
+
+    /// The machine and the history apart.
+    pub fn into_parts(self) -> (Machine, HeapCircularBuffer<Executed>)
+        ensures machine { result.0 ≡ self.machine }
+        ensures items { result.1.items ≡ self.history }
+        ensures capacity { result.1.capacity ≡ self.size }
+    {
+        let Debugger { machine, history } = self;
+        (machine, history)
+    }
+
+    /// A debugger of a machine, with a history that is kept already.
+    pub fn from_parts(machine: Machine, history: HeapCircularBuffer<Executed>) -> Debugger
+        ensures { result ≡ record { machine = machine; size = history.capacity; history = history.items } }
+    {
+        // a history is within its size
+        prove!(history.len() <= history.capacity());
+        Debugger { machine, history }
     }
 }
 

@@ -1,5 +1,5 @@
 -- The text of a trace, which is written line by line, and why there is none.
-use Rattle.std.proofs.Common.{◌≡◌, ℕ, suc, ◌+◌, ◌-◌, ◌<◌, ◌≤◌, List, [], ◌++◌, Option, Some, Result, Ok, Err, ◌∙◌, ap, length, take, refl, subst, sym, arith}
+use Rattle.std.proofs.Common.{◌≡◌, ℕ, ◌+◌, ◌-◌, List, [], ◌++◌, Option, Some, Result, Ok, Err, ◌∙◌, ap, length, take, refl, subst}
 use Rattle.std.specs.Prelude.{Bool, true, false, is_err, IfOk, IfSome, OnErr, OnOk}
 use Rattle.std.specs.Result.{result_ok}
 use Rattle.std.proofs.Math.Seq.{take-append_seam}
@@ -15,36 +15,11 @@ use Rattle.session.specs.declared.error.SessionError.{SessionError}
 use Rattle.machine.specs.Machine.{MachineState}
 use Rattle.playing.specs.Played.{IsNotTakenUp}
 use Rattle.command_line.specs.declared.Request.{Request}
-use Rattle.sm83_processor.specs.Rules.{Rules}
-use Rattle.sm83_processor.specs.Steps.{step_of, after_steps}
-use Rattle.sm83_processor.specs.declared.processor.Processor.{Processor}
-use Rattle.debugger.specs.Report.{line_of}
-use Rattle.debugger.proofs.Lines.{IsWrittenBut, none_written}
 use Rattle.gbkeep.specs.declared.error.TraceError.{TraceError}
 use Rattle.gbkeep.specs.declared.error.TraceError.TheVariants.{Cart, Session, Memory, Output}
 use Rattle.gbkeep.specs.Program.{IsRefused, fault_of_trace}
 use Rattle.gbkeep.specs.Request.{HasAddress, IsGameRefused, IsOutputRefused, OfATrace}
-use Rattle.gbkeep.specs.Tracing.{HasStopped, HasTraced, IsTakenUp, IsTraceCause, IsUntraced, faults_after_trace, step_lines, trace_text}
-
-pub none_stepped : {M : Type 0} (rules : Rules M) (count : ℕ) (p : Processor M) (old : Option (List ℕ))
-    → IsWrittenBut (step_lines rules (count - 0) p) (step_lines rules count p) old old
-none_stepped rules count p old =
-    let all : count - 0 ≡ count = omega arith in
-    subst (λ (n : ℕ). IsWrittenBut (step_lines rules n p) (step_lines rules count p) old old) (sym all) (none_written (step_lines rules count p) old)
-
--- what is left begins with the line of the next step
-pub next_step : {M : Type 0} (rules : Rules M) (count i : ℕ) (p : Processor M) → i < count
-    → step_lines rules (count - i) p ≡ line_of (step_of rules p).stepped.kind ++ step_lines rules (count - (i + 1)) (after_steps rules 1 p)
-unfolding step_lines after_steps
-next_step rules count i p below =
-    let left : count - i ≡ suc (count - (i + 1)) = omega arith in
-    ap (λ (n : ℕ). step_lines rules n p) left
-
-pub no_step_left : {M : Type 0} (rules : Rules M) (count i : ℕ) (p : Processor M) → count ≤ i → step_lines rules (count - i) p ≡ []
-unfolding step_lines
-no_step_left rules count i p ended =
-    let left : count - i ≡ 0 = omega arith in
-    ap (λ (n : ℕ). step_lines rules n p) left
+use Rattle.gbkeep.specs.Tracing.{HasStopped, HasTraced, IsTakenUp, IsTraceCause, IsUntraced, faults_after_trace, trace_text}
 
 -- ---- for the program
 

@@ -24,7 +24,8 @@ use Rattle.session.specs.Stands.{Position}
 use Rattle.playing.specs.Report.{Line, texts, report_lines, report_of, HasTold}
 use Rattle.streaming.specs.Answers.{stream_lines}
 use Rattle.streaming.specs.Orders.{orders_of, IsRight}
-use Rattle.streaming.specs.Reading.{ReadsLines, ReadsTo}
+use Rattle.input_lines.specs.Reading.{ReadsLines}
+use Rattle.streaming.specs.Reading.{ReadsTo}
 use Rattle.streaming.specs.declared.obeying.End.{End}
 use Rattle.debugger.specs.Listing.{lines_from}
 use Rattle.test_run.specs.Refusals.{IsTested, IsCutOff}

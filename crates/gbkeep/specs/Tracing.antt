@@ -1,13 +1,10 @@
 -- What `trace_lines` writes and leaves, and when it refuses.
-use Rattle.std.specs.Prelude.{◌≡◌, ℕ, zero, suc, List, [], ◌++◌, Option, Some, Result, Ok, Err}
+use Rattle.std.specs.Prelude.{◌≡◌, ℕ, List, [], ◌++◌, Option, Some, Result, Ok, Err}
 use Rattle.std.specs.Io.KnownBytes.{Appends, Keeps}
 use Rattle.exact_text.specs.Written.{AppendsProperPrefix}
 use Rattle.cartridge.specs.Accepted.{IsAccepted, refusal_of}
 use Rattle.memory_map.specs.BusRules.{bus_rules}
 use Rattle.machine.specs.Machine.{MachineState}
-use Rattle.sm83_processor.specs.Rules.{Rules}
-use Rattle.sm83_processor.specs.Steps.{step_of}
-use Rattle.sm83_processor.specs.declared.processor.Processor.{Processor}
 use Rattle.snapshot.specs.Legal.{IsMachineOf}
 use Rattle.sector_device.specs.DiskState.{DiskState}
 use Rattle.sector_log.specs.Content.{content}
@@ -15,16 +12,11 @@ use Rattle.session.specs.Calls.{IsAtRest, faults_after}
 use Rattle.session.specs.Stands.{Position, stands}
 use Rattle.playing.specs.Played.{IsNotTakenUp}
 use Rattle.playing.specs.Report.{resumed_line}
-use Rattle.debugger.specs.Report.{line_of}
+use Rattle.debugger.specs.Report.{step_lines}
 use Rattle.gbkeep.specs.declared.error.TraceError.{TraceError}
 use Rattle.gbkeep.specs.declared.error.TraceError.TheVariants.{Cart, Session, Memory, Output}
 use Rattle.gbkeep.specs.declared.error.TraceRefused.{TraceRefused}
 use Rattle.gbkeep.specs.Text.{Call, IsUnwritten}
-
--- the lines of the next n steps, the first of them first
-unfoldable pub step_lines : {M : Type 0} → Rules M → ℕ → Processor M → List ℕ
-step_lines rules zero p = []
-step_lines rules (suc n) p = line_of (step_of rules p).stepped.kind ++ step_lines rules n (step_of rules p).after
 
 -- of a game that was taken up with so many inputs and this machine, the line of that and those of the next steps
 abbrev pub trace_text : (inputs : ℕ) → MachineState → (steps : ℕ) → List ℕ

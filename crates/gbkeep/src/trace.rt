@@ -10,7 +10,8 @@ ghost use Rattle.sector_device.specs.DiskState.{HasAnswered};
 ghost use Rattle.sector_device.specs.Runs.{HoldsSince};
 ghost use Rattle.session.specs.Calls.{StandsAsBefore};
 ghost use Rattle.session.specs.Resting.{IsOfItsRom};
-ghost use Rattle.gbkeep.specs.Tracing.{HasTraced, IsTraceCause, IsUntraced, faults_after_trace, left_by, step_lines, trace_text};
+ghost use Rattle.debugger.specs.Report.{step_lines};
+ghost use Rattle.gbkeep.specs.Tracing.{HasTraced, IsTraceCause, IsUntraced, faults_after_trace, left_by, trace_text};
 
 use crate::error::{TraceError, TraceRefused};
 use cartridge::Cartridge;

@@ -1,9 +1,8 @@
 -- What is seen in a frame, step by step.
-use Rattle.std.proofs.Common.{◌≡◌, ◌≢◌, ℕ, zero, suc, ◌+◌, ◌<◌, ◌≤◌, List, [], true, false, nat_lt, refl, ap, sym, ◌∙◌, add-one, arith, inl, inr}
+use Rattle.std.proofs.Common.{◌≡◌, ℕ, zero, suc, ◌+◌, ◌<◌, ◌≤◌, List, [], true, false, nat_lt, refl, ap, sym, ◌∙◌, add-one, arith, inl, inr}
 use Rattle.std.specs.Prelude.{◌==◌, if◌then◌else◌, Bool}
 use Rattle.std.specs.Fn.{iterate}
 use Rattle.std.proofs.lemmas.Bool.{lt-ltb, le-ltb, cases_lt}
-use Rattle.std.proofs.lemmas.Bool.Decides.{nat_tests}
 use Rattle.memory_map.specs.State.{BusState}
 use Rattle.memory_map.specs.Bus.{read_at}
 use Rattle.memory_map.specs.BusRules.{bus_rules}
@@ -77,14 +76,21 @@ pub unseen_on : (passed cycles : ℕ) (p q : Processor BusState) → passed < 17
 unseen_on passed cycles p q below e f silent going =
     sym (seen_by_step passed cycles [] false p q below e f (sym (nothing_is_sent p (inl silent))) (sym going))
 
-differs : (n : ℕ) → n ≢ 0x40 → (n == 0x40) ≡ false
-differs n ne = grind (arith, nat_tests)
+-- a fast step runs `LD B,B` just if that is the opcode at PC
+breakpoint_by_opcode : (opcode : ℕ) (p : Processor BusState) → IsFast bus_rules p → opcode ≡ read_at p.memory p.registers.pc
+    → is_breakpoint (step_of bus_rules p).stepped.kind ≡ (opcode == 0x40)
+breakpoint_by_opcode opcode p fast e = ap (λ (s : Step BusState). is_breakpoint s.stepped.kind) (fast_step bus_rules p fast) ∙ ap (λ (n : ℕ). n == 0x40) (sym e)
 
--- a fast step runs `LD B,B` only if that is the opcode at PC
-pub is_no_breakpoint : (opcode : ℕ) (p : Processor BusState) → IsFast bus_rules p → opcode ≡ read_at p.memory p.registers.pc → opcode ≢ 0x40
-    → is_breakpoint (step_of bus_rules p).stepped.kind ≡ false
-is_no_breakpoint opcode p fast e other =
-    ap (λ (s : Step BusState). is_breakpoint s.stepped.kind) (fast_step bus_rules p fast) ∙ ap (λ (n : ℕ). n == 0x40) (sym e) ∙ differs opcode other
+-- a fast step where no transfer runs
+pub fast_on : (passed cycles opcode : ℕ) (breaks : Bool) (p q : Processor BusState) → passed < 17556 → q ≡ (step_of bus_rules p).after
+    → cycles ≡ (step_of bus_rules p).stepped.cycles → IsSilent p.memory → IsFast bus_rules p → opcode ≡ read_at p.memory p.registers.pc → breaks ≡ (opcode == 0x40)
+    → seen_in (in_frame passed p) ≡ seen_from breaks (in_frame (passed + cycles) q)
+fast_on passed cycles opcode breaks p q below e f silent fast here broke =
+    seen_by_step passed cycles [] breaks p q below e f (sym (nothing_is_sent p (inl silent))) (broke ∙ sym (breakpoint_by_opcode opcode p fast here))
+
+-- where a frame goes on, the same is still to be seen in it
+pub seen_on : (breaks : Bool) (f g h : FrameState) → seen_in f ≡ seen_from breaks g → breaks ≡ false → seen_in f ≡ seen_in h → seen_in g ≡ seen_in h
+seen_on breaks f g h on whole so_far = sym (on ∙ ap (λ (b : Bool). seen_from b g) whole) ∙ so_far
 
 -- ---- waits
 

@@ -2,6 +2,7 @@
 
 ghost use Rattle.std.specs.Prelude.{◌≡◌, ◌<◌, ◌≤◌, ◌+◌, ◌-◌, ◌%◌, true, false};
 ghost use Rattle.picture_unit.specs.PictureJump.{IsSteady};
+ghost use Rattle.memory_map.specs.Bus.{read_at};
 ghost use Rattle.memory_map.specs.BusRules.{bus_rules};
 ghost use Rattle.machine.specs.Waiting.{Waits, within};
 ghost use Rattle.machine.specs.Watching.{IsSilent};
@@ -171,12 +172,13 @@ fn run_calm_steps<const LOOP: u8>(processor: &mut Processor<Bus>, passed: u32) -
     let end = passed + calm;
     let mut left = calm;
     loop {
+        let opcode = Bus::read(&processor.memory, processor.registers.pc);
         let AfterStep {
             now,
             left: fewer,
             is_fast,
             is_calm,
-        } = run_fast_step::<LOOP>(processor, left, end);
+        } = run_fast_step::<LOOP>(processor, opcode, false, left, end);
         if !is_calm {
             return (now, is_fast);
         }
@@ -200,15 +202,18 @@ pub(crate) struct AfterStep {
     pub(crate) is_calm: bool,
 }
 
-/// Makes a fast step where `left` M-cycles are known to be calm, which end with M-cycle `end` of the
-/// frame.
+/// Makes a fast step, the opcode of which the caller has read, where `left` M-cycles are known to be
+/// calm, which end with M-cycle `end` of the frame. After it the caller's loop ends if it is the last.
 #[inline(always)]
 pub(crate) fn run_fast_step<const LOOP: u8>(
     processor: &mut Processor<Bus>,
+    opcode: u8,
+    is_last: bool,
     left: u32,
     end: u32,
 ) -> AfterStep
     requires fast { IsFast bus_rules processor.old }
+    requires here { opcode ≡ read_at processor.old.memory processor.old.registers.pc }
     requires calm { IsCalm left processor.old.memory }
     requires within { left ≤ end }
     requires end { end ≤ cycles_per_frame }
@@ -220,10 +225,20 @@ pub(crate) fn run_fast_step<const LOOP: u8>(
     ensures still_fast { result.is_calm ≡ true → IsFast bus_rules processor.new }
     ensures calm { result.is_calm ≡ true → IsCalm result.left processor.new.memory }
     ensures silent { result.is_calm ≡ true → IsSilent processor.new.memory }
+    ensures calm_more { result.is_calm ≡ true → is_last ≡ false }
+    ensures fast_more { result.is_fast ≡ true → is_last ≡ false }
 {
-    let opcode = Bus::read(&processor.memory, processor.registers.pc);
     let (cycles, usual, is_memory_kept) = processor.run_opcode::<LOOP>(opcode);
     if !usual {
+        pass_out_of_line(processor, cycles as u8);
+        return AfterStep {
+            now: passed_after(end, left, cycles),
+            left: 0,
+            is_fast: false,
+            is_calm: false,
+        };
+    }
+    if is_last {
         pass_out_of_line(processor, cycles as u8);
         return AfterStep {
             now: passed_after(end, left, cycles),
@@ -362,7 +377,7 @@ pub(crate) fn sure_waits(processor: &Processor<Bus>, left: u32) -> u32
 
 /// For how many of the M-cycles that are left the processor is sure to wait, if the STAT signal is
 /// steady.
-fn waits(processor: &Processor<Bus>, left: u32) -> u32
+pub(crate) fn waits(processor: &Processor<Bus>, left: u32) -> u32
     ensures few { result ≤ left }
     ensures waits { IsSteady processor.now.memory.picture → Waits result processor.now }
 {

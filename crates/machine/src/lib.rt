@@ -17,4 +17,4 @@ pub use machine::Machine;
 pub use machine_without_memory::MachineWithoutMemory;
 pub use memory_map::{BusWithoutMemory, Region};
 pub use sm83_processor::{Executed, Memory, Processor, ProcessorState, StepKind, Stepped};
-pub use watched::{Watched, WatchedFrame};
+pub use watched::{Watched, WatchedFrame, WatchedStep};

@@ -1,6 +1,7 @@
 //! Frames in which it is seen what the serial port sends, and which end early after `LD B,B`.
 
 ghost use Rattle.std.specs.Prelude.{◌≡◌, ◌<◌, ◌≤◌, ◌+◌, ◌-◌, ◌↔◌, IsTrue, true, false};
+ghost use Rattle.picture_unit.specs.PictureJump.{IsSteady};
 ghost use Rattle.memory_map.specs.BusRules.{bus_rules};
 ghost use Rattle.machine.specs.Machine.{cycles_per_frame};
 ghost use Rattle.machine.specs.Sent.{sent_in_step, sent_in_cycles};
@@ -11,7 +12,7 @@ ghost use Rattle.sm83_processor.specs.Steps.{step_of};
 
 use crate::frame::{
     ABOVE_ROM, AfterStep, FRAME, IN_HRAM, IN_LOWER_ROM, IN_UPPER_ROM, IN_WRAM, is_there,
-    run_fast_step, sure_waits,
+    run_fast_step, sure_waits, waits,
 };
 use crate::machine::Machine;
 use crate::untimed::UntimedBus;
@@ -54,6 +55,15 @@ pub struct Watched {
     pub breaks: bool,
 }
 
+/// A machine after a step, and what was seen in it.
+#[derive(Drop)]
+pub struct WatchedStep {
+    pub machine: Machine,
+    pub stepped: Stepped,
+    /// The byte that was sent over the serial port.
+    pub sent: Option<u8>,
+}
+
 /// A processor after a step, and what was seen in it.
 #[derive(Drop)]
 struct SeenStep {
@@ -90,27 +100,47 @@ impl WatchedFrame {
             mut passed,
         } = self;
         while passed < FRAME {
-            passed = run_unseen(&mut processor, passed);
-            if passed >= FRAME {
-                return Watched::unseen(processor, passed);
-            }
-            let step = step_seen(processor);
-            processor = step.processor;
-            passed += u32::from(step.stepped.cycles);
-            let breaks = is_breakpoint(&step.stepped.kind);
-            if let Some(byte) = step.sent {
-                return Watched {
-                    frame: WatchedFrame { processor, passed },
-                    sent: Some(byte),
-                    breaks,
-                };
-            }
-            if breaks {
+            let (then, is_broken) = run_unseen(&mut processor, passed);
+            passed = then;
+            if is_broken {
                 return Watched {
                     frame: WatchedFrame { processor, passed },
                     sent: None,
                     breaks: true,
                 };
+            }
+            if passed >= FRAME {
+                return Watched::unseen(processor, passed);
+            }
+            if is_far(processor.memory.serial().cycles_left) {
+                let (now, breaks) = step_far(&mut processor, passed);
+                passed = now;
+                if breaks {
+                    return Watched {
+                        frame: WatchedFrame { processor, passed },
+                        sent: None,
+                        breaks: true,
+                    };
+                }
+            } else {
+                let step = step_by_parts(processor);
+                processor = step.processor;
+                passed += u32::from(step.stepped.cycles);
+                let breaks = is_breakpoint(&step.stepped.kind);
+                if let Some(byte) = step.sent {
+                    return Watched {
+                        frame: WatchedFrame { processor, passed },
+                        sent: Some(byte),
+                        breaks,
+                    };
+                }
+                if breaks {
+                    return Watched {
+                        frame: WatchedFrame { processor, passed },
+                        sent: None,
+                        breaks: true,
+                    };
+                }
             }
         }
         Watched::unseen(processor, passed)
@@ -154,6 +184,21 @@ impl Machine {
         WatchedFrame {
             processor,
             passed: u32::from(overrun),
+        }
+    }
+
+    /// As `step`; also says which byte the step sent over the serial port.
+    pub fn step_watched(self) -> WatchedStep
+        ensures machine { result.machine ≡ record self { processor = (step_of bus_rules self.processor).after } }
+        ensures stepped { result.stepped ≡ (step_of bus_rules self.processor).stepped }
+        ensures sent { byte_list result.sent ≡ sent_in_step self.processor }
+    {
+        let (processor, overrun) = self.into_parts();
+        let step = step_seen(processor);
+        WatchedStep {
+            machine: Machine::of(step.processor, overrun),
+            stepped: step.stepped,
+            sent: step.sent,
         }
     }
 }
@@ -237,6 +282,24 @@ fn step_by_parts(processor: Processor<Bus>) -> SeenStep
     }
 }
 
+/// Makes a step in which no transfer ends, and passes the waits that are sure to come after it.
+/// Returns how many M-cycles of the frame have passed then, and whether the step ran `LD B,B`.
+#[inline(never)]
+fn step_far(processor: &mut Processor<Bus>, passed: u32) -> (u32, bool)
+    requires below { passed < cycles_per_frame }
+    requires far { IsFar processor.old.memory.serial.serial.cycles_left }
+    ensures run { seen_in (in_frame passed processor.old) ≡ seen_from result.1 (in_frame result.0 processor.new) }
+    ensures more { passed < result.0 }
+    ensures few { result.0 < cycles_per_frame + 6 }
+{
+    let stepped = processor.step();
+    let now = passed + u32::from(stepped.cycles);
+    if is_breakpoint(&stepped.kind) {
+        return (now, true);
+    }
+    (wait_unseen(processor, now), false)
+}
+
 /// The byte that is sent in so many M-cycles.
 fn byte_sent(serial: &SerialState, cycles: u8) -> Option<u8>
     ensures { byte_list result ≡ sent_in_cycles cycles serial.now }
@@ -250,58 +313,96 @@ fn byte_sent(serial: &SerialState, cycles: u8) -> Option<u8>
     Some(serial.sb)
 }
 
+/// How far some steps went in a frame.
+#[derive(Clone, Copy)]
+struct Went {
+    /// How many M-cycles of the frame have passed after them.
+    passed: u32,
+    /// Whether the next step is known to be fast, and to be seen as little as they were.
+    goes_on: bool,
+    /// Whether the last one ran `LD B,B`.
+    breaks: bool,
+}
+
 /// Makes steps in a frame of which `passed` M-cycles have passed, as long as they are sure to send
-/// nothing and not to run `LD B,B`: maybe none. Returns how many have passed after them.
-fn run_unseen(processor: &mut Processor<Bus>, passed: u32) -> u32
+/// nothing: maybe none, and none after one that ran `LD B,B`. Returns how many have passed after them,
+/// and whether the last one ran `LD B,B`.
+fn run_unseen(processor: &mut Processor<Bus>, passed: u32) -> (u32, bool)
     requires { passed < cycles_per_frame }
-    ensures run { seen_in (in_frame result processor.new) ≡ seen_in (in_frame passed processor.old) }
-    ensures start { passed ≤ result }
-    ensures few { result < cycles_per_frame + 6 }
+    ensures run { seen_in (in_frame passed processor.old) ≡ seen_from result.1 (in_frame result.0 processor.new) }
+    ensures start { passed ≤ result.0 }
+    ensures few { result.0 < cycles_per_frame + 6 }
+    ensures broke { result.1 ≡ true → passed < result.0 }
 {
     if processor.memory.serial().cycles_left != 0 {
-        return passed;
+        return (passed, false);
     }
     if processor.is_fast() {
         return run_fast_unseen(processor, passed);
     }
     let sure = sure_waits(processor, FRAME - passed);
     Bus::pass(&mut processor.memory, sure);
-    passed + sure
+    (passed + sure, false)
 }
 
-/// Makes steps as `run_unseen` does, as long as the next one is fast.
-fn run_fast_unseen(processor: &mut Processor<Bus>, passed: u32) -> u32
-    requires below { passed < cycles_per_frame }
-    requires fast { IsFast bus_rules processor.old }
-    requires silent { IsSilent processor.old.memory }
+/// Passes the waits that are sure to come, if no transfer runs. Returns how many
+/// M-cycles of the frame have passed after them. Condition: the STAT signal is steady.
+fn wait_unseen(processor: &mut Processor<Bus>, passed: u32) -> u32
+    requires few { passed < cycles_per_frame + 6 }
+    requires steady { IsSteady processor.old.memory.picture }
     ensures run { seen_in (in_frame result processor.new) ≡ seen_in (in_frame passed processor.old) }
     ensures start { passed ≤ result }
     ensures few { result < cycles_per_frame + 6 }
 {
-    let mut passed = passed;
-    while passed < FRAME {
-        let (now, goes_on) = run_fast_unseen_here(processor, passed);
-        passed = now;
-        if !goes_on {
-            return passed;
-        }
+    if passed >= FRAME {
+        return passed;
     }
-    passed
+    if processor.memory.serial().cycles_left != 0 {
+        return passed;
+    }
+    let waits = waits(processor, FRAME - passed);
+    if waits == 0 {
+        return passed;
+    }
+    Bus::pass(&mut processor.memory, waits);
+    passed + waits
 }
 
-/// Makes such steps while PC stays in the lower half of ROM, in the upper half, in WRAM or in HRAM, or
-/// above ROM if it begins in none of them. Returns how many M-cycles of the frame have passed after
-/// them, and whether steps were made and the next one is known to be fast, with no transfer.
-fn run_fast_unseen_here(processor: &mut Processor<Bus>, passed: u32) -> (u32, bool)
+/// Makes steps as `run_unseen` does, as long as the next one is fast.
+fn run_fast_unseen(processor: &mut Processor<Bus>, passed: u32) -> (u32, bool)
     requires below { passed < cycles_per_frame }
     requires fast { IsFast bus_rules processor.old }
     requires silent { IsSilent processor.old.memory }
-    ensures run { seen_in (in_frame result.0 processor.new) ≡ seen_in (in_frame passed processor.old) }
+    ensures run { seen_in (in_frame passed processor.old) ≡ seen_from result.1 (in_frame result.0 processor.new) }
     ensures start { passed ≤ result.0 }
     ensures few { result.0 < cycles_per_frame + 6 }
-    ensures more { result.1 ≡ true → passed < result.0 }
-    ensures fast { result.1 ≡ true → IsFast bus_rules processor.new }
-    ensures silent { result.1 ≡ true → IsSilent processor.new.memory }
+    ensures broke { result.1 ≡ true → passed < result.0 }
+{
+    let mut passed = passed;
+    while passed < FRAME {
+        let went = run_fast_unseen_here(processor, passed);
+        if !went.goes_on {
+            return (went.passed, went.breaks);
+        }
+        passed = went.passed;
+    }
+    (passed, false)
+}
+
+/// Makes such steps while PC stays in the lower half of ROM, in the upper half, in WRAM or in HRAM, or
+/// above ROM if it begins in none of them. It goes on only where steps were made.
+fn run_fast_unseen_here(processor: &mut Processor<Bus>, passed: u32) -> Went
+    requires below { passed < cycles_per_frame }
+    requires fast { IsFast bus_rules processor.old }
+    requires silent { IsSilent processor.old.memory }
+    ensures run { seen_in (in_frame passed processor.old) ≡ seen_from result.breaks (in_frame result.passed processor.new) }
+    ensures start { passed ≤ result.passed }
+    ensures few { result.passed < cycles_per_frame + 6 }
+    ensures broke { result.breaks ≡ true → passed < result.passed }
+    ensures more { result.goes_on ≡ true → passed < result.passed }
+    ensures whole { result.goes_on ≡ true → result.breaks ≡ false }
+    ensures fast { result.goes_on ≡ true → IsFast bus_rules processor.new }
+    ensures silent { result.goes_on ≡ true → IsSilent processor.new.memory }
 {
     if is_there::<IN_LOWER_ROM>(processor.registers.pc) {
         run_fast_unseen_by::<IN_LOWER_ROM>(processor, passed)
@@ -318,68 +419,85 @@ fn run_fast_unseen_here(processor: &mut Processor<Bus>, passed: u32) -> (u32, bo
 
 /// Makes such steps while PC is where this loop runs.
 #[inline(never)]
-fn run_fast_unseen_by<const LOOP: u8>(processor: &mut Processor<Bus>, passed: u32) -> (u32, bool)
+fn run_fast_unseen_by<const LOOP: u8>(processor: &mut Processor<Bus>, passed: u32) -> Went
     requires below { passed < cycles_per_frame }
     requires fast { IsFast bus_rules processor.old }
     requires silent { IsSilent processor.old.memory }
-    ensures run { seen_in (in_frame result.0 processor.new) ≡ seen_in (in_frame passed processor.old) }
-    ensures start { passed ≤ result.0 }
-    ensures few { result.0 < cycles_per_frame + 6 }
-    ensures more { result.1 ≡ true → passed < result.0 }
-    ensures fast { result.1 ≡ true → IsFast bus_rules processor.new }
-    ensures silent { result.1 ≡ true → IsSilent processor.new.memory }
+    ensures run { seen_in (in_frame passed processor.old) ≡ seen_from result.breaks (in_frame result.passed processor.new) }
+    ensures start { passed ≤ result.passed }
+    ensures few { result.passed < cycles_per_frame + 6 }
+    ensures broke { result.breaks ≡ true → passed < result.passed }
+    ensures more { result.goes_on ≡ true → passed < result.passed }
+    ensures whole { result.goes_on ≡ true → result.breaks ≡ false }
+    ensures fast { result.goes_on ≡ true → IsFast bus_rules processor.new }
+    ensures silent { result.goes_on ≡ true → IsSilent processor.new.memory }
 {
     if !is_there::<LOOP>(processor.registers.pc) {
-        return (passed, false);
+        return Went {
+            passed,
+            goes_on: false,
+            breaks: false,
+        };
     }
     let mut passed = passed;
     loop {
-        let (now, goes_on) = run_calm_unseen::<LOOP>(processor, passed);
-        if !goes_on {
-            return (now, false);
+        let went = run_calm_unseen::<LOOP>(processor, passed);
+        if !went.goes_on {
+            return went;
         }
         if processor.memory.serial().cycles_left != 0 {
-            return (now, false);
+            return Went {
+                passed: went.passed,
+                goes_on: false,
+                breaks: false,
+            };
         }
-        if now >= FRAME || !is_there::<LOOP>(processor.registers.pc) {
-            return (now, true);
+        if went.passed >= FRAME || !is_there::<LOOP>(processor.registers.pc) {
+            return went;
         }
-        passed = now;
+        passed = went.passed;
     }
 }
 
-/// Makes such steps up to and including the first that is not known to be calm, or after which PC is
-/// elsewhere, but none that runs `LD B,B`.
+/// Makes such steps up to and including the first that is not known to be calm, or runs `LD B,B`, or
+/// after which PC is elsewhere.
 #[inline(always)]
-fn run_calm_unseen<const LOOP: u8>(processor: &mut Processor<Bus>, passed: u32) -> (u32, bool)
+fn run_calm_unseen<const LOOP: u8>(processor: &mut Processor<Bus>, passed: u32) -> Went
     requires below { passed < cycles_per_frame }
     requires fast { IsFast bus_rules processor.old }
     requires silent { IsSilent processor.old.memory }
-    ensures run { seen_in (in_frame result.0 processor.new) ≡ seen_in (in_frame passed processor.old) }
-    ensures start { passed ≤ result.0 }
-    ensures few { result.0 < cycles_per_frame + 6 }
-    ensures more { result.1 ≡ true → passed < result.0 }
-    ensures fast { result.1 ≡ true → IsFast bus_rules processor.new }
+    ensures run { seen_in (in_frame passed processor.old) ≡ seen_from result.breaks (in_frame result.passed processor.new) }
+    ensures more { passed < result.passed }
+    ensures few { result.passed < cycles_per_frame + 6 }
+    ensures whole { result.goes_on ≡ true → result.breaks ≡ false }
+    ensures fast { result.goes_on ≡ true → IsFast bus_rules processor.new }
 {
     let calm = u32::from(processor.memory.calm()).min(FRAME - passed);
     let end = passed + calm;
     let mut left = calm;
     loop {
-        if Bus::read(&processor.memory, processor.registers.pc) == BREAKPOINT {
-            return (end - left, false);
-        }
+        let opcode = Bus::read(&processor.memory, processor.registers.pc);
+        let breaks = opcode == BREAKPOINT;
         let AfterStep {
             now,
             left: fewer,
             is_fast,
             is_calm,
-        } = run_fast_step::<LOOP>(processor, left, end);
+        } = run_fast_step::<LOOP>(processor, opcode, breaks, left, end);
         if !is_calm {
-            return (now, is_fast);
+            return Went {
+                passed: now,
+                goes_on: is_fast,
+                breaks,
+            };
         }
         left = fewer;
         if !is_there::<LOOP>(processor.registers.pc) {
-            return (end - left, true);
+            return Went {
+                passed: end - left,
+                goes_on: true,
+                breaks: false,
+            };
         }
     }
 }

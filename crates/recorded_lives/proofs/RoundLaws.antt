@@ -19,8 +19,10 @@ use Rattle.session.specs.declared.error.SessionError.{SessionError}
 use Rattle.session.specs.declared.error.SessionError.TheVariants.{Device}
 use Rattle.playing.specs.Played.{Reaches}
 use Rattle.playing.specs.Report.{Line, texts, IsPart}
-use Rattle.streaming.specs.Orders.{orders_of, joined}
-use Rattle.streaming.specs.Reading.{ReadsLines, ReadsTo}
+use Rattle.input_lines.specs.Newlines.{joined}
+use Rattle.streaming.specs.Orders.{orders_of}
+use Rattle.input_lines.specs.Reading.{ReadsLines}
+use Rattle.streaming.specs.Reading.{ReadsTo}
 use Rattle.streaming.specs.Answers.{inputs_of_orders, stream_lines}
 use Rattle.streaming.specs.declared.obeying.End.{End}
 use Rattle.streaming.specs.declared.obeying.End.TheVariants.{Whole, Wrong, Failed}

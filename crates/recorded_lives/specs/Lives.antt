@@ -4,7 +4,8 @@ use Rattle.machine.specs.Machine.{MachineState, after, start}
 use Rattle.machine.specs.declared.input.Input.{Input}
 use Rattle.session.specs.Stands.{Position}
 use Rattle.playing.specs.Report.{Line, texts}
-use Rattle.streaming.specs.Orders.{orders_of, joined}
+use Rattle.input_lines.specs.Newlines.{joined}
+use Rattle.streaming.specs.Orders.{orders_of}
 use Rattle.streaming.specs.Answers.{inputs_of_orders, stream_lines}
 
 -- what both files hold: the position that the SAVE stands for, and the inputs that are recorded

@@ -19,7 +19,7 @@ use Rattle.streaming.specs.Orders.{orders_in, orders_of}
 use Rattle.streaming.specs.declared.order.Order.{Order}
 use Rattle.streaming.specs.declared.order.Order.TheVariants.{Make, Picture}
 use Rattle.streaming.proofs.Compositions.{inputs_append, unsaved_append, lines_append}
-use Rattle.streaming.proofs.Newlines.{orders_more}
+use Rattle.streaming.proofs.OrderLines.{orders_more}
 use Rattle.recorded_play.specs.Steps.{Game, Comes, Halts}
 use Rattle.recorded_play.specs.Obeying.{order_for, told_as, Does, Stops, Obeys, StopsAmong}
 use Rattle.recorded_play.specs.declared.error.RecordError.{RecordError}

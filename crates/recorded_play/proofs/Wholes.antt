@@ -9,11 +9,11 @@ use Rattle.playing.specs.Report.{resumed_line}
 use Rattle.playing.proofs.ReportLaws.{appends_line}
 use Rattle.playing.proofs.Telling.{told_part, told_then}
 use Rattle.streaming.specs.Orders.{orders_of, IsRight}
-use Rattle.streaming.specs.Reading.{ReadsLines}
+use Rattle.input_lines.specs.Reading.{ReadsLines}
 use Rattle.streaming.specs.Answers.{last_orders, ended}
 use Rattle.streaming.specs.Obeying.{all_of, answers_from}
 use Rattle.streaming.specs.declared.order.Order.{Order}
-use Rattle.streaming.proofs.Newlines.{consumes_nothing}
+use Rattle.std.proofs.KnownBytes.{Consumes-nil}
 use Rattle.streaming.proofs.Wholes.{ended_gives}
 use Rattle.recorded_play.specs.Steps.{Game}
 use Rattle.recorded_play.specs.Obeying.{told_as, Obeys, StopsAmong, StopsStream}
@@ -37,7 +37,7 @@ stops_at_resumed a before_in before since all is only_save only_recording part =
   lines = [];
   right = All-nil IsRight;
   more = [];
-  read = inl (consumes_nothing before_in);
+  read = inl (Consumes-nil before_in);
   halts = halts_at_output a a [] (comes_nothing a only_save only_recording) only_recording;
   told = told_part a.save.acknowledged (resumed_line (all_of a.save)) (answers_from a.save (ended (length a.save.pending) [])) before since (subst (λ (n : ℕ). AppendsProperPrefix before since (resumed_line n).text) is part);
 }

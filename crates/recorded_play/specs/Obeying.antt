@@ -8,7 +8,8 @@ use Rattle.session.specs.declared.error.SessionError.{SessionError}
 use Rattle.session.specs.declared.error.SessionError.TheVariants.{Device}
 use Rattle.playing.specs.Report.{Line, texts, resumed_line, HasTold}
 use Rattle.streaming.specs.Orders.{orders_of, IsRight}
-use Rattle.streaming.specs.Reading.{ReadsLines, ReadsTo}
+use Rattle.input_lines.specs.Reading.{ReadsLines}
+use Rattle.streaming.specs.Reading.{ReadsTo}
 use Rattle.streaming.specs.Answers.{inputs_of_orders, unsaved_behind_orders, ended}
 use Rattle.streaming.specs.Obeying.{all_of, answers_from}
 use Rattle.streaming.specs.declared.order.Order.{Order}

@@ -22,7 +22,7 @@ use script::Move;
 use sector_device::SectorDevice;
 use session::{Session, SessionError};
 use std::io::{Read, Write};
-use streaming::held::{Next, read_next};
+use streaming::next_order::{Next, read_next};
 use streaming::{End, Order};
 
 /// Writes the picture of the machine as it is.
@@ -107,9 +107,9 @@ fn obey_lines<D: SectorDevice, E: SectorDevice, R: Read, W: Write>(
     ensures whole { OnOk result ((is_broken session.new ≡ false) × (is_broken_recording recording.new ≡ false) ×
         (length (pending_of session.new) < most_unsaved)) }
 {
-    let mut held = ArrayVec::new();
+    let mut unread = ArrayVec::new();
     for number in 1..u64::MAX {
-        match read_next(&mut held, input) {
+        match read_next(&mut unread, input) {
             Next::Line(order) => {
                 if let Err(why) = obey(session, recording, order, out) {
                     return Err(why);

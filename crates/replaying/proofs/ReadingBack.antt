@@ -14,7 +14,7 @@ use Rattle.std.proofs.lemmas.List.Splits.{slice_split_at, slice_split_none}
 use Rattle.exact_text.specs.Hex.{hex_digit, byte_text}
 use Rattle.machine.specs.declared.input.Input.{Input}
 use Rattle.machine.specs.declared.input.Input.TheVariants.{Frame, Seconds}
-use Rattle.script.specs.Line.{is_count, count_of, buttons_of, move_of_line, move_of_words, words_of, frames_of}
+use Rattle.script.specs.Line.{is_count, count_of, byte_of, move_of_line, move_of_words, words_of, frames_of}
 use Rattle.script.specs.Script.{lines_of, moves_from, with_line}
 use Rattle.script.specs.declared.moves.Move.{Move}
 use Rattle.script.specs.declared.moves.Move.TheVariants.{Frames, Seconds as PassSeconds}
@@ -68,7 +68,7 @@ digit_reads value less =
     record { is_one = parts.0; value_is = eqb-true _ _ more.0; large = ltb-true _ _ more.1 }
 
 -- two hexadecimal digits
-buttons_back : (b : ℕ) → b < 256 → buttons_of (byte_text b) ≡ Some b
+buttons_back : (b : ℕ) → b < 256 → byte_of (byte_text b) ≡ Some b
 buttons_back b fits =
     let high = digit_reads (b / 16) (omega arith) in
     let low = digit_reads (b % 16) (omega arith) in

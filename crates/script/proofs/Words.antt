@@ -6,7 +6,7 @@ use Rattle.script.specs.Line.{move_of_line, move_of_words, words_of}
 abbrev pub IsCut : List ℕ → List ℕ → Option (Bor (List ℕ)) → Type 0
 IsCut line word rest = MatchOption rest (words_of line ≡ word ∷ []) (λ after. words_of line ≡ word ∷ words_of after.now)
 
-abbrev Begins : List (List ℕ) → Type 0
+abbrev pub Begins : List (List ℕ) → Type 0
 Begins parts = (first : List ℕ) × (others : List (List ℕ)) × (parts ≡ first ∷ others)
 
 onto_begins : (x : ℕ) (parts : List (List ℕ)) → Begins (onto_first x parts)
@@ -17,7 +17,7 @@ cond_begins : (t : Bool) (parts : List (List ℕ)) (x : ℕ) → Begins (cond t 
 cond_begins true parts x = ([], parts, refl)
 cond_begins false parts x = onto_begins x parts
 
-split_begins : (p : ℕ → Bool) (xs : List ℕ) → Begins (slice_split p xs)
+pub split_begins : (p : ℕ → Bool) (xs : List ℕ) → Begins (slice_split p xs)
 split_begins p [] = ([], [], refl)
 split_begins p (x ∷ xs) = cond_begins (p x) (slice_split p xs) x
 

@@ -13,9 +13,9 @@ abbrev pub words_of : List ℕ → List (List ℕ)
 words_of line = slice_split (λ byte. byte == 32) line
 
 -- exactly two hexadecimal digits, in either case
-abbrev pub buttons_of : List ℕ → Option ℕ
-buttons_of (high ∷ low ∷ []) = if is_digit high 16 && is_digit low 16 then Some (digit_value high * 16 + digit_value low) else None
-buttons_of word = None
+abbrev pub byte_of : List ℕ → Option ℕ
+byte_of (high ∷ low ∷ []) = if is_digit high 16 && is_digit low 16 then Some (digit_value high * 16 + digit_value low) else None
+byte_of word = None
 
 -- one to ten decimal digits
 abbrev pub is_count : List ℕ → Bool
@@ -36,11 +36,11 @@ move_of_one name = if bytes_eq name (codes "save") then Some Save else None
 
 abbrev pub move_of_two : List ℕ → List ℕ → Option Move
 move_of_two name word =
-    if bytes_eq name (codes "frame") then frames_of (buttons_of word) (Some 1)
+    if bytes_eq name (codes "frame") then frames_of (byte_of word) (Some 1)
     else (if bytes_eq name (codes "seconds") then option_map Seconds (count_of 0 4294967295 word) else None)
 
 abbrev pub move_of_three : List ℕ → List ℕ → List ℕ → Option Move
-move_of_three name word count = if bytes_eq name (codes "frames") then frames_of (buttons_of word) (count_of 1 1000000 count) else None
+move_of_three name word count = if bytes_eq name (codes "frames") then frames_of (byte_of word) (count_of 1 1000000 count) else None
 
 -- `save`, `frame BB`, `seconds N` or `frames BB N`, and nothing else
 abbrev pub move_of_words : List (List ℕ) → Option Move

@@ -4,9 +4,9 @@ ghost use Rattle.std.specs.Prelude.{◌≡◌, ◌≤◌, ◌<◌, IfSome, if◌
 ghost use Rattle.std.specs.Char.{digit_value, is_digit};
 ghost use Rattle.std.specs.Str.{bytes_eq};
 ghost use Rattle.std.specs.Str.Parse.{digits_value};
-ghost use Rattle.script.specs.Line.{HasTimes, buttons_of, count_of, is_count, move_of_line, move_of_one, move_of_two, move_of_three};
+ghost use Rattle.script.specs.Line.{HasTimes, byte_of, count_of, is_count, move_of_line, move_of_one, move_of_two, move_of_three};
 
-use crate::cut::cut;
+use crate::cutting::cut;
 use crate::moves::Move;
 
 const SPACE: u8 = b' ';
@@ -54,7 +54,7 @@ fn with_one(name: &[u8], word: &[u8]) -> Option<Move>
     ensures times { IfSome result HasTimes }
 {
     if is_word(name, b"frame") {
-        let buttons = read_buttons(word)?;
+        let buttons = read_byte(word)?;
         return Some(Move::Frames { buttons, times: 1 });
     }
     if is_word(name, b"seconds") {
@@ -71,7 +71,7 @@ fn with_two(name: &[u8], word: &[u8], count: &[u8]) -> Option<Move>
     if !is_word(name, b"frames") {
         return None;
     }
-    let buttons = read_buttons(word)?;
+    let buttons = read_byte(word)?;
     let times = read_count(count, 1, MOST_TIMES)?;
     Some(Move::Frames { buttons, times })
 }
@@ -82,9 +82,9 @@ fn is_word(word: &[u8], name: &[u8]) -> bool
     word == name
 }
 
-/// The buttons that two hexadecimal digits give.
-fn read_buttons(word: &[u8]) -> Option<u8>
-    ensures { result ≡ buttons_of word.now }
+/// The byte that exactly two hexadecimal digits write, in either case.
+pub fn read_byte(word: &[u8]) -> Option<u8>
+    ensures { result ≡ byte_of word.now }
 {
     match word {
         [high, low] => {
@@ -96,8 +96,8 @@ fn read_buttons(word: &[u8]) -> Option<u8>
     }
 }
 
-/// The number that one to ten decimal digits write, between two limits.
-fn read_count(word: &[u8], least: u32, most: u32) -> Option<u32>
+/// The number that one to ten decimal digits write, if it lies between two limits.
+pub fn read_count(word: &[u8], least: u32, most: u32) -> Option<u32>
     ensures value { result ≡ count_of least most word.now }
     ensures least { IfSome result (λ count. least ≤ count) }
     ensures most { IfSome result (λ count. count ≤ most) }
@@ -124,8 +124,8 @@ fn decimal(word: &[u8]) -> Option<u64>
     Some(value)
 }
 
-/// The value of a digit in base 10 or 16.
-fn digit_in(byte: u8, radix: u8) -> Option<u8>
+/// The value of a digit in base 2 to 16, in either case.
+pub fn digit_in(byte: u8, radix: u8) -> Option<u8>
     requires least { 2 ≤ radix }
     requires most { radix ≤ 16 }
     ensures value { result ≡ (if is_digit byte radix then Some (digit_value byte) else None) }

@@ -5,7 +5,7 @@ ghost use Rattle.std.specs.List.{All};
 ghost use Rattle.script.specs.Line.{HasTimes};
 ghost use Rattle.script.specs.Script.{CountsMoves, IsRefused, lines_of, moves_from, moves_of};
 
-use crate::cut::cut;
+use crate::cutting::cut;
 use crate::error::ScriptError;
 use crate::line::read_line;
 use crate::moves::Move;

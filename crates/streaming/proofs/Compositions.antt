@@ -15,7 +15,7 @@ use Rattle.playing.proofs.Telling.{told_by, told_more, told_then}
 use Rattle.playing.proofs.Stops.{stops_among}
 use Rattle.playing.proofs.PlayLaws.{going_nowhere, going_then, going_by, stopped_then, stopped_by, stopped_more}
 use Rattle.streaming.specs.Orders.{orders_in, orders_of}
-use Rattle.streaming.proofs.Newlines.{orders_more}
+use Rattle.streaming.proofs.OrderLines.{orders_more}
 use Rattle.streaming.specs.Answers.{inputs_of_order, inputs_of_orders, unsaved_behind_order, unsaved_behind_orders, lines_of_order, lines_of_orders}
 use Rattle.streaming.specs.Obeying.{Place, all_of, answers_from, Obeys, StopsAmong}
 use Rattle.streaming.specs.declared.order.Order.{Order}

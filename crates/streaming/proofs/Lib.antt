@@ -1,4 +1,4 @@
-pub mod Newlines
+pub mod OrderLines
 pub mod Compositions
 pub mod Steps
 pub mod Wholes

@@ -25,14 +25,15 @@ use Rattle.playing.proofs.ReportLaws.{appends_line}
 use Rattle.playing.proofs.Telling.{told_by, told_part, told_then}
 use Rattle.playing.proofs.PlayLaws.{begun_played, all_saved, stopped_here, stopped_more, stopped_by}
 use Rattle.streaming.specs.Orders.{orders_of, IsRight}
-use Rattle.streaming.specs.Reading.{ReadsLines, ReadsTo}
+use Rattle.input_lines.specs.Reading.{ReadsLines}
+use Rattle.streaming.specs.Reading.{ReadsTo}
 use Rattle.streaming.specs.Answers.{inputs_of_orders, unsaved_behind_orders, lines_of_orders, last_orders, ended, stream_lines}
 use Rattle.streaming.specs.Obeying.{Place, all_of, answers_from, Obeys, StopsAmong, Streams, StopsStream}
 use Rattle.streaming.specs.Streamed.{HasStreamed, HasStreamedAll, HasStopped}
 use Rattle.streaming.specs.declared.order.Order.{Order}
 use Rattle.streaming.specs.declared.obeying.End.{End}
 use Rattle.streaming.specs.declared.obeying.End.TheVariants.{Whole, Wrong, Failed}
-use Rattle.streaming.proofs.Newlines.{consumes_nothing}
+use Rattle.std.proofs.KnownBytes.{Consumes-nil}
 use Rattle.streaming.proofs.Compositions.{inputs_append, obeys_then, stops_then}
 
 -- ---- the save at the end
@@ -76,7 +77,7 @@ stops_at_resumed a before_in before since all is only part = record {
   lines = [];
   right = All-nil IsRight;
   more = [];
-  read = inl (consumes_nothing before_in);
+  read = inl (Consumes-nil before_in);
   stopped = λ rom from given played.
       stopped_more rom a.disk a.disk a.acknowledged from given [] (stopped_here rom a.disk a.acknowledged a.pending a.machine from given played only);
   told = told_part a.acknowledged (resumed_line (all_of a)) (answers_from a (ended (length a.pending) [])) before since (subst (λ (n : ℕ). AppendsProperPrefix before since (resumed_line n).text) is part);

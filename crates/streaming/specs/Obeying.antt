@@ -14,7 +14,8 @@ use Rattle.session.specs.declared.session.Session.{Session}
 use Rattle.playing.specs.Played.{IsPlayed, IsStop, Going, Stopped}
 use Rattle.playing.specs.Report.{Line, texts, resumed_line, HasTold}
 use Rattle.streaming.specs.Orders.{orders_of, IsRight}
-use Rattle.streaming.specs.Reading.{ReadsLines, ReadsTo}
+use Rattle.input_lines.specs.Reading.{ReadsLines}
+use Rattle.streaming.specs.Reading.{ReadsTo}
 use Rattle.streaming.specs.Answers.{inputs_of_orders, unsaved_behind_orders, lines_of_orders, ended}
 use Rattle.streaming.specs.declared.order.Order.{Order}
 use Rattle.streaming.specs.declared.obeying.End.{End}

@@ -1,7 +1,8 @@
 -- What the lines of a stream ask for.
-use Rattle.std.specs.Prelude.{◌≡◌, ◌≢◌, ◌==◌, ◌⊎◌, ◌<◌, ℕ, List, [], ◌∷◌, ◌++◌, codes, length, nat_le, if◌then◌else◌, Option, None, Some, All}
+use Rattle.std.specs.Prelude.{◌≡◌, ◌==◌, ◌⊎◌, ◌<◌, ℕ, List, [], ◌∷◌, ◌++◌, codes, length, nat_le, if◌then◌else◌, Option, None, Some}
 use Rattle.std.specs.Option.{option_map}
 use Rattle.std.specs.Str.{bytes_eq}
+use Rattle.input_lines.specs.Newlines.{HasNoNewline}
 use Rattle.script.specs.Line.{move_of_line}
 use Rattle.streaming.specs.declared.order.Order.{Order}
 use Rattle.streaming.specs.declared.order.Order.TheVariants.{Make, Picture}
@@ -25,10 +26,6 @@ abbrev pub orders_of : List (List ℕ) → List Order
 orders_of [] = []
 orders_of (line ∷ lines) = orders_in line ++ orders_of lines
 
--- no byte is a newline
-abbrev pub HasNoNewline : List ℕ → Type 0
-HasNoNewline line = All (λ byte. byte ≢ 10) line
-
 -- a line that is empty or asks for something
 pub record IsRight (line : List ℕ) : Type 0 where
   pub one_line : HasNoNewline line
@@ -39,8 +36,3 @@ pub record IsWrong (line : List ℕ) : Type 0 where
   pub one_line : HasNoNewline line
   pub some : 0 < length line
   pub wrong : order_of line ≡ None
-
--- the lines one after another, each with its newline
-abbrev pub joined : List (List ℕ) → List ℕ
-joined [] = []
-joined (line ∷ lines) = line ++ (10 ∷ joined lines)

@@ -2,7 +2,7 @@
 #![tactic(auto)]
 
 pub mod error;
-pub mod held;
+pub mod next_order;
 mod obeying;
 pub mod order;
 mod whole;

@@ -10,7 +10,7 @@ ghost use Rattle.streaming.specs.Orders.{order_list};
 ghost use Rattle.streaming.specs.Answers.{last_orders};
 ghost use Rattle.streaming.specs.Obeying.{place, Obeys, StopsAmong, ObeysLines, StopsAmongLines, Streams, StopsStream};
 
-use crate::held::{Next, read_next};
+use crate::next_order::{Next, read_next};
 use crate::order::Order;
 use arrayvec::ArrayVec;
 use exact_text::OutputFailed;
@@ -119,9 +119,9 @@ fn obey_lines<D: SectorDevice, R: Read, W: Write>(
         (R.remaining input.old) (R.remaining input.new) (W.contents out.old) (W.contents out.new) why) }
     ensures whole { OnOk result ((is_broken session.new ≡ false) × (length (pending_of session.new) < most_unsaved)) }
 {
-    let mut held = ArrayVec::new();
+    let mut unread = ArrayVec::new();
     for number in 1..u64::MAX {
-        match read_next(&mut held, input) {
+        match read_next(&mut unread, input) {
             Next::Line(order) => {
                 if let Err(why) = obey(session, order, out) {
                     return Err(why);

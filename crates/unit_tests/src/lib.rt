@@ -15,6 +15,8 @@ mod instructions;
 #[cfg(test)]
 mod lines;
 #[cfg(test)]
+mod lines_read;
+#[cfg(test)]
 mod pictures;
 #[cfg(test)]
 mod scripts;

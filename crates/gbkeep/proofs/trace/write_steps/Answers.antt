@@ -5,8 +5,7 @@ use Rattle.memory_map.specs.BusRules.{bus_rules}
 use Rattle.sm83_processor.specs.Steps.{step_of}
 use Rattle.sm83_processor.specs.declared.step.Stepped.{Stepped}
 use Rattle.debugger.specs.Report.{line_of}
-use Rattle.debugger.proofs.Lines.{one_more_written, part_failed, all_written}
-use Rattle.gbkeep.proofs.Traces.{none_stepped, next_step, no_step_left}
+use Rattle.debugger.proofs.Lines.{one_more_written, part_failed, all_written, none_stepped, next_step, no_step_left}
 use Rattle.gbkeep.proofs.trace.write_steps.Goals as goal
 
 pub loop-i-init : goal.loop-i-init

@@ -1,7 +1,7 @@
 use Rattle.std.proofs.Common.{◌-◌}
 use Rattle.memory_map.specs.BusRules.{bus_rules}
 use Rattle.debugger.proofs.Lines.{IsWrittenBut}
-use Rattle.gbkeep.specs.Tracing.{step_lines}
+use Rattle.debugger.specs.Report.{step_lines}
 use Rattle.gbkeep.proofs.trace.write_steps.Given as goal
 
 abbrev pub invariant-loop-i : goal.invariant-loop-i

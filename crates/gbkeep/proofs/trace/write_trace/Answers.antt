@@ -5,7 +5,7 @@ use Rattle.exact_text.proofs.Writes.{appends_twice, whole_then_prefix, prefix_of
 use Rattle.memory_map.specs.BusRules.{bus_rules}
 use Rattle.machine.specs.Machine.{MachineState}
 use Rattle.playing.specs.Report.{resumed_line}
-use Rattle.gbkeep.specs.Tracing.{step_lines}
+use Rattle.debugger.specs.Report.{step_lines}
 use Rattle.gbkeep.proofs.Traces.{on_err_of, on_ok_of}
 use Rattle.gbkeep.proofs.trace.write_trace.Goals as goal
 

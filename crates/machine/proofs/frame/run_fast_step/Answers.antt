@@ -17,25 +17,38 @@ returns-then-not-usual-clause-after g c =
     let p = c.args.processor.now in
     let run = c.run_opcode-cycles in
     let q = run.new.self in
-    c.pass_out_of_line.ensures ∙ fast_after bus_rules c.read-opcode.result run.result.0 p q (iterate tick run.result.0 q.memory) c.requires.fast c.read-opcode.ensures run.ensures.after run.ensures.cycles refl
+    c.pass_out_of_line.ensures ∙ fast_after bus_rules c.args.opcode run.result.0 p q (iterate tick run.result.0 q.memory) c.requires.fast c.requires.here run.ensures.after run.ensures.cycles refl
 
 pub returns-then-not-usual-clause-now : goal.returns-then-not-usual-clause-now
 returns-then-not-usual-clause-now g c =
     let run = c.run_opcode-cycles in
-    let took = fast_cycles bus_rules c.read-opcode.result run.result.0 c.args.processor.now c.requires.fast c.read-opcode.ensures run.ensures.cycles in
+    let took = fast_cycles bus_rules c.args.opcode run.result.0 c.args.processor.now c.requires.fast c.requires.here run.ensures.cycles in
     λ _. omega (arith, c.passed_after.ensures, took)
+
+pub returns-then-is_last-clause-after : goal.returns-then-is_last-clause-after
+returns-then-is_last-clause-after g c =
+    let p = c.args.processor.now in
+    let run = c.run_opcode-cycles in
+    let q = run.new.self in
+    c.pass_out_of_line-then-is_last.ensures ∙ fast_after bus_rules c.args.opcode run.result.0 p q (iterate tick run.result.0 q.memory) c.requires.fast c.requires.here run.ensures.after run.ensures.cycles refl
+
+pub returns-then-is_last-clause-now : goal.returns-then-is_last-clause-now
+returns-then-is_last-clause-now g c =
+    let run = c.run_opcode-cycles in
+    let took = fast_cycles bus_rules c.args.opcode run.result.0 c.args.processor.now c.requires.fast c.requires.here run.ensures.cycles in
+    λ _. omega (arith, c.passed_after-then-is_last.ensures, took)
 
 pub returns-then-not-is_calm-clause-after : goal.returns-then-not-is_calm-clause-after
 returns-then-not-is_calm-clause-after g c =
     let p = c.args.processor.now in
     let run = c.run_opcode-cycles in
     let q = run.new.self in
-    c.pass_usual-is_fast.ensures.after ∙ fast_after bus_rules c.read-opcode.result run.result.0 p q (iterate tick run.result.0 q.memory) c.requires.fast c.read-opcode.ensures run.ensures.after run.ensures.cycles refl
+    c.pass_usual-is_fast.ensures.after ∙ fast_after bus_rules c.args.opcode run.result.0 p q (iterate tick run.result.0 q.memory) c.requires.fast c.requires.here run.ensures.after run.ensures.cycles refl
 
 pub returns-then-not-is_calm-clause-now : goal.returns-then-not-is_calm-clause-now
 returns-then-not-is_calm-clause-now g c =
     let run = c.run_opcode-cycles in
-    let took = fast_cycles bus_rules c.read-opcode.result run.result.0 c.args.processor.now c.requires.fast c.read-opcode.ensures run.ensures.cycles in
+    let took = fast_cycles bus_rules c.args.opcode run.result.0 c.args.processor.now c.requires.fast c.requires.here run.ensures.cycles in
     λ _. omega (arith, c.passed_after-then-not-is_calm.ensures, took)
 
 pub returns-then-cycles-left-clause-after : goal.returns-then-cycles-left-clause-after
@@ -43,12 +56,12 @@ returns-then-cycles-left-clause-after g c =
     let p = c.args.processor.now in
     let run = c.run_opcode-cycles in
     let q = run.new.self in
-    c.pass_usual-is_fast-then-cycles-left.ensures.after ∙ fast_after bus_rules c.read-opcode.result run.result.0 p q (iterate tick run.result.0 q.memory) c.requires.fast c.read-opcode.ensures run.ensures.after run.ensures.cycles refl
+    c.pass_usual-is_fast-then-cycles-left.ensures.after ∙ fast_after bus_rules c.args.opcode run.result.0 p q (iterate tick run.result.0 q.memory) c.requires.fast c.requires.here run.ensures.after run.ensures.cycles refl
 
 pub returns-then-cycles-left-clause-now : goal.returns-then-cycles-left-clause-now
 returns-then-cycles-left-clause-now g c =
     let run = c.run_opcode-cycles in
-    let took = fast_cycles bus_rules c.read-opcode.result run.result.0 c.args.processor.now c.requires.fast c.read-opcode.ensures run.ensures.cycles in
+    let took = fast_cycles bus_rules c.args.opcode run.result.0 c.args.processor.now c.requires.fast c.requires.here run.ensures.cycles in
     let bounds = step-bounds bus_rules c.args.processor.now in
     λ _. omega (arith, c.passed_beyond.ensures, took, bounds.few, c.if-cycles-left.true, c.requires.within, c.requires.end)
 
@@ -69,7 +82,7 @@ returns-clause-after g c =
     let p = c.args.processor.now in
     let run = c.run_opcode-cycles in
     let q = run.new.self in
-    fast_after bus_rules c.read-opcode.result run.result.0 p q c.move_on.new.self c.requires.fast c.read-opcode.ensures run.ensures.after run.ensures.cycles c.move_on.ensures
+    fast_after bus_rules c.args.opcode run.result.0 p q c.move_on.new.self c.requires.fast c.requires.here run.ensures.after run.ensures.cycles c.move_on.ensures
 
 pub returns-clause-fast : goal.returns-clause-fast
 returns-clause-fast g c =
@@ -100,13 +113,13 @@ returns-clause-still_fast g c =
 pub returns-clause-fewer : goal.returns-clause-fewer
 returns-clause-fewer g c =
     let run = c.run_opcode-cycles in
-    let took = fast_cycles bus_rules c.read-opcode.result run.result.0 c.args.processor.now c.requires.fast c.read-opcode.ensures run.ensures.cycles in
+    let took = fast_cycles bus_rules c.args.opcode run.result.0 c.args.processor.now c.requires.fast c.requires.here run.ensures.cycles in
     λ _. omega (arith, took, c.if-cycles-left.false)
 
 pub returns-clause-left : goal.returns-clause-left
 returns-clause-left g c =
     let run = c.run_opcode-cycles in
-    let took = fast_cycles bus_rules c.read-opcode.result run.result.0 c.args.processor.now c.requires.fast c.read-opcode.ensures run.ensures.cycles in
+    let took = fast_cycles bus_rules c.args.opcode run.result.0 c.args.processor.now c.requires.fast c.requires.here run.ensures.cycles in
     λ _. omega (arith, took, c.if-cycles-left.false)
 
 pub returns-clause-calm : goal.returns-clause-calm
@@ -125,6 +138,6 @@ returns-clause-silent g c =
     let run = c.run_opcode-cycles in
     let q = run.new.self in
     let bounds = step-bounds bus_rules c.args.processor.now in
-    let took = fast_cycles bus_rules c.read-opcode.result run.result.0 c.args.processor.now c.requires.fast c.read-opcode.ensures run.ensures.cycles in
+    let took = fast_cycles bus_rules c.args.opcode run.result.0 c.args.processor.now c.requires.fast c.requires.here run.ensures.cycles in
     let still = c.stays_calm-is_calm.ensures c.if-not-is_calm.false in
     λ _. subst IsSilent (sym c.move_on.ensures) (stays_silent run.result.0 q.memory (still.quiet.serial (omega (arith, took, bounds.some, c.if-cycles-left.false))))

@@ -1,11 +1,12 @@
-use Rattle.std.proofs.Common.{◌≡◌, ℕ, ◌+◌, ◌-◌, ◌<◌, refl, ap, ◌∙◌, arith}
+use Rattle.std.proofs.Common.{◌≡◌, ℕ, ◌+◌, ◌-◌, ◌<◌, refl, ap, sym, ◌∙◌, arith}
+use Rattle.std.specs.Prelude.{◌==◌}
 use Rattle.memory_map.specs.BusRules.{bus_rules}
 use Rattle.memory_map.proofs.QuietCycles.{fewer_are_calm}
 use Rattle.sm83_processor.specs.Steps.{step_of}
 use Rattle.sm83_processor.proofs.StepCycles.{step-bounds}
-use Rattle.machine.specs.Watched.{seen_in}
+use Rattle.machine.specs.Watched.{seen_in, seen_from}
 use Rattle.machine.specs.Watching.{in_frame}
-use Rattle.machine.proofs.Watching.{is_no_breakpoint, unseen_on}
+use Rattle.machine.proofs.Watching.{fast_on, seen_on}
 use Rattle.machine.proofs.watched.run_calm_unseen.Goals as goal
 
 pub loop-passed-init : goal.loop-passed-init
@@ -27,19 +28,15 @@ pub returns-then-not-is_calm-clause-run : goal.returns-then-not-is_calm-clause-r
 returns-then-not-is_calm-clause-run g c =
     let step = c.run_fast_step-now in
     let known = c.loop-passed.invariant in
-    let going = is_no_breakpoint c.read.result c.loop-passed.processor known.fast c.read.ensures c.if-read-eq-BREAKPOINT.false in
-    ap (λ (n : ℕ). seen_in (in_frame n step.new.processor)) (step.ensures.now c.if-not-is_calm.true)
-    ∙ unseen_on (c.args.passed + c.min-calm.result - c.loop-passed.left) (step_of bus_rules c.loop-passed.processor).stepped.cycles c.loop-passed.processor step.new.processor known.below step.ensures.after refl known.silent going
-    ∙ known.run
-
-pub returns-then-not-is_calm-clause-start : goal.returns-then-not-is_calm-clause-start
-returns-then-not-is_calm-clause-start g c =
-    omega (arith, c.loop-passed.invariant.start, c.run_fast_step-now.ensures.now c.if-not-is_calm.true)
+    sym known.run
+    ∙ fast_on (c.args.passed + c.min-calm.result - c.loop-passed.left) (step_of bus_rules c.loop-passed.processor).stepped.cycles c.read-opcode.result (c.read-opcode.result == 0x40) c.loop-passed.processor step.new.processor
+    known.below step.ensures.after refl known.silent known.fast c.read-opcode.ensures refl
+    ∙ ap (λ (n : ℕ). seen_from (c.read-opcode.result == 0x40) (in_frame n step.new.processor)) (sym (step.ensures.now c.if-not-is_calm.true))
 
 pub returns-then-not-is_calm-clause-more : goal.returns-then-not-is_calm-clause-more
 returns-then-not-is_calm-clause-more g c =
     let bounds = step-bounds bus_rules c.loop-passed.processor in
-    λ _. omega (arith, c.loop-passed.invariant.start, c.run_fast_step-now.ensures.now c.if-not-is_calm.true, bounds.some)
+    omega (arith, c.loop-passed.invariant.start, c.run_fast_step-now.ensures.now c.if-not-is_calm.true, bounds.some)
 
 pub returns-then-not-is_calm-clause-few : goal.returns-then-not-is_calm-clause-few
 returns-then-not-is_calm-clause-few g c =
@@ -61,10 +58,11 @@ loop-passed-preserved g c =
     let cycles = (step_of bus_rules c.loop-passed.processor).stepped.cycles in
     let fewer : cycles < left = step.ensures.fewer c.if-not-is_calm.false in
     let rest : step.result.left ≡ left - cycles = step.ensures.left c.if-not-is_calm.false in
-    let going = is_no_breakpoint c.read.result c.loop-passed.processor known.fast c.read.ensures c.if-read-eq-BREAKPOINT.false in
     let on : end - step.result.left ≡ end - left + cycles = omega (arith, rest, fewer, known.within) in record {
       run = ap (λ (n : ℕ). seen_in (in_frame n step.new.processor)) on
-          ∙ unseen_on (end - left) cycles c.loop-passed.processor step.new.processor known.below step.ensures.after refl known.silent going ∙ known.run;
+          ∙ seen_on (c.read-opcode.result == 0x40) (in_frame (end - left) c.loop-passed.processor) (in_frame (end - left + cycles) step.new.processor) (in_frame c.args.passed c.args.processor.now)
+          (fast_on (end - left) cycles c.read-opcode.result (c.read-opcode.result == 0x40) c.loop-passed.processor step.new.processor known.below step.ensures.after refl known.silent known.fast c.read-opcode.ensures refl)
+          (step.ensures.calm_more c.if-not-is_calm.false) known.run;
       start = omega (arith, known.start, on);
       below = omega (arith, known.end, rest, fewer, known.within);
       within = omega (arith, rest, known.within);
@@ -84,20 +82,15 @@ returns-then-not-is_there-clause-run g c =
     let cycles = (step_of bus_rules c.loop-passed.processor).stepped.cycles in
     let fewer : cycles < left = step.ensures.fewer c.if-not-is_calm.false in
     let lessened : step.result.left ≡ left - cycles = step.ensures.left c.if-not-is_calm.false in
-    let going = is_no_breakpoint c.read.result c.loop-passed.processor known.fast c.read.ensures c.if-read-eq-BREAKPOINT.false in
     let on : end - rest ≡ end - left + cycles = omega (arith, lessened, fewer, known.within) in
-    ap (λ (n : ℕ). seen_in (in_frame n step.new.processor)) on
-    ∙ unseen_on (end - left) cycles c.loop-passed.processor step.new.processor known.below step.ensures.after refl known.silent going ∙ known.run
-
-pub returns-then-not-is_there-clause-start : goal.returns-then-not-is_there-clause-start
-returns-then-not-is_there-clause-start g c =
-    let step = c.run_fast_step-now in
-    let known = c.loop-passed.invariant in
-    omega (arith, step.ensures.fewer c.if-not-is_calm.false, step.ensures.left c.if-not-is_calm.false, known.within, known.start)
+    sym (ap (λ (n : ℕ). seen_in (in_frame n step.new.processor)) on
+    ∙ seen_on (c.read-opcode.result == 0x40) (in_frame (end - left) c.loop-passed.processor) (in_frame (end - left + cycles) step.new.processor) (in_frame c.args.passed c.args.processor.now)
+    (fast_on (end - left) cycles c.read-opcode.result (c.read-opcode.result == 0x40) c.loop-passed.processor step.new.processor known.below step.ensures.after refl known.silent known.fast c.read-opcode.ensures refl)
+    (step.ensures.calm_more c.if-not-is_calm.false) known.run)
 
 pub returns-then-not-is_there-clause-more : goal.returns-then-not-is_there-clause-more
 returns-then-not-is_there-clause-more g c =
     let step = c.run_fast_step-now in
     let known = c.loop-passed.invariant in
     let bounds = step-bounds bus_rules c.loop-passed.processor in
-    λ _. omega (arith, step.ensures.fewer c.if-not-is_calm.false, step.ensures.left c.if-not-is_calm.false, known.within, known.start, bounds.some)
+    omega (arith, step.ensures.fewer c.if-not-is_calm.false, step.ensures.left c.if-not-is_calm.false, known.within, known.start, bounds.some)

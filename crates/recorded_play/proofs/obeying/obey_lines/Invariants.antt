@@ -3,7 +3,7 @@ use Rattle.std.specs.List.{All}
 use Rattle.recording.specs.Words.{device_of as device_of_recording, is_broken as is_broken_recording}
 use Rattle.session.specs.Words.{device_of, pending_of, is_broken}
 use Rattle.streaming.specs.Orders.{orders_of, IsRight}
-use Rattle.streaming.specs.Reading.{left_of, TakesLines}
+use Rattle.input_lines.specs.Reading.{left_of, TakesLines}
 use Rattle.recorded_play.specs.Steps.{game}
 use Rattle.recorded_play.specs.Obeying.{Obeys}
 use Rattle.recorded_play.proofs.obeying.obey_lines.Given as goal
@@ -17,7 +17,7 @@ invariant-loop-number g l =
       lines : List (List ℕ);
       right : All IsRight lines;
       number : l.number ≡ length lines + 1;
-      taken : TakesLines lines (g.R.Read.remaining l.initial.input) (left_of l.held.items (g.R.Read.remaining l.input));
+      taken : TakesLines lines (g.R.Read.remaining l.initial.input) (left_of l.unread.items (g.R.Read.remaining l.input));
       obeys : Obeys (game (g.D.SectorDevice.disk (device_of first)) (g.E.SectorDevice.disk (device_of_recording l.initial.recording)) first)
           (game (g.D.SectorDevice.disk (device_of now)) (g.E.SectorDevice.disk (device_of_recording l.recording)) now)
           (g.W.Write.contents l.initial.out) (g.W.Write.contents l.out) (orders_of lines);

@@ -2,9 +2,10 @@ use Rattle.std.proofs.Common.{◌≡◌, ◌∷◌, ◌++◌, ◌+◌, [], lengt
 use Rattle.std.proofs.lemmas.List.Elements.{All-nil}
 use Rattle.session.specs.Words.{device_of}
 use Rattle.streaming.specs.Orders.{IsRight, order_list}
-use Rattle.streaming.specs.Reading.{left_of}
+use Rattle.input_lines.specs.Reading.{left_of}
 use Rattle.streaming.specs.Obeying.{place}
-use Rattle.streaming.proofs.Newlines.{right_more, takes_none, takes_more, reads_left, reads_rest, reads_wrong}
+use Rattle.input_lines.proofs.Takings.{takes_none, takes_more, reads_left, reads_rest}
+use Rattle.streaming.proofs.OrderLines.{right_more, reads_wrong}
 use Rattle.streaming.proofs.Compositions.{obeys_nothing, line_obeyed, line_stopped}
 use Rattle.streaming.proofs.obeying.obey_lines.Goals as goal
 
@@ -15,7 +16,7 @@ loop-number-init g c =
       lines = [];
       right = All-nil IsRight;
       number = refl;
-      taken = takes_none (g.R.Read.remaining c.args.input.now) c.new-held.result.items c.new-held.ensures;
+      taken = takes_none (g.R.Read.remaining c.args.input.now) c.new-unread.result.items c.new-unread.ensures;
       obeys = obeys_nothing (place (g.D.SectorDevice.disk (device_of first)) first) (g.W.Write.contents c.args.out.now) (g.met.D.SectorDevice.only_now (device_of first));
       whole = c.requires.whole;
       few = c.requires.few;
@@ -33,8 +34,8 @@ loop-number-preserved g c =
       right = right_more so_far.lines next.0 so_far.right next.1;
       number = omega (arith, so_far.number, length-append so_far.lines (next.0 ∷ []));
       taken =
-          takes_more so_far.lines next.0 (g.R.Read.remaining c.args.input.now) (left_of c.loop-number.held.items (g.R.Read.remaining c.loop-number.input))
-          (left_of c.read_next.new.held.items (g.R.Read.remaining c.read_next.new.input)) so_far.taken next.3;
+          takes_more so_far.lines next.0 (g.R.Read.remaining c.args.input.now) (left_of c.loop-number.unread.items (g.R.Read.remaining c.loop-number.input))
+          (left_of c.read_next.new.unread.items (g.R.Read.remaining c.read_next.new.input)) so_far.taken next.3;
       obeys =
           line_obeyed (place (g.D.SectorDevice.disk (device_of first)) first) (place (g.D.SectorDevice.disk (device_of there)) there) (place (g.D.SectorDevice.disk (device_of now)) now)
           (g.W.Write.contents c.args.out.now) (g.W.Write.contents c.loop-number.out) (g.W.Write.contents c.obey.new.out) so_far.lines next.0 (order_list c.in-Line.order) next.2 so_far.obeys c.in_default.ensures.obeyed;
@@ -49,15 +50,15 @@ returns-in-Err-clause-stopped g c =
     let now = c.obey.new.session in
     let so_far = c.loop-number.invariant in
     let next = c.in-Line.ensures in
-    let held = c.read_next.new.held.items in
+    let unread = c.read_next.new.unread.items in
     let since = g.R.Read.remaining c.read_next.new.input in
     record {
       lines = so_far.lines ++ next.0 ∷ [];
       right = right_more so_far.lines next.0 so_far.right next.1;
-      more = held;
+      more = unread;
       read =
-          reads_left (so_far.lines ++ next.0 ∷ []) held (g.R.Read.remaining c.args.input.now) since
-          (takes_more so_far.lines next.0 (g.R.Read.remaining c.args.input.now) (left_of c.loop-number.held.items (g.R.Read.remaining c.loop-number.input)) (left_of held since) so_far.taken next.3);
+          reads_left (so_far.lines ++ next.0 ∷ []) unread (g.R.Read.remaining c.args.input.now) since
+          (takes_more so_far.lines next.0 (g.R.Read.remaining c.args.input.now) (left_of c.loop-number.unread.items (g.R.Read.remaining c.loop-number.input)) (left_of unread since) so_far.taken next.3);
       stops =
           line_stopped (place (g.D.SectorDevice.disk (device_of first)) first) (place (g.D.SectorDevice.disk (device_of there)) there) (place (g.D.SectorDevice.disk (device_of now)) now)
           (g.W.Write.contents c.args.out.now) (g.W.Write.contents c.loop-number.out) (g.W.Write.contents c.obey.new.out) so_far.lines next.0 (order_list c.in-Line.order) c.in-Err.why next.2 so_far.obeys c.in-Err.ensures.stopped;
@@ -68,11 +69,11 @@ returns-in-Wrong-clause-obeyed g c =
     let so_far = c.loop-number.invariant in
     let next = c.in-Wrong.ensures in
     let before = g.R.Read.remaining c.args.input.now in
-    let there = left_of c.loop-number.held.items (g.R.Read.remaining c.loop-number.input) in
+    let there = left_of c.loop-number.unread.items (g.R.Read.remaining c.loop-number.input) in
     record {
       lines = so_far.lines;
       right = so_far.right;
-      read = (so_far.number, inl (reads_wrong so_far.lines next.0 c.read_next.new.held.items before there (g.R.Read.remaining c.read_next.new.input) so_far.taken next.1 next.2));
+      read = (so_far.number, inl (reads_wrong so_far.lines next.0 c.read_next.new.unread.items before there (g.R.Read.remaining c.read_next.new.input) so_far.taken next.1 next.2));
       obeys = so_far.obeys;
     }
 
@@ -81,7 +82,7 @@ returns-in-End-clause-obeyed g c =
     let so_far = c.loop-number.invariant in
     let next = c.in-End.ensures in
     let before = g.R.Read.remaining c.args.input.now in
-    let there = left_of c.loop-number.held.items (g.R.Read.remaining c.loop-number.input) in
+    let there = left_of c.loop-number.unread.items (g.R.Read.remaining c.loop-number.input) in
     record {
       lines = so_far.lines;
       right = so_far.right;
@@ -94,7 +95,7 @@ returns-in-Failed-clause-obeyed g c =
     let so_far = c.loop-number.invariant in
     let next = c.in-Failed.ensures in
     let before = g.R.Read.remaining c.args.input.now in
-    let there = left_of c.loop-number.held.items (g.R.Read.remaining c.loop-number.input) in
+    let there = left_of c.loop-number.unread.items (g.R.Read.remaining c.loop-number.input) in
     record {
       lines = so_far.lines;
       right = so_far.right;
@@ -105,12 +106,12 @@ returns-in-Failed-clause-obeyed g c =
 pub returns-clause-obeyed : goal.returns-clause-obeyed
 returns-clause-obeyed g c =
     let so_far = c.loop-number.invariant in
-    let held = c.loop-number.held.items in
+    let unread = c.loop-number.unread.items in
     let since = g.R.Read.remaining c.loop-number.input in
     let last : 18446744073709551615 ≡ length so_far.lines + 1 = omega (arith, c.loop-number-test.false, c.loop-number.auto.number-end, so_far.number) in
     record {
       lines = so_far.lines;
       right = so_far.right;
-      read = (last, inr (refl, held, reads_left so_far.lines held (g.R.Read.remaining c.args.input.now) since so_far.taken));
+      read = (last, inr (refl, unread, reads_left so_far.lines unread (g.R.Read.remaining c.args.input.now) since so_far.taken));
       obeys = so_far.obeys;
     }

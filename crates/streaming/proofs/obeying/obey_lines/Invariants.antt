@@ -2,7 +2,7 @@ use Rattle.std.proofs.Common.{◌≡◌, ◌<◌, ◌+◌, List, ℕ, length, fa
 use Rattle.std.specs.List.{All}
 use Rattle.session.specs.Words.{device_of, pending_of, is_broken}
 use Rattle.streaming.specs.Orders.{orders_of, IsRight}
-use Rattle.streaming.specs.Reading.{left_of, TakesLines}
+use Rattle.input_lines.specs.Reading.{left_of, TakesLines}
 use Rattle.streaming.specs.Obeying.{place, Obeys}
 use Rattle.streaming.proofs.obeying.obey_lines.Given as goal
 
@@ -15,7 +15,7 @@ invariant-loop-number g l =
       lines : List (List ℕ);
       right : All IsRight lines;
       number : l.number ≡ length lines + 1;
-      taken : TakesLines lines (g.R.Read.remaining l.initial.input) (left_of l.held.items (g.R.Read.remaining l.input));
+      taken : TakesLines lines (g.R.Read.remaining l.initial.input) (left_of l.unread.items (g.R.Read.remaining l.input));
       obeys : Obeys (place (g.D.SectorDevice.disk (device_of first)) first) (place (g.D.SectorDevice.disk (device_of now)) now) (g.W.Write.contents l.initial.out) (g.W.Write.contents l.out) (orders_of lines);
       whole : is_broken now ≡ false;
       few : length (pending_of now) < 3200;

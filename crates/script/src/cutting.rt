@@ -3,8 +3,8 @@
 ghost use Rattle.std.specs.Prelude.{◌≡◌, ◌<◌, ◌==◌, [], ◌∷◌, length, MatchOption, IfSome};
 ghost use Rattle.std.specs.List.{position, slice_split};
 
-/// What stands before the first such byte, and what stands behind it; all and `None` where there is none.
-pub(crate) fn cut(text: &[u8], at: u8) -> (&[u8], Option<&[u8]>)
+/// What stands before the first such byte, and what stands after it; all and `None` where there is none.
+pub fn cut(text: &[u8], at: u8) -> (&[u8], Option<&[u8]>)
     ensures parts { MatchOption result.1
         (slice_split (λ byte. byte == at) text.now ≡ result.0.now ∷ [])
         (λ rest. slice_split (λ byte. byte == at) text.now ≡ result.0.now ∷ slice_split (λ byte. byte == at) rest.now) }

@@ -1,6 +1,6 @@
 use Rattle.std.proofs.Common.{sym, ◌∙◌}
-use Rattle.streaming.proofs.Newlines.{found_at, found_nowhere}
-use Rattle.streaming.proofs.held.line_length.Goals as goal
+use Rattle.input_lines.proofs.Newlines.{found_at, found_nowhere}
+use Rattle.input_lines.proofs.filling.line_length.Goals as goal
 
 pub returns-in-Some : goal.returns-in-Some
 returns-in-Some c = found_at c.args.bytes.now _ (sym c.place_of_newline.ensures ∙ c.in-Some.is)

@@ -1,0 +1,4 @@
+pub mod Newlines
+pub mod KnownLeft
+pub mod Takings
+pub mod NextLines

@@ -1,0 +1,15 @@
+use Rattle.std.proofs.Common.{◌≡◌, ◌<◌, ℕ, List, [], length}
+use Rattle.std.specs.Io.KnownBytes.{Consumes}
+use Rattle.input_lines.specs.Newlines.{HasNoNewline}
+use Rattle.input_lines.specs.Reading.{left_of}
+use Rattle.input_lines.proofs.lines.skip_line.Given as goal
+
+-- what was dropped so far is one line, and too long
+abbrev pub invariant-loop : goal.invariant-loop
+invariant-loop g l = record {
+  skipped : List ℕ;
+  one : HasNoNewline skipped;
+  long : 128 < length skipped;
+  none : l.unread.items ≡ [];
+  read : Consumes (left_of l.fn.unread.items (g.R.Read.remaining l.fn.input)) (left_of l.unread.items (g.R.Read.remaining l.input)) skipped;
+}

@@ -1,0 +1,13 @@
+//! Lines of an input that are read as they come.
+//!
+//! What was read and not yet taken stands in an `Unread` of the caller's, so that a line is there as
+//! soon as its newline is read. `next_line` takes a line at a time; a protocol with rules of its own
+//! for a line that is too long takes lines by `fill`, `line_length` and `drop_first`. How lines that
+//! were taken one after another stand in the input is told by the laws in `proofs/Takings.antt`.
+#![tactic(auto)]
+
+mod filling;
+mod lines;
+
+pub use filling::{Filled, Unread, drop_first, fill, line_length};
+pub use lines::{NextLine, next_line};

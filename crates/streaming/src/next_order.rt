@@ -1,0 +1,68 @@
+//! The next order.
+ghost use Rattle.std.specs.Prelude.{◌≡◌};
+ghost use Rattle.input_lines.specs.Newlines.{first_line, behind_first_line};
+ghost use Rattle.input_lines.specs.Reading.{left_of};
+ghost use Rattle.streaming.specs.Reading.{IsAsked, IsNext};
+
+use crate::order::{Order, read_order};
+use input_lines::{Filled, Unread, drop_first, fill, line_length};
+use std::io::Read;
+
+/// A line of more bytes than this is wrong.
+const MOST: usize = 64;
+
+/// What comes next.
+#[derive(Clone, Copy, Debug, PartialEq, Eq)]
+pub enum Next {
+    /// A line, and what it asks for: nothing if it is empty.
+    Line(Option<Order>),
+    /// A wrong line.
+    Wrong,
+    /// The end of the input.
+    End,
+    /// A read failed.
+    Failed,
+}
+
+/// What a line asks for.
+fn asked_by(line: &[u8]) -> Next
+    ensures { IsAsked result line.now }
+{
+    if line.is_empty() {
+        return Next::Line(None);
+    }
+    match read_order(line) {
+        Some(order) => Next::Line(Some(order)),
+        None => Next::Wrong,
+    }
+}
+
+/// Takes the first line.
+fn take_line(unread: &mut Unread) -> Next
+    ensures asked { IsAsked result (first_line unread.old.items) }
+    ensures rest { unread.new.items ≡ behind_first_line unread.old.items }
+{
+    let size = line_length(unread.as_slice());
+    let next = asked_by(&unread.as_slice()[..size]);
+    drop_first(unread, size + 1);
+    next
+}
+
+/// Reads the next line: first of what was read before, then of the input. A line of more than 64 bytes is
+/// wrong as soon as that many are read.
+pub fn read_next<R: Read>(unread: &mut Unread, input: &mut R) -> Next
+    ensures { IsNext result (left_of unread.old.items (R.remaining input.old)) (left_of unread.new.items (R.remaining input.new))
+        (R.remaining input.new) }
+{
+    match fill(unread, input, MOST) {
+        Filled::Line => take_line(unread),
+        Filled::End => {
+            if unread.is_empty() {
+                Next::End
+            } else {
+                take_line(unread)
+            }
+        }
+        Filled::Failed => Next::Failed,
+    }
+}
