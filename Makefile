@@ -139,6 +139,7 @@ test:
 	python3 -B examples/demo/check.py $(PROGRAM)/out/gbkeep_program
 	python3 -B examples/test_roms/check.py
 	python3 -B testers/run.py --gbkeep $(PROGRAM)/out/gbkeep_program examples/test_roms/all.txt
+	python3 -B testers/test_debug.py $(PROGRAM)/out/gbkeep_program
 	python3 -B scripts/second_storage/refused_memory.py $(PROGRAM)/out/gbkeep_program crates/refused_memory/out/refused_memory
 	RT=$(RT) python3 -B scripts/dist.py passed $(PROGRAM)/out/gbkeep_program
 

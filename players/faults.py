@@ -42,6 +42,7 @@ FAULTS = [
     ('script line 0', '', 'the script is longer than 1,048,576 bytes; nothing was played', 'give it to `players/script.py play`, which has no limit'),
     ('script line N', 'stream', 'line N of the input is wrong; what was given before it is saved', 'correct the line, and give what comes from it on'),
     ('script line N', '', 'line N of the script is wrong; nothing was played', '`players/script.py check` says what is wrong with it'),
+    ('input failed', 'debug', "standard input can't be read; what was given before is answered", 'check where it comes from'),
     ('input failed', '', "standard input can't be read; what was given before is saved", 'check where it comes from'),
     ('address', '', 'ADDR is not one to four hexadecimal digits (status 2)', 'write it so, as 0150'),
     ('a word is not text', '', 'a word of the command line is not UTF-8 (status 2)', 'give the file another name'),

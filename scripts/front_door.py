@@ -1,5 +1,5 @@
-"""Compares whole tables: what the sources say that the program has, and what README, COMMANDS, man page, completion, `make help` and the player's
-tools say of it. Then it deletes each row of each table, in turn and on a copy, and wants each deletion to be seen.
+"""Compares whole tables: what the sources say that the program has, and what README, COMMANDS, man page, completion, `make help` and the tools of
+players and testers say of it. Then it deletes each row of each table, in turn and on a copy, and wants each deletion to be seen.
 
 usage: front_door.py             at the top of the repository
        front_door.py GBKEEP      this too: runs each command block as it stands, in a copy of the clone, and compares what it prints;
@@ -8,10 +8,12 @@ import definitions, functools, os, pty, re, select, shutil, subprocess, sys, tem
 from pathlib import Path
 
 FAULT_FILES = ['crates/cartridge/src/error.rt', 'crates/sector_device/src/device.rt', 'crates/script/src/error.rt', 'crates/session/src/error.rt',
-               'crates/streaming/src/error.rt', 'crates/recording/src/fault.rt', 'crates/replaying/src/error.rt', 'crates/recorded_play/src/error.rt', 'crates/battery_files/src/error.rt']
+               'crates/streaming/src/error.rt', 'crates/recording/src/fault.rt', 'crates/replaying/src/error.rt', 'crates/recorded_play/src/error.rt', 'crates/battery_files/src/error.rt',
+               'crates/debugging/src/error.rt', 'crates/debug_lines/src/error.rt']
 FAULT_LINES, COMMANDS, LINES = 'crates/gbkeep/src/fault.rt', 'crates/command_line/specs/Commands.antt', 'crates/script/specs/Line.antt'
 README, MANUAL, MAN, COMPLETION, MAKE, TOOLS = 'README.md', 'docs/COMMANDS.md', 'docs/gbkeep.1', 'completions/gbkeep.bash', 'Makefile', 'players/faults.py'
 PLAYERS, TESTERS = 'docs/PLAYING.md', 'docs/TESTING_ROMS.md'
+ORDERS, PROMPT = 'crates/debugging/specs/Orders.antt', 'testers/debug.py'
 WORDS, ARCHITECTURE = 'crates/command_line/src/words.rt', 'docs/ARCHITECTURE.md'
 # a library's answers: the program stops at the call that breaks a session or a recording, saves before 3,200 inputs are unsaved, and makes a
 # recording only in a new file
@@ -51,6 +53,11 @@ def commands_of(texts):
 def lines_of(texts):
     """The names of a script's lines."""
     return set(re.findall(r'name \(codes "(\w+)"\)', texts[LINES]))
+
+
+def orders_of(texts):
+    """The names of a debugger's lines."""
+    return set(re.findall(r'name \(codes "([\w-]+)"\)', texts[ORDERS])) | lines_of(texts) - {'save'}
 
 
 # ---- what the documents have
@@ -101,6 +108,11 @@ def helps(texts):
     return re.findall(r"^\t@echo '  make ([\w-]+)", texts[MAKE], re.M)
 
 
+def helps_of(texts):
+    """The commands whose help has lines: the name of its text, and these lines."""
+    return {'play': ('SCRIPT_LINES', lines_of(texts)), 'stream': ('STREAM_LINES', lines_of(texts) | {'picture'}), 'debug': ('DEBUG_LINES', orders_of(texts))}
+
+
 # ---- the comparison
 
 def compared(place, what, got, wanted):
@@ -125,20 +137,23 @@ def differences(texts):
     wrong += compared(MANUAL, 'line of a script', [code(one)[0].split()[0] for _, cells in rows(texts[MANUAL], 'Line | Means') for one in cells[:1]], lines_of(texts))
     wrong += compared(MANUAL, 'line of a stream', [one.split()[0] for _, cells in rows(texts[MANUAL], 'Line | Answer') for one in code(cells[0])],
                       lines_of(texts) | {'picture'})
+    wrong += compared(MANUAL, 'line of a debugger', [one.split()[0] for _, cells in rows(texts[MANUAL], 'Line | Does') for one in code(cells[0])], orders_of(texts))
+    prompt = re.search(r"^HELP = '''(.*?)'''", texts[PROMPT], re.S | re.M)
+    wrong += compared(PROMPT, 'line of its help', re.findall(r'^  ([a-z-]+) ', prompt[1] if prompt else '', re.M), orders_of(texts))
     wrong += compared(README, 'command', [one for _, cells in rows(texts[README], 'Command') for one in code(cells[0])], heads)
     wrong += compared(MAN, 'synopsis', [line for _, line in synopsis(texts[MAN]) if not line.startswith('-')], heads)
     wrong += compared(MAN, 'command', [head for _, head in entries(texts[MAN], 'COMMANDS')], heads)
     wrong += compared(MAN, 'option', [one for _, head in entries(texts[MAN], 'OPTIONS') for one in re.findall(r'--?\w*', head)], OPTIONS)
     wrong += compared(MAN, 'line of a script', [head.split()[0] for _, head in entries(texts[MAN], 'SCRIPTS')], lines_of(texts))
+    wrong += compared(MAN, 'line of a debugger', [head.split()[0] for _, head in entries(texts[MAN], 'DEBUGGING')], orders_of(texts))
     wrong += compared(MAN, 'fault', [one for _, head in entries(texts[MAN], 'DIAGNOSTICS') for one in parted(head)], faults)
     words = {*commands, 'help', '--help', '--version'}
     wrong += compared(COMPLETION, 'first word', completed(texts[COMPLETION], 'gbkeep', ''), words)
     wrong += compared(COMPLETION, 'word after help', completed(texts[COMPLETION], 'gbkeep', 'help', ''), commands)
     wrong += compared(MAKE, 'target in its help', helps(texts), set(re.search(r'^\.PHONY: (.*)$', texts[MAKE], re.M)[1].split()) - {'help'})
-    for place, (start, end) in (('play', ('SCRIPT_LINES', ';')), ('stream', ('STREAM_LINES', ';'))):
-        help_text = re.search(r'const %s: &str = "(.*?)"%s' % (start, end), texts[WORDS], re.S)
-        wrong += compared(f'help of {place}', 'line', re.findall(r'^  (\w+)', help_text[1] if help_text else '', re.M),
-                          lines_of(texts) | ({'picture'} if place == 'stream' else set()))
+    for place, (start, lines) in helps_of(texts).items():
+        help_text = re.search(r'const %s: &str = "(.*?)";' % start, texts[WORDS], re.S)
+        wrong += compared(f'help of {place}', 'line', re.findall(r'^  ([\w-]+)', help_text[1] if help_text else '', re.M), lines)
     wrong += walks(texts[ARCHITECTURE])
     if len(texts[README].splitlines()) >= 100:
         wrong.append(f'{README} has 100 lines or more')
@@ -181,13 +196,13 @@ def parted(head):
 def deletions(texts):
     """Each row of each table, as (path, what to delete, what is left there)."""
     for path in (README, MANUAL):
-        for heading in ('Command', 'Line after', 'Line | Means', 'Line | Answer'):
+        for heading in ('Command', 'Line after', 'Line | Means', 'Line | Answer', 'Line | Does'):
             for line, _ in rows(texts[path], heading):
                 yield path, line + '\n', ''
     for line, _ in synopsis(texts[MAN]):
         if '--' not in line:
             yield MAN, line, ''
-    for section in ('COMMANDS', 'OPTIONS', 'SCRIPTS', 'DIAGNOSTICS'):
+    for section in ('COMMANDS', 'OPTIONS', 'SCRIPTS', 'DEBUGGING', 'DIAGNOSTICS'):
         for entry, _ in entries(texts[MAN], section):
             yield MAN, entry, ''
     for name in commands_of(texts):
@@ -204,8 +219,13 @@ def deletions(texts):
         yield TOOLS, entry, ''
     for line in re.findall(r"^\t@echo '  make .*\n", texts[MAKE], re.M):
         yield MAKE, line, ''
-    for line in re.findall(r'^  (?:frame|frames|seconds|save|picture) .*$', texts[WORDS], re.M):
+    names = '|'.join(sorted(orders_of(texts) | {'save'}))
+    for line in re.findall(rf'^  (?:{names}) .*$', texts[WORDS], re.M):
         yield WORDS, line, ''
+    for line in re.findall(rf'^  (?:{names}) .*\n', texts[PROMPT], re.M):
+        yield PROMPT, line, ''
+    for name in orders_of(texts) - lines_of(texts):
+        yield ORDERS, f'name (codes "{name}")', 'name (codes "")'
     for line in re.findall(r'^\| `\w+`.*\| `\S+\.rt` \|.*$', texts[ARCHITECTURE], re.M):
         yield ARCHITECTURE, line, re.sub(r'^\| `(\w+)`', r'| `\1x`', line)
 
@@ -288,7 +308,7 @@ def run_helps(program, texts):
         usage = re.search(r'^Usage: gbkeep (.*)$', said(name, '--help'), re.M)[1]
         if usage.replace('<', '').replace('>', '') != ' '.join([name, *operands]):
             wrong.append(f'gbkeep {name} --help has the usage {usage!r}')
-    for name, lines in (('play', lines_of(texts)), ('stream', lines_of(texts) | {'picture'})):
+    for name, (_, lines) in helps_of(texts).items():
         for words in ((name, '--help'), ('help', name)):
             text = said(*words)
             wrong += [f'gbkeep {" ".join(words)} does not show the line {line!r}' for line in sorted(lines) if not re.search(rf'^  {line} ', text, re.M)]
@@ -334,7 +354,7 @@ def completes_names(room, texts):
 
 
 def main():
-    texts = {path: Path(path).read_text() for path in [README, MANUAL, PLAYERS, TESTERS, MAN, COMPLETION, MAKE, TOOLS, COMMANDS, LINES, FAULT_LINES, WORDS, ARCHITECTURE, *FAULT_FILES]}
+    texts = {path: Path(path).read_text() for path in [README, MANUAL, PLAYERS, TESTERS, MAN, COMPLETION, MAKE, TOOLS, COMMANDS, LINES, ORDERS, PROMPT, FAULT_LINES, WORDS, ARCHITECTURE, *FAULT_FILES]}
     wrong, seen = differences(texts), 0
     for path, piece, left in deletions(texts) if not wrong else []:
         seen += 1

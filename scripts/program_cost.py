@@ -1,13 +1,16 @@
-"""What the program costs: a stream beside the frames and the pictures that it is asked for, recording beside a stream, a recording that is printed, and a
-test ROM beside its frames.
+"""What the program costs: a stream beside the frames and the pictures that it is asked for, recording beside a stream, a recording that is printed, a
+test ROM beside its frames, and a debugger's steps up to a place.
 
 usage: program_cost.py GBKEEP [FRAMES]
 
 Of the demo cartridge: the processor time of so many frames, each with its picture, line by line through a pipe; and of the same frames in one line, and
 as many pictures of one machine. The ratio is the first by the sum of the others. Then, of 3,000 saves of two frames each: the wall time of `stream`, and of
 `record`, which writes and syncs one file more. Then of `recorded`, of 2,000,000 inputs. Of a busy loop: the processor time of `test`, of 36,000 frames, and of
-`stream`, of the same frames."""
+`stream`, of the same frames. Of the loop of `bench steps`: the processor time of `debug`, of `until` with eight addresses that the loop does not meet; and,
+where valgrind is there, the host's instructions of such a step, which stand beside those of `run_until`, and of a step of `until-op`."""
 import os
+import re
+import shutil
 import subprocess
 import sys
 import tempfile
@@ -41,13 +44,40 @@ def seconds(gbkeep, room, text, cart=DEMO):
     return processor_seconds([gbkeep, 'stream', cart, save], text)
 
 
-def busy_loop(room):
-    """A cartridge that adds for ever, with interrupts off."""
+def cartridge(room, code):
+    """A cartridge with this code at 0100."""
     rom = bytearray(0x8000)
-    rom[0x100:0x106] = bytes([0x3c, 0x80, 0x47, 0xa8, 0x18, 0xfa])      # INC A; ADD A,B; LD B,A; XOR A,B; JR 0100
-    path = os.path.join(room, 'busy.gb')
+    rom[0x100:0x100 + len(code)] = code
+    path = os.path.join(room, 'code.gb')
     Path(path).write_bytes(rom)
     return path
+
+
+def busy_loop(room):
+    """A cartridge that adds for ever, with interrupts off."""
+    return cartridge(room, bytes([0x3c, 0x80, 0x47, 0xa8, 0x18, 0xfa]))     # INC A; ADD A,B; LD B,A; XOR A,B; JR 0100
+
+
+def steps_loop(room):
+    """The busy loop of `bench steps`: LD B,03; then for ever ADD A,B; INC B; XOR A,C; LD C,A; RL C; INC HL; JR 0102."""
+    return cartridge(room, bytes([0x06, 0x03, 0x80, 0x04, 0xa9, 0x4f, 0xcb, 0x11, 0x23, 0x18, 0xf7]))
+
+
+def until(steps):
+    """A line that steps up to one of the addresses of `bench steps run_until`."""
+    return b'until %d 0000 0038 0040 0101 0107 01FF 4000 C000\n' % steps
+
+
+def instructions(gbkeep, cart, text):
+    """The host's instructions of a debugger that reads this text."""
+    words = ['valgrind', '--tool=callgrind', '--callgrind-out-file=/dev/null', gbkeep, 'debug', cart]
+    done = subprocess.run(words, capture_output=True, check=True, input=text)
+    return int(re.search(rb'Collected : (\d+)', done.stderr)[1])
+
+
+def step_instructions(gbkeep, cart, line, steps=100_000):
+    """Those of a step of a line, without what begins and ends the program."""
+    return (instructions(gbkeep, cart, line(2 * steps)) - instructions(gbkeep, cart, line(steps))) / steps
 
 
 def long_recording(room, count):
@@ -94,6 +124,13 @@ def main():
         test = min(processor_seconds([gbkeep, 'test', busy, str(frames)], status=1) for _ in range(3))
         alone = min(seconds(gbkeep, room, b'frames 00 %d\n' % frames, busy) for _ in range(3))
         print('test of %d frames: %.2f s; the frames alone %.2f s; ratio %.2f' % (frames, test, alone, test / alone))
+    with tempfile.TemporaryDirectory(prefix='steps-') as room:
+        loop, steps = steps_loop(room), 100_000_000
+        spent = min(processor_seconds([gbkeep, 'debug', loop], until(steps)) for _ in range(3))
+        print('debug, until of %d steps: %.2f s, %.1f ns a step' % (steps, spent, 1e9 * spent / steps))
+        if shutil.which('valgrind'):
+            counts = [step_instructions(gbkeep, loop, line) for line in (until, lambda many: b'until-op %d 40\n' % many)]
+            print('debug: %.0f instructions a step of until, %.0f of until-op' % tuple(counts))
     return 0
 
 

@@ -154,7 +154,9 @@ class Sources:
 # ---- the comparison
 
 # the variants that hold the refusals of a call below, which a row writes as 'those of' that call
-HOLDS_OTHERS = {'Recording', 'Save', 'Session', 'Stream'}
+HOLDS_OTHERS = {'Recording', 'Save', 'Session', 'Stream', 'Debug'}
+# the call whose refusals a variant holds beside those of another variant
+HELD_BY = {'obey': 'Debug'}
 
 
 def named(refusals):
@@ -193,7 +195,8 @@ def differences(table, known):
         if ((call.can or call.variants) & HOLDS_OTHERS or 'resume' in call.calls) and not pointed:
             wrong.append(f'{at}: it points to no call')
         # the variant that holds others comes where the row points to them
-        come = [one or sorted((call.can or call.variants) & HOLDS_OTHERS or {''})[0] for one in re.findall(r'`([A-Z]\w+)`|those of `\w+`', refusals)]
+        holds = sorted((call.can or call.variants) & HOLDS_OTHERS - set(HELD_BY.values()) or {''})
+        come = [one or HELD_BY.get(pointed_to, holds[0]) for one, pointed_to in re.findall(r'`([A-Z]\w+)`|those of `(\w+)`', refusals)]
         come = [one for one in dict.fromkeys(come) if one in call.order]
         if key != ('whole_lives', 'live') and come != [one for one in call.order if one in come]:
             wrong.append(f'{at}: the body comes to {", ".join(one for one in call.order if one in come)}, in this order')

@@ -1,6 +1,8 @@
 """A small assembler for the Game Boy: source lines to a ROM of 32 KiB.
 
-usage: assemble.py SOURCE ROM
+usage: assemble.py SOURCE ROM [SYM]
+
+SYM gets the labels, in the form of RGBDS.
 
 A line is `label:`, `NAME equ VALUE`, `org ADDRESS`, `db VALUE|"text", ..`, `dw VALUE, ..`, `tile "row", ..` (eight rows of eight of
 . - + #, colours 0 to 3) or an instruction as Pan Docs writes it, operands in small letters; `;` begins a comment. Values are numbers
@@ -22,7 +24,7 @@ LOADS = {('[bc]', 'a'): 0x02, ('[de]', 'a'): 0x12, ('[hl+]', 'a'): 0x22, ('[hl-]
 
 class Assembler:
     def __init__(self):
-        self.names, self.rom, self.at, self.is_last = {}, bytearray(0x8000), 0, False
+        self.names, self.labels, self.rom, self.at, self.is_last = {}, {}, bytearray(0x8000), 0, False
 
     def value(self, text):
         text = re.sub(r'\$([0-9a-fA-F]+)', r'0x\1', text)
@@ -110,7 +112,7 @@ class Assembler:
         text = re.sub(r';(?=(?:[^"]*"[^"]*")*[^"]*$).*', '', text).strip()
         label = re.match(r'(\w+):\s*', text)
         if label:
-            self.names[label[1]] = self.at
+            self.names[label[1]] = self.labels[label[1]] = self.at
             text = text[label.end():]
         if not text:
             return
@@ -140,7 +142,16 @@ class Assembler:
         self.rom[0x14d] = -sum(byte + 1 for byte in self.rom[0x134:0x14d]) & 255
         return bytes(self.rom)
 
+    def symbols(self):
+        """The labels as RGBDS writes them: bank, address and name, by their addresses."""
+        ordered = sorted(self.labels.items(), key=lambda label: label[1])
+        return ''.join(f'{at // 0x4000 if at < 0x8000 else 0:02x}:{at:04x} {name}\n' for name, at in ordered)
+
 
 if __name__ == '__main__':
+    assembler = Assembler()
     with open(sys.argv[1]) as given, open(sys.argv[2], 'wb') as made:
-        made.write(Assembler().assemble(given.read()))
+        made.write(assembler.assemble(given.read()))
+    if len(sys.argv) > 3:
+        with open(sys.argv[3], 'w') as made:
+            made.write(assembler.symbols())

@@ -2,7 +2,7 @@
 
 usage: check.py GBKEEP
 
-The status is 1 where demo.gb is not what demo.asm gives, where the tour's report is not the written one, where the picture doesn't
+The status is 1 where demo.gb or demo.sym is not what demo.asm gives, where the tour's report is not the written one, where the picture doesn't
 show the score that the tour was made for (each coin lies where the cartridge's random numbers put it), or where the field doesn't say how a
 round begins once the time is over, and that alone."""
 import re
@@ -57,8 +57,9 @@ def report_of(script):
 
 def main():
     source, tour = (HERE / 'demo.asm').read_text(), (HERE / 'tour.txt').read_text()
-    if Assembler().assemble(source) != (HERE / 'demo.gb').read_bytes():
-        print('demo.gb is not what demo.asm gives: run assemble.py')
+    assembler = Assembler()
+    if assembler.assemble(source) != (HERE / 'demo.gb').read_bytes() or assembler.symbols() != (HERE / 'demo.sym').read_text():
+        print('demo.gb or demo.sym is not what demo.asm gives: run assemble.py')
         return 1
     known = glyphs(source)
     with tempfile.TemporaryDirectory(prefix='demo-') as room:

@@ -9,9 +9,10 @@ Kinds: raw (random bytes with a valid header), prog (random programs), proglong 
 script of frames and seconds, trace of 1,024 steps, line by line; 200 of them at most), frames (programs that draw, by registers,
 tiles and objects that change within frames, by buttons and the clock; after each of some scripts of frames, buttons and seconds the whole
 picture of `frame`), features (the same over longer scripts, then `trace`, on programs of feature_roms.py, which use every unusual feature of the
-machine again and again). The status is 1 where anything differs."""
+machine again and again), debug (lines of `debug` on random programs, on programs that draw and on those of feature_roms.py: steps, places, opcodes, frames,
+seconds, registers, histories, listings, memory, what is sent, pictures and digests of the whole machine). The status is 1 where anything differs."""
 import os, random, shutil, subprocess, sys, tempfile, time
-import feature_roms, reference as ref
+import debug_lines, feature_roms, reference as ref
 
 GB = os.path.abspath(sys.argv[1]) if len(sys.argv) > 1 else ''
 ROOM = tempfile.mkdtemp(prefix='compare-')
@@ -26,9 +27,9 @@ READREGS = [0x04, 0x05, 0x44, 0x41, 0x0F, 0x00, 0x01, 0x02]
 stats = {'runs': 0, 'roms': 0, 'mis': 0, 'bytes': 0}
 
 
-def gb(*args):
+def gb(*args, text=b''):
     stats['runs'] += 1
-    p = subprocess.run([GB] + list(args), capture_output=True)
+    p = subprocess.run([GB] + list(args), capture_output=True, input=text)
     return p.returncode, p.stdout, p.stderr
 
 
@@ -903,7 +904,8 @@ def compare_trace(kind, seed, rom, rnd):
     """A new game, a few moves, and the next 1,024 steps, which are not saved."""
     with open(TMP, 'wb') as f: f.write(rom)
     stats['roms'] += 1
-    save, script, nothing = ROOM + '/save', ROOM + '/script', os.devnull
+    save, script, nothing = ROOM + '/save', ROOM + '/script', ROOM + '/nothing'
+    open(nothing, 'w').close()
     if os.path.exists(save): os.remove(save)
     sectors = int(ref.info_text(rom).split('sectors ')[1])
     moves = moves_for(rnd)
@@ -1000,6 +1002,38 @@ def compare_frames(kind, seed, rom, rnd, longest=5):
     return True
 
 
+def debug_rom(rnd):
+    k = rnd.random()
+    if k < 0.4: return prog_rom(rnd)
+    if k < 0.6: return raw_rom(rnd)
+    if k < 0.8: return draw_rom(rnd)
+    return feature_roms.Rom(rnd.randrange(len(feature_roms.CARTRIDGES)), '-%d' % rnd.randrange(1000)).build()
+
+
+def compare_debug(kind, seed, rom, rnd):
+    """Lines of a debugger, most of them right, and a digest of the machine behind each that may change it."""
+    with open(TMP, 'wb') as f: f.write(rom)
+    stats['roms'] += 1
+    text = b''
+    for line in debug_lines.lines_of(debug_lines.random_lines(rnd, rnd.randrange(5, 25), rnd.choice([30, 1000, 3000]), 0.1, debug_lines.seen_in(rom, 500))):
+        text += line + b'\n' + (b'state\n' if rnd.random() < 0.4 else b'')
+    want = debug_lines.Debugger(ref.Machine(rom)).answers(text)
+    for line, answer in zip(debug_lines.lines_of(text), want):
+        name = 'wrong' if answer.startswith(b'wrong') else answer.split()[0].decode() if answer[:4] in (b'stop', b'limi') else line.split(b' ')[0].decode()
+        if name == 'serial' and not answer.startswith(b'serial 0'): name = 'sent'
+        cov[name] = cov.get(name, 0) + 1
+    code, out, err = gb('debug', TMP, text=text)
+    stats['bytes'] += len(out)
+    at = 0
+    for number, answer in enumerate(want, 1):
+        if out[at:at + len(answer)] != answer:
+            report(kind, seed, 'line %d, %r, of %r: want %r got %r' % (number, debug_lines.lines_of(text)[number - 1], text[:2000], answer[:300], out[at:at + 300]))
+            return
+        at += len(answer)
+    if (code, err, out[at:]) != (0, b'', b''):
+        report(kind, seed, 'status %d, err %r, behind the answers %r' % (code, err, out[at:at + 300]))
+
+
 def run(kind, first, seconds, most):
     start = time.time()
     seed = first
@@ -1025,6 +1059,8 @@ def run(kind, first, seconds, most):
         elif kind == 'features':
             rom = feature_roms.Rom(seed % len(feature_roms.CARTRIDGES), '-%d' % seed).build()
             if compare_frames(kind, seed, rom, rnd, 30): compare_trace(kind, seed, rom, rnd)
+        elif kind == 'debug':
+            compare_debug(kind, seed, debug_rom(rnd), rnd)
         elif kind == 'refuse':
             compare_texts(kind, seed, refuse_rom(rnd), rnd)
         elif kind == 'list':
@@ -1046,7 +1082,7 @@ def run(kind, first, seconds, most):
 def main(words):
     if len(words) == 1:
         first = int(time.time())
-        for kind in ('raw', 'prog', 'proglong', 'refuse', 'list', 'trace', 'frames', 'features'):
+        for kind in ('raw', 'prog', 'proglong', 'refuse', 'list', 'trace', 'frames', 'features', 'debug'):
             run(kind, first, float(words[0]), 10**9)
     elif len(words) == 3 and words[2] == 'show':
         run(words[0], int(words[1]), 1e9, 1)

@@ -206,6 +206,7 @@ class Machine:
         self.sb = 0
         self.sc = 0
         self.left = 0
+        self.sent = bytearray()         # what left over the serial port
         # dma
         self.dma = 0xFF
         self.copied = 160
@@ -526,6 +527,7 @@ class Machine:
             if self.left:
                 self.left -= 1
                 if self.left == 0:
+                    self.sent.append(self.sb)
                     self.sb = 0xFF
                     self.sc &= 0x01
                     self.iflag |= 8

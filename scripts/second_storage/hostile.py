@@ -10,7 +10,8 @@ holds), places (no plain file, no room or no leave where one is wanted), pipes (
 room), shrinks (a save file that another process cuts while it is played), names (OUT is SAVE or CART by another name), closed (a standard
 stream is closed, also in a root without /dev), streams (lines as they come, whole, in pieces, wrong ones, pictures, and a kill), injected (a
 system call fails, is cut short, or is the last; needs strace), recordings (a game with its recording, damaged, full, of another ROM, ahead, behind,
-killed), batteries (battery files that are taken and written, and what `show` prints). The status is 1 where anything differs, where gbkeep dies by a signal, or where it takes longer than 10 seconds."""
+killed), batteries (battery files that are taken and written, and what `show` prints), debugs (lines of `debug`, right and wrong, from power-on and over
+games, sound and damaged). The status is 1 where anything differs, where gbkeep dies by a signal, or where it takes longer than 10 seconds."""
 import fcntl, os, random, re, resource, shutil, signal, subprocess, sys, tempfile, threading, time
 import save_files as ref
 from save_files import get, put
@@ -318,8 +319,8 @@ def holds(rnd, seed):
     put(SCRIPT, b'frame 00\n')
     with open(SAVE, 'rb+') as held:
         fcntl.flock(held, fcntl.LOCK_EX)
-        for words in (('play', CART, SAVE, SCRIPT), ('frame', CART, SAVE, OUT)):
-            got = gbkeep(*words)
+        for words in (('play', CART, SAVE, SCRIPT), ('frame', CART, SAVE, OUT), ('debug', CART, SAVE)):
+            got = gbkeep(*words, stdin=subprocess.DEVNULL)
             if got != (1, b'', b'gbkeep: device failed\n') or get(SAVE) != image:
                 return differs('holds', seed, '%s: %r' % (words[0], got))
     if gbkeep('play', CART, SAVE, SCRIPT) != (0, b'resumed 0\nsaved 1\n', b''):
@@ -391,6 +392,7 @@ def no_save_file(rnd, seed, image):
         refuses('places', seed, image, 'device failed', 'play', CART, save, SCRIPT)
         refuses('places', seed, image, 'device failed', 'frame', CART, save, OUT)
         refuses('places', seed, image, 'device failed', 'trace', CART, save, '1')
+        refuses('places', seed, image, 'device failed', 'debug', CART, save)
         refuses('places', seed, image, 'device failed', 'new', CART, save, '300')
 
     gone(SAVE)
@@ -413,7 +415,7 @@ def no_save_file(rnd, seed, image):
 def no_leave(seed, image):
     """SAVE may only be read; then its folder too."""
     os.chmod(SAVE, 0o444)
-    for words in (('play', CART, SAVE, SCRIPT), ('frame', CART, SAVE, OUT), ('trace', CART, SAVE, '1')):
+    for words in (('play', CART, SAVE, SCRIPT), ('frame', CART, SAVE, OUT), ('trace', CART, SAVE, '1'), ('debug', CART, SAVE)):
         refuses('places', seed, image, 'device failed', *words, **as_nobody())
     os.chmod(SAVE, 0o644)
     if os.geteuid() == 0:
@@ -438,11 +440,13 @@ def other_files(seed, image):
     os.mkfifo(pipe)
     for path in ('/dev/zero', '/dev/null', pipe):
         for words in (('info', path), ('step', path, '1'), ('list', path, '0', '1'), ('play', path, SAVE, SCRIPT), ('play', CART, SAVE, path),
-                      ('frame', path, SAVE, OUT), ('trace', path, SAVE, '1'), ('stream', path, SAVE), ('new', path, SAVE, '300')):
+                      ('frame', path, SAVE, OUT), ('trace', path, SAVE, '1'), ('stream', path, SAVE), ('debug', path, SAVE), ('debug', path),
+                      ('new', path, SAVE, '300')):
             refuses('places', seed, image, 'file failed', *words)
     refuses('places', seed, image, 'file failed', 'frame', CART, SAVE, pipe)
     gone(pipe)
-    for words in (('play', folder, folder, SCRIPT), ('frame', folder, folder, OUT), ('trace', folder, folder, '1'), ('stream', folder, folder)):
+    for words in (('play', folder, folder, SCRIPT), ('frame', folder, folder, OUT), ('trace', folder, folder, '1'), ('stream', folder, folder),
+                  ('debug', folder, folder)):
         refuses('places', seed, image, 'file failed', *words)
     large = os.path.join(ROOM, 'large')
     put(large, rnd_bytes(600000))
@@ -564,8 +568,8 @@ def pipes(rnd, seed):
     cart, image = a_game(rnd)
     before = count_of(image, cart)
     other = os.path.join(ROOM, 'other.save')
-    for words in (('info', CART), ('list', CART, '0', '4096'), ('step', CART, '3'), ('trace', CART, SAVE, '9'), ('play', CART, SAVE, SCRIPT),
-                  ('frame', CART, SAVE, OUT), ('new', CART, other, str(len(image) // 512)), ('--help',)):
+    for words in (('info', CART), ('list', CART, '0', '4096'), ('step', CART, '3'), ('trace', CART, SAVE, '9'), ('debug', CART, SAVE),
+                  ('play', CART, SAVE, SCRIPT), ('frame', CART, SAVE, OUT), ('new', CART, other, str(len(image) // 512)), ('--help',)):
         reader, writer = os.pipe()
         os.close(reader)
         with open('/dev/full', 'wb') as full:
@@ -635,7 +639,8 @@ def closed(rnd, seed):
     for image in (image, get(SAVE)):        # the last root is in either slot
         before = count_of(image, cart)
         for streams in ((1,), (2,), (0,), (1, 2), (0, 1), (0, 1, 2)):
-            for words in (('play', CART, SAVE, SCRIPT), ('frame', CART, SAVE, OUT), ('trace', CART, SAVE, '9'), ('play', CART, SAVE, ROOM)):
+            for words in (('play', CART, SAVE, SCRIPT), ('frame', CART, SAVE, OUT), ('trace', CART, SAVE, '9'), ('debug', CART, SAVE),
+                          ('play', CART, SAVE, ROOM)):
                 put(SAVE, image)
                 gone(OUT)
                 without = {'preexec_fn': lambda: [os.close(stream) for stream in streams], 'stdin': subprocess.DEVNULL}
@@ -825,9 +830,14 @@ def batteries(rnd, seed):
     kind.batteries(rnd, seed)
 
 
+def debugs(rnd, seed):
+    import debugs as kind
+    kind.debugs(rnd, seed)
+
+
 KINDS = {'saves': saves, 'scripts': scripts, 'bytes': arbitrary, 'kills': kills, 'holds': holds, 'places': places, 'pipes': pipes,
          'shrinks': shrinks, 'names': names, 'closed': closed, 'streams': streams, 'injected': injected, 'recordings': recordings,
-         'batteries': batteries}
+         'batteries': batteries, 'debugs': debugs}
 
 
 def run(kind, seconds, first):

@@ -99,14 +99,15 @@ def of_a_game(rnd, seed):
     rom = get(hostile.CART)
     script = script_of(rnd)
     words = rnd.choice([['play', hostile.CART, hostile.SAVE, hostile.SCRIPT], ['stream', hostile.CART, hostile.SAVE],
-                        ['frame', hostile.CART, hostile.SAVE, hostile.OUT], ['trace', hostile.CART, hostile.SAVE, '5']])
+                        ['frame', hostile.CART, hostile.SAVE, hostile.OUT], ['trace', hostile.CART, hostile.SAVE, '5'], ['debug', hostile.CART, hostile.SAVE]])
     gives = script if words[0] in ('play', 'stream') else b''
+    text = b'step 3\nframes 01 2\nmemory 0 100\nstate\n' if words[0] == 'debug' else gives
     put(hostile.SCRIPT, gives)
-    counts = calls_of(words, gives)
+    counts = calls_of(words, text)
     for _ in range(6):
         put(hostile.SAVE, image)
         options, what = fault_of(rnd, counts)
-        got = traced(words, options, gives)
+        got = traced(words, options, text)
         if not is_as_it_should_be(seed, '%s, %s' % (words[0], what), got, image, cart, rom, gives):
             return
         if not hostile.compare_play('injected', seed, get(hostile.SAVE), cart, hostile.short_script(rnd), 'after ' + what):

@@ -48,7 +48,7 @@ void *realloc(void *old, size_t size) {
     return refused() ? 0 : real_realloc(old, size);
 }
 '''
-LINES = b'frames 01 2\nsave\npicture\nseconds 3\nsave\nframe 02\n'     # what a stream reads
+LINES = b'frames 01 2\nsave\npicture\nseconds 3\nsave\nframe 02\n'     # what a stream reads, and a debugger, to which a save is wrong
 differences = 0
 
 
@@ -106,7 +106,7 @@ def commands(gbkeep, loaded):
     for words in (['--help'], ['info', CART], ['list', CART, '100', '9'], ['step', CART, '9'], ['new', CART, NEW, '188'],
                   ['play', CART, SAVE, SCRIPT], ['frame', CART, SAVE, OUT], ['stream', CART, SAVE], ['trace', CART, SAVE, '9'],
                   ['new-recording', CART, NEW, '3'], ['record', CART, PAIR, RECORDING], ['recorded', CART, RECORDING], ['verify', CART, PAIR, RECORDING],
-                  ['show', CART, SAVE], ['export', CART, SAVE, NEW], ['import', CART, BATTERY, NEW, '188']):
+                  ['show', CART, SAVE], ['export', CART, SAVE, NEW], ['import', CART, BATTERY, NEW, '188'], ['debug', CART], ['debug', CART, SAVE]):
         whole, answers, number = None, {}, 0
         save = PAIR if PAIR in words else SAVE
         before = count_of(kept[save], cart)

@@ -15,7 +15,7 @@ use Rattle.clap.specs.declared.builder.value_parser.ValueParser.TheVariants.{Sig
 use Rattle.clap.specs.Walk.{Held, Row, Text, finished, nothing_held, rows_after, settled, walked}
 use Rattle.command_line.specs.Commands.{IsFrameRow, IsInfoRow, IsListRow, IsNewRow, IsPlayRow, IsStepRow, IsStreamRow, IsTraceRow, frame, gbkeep, info, list, new, play, step, stream, trace}
 use Rattle.command_line.specs.Commands.{IsTestRow, IsNewRecordingRow, IsRecordRow, IsRecordedRow, IsVerifyRow, test_rom, new_recording, record_game, recorded, verify}
-use Rattle.command_line.specs.Commands.{IsShowRow, IsExportRow, IsImportRow, show, export, import}
+use Rattle.command_line.specs.Commands.{IsShowRow, IsExportRow, IsImportRow, IsDebugRow, show, export, import, debug}
 use Rattle.command_line.specs.Words.{operands_of}
 use Rattle.command_line.proofs.Walks.{Fails, Follows, at, follows, first_fails, is_plain_rule}
 
@@ -405,3 +405,28 @@ import_wants (first ∷ second ∷ third ∷ []) none = inr (first, second, thir
 import_wants (first ∷ second ∷ third ∷ fourth ∷ []) none =
     inl (first, second, third, fourth, refl, refl, refl, refl, (refl, accepts-Accepts false (Signed (pos 1) (pos 65536)) fourth (kinds_of (Signed (pos 1) (pos 65536)) fourth (sym (import_fault first second third fourth) ∙ none))))
 import_wants (first ∷ second ∷ third ∷ fourth ∷ more ∷ rest) none = absurd (refuses none)
+
+-- `debug`
+pub debug_is_plain : list_all is_plain_rule (leaf debug).rules ≡ true
+debug_is_plain = refl
+
+debug_short_fault : (first : Text) → leaf_fault (leaf debug) (first ∷ []) ≡ []
+unfolding walked walk_fault defaults_fault
+debug_short_fault first = refl
+
+pub debug_short_passes : (first : Text) → leaf_fault (leaf debug) (first ∷ []) ≡ []
+debug_short_passes first = debug_short_fault first
+
+debug_fault : (first second : Text) → leaf_fault (leaf debug) (first ∷ second ∷ []) ≡ []
+unfolding walked walk_fault defaults_fault
+debug_fault first second = refl
+
+pub debug_passes : (first second : Text) → leaf_fault (leaf debug) (first ∷ second ∷ []) ≡ []
+debug_passes first second = debug_fault first second
+
+pub debug_wants : Wants (leaf debug) IsDebugRow
+unfolding walked walk_fault defaults_fault
+debug_wants [] none = absurd (refuses none)
+debug_wants (first ∷ []) none = inr (first, refl, refl, refl)
+debug_wants (first ∷ second ∷ []) none = inl (first, second, refl, refl, refl)
+debug_wants (first ∷ second ∷ more ∷ rest) none = absurd (refuses none)

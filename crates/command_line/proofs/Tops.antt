@@ -22,14 +22,14 @@ use Rattle.clap.specs.declared.parser.matches.ArgMatches.{ArgMatches}
 use Rattle.clap.proofs.WalkLemmas.{walk_stopped}
 use Rattle.command_line.specs.Commands.{IsFrameRow, IsInfoRow, IsListRow, IsNewRow, IsPlayRow, IsMatched, IsRead, IsStepRow, IsStreamRow, IsTraceRow, frame, gbkeep, info, list, new, play, step, stream, trace}
 use Rattle.command_line.specs.Commands.{IsTestRow, IsNewRecordingRow, IsRecordRow, IsRecordedRow, IsVerifyRow, test_rom, new_recording, record_game, recorded, verify}
-use Rattle.command_line.specs.Commands.{IsShowRow, IsExportRow, IsImportRow, show, export, import}
+use Rattle.command_line.specs.Commands.{IsShowRow, IsExportRow, IsImportRow, IsDebugRow, show, export, import, debug}
 use Rattle.command_line.specs.Words.{AsksFor, AskForSome, IsAnswer, IsCommand, Word, WritesWithin, is_option, operands_of}
 use Rattle.command_line.specs.declared.Request.{Request}
-use Rattle.command_line.specs.declared.Request.TheVariants.{Info, List as Listing, Step as Steps, New, Play, Frame, Trace, Stream, Test, NewRecording, Record, Recorded, Verify, Show, Export, Import}
+use Rattle.command_line.specs.declared.Request.TheVariants.{Info, List as Listing, Step as Steps, New, Play, Frame, Trace, Stream, Test, NewRecording, Record, Recorded, Verify, Show, Export, Import, Debug}
 use Rattle.command_line.proofs.Leaves.{Wants, fault_is, leaf, leaf_fault, or_nothing, refused_without, rows_are}
 use Rattle.command_line.proofs.Leaves.{info_is_plain, info_passes, info_wants, list_is_plain, list_passes, list_wants, step_is_plain, step_passes, step_wants, new_is_plain, new_passes, new_unsized_passes, new_wants, play_is_plain, play_passes, play_wants, frame_is_plain, frame_passes, frame_wants, trace_is_plain, trace_passes, trace_wants, stream_is_plain, stream_passes, stream_wants}
 use Rattle.command_line.proofs.Leaves.{test_rom_is_plain, test_rom_passes, test_rom_wants, test_rom_short_passes, new_recording_is_plain, new_recording_passes, new_recording_wants, record_game_is_plain, record_game_passes, record_game_wants, recorded_is_plain, recorded_passes, recorded_wants, verify_is_plain, verify_passes, verify_wants}
-use Rattle.command_line.proofs.Leaves.{show_is_plain, show_passes, show_wants, export_is_plain, export_passes, export_wants, import_is_plain, import_passes, import_unsized_passes, import_wants}
+use Rattle.command_line.proofs.Leaves.{show_is_plain, show_passes, show_wants, export_is_plain, export_passes, export_wants, import_is_plain, import_passes, import_unsized_passes, import_wants, debug_is_plain, debug_passes, debug_short_passes, debug_wants}
 use Rattle.command_line.proofs.Walks.{Classified, Fails, classify, dashes, first_fails, is_plain_rule, later_fails, option_fails, value_met}
 
 abbrev top : Shape
@@ -148,6 +148,9 @@ export_known = record { met = refl; is_not_help = refl; found = refl; named = re
 import_known : IsNameOf (codes "import") (leaf import)
 import_known = record { met = refl; is_not_help = refl; found = refl; named = refl }
 
+debug_known : IsNameOf (codes "debug") (leaf debug)
+debug_known = record { met = refl; is_not_help = refl; found = refl; named = refl }
+
 -- ---- a word that is no command
 
 abbrev NoCommand : Text → Type 0
@@ -244,7 +247,10 @@ export_reads : (program : Text) (rest : List Text) → Reads program rest (codes
 export_reads = read_as _ (leaf export) export_known export_is_plain IsExportRow export_wants (λ rows operands row. inr (inr (inr (inr (inr (inr (inr (inr (inr (inr (inr (inr (inr (inr (inl (refl, row))))))))))))))))
 
 import_reads : (program : Text) (rest : List Text) → Reads program rest (codes "import")
-import_reads = read_as _ (leaf import) import_known import_is_plain IsImportRow import_wants (λ rows operands row. inr (inr (inr (inr (inr (inr (inr (inr (inr (inr (inr (inr (inr (inr (inr (refl, row))))))))))))))))
+import_reads = read_as _ (leaf import) import_known import_is_plain IsImportRow import_wants (λ rows operands row. inr (inr (inr (inr (inr (inr (inr (inr (inr (inr (inr (inr (inr (inr (inr (inl (refl, row)))))))))))))))))
+
+debug_reads : (program : Text) (rest : List Text) → Reads program rest (codes "debug")
+debug_reads = read_as _ (leaf debug) debug_known debug_is_plain IsDebugRow debug_wants (λ rows operands row. inr (inr (inr (inr (inr (inr (inr (inr (inr (inr (inr (inr (inr (inr (inr (inr (refl, row)))))))))))))))))
 
 -- a word is a name, or it is tried with the others
 case_of : (name word : Text) (P : Text → Type 0) → P name → (bytes_eq name word ≡ false → P word) → P word
@@ -273,8 +279,9 @@ reads word program rest =
     case_of (codes "show") word P (show_reads program rest) (λ not_show.
     case_of (codes "export") word P (export_reads program rest) (λ not_export.
     case_of (codes "import") word P (import_reads program rest) (λ not_import.
+    case_of (codes "debug") word P (debug_reads program rest) (λ not_debug.
     case_of (codes "help") word P (λ none. absurd (help_fails program rest none)) (λ not_help.
-    λ none. absurd (unknown_fails word program rest (rw (not_info, not_list, not_step, not_new, not_play, not_frame, not_trace, not_stream, not_test_rom, not_new_recording, not_record_game, not_recorded, not_verify, not_show, not_export, not_import, not_help) refl) none))))))))))))))))))
+    λ none. absurd (unknown_fails word program rest (rw (not_info, not_list, not_step, not_new, not_play, not_frame, not_trace, not_stream, not_test_rom, not_new_recording, not_record_game, not_recorded, not_verify, not_show, not_export, not_import, not_debug, not_help) refl) none)))))))))))))))))))
 
 understood : (words : List Text) → fault_of gbkeep words ≡ [] → IsRead words (subcommand_of gbkeep words)
 understood [] none = absurd (no_words [] (inl refl) none)
@@ -327,6 +334,10 @@ asked words (Import cart battery save None) command =
     command_passes _ (leaf import) import_known import_is_plain words _ (import_unsized_passes cart.now battery.now save.now) command
 asked words (Import cart battery save (Some sectors)) (number, command, within) =
     command_passes _ (leaf import) import_known import_is_plain words _ (import_passes cart.now battery.now save.now number (accepted 1 65536 sectors number within (omega arith))) command
+asked words (Debug cart None) command =
+    command_passes _ (leaf debug) debug_known debug_is_plain words _ (debug_short_passes cart.now) command
+asked words (Debug cart (Some save)) command =
+    command_passes _ (leaf debug) debug_known debug_is_plain words _ (debug_passes cart.now save.now) command
 
 -- ---- what `clap` answers
 

@@ -80,6 +80,9 @@ export = with_rule (over_save (codes "export")) (operand (codes "OUT"))
 abbrev pub import : App
 import = with_rule (with_rule (with_rule (over_cart (codes "import")) (operand (codes "BATTERY"))) (operand (codes "SAVE"))) (optional_number (codes "SECTORS") 1 65536)
 
+abbrev pub debug : App
+debug = with_rule (over_cart (codes "debug")) (new_rule (codes "SAVE"))
+
 abbrev pub bare : App
 bare = let named = new_app (codes "gbkeep") in record named { top = record named.top { has_version = true; subcommand_required = true } }
 
@@ -101,7 +104,7 @@ with_battery_files = with_subcommand (with_subcommand (with_subcommand with_reco
 
 -- the whole program's
 abbrev pub gbkeep : App
-gbkeep = with_subcommand with_battery_files test_rom.top
+gbkeep = with_subcommand (with_subcommand with_battery_files test_rom.top) debug.top
 
 -- a command that `clap` reads so, none of whose operands is global
 pub record Reads (app : App) (command : Command) : Type 0 where
@@ -219,6 +222,18 @@ IsUnsizedImportRow rows operands = (first second third : Word) × (operands ≡ 
 abbrev pub IsImportRow : List Row → List Word → Type 0
 IsImportRow rows operands = IsSizedImportRow rows operands ⊎ IsUnsizedImportRow rows operands
 
+-- `debug` over a game, and from power-on
+abbrev pub IsDebugFullRow : List Row → List Word → Type 0
+IsDebugFullRow rows operands = (first second : Word) × (operands ≡ first ∷ second ∷ [])
+    × HasOperand rows (codes "CART") first × HasOperand rows (codes "SAVE") second
+
+abbrev pub IsDebugShortRow : List Row → List Word → Type 0
+IsDebugShortRow rows operands = (first : Word) × (operands ≡ first ∷ [])
+    × HasOperand rows (codes "CART") first × HasNoOperand rows (codes "SAVE")
+
+abbrev pub IsDebugRow : List Row → List Word → Type 0
+IsDebugRow rows operands = IsDebugFullRow rows operands ⊎ IsDebugShortRow rows operands
+
 -- this command was named, with these operands, and its matches hold them
 abbrev pub IsMatched : Word → List Row → List Word → Type 0
 IsMatched name rows operands = ((name ≡ codes "info") × IsInfoRow rows operands)
@@ -237,6 +252,7 @@ IsMatched name rows operands = ((name ≡ codes "info") × IsInfoRow rows operan
     ⊎ ((name ≡ codes "show") × IsShowRow rows operands)
     ⊎ ((name ≡ codes "export") × IsExportRow rows operands)
     ⊎ ((name ≡ codes "import") × IsImportRow rows operands)
+    ⊎ ((name ≡ codes "debug") × IsDebugRow rows operands)
 
 -- the words are a command with its operands, and the matches of a subcommand hold them
 abbrev pub IsRead : List Word → Option (Word × List Row) → Type 0

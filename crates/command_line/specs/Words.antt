@@ -7,7 +7,7 @@ use Rattle.clap.specs.Words.{kind_of}
 use Rattle.clap.specs.declared.error.Error.{Error}
 use Rattle.clap.specs.declared.error.kind.ErrorKind.TheVariants.{OutOfMemory}
 use Rattle.command_line.specs.declared.Request.{Request}
-use Rattle.command_line.specs.declared.Request.TheVariants.{Info, List as Listing, Step, New, Play, Frame, Trace, Stream, Test, NewRecording, Record, Recorded, Verify, Show, Export, Import}
+use Rattle.command_line.specs.declared.Request.TheVariants.{Info, List as Listing, Step, New, Play, Frame, Trace, Stream, Test, NewRecording, Record, Recorded, Verify, Show, Export, Import, Debug}
 
 -- a word, as its bytes
 abbrev pub Word : Type 0
@@ -69,6 +69,8 @@ AsksFor words (Export cart save out) = IsCommand words (codes "export") (cart.no
 AsksFor words (Import cart battery save None) = IsCommand words (codes "import") (cart.now ∷ battery.now ∷ save.now ∷ [])
 AsksFor words (Import cart battery save (Some sectors)) =
     (number : Word) × IsCommand words (codes "import") (cart.now ∷ battery.now ∷ save.now ∷ number ∷ []) × WritesWithin 1 65536 number sectors
+AsksFor words (Debug cart None) = IsCommand words (codes "debug") (cart.now ∷ [])
+AsksFor words (Debug cart (Some save)) = IsCommand words (codes "debug") (cart.now ∷ save.now ∷ [])
 
 -- the words ask for some request
 abbrev pub AskForSome : List Word → Type 0

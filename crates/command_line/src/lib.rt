@@ -9,7 +9,7 @@ ghost use Rattle.clap.specs.Words.{FailsBy, fault_of, found_of, rows_of, subcomm
 ghost use Rattle.command_line.specs.Commands.{HasNoNumber, HasNoOperand, HasNumber, HasOperand, IsFrameRow, IsInfoRow, IsListRow, IsMatched, IsRead};
 ghost use Rattle.command_line.specs.Commands.{IsNewRow, IsPlayRow, IsStepRow, IsStreamRow, IsTraceRow, gbkeep};
 ghost use Rattle.command_line.specs.Commands.{IsTestRow, IsNewRecordingRow, IsRecordRow, IsRecordedRow, IsVerifyRow};
-ghost use Rattle.command_line.specs.Commands.{IsShowRow, IsExportRow, IsImportRow};
+ghost use Rattle.command_line.specs.Commands.{IsShowRow, IsExportRow, IsImportRow, IsDebugRow};
 ghost use Rattle.command_line.specs.Words.{IsAnswer, IsCommand, Word, WritesWithin};
 
 mod words;
@@ -112,6 +112,11 @@ pub enum Request<'a> {
         save: &'a str,
         sectors: Option<u32>,
     },
+    /// Obeys the lines of the input as a debugger does, from power-on or from the game in a file.
+    Debug {
+        cart: &'a str,
+        save: Option<&'a str>,
+    },
 }
 
 /// The request that the words make, of which the first is the program's own name.
@@ -158,6 +163,7 @@ fn named_request<'a>(name: &str, values: &ArgMatches<'a>) -> Option<Request<'a>>
         "show" => show(values),
         "export" => export(values),
         "import" => import(values),
+        "debug" => debug(values),
         _ => None,
     }
 }
@@ -354,5 +360,15 @@ fn import<'a>(values: &ArgMatches<'a>) -> Option<Request<'a>>
         battery: operand(values, "BATTERY")?,
         save: operand(values, "SAVE")?,
         sectors: number(values, "SECTORS"),
+    })
+}
+
+fn debug<'a>(values: &ArgMatches<'a>) -> Option<Request<'a>>
+    ensures { (words operands : List Word) → IsCommand words (codes "debug") operands
+        → IsDebugRow (rows_of (found_of values.now)) operands → IsAnswer words (Ok result) }
+{
+    Some(Request::Debug {
+        cart: operand(values, "CART")?,
+        save: optional_operand(values, "SAVE"),
     })
 }

@@ -3,7 +3,7 @@ ghost use Rattle.std.specs.Prelude.{IfOk, codes};
 ghost use Rattle.command_line.specs.Commands.{Reads, ReadsOperand, number, operand, over_cart, over_save};
 ghost use Rattle.command_line.specs.Commands.{bare, frame, gbkeep, info, list, new, play, step, stream, trace, without_sessions};
 ghost use Rattle.command_line.specs.Commands.{test_rom, new_recording, record_game, recorded, verify, with_sessions, with_recordings};
-ghost use Rattle.command_line.specs.Commands.{show, export, import, optional_number, with_battery_files};
+ghost use Rattle.command_line.specs.Commands.{show, export, import, debug, optional_number, with_battery_files};
 
 use clap::{Arg, Command, value_parser};
 use std::alloc::{AllocError, Global};
@@ -28,10 +28,27 @@ const STREAM_LINES: &str = "Lines of the standard input:
   save         saves what is unsaved, and answers saved N
   picture      answers the picture as plain PGM, 46,093 bytes";
 
+const DEBUG_LINES: &str = "Lines of the standard input, each answered before the next is read:
+  step N            the next N steps, a line each
+  until N ADDR..    up to N steps, to one of 1 to 16 addresses
+  until-op N XX     up to N steps, to an instruction with the opcode XX
+  frame BB          one frame with the buttons BB, as in a script
+  frames BB N       N such frames, 1 to 1,000,000
+  seconds N         N seconds pass on the cartridge's clock
+  registers         the registers
+  history N         the last N instructions, at most 1,024
+  list ADDR N       N instructions from ADDR on
+  memory ADDR N     N bytes from ADDR on
+  serial            the bytes that were sent since the last serial
+  picture           the picture as plain PGM, 46,093 bytes
+  state             the SHA-256 of the machine's snapshot";
+
 pub(crate) fn command<'a>(alloc: Global) -> Result<Command<'a>, AllocError>
     ensures { IfOk result (Reads gbkeep) }
 {
-    with_battery_files(alloc)?.subcommand(test_rom(alloc)?)
+    with_battery_files(alloc)?
+        .subcommand(test_rom(alloc)?)?
+        .subcommand(debug(alloc)?)
 }
 
 /// So, and with those that show a game or carry its battery file.
@@ -328,4 +345,20 @@ fn import<'a>(alloc: Global) -> Result<Command<'a>, AllocError>
     .arg(word(alloc, "BATTERY", "The battery file"))?
     .arg(word(alloc, "SAVE", "The file that keeps the game"))?
     .arg(sectors(alloc))
+}
+
+fn debug<'a>(alloc: Global) -> Result<Command<'a>, AllocError>
+    ensures { IfOk result (Reads debug) }
+{
+    let save = Arg::new(alloc, "SAVE").help(
+        "The file of a game that it begins with, which keeps nothing of this",
+    );
+    let lines = over_cart(
+        alloc,
+        "debug",
+        "Runs a cartridge step by step, and shows its registers, memory and history",
+    )?
+    .arg(save)?
+    .after_help(DEBUG_LINES);
+    Ok(lines)
 }

@@ -1,14 +1,14 @@
 -- How the program ends on a request that was refused.
-use Rattle.std.proofs.Common.{◌≡◌, Bor, List, ℕ, Ok, refl, sym, subst, arith}
+use Rattle.std.proofs.Common.{◌≡◌, Bor, List, ℕ, Ok, Option, refl, sym, subst, arith}
 use Rattle.command_line.specs.declared.Request.{Request}
-use Rattle.command_line.specs.declared.Request.TheVariants.{Info, List as Listing, Step, New, Play, Frame, Trace, Stream, NewRecording, Record, Recorded, Verify, Test, Show, Export, Import}
+use Rattle.command_line.specs.declared.Request.TheVariants.{Info, List as Listing, Step, New, Play, Frame, Trace, Stream, NewRecording, Record, Recorded, Verify, Test, Show, Export, Import, Debug}
 use Rattle.test_run.specs.declared.verdict.Verdict.TheVariants.{Failed, Undecided}
-use Rattle.gbkeep.specs.declared.asked.Asked.TheVariants.{Command}
+use Rattle.gbkeep.specs.declared.words.Asked.TheVariants.{Command}
 use Rattle.gbkeep.specs.declared.fault.Fault.{Fault}
 use Rattle.gbkeep.specs.declared.fault.Fault.TheVariants.{Cart, Memory, File, Output, Address, Word, Device, Script, Session, Line, Input, Recording, Behind, Differ, TestFailed, TestUndecided, NoBattery, BatteryLength}
 use Rattle.gbkeep.specs.Text.{Exchange, Text, IsUnread, IsUnwritten}
 use Rattle.gbkeep.specs.Request.{HasAddress, HasDevice, HasScript, IsCompared, IsGameRefused, IsRecordingRefused, IsTestDecided, IsWithoutBattery, IsOtherLength}
-use Rattle.gbkeep.specs.Program.{HasEnded, HasLine, IsRecordRefused, IsRefused, IsRefusedReading, IsStreamRefused, line_of, status_of}
+use Rattle.gbkeep.specs.Program.{HasEnded, HasLine, IsDebugRefused, IsRecordRefused, IsRefused, IsRefusedReading, IsStreamRefused, line_of, status_of}
 
 -- what never holds of a listing holds only of requests without an address
 elsewhere : (P : Request → Type 0) → ((cart address : Bor (List ℕ)) (count : ℕ) → P (Listing cart address count) → ⊥) → (request : Request) → P request → HasAddress request
@@ -28,6 +28,7 @@ elsewhere P never (Test cart frames script) p = tt
 elsewhere P never (Show cart save) p = tt
 elsewhere P never (Export cart save out) p = tt
 elsewhere P never (Import cart battery save sectors) p = tt
+elsewhere P never (Debug cart save) p = tt
 
 refused_by : (request : Request) (fault : Fault) (run : Exchange) → status_of fault ≡ 1 → HasAddress request → IsRefusedReading request fault run.input run.output → HasLine (line_of fault) run.errors.before run.errors.since
     → HasEnded (Ok (Command request)) run 1
@@ -111,6 +112,26 @@ record_status TestUndecided input output is = absurd is
 record_status NoBattery input output is = absurd is
 record_status (BatteryLength found needed) input output is = absurd is
 
+debug_status : (save : Option (Bor (List ℕ))) (fault : Fault) (input output : Text) → IsDebugRefused save fault input output → status_of fault ≡ 1
+debug_status save (Cart fault) input output is = refl
+debug_status save Memory input output is = refl
+debug_status save File input output is = refl
+debug_status save Output input output is = refl
+debug_status save Address input output is = absurd is
+debug_status save Word input output is = absurd is
+debug_status save (Device fault) input output is = refl
+debug_status save (Script fault) input output is = absurd is
+debug_status save (Session fault) input output is = refl
+debug_status save (Line number) input output is = absurd is
+debug_status save Input input output is = refl
+debug_status save (Recording fault) input output is = absurd is
+debug_status save (Behind count) input output is = absurd is
+debug_status save Differ input output is = absurd is
+debug_status save TestFailed input output is = absurd is
+debug_status save TestUndecided input output is = absurd is
+debug_status save NoBattery input output is = absurd is
+debug_status save (BatteryLength found needed) input output is = absurd is
+
 pub refused_ends : (request : Request) (fault : Fault) (run : Exchange) → IsRefusedReading request fault run.input run.output → HasLine (line_of fault) run.errors.before run.errors.since
     → HasEnded (Ok (Command request)) run (status_of fault)
 refused_ends (Info cart) fault run why line = unread_by (Info cart) fault run why.0 why.1 why line
@@ -133,3 +154,6 @@ refused_ends (Test cart frames script) fault run why line = unread_by (Test cart
 refused_ends (Show cart save) fault run why line = unread_by (Show cart save) fault run why.0 why.1 why line
 refused_ends (Export cart save out) fault run why line = unread_by (Export cart save out) fault run why.0 why.1 why line
 refused_ends (Import cart battery save sectors) fault run why line = unread_by (Import cart battery save sectors) fault run why.0 why.1 why line
+refused_ends (Debug cart save) fault run why line =
+    let is = debug_status save fault run.input run.output why in
+    subst (λ (status : ℕ). HasEnded (Ok (Command (Debug cart save))) run status) (sym is) (refused_by (Debug cart save) fault run is tt why line)

@@ -5,4 +5,5 @@ pub mod Traces
 pub mod StreamTexts
 pub mod RecordTexts
 pub mod BatteryTexts
+pub mod DebugTexts
 pub mod Endings

@@ -1,16 +1,13 @@
 -- The text of a trace, which is written line by line, and why there is none.
-use Rattle.std.proofs.Common.{◌≡◌, ℕ, ◌+◌, ◌-◌, List, [], ◌++◌, Option, Some, Result, Ok, Err, ◌∙◌, ap, length, take, refl, subst}
-use Rattle.std.specs.Prelude.{Bool, true, false, is_err, IfOk, IfSome, OnErr, OnOk}
+use Rattle.std.proofs.Common.{◌≡◌, ℕ, List, Option, Some, Result, Ok, Err, refl, subst}
+use Rattle.std.specs.Prelude.{IfOk}
 use Rattle.std.specs.Result.{result_ok}
-use Rattle.std.proofs.Math.Seq.{take-append_seam}
 use Rattle.std.specs.Io.KnownBytes.{Appends, Keeps}
 use Rattle.cartridge.specs.Accepted.{IsAccepted}
 use Rattle.exact_text.specs.Written.{AppendsProperPrefix}
 use Rattle.snapshot.specs.Legal.{IsMachineOf}
 use Rattle.sector_device.specs.DiskState.{DiskState}
-use Rattle.sector_log.specs.Content.{content}
-use Rattle.session.specs.Calls.{IsAtRest}
-use Rattle.session.specs.Stands.{Position, stands}
+use Rattle.session.specs.Stands.{Position}
 use Rattle.session.specs.declared.error.SessionError.{SessionError}
 use Rattle.machine.specs.Machine.{MachineState}
 use Rattle.playing.specs.Played.{IsNotTakenUp}
@@ -19,7 +16,8 @@ use Rattle.gbkeep.specs.declared.error.TraceError.{TraceError}
 use Rattle.gbkeep.specs.declared.error.TraceError.TheVariants.{Cart, Session, Memory, Output}
 use Rattle.gbkeep.specs.Program.{IsRefused, fault_of_trace}
 use Rattle.gbkeep.specs.Request.{HasAddress, IsGameRefused, IsOutputRefused, OfATrace}
-use Rattle.gbkeep.specs.Tracing.{HasStopped, HasTraced, IsTakenUp, IsTraceCause, IsUntraced, faults_after_trace, trace_text}
+use Rattle.debug_lines.specs.Debugging.{IsTakenUp}
+use Rattle.gbkeep.specs.Tracing.{HasStopped, HasTraced, IsTraceCause, IsUntraced, faults_after_trace, trace_text}
 
 -- ---- for the program
 
@@ -44,24 +42,7 @@ pub ok_of_some : {T E : Type 0} (r : Result T E) (x : T) (P : T → Type 0) → 
 ok_of_some (Ok y) x P is p = let same : y ≡ x = cc in subst P same p
 ok_of_some (Err e) x P is p = absurd (cc)
 
-pub some_of_ok : {T E : Type 0} (r : Result T E) {P Q : T → Type 0} → IfOk r P → ((x : T) → P x → Q x) → IfSome (result_ok r) Q
-some_of_ok (Ok x) p to = to x p
-some_of_ok (Err e) p to = tt
-
-pub on_ok_of : {T E : Type 0} (r : Result T E) {b : Bool} {P : Type 0} → b ≡ is_err r → b ≡ false → OnOk r P → P
-on_ok_of (Ok x) is fine p = p
-on_ok_of (Err e) is fine p = absurd (cc)
-
-pub on_err_of : {T E : Type 0} (r : Result T E) {b : Bool} {P : Type 0} → b ≡ is_err r → b ≡ true → OnErr r P → P
-on_err_of (Ok x) is failed p = absurd (cc)
-on_err_of (Err e) is failed p = p
-
 -- ---- a game that was taken up
-
-pub taken_up : (rom image : List ℕ) (old now : DiskState) (from : Position) → image ≡ rom → IsMachineOf image from.machine
-    → (old.honest → stands image (content old.sectors) ≡ Some from) → (old.honest → IsAtRest image now from.count [] from.machine) → IsTakenUp rom old now from
-taken_up rom image old now from is of stood rests =
-    subst (λ (r : List ℕ). IsTakenUp r old now from) is (record { of_rom = of; stood = stood; rests = rests })
 
 pub trace_cause : (rom image : List ℕ) (steps : ℕ) (old now : DiskState) (from : Position) (before since : Option (List ℕ)) (why : TraceError)
     → IsAccepted rom → (IsMachineOf image from.machine → IsTakenUp rom old now from)
@@ -84,9 +65,3 @@ text_only rom machine text before since (Cart fault) n unwritten = refl
 text_only rom machine text before since (Session fault) n unwritten = absurd unwritten
 text_only rom machine text before since Memory n unwritten = refl
 text_only rom machine text before since Output n unwritten = refl
-
--- ---- a buffer
-
--- a buffer that a call filled has what the call left in it
-pub filled : (out raw : List ℕ) (n : ℕ) → n ≡ length out → take n (out ++ raw) ≡ out
-filled out raw n size = ap (λ (k : ℕ). take k (out ++ raw)) size ∙ take-append_seam out raw

@@ -1,5 +1,6 @@
 -- The statuses of the program: 0 done, 1 refused, 2 words not understood.
 use Rattle.std.specs.Prelude.{◌≡◌, ◌≤◌, ◌↔◌, ◌≢◌, ◌⊎◌, ℕ, List, codes, Option, None, Some, Result, Ok, Err, ⊤, Bool, true, false}
+use Rattle.std.specs.Borrow.{Bor}
 use Rattle.std.specs.Io.KnownBytes.{Appends, Keeps}
 use Rattle.exact_text.specs.Written.{AppendsProperPrefix}
 use Rattle.cartridge.specs.Accepted.{IsAccepted, refusal_of}
@@ -12,10 +13,10 @@ use Rattle.clap.specs.declared.error.kind.ErrorKind.TheVariants.{DisplayHelp, Di
 use Rattle.command_line.specs.Commands.{gbkeep as command}
 use Rattle.command_line.specs.Words.{AsksFor, AskForSome, Word as WordText}
 use Rattle.command_line.specs.declared.Request.{Request}
-use Rattle.command_line.specs.declared.Request.TheVariants.{Info, List as Listing, Step, New, Play, Frame, Trace, Stream, NewRecording, Record, Recorded, Verify, Test, Show, Export, Import}
+use Rattle.command_line.specs.declared.Request.TheVariants.{Info, List as Listing, Step, New, Play, Frame, Trace, Stream, NewRecording, Record, Recorded, Verify, Test, Show, Export, Import, Debug}
 use Rattle.session.specs.declared.error.SessionError.TheVariants.{Memory as GameMemory, Device as GameDevice, NoSession as GameNoSession, OtherCartridge as GameOtherCartridge, Worn as GameWorn, Broken as GameBroken, SaveFirst as GameSaveFirst, CountFull as GameCountFull, Output as GameOutput, TooSmall as GameTooSmall, Damaged as GameDamaged}
-use Rattle.gbkeep.specs.declared.asked.Asked.{Asked}
-use Rattle.gbkeep.specs.declared.asked.Asked.TheVariants.{Command, Help, Misuse, OutOfRange}
+use Rattle.gbkeep.specs.declared.words.Asked.{Asked}
+use Rattle.gbkeep.specs.declared.words.Asked.TheVariants.{Command, Help, Misuse, OutOfRange}
 use Rattle.gbkeep.specs.declared.error.TextError.{TextError}
 use Rattle.gbkeep.specs.declared.error.TextError.TheVariants.{Cart as TextCart, Memory as TextMemory, Output as TextOutput}
 use Rattle.gbkeep.specs.declared.error.PlayError.{PlayError}
@@ -38,6 +39,11 @@ use Rattle.battery_files.specs.declared.error.ExportError.{ExportError}
 use Rattle.battery_files.specs.declared.error.ExportError.TheVariants.{Cart as ExportCart, NoBattery as ExportNoBattery, Session as ExportSession}
 use Rattle.battery_files.specs.declared.error.ImportError.{ImportError}
 use Rattle.battery_files.specs.declared.error.ImportError.TheVariants.{NoBattery as ImportNoBattery, Length as ImportLength, Memory as ImportMemory}
+use Rattle.debugging.specs.declared.error.DebugError.TheVariants.{Input as DebugInput, Output as DebugOutput}
+use Rattle.debug_lines.specs.declared.error.DebugRomError.{DebugRomError}
+use Rattle.debug_lines.specs.declared.error.DebugRomError.TheVariants.{Cart as DebugRomCart, Memory as DebugRomMemory, Debug as DebugRomStopped}
+use Rattle.debug_lines.specs.declared.error.DebugGameError.{DebugGameError}
+use Rattle.debug_lines.specs.declared.error.DebugGameError.TheVariants.{Cart as DebugGameCart, Session as DebugGameSession, Memory as DebugGameMemory, Debug as DebugGameStopped}
 use Rattle.replaying.specs.declared.error.VerifyError.TheVariants.{Save as NoSave, Recording as NoRecording, Behind as RecordingBehind, Memory as NoMemory, Differ as MachinesDiffer}
 use Rattle.gbkeep.specs.declared.error.StreamPlayError.{StreamPlayError}
 use Rattle.gbkeep.specs.declared.error.StreamPlayError.TheVariants.{Cart as StreamCart, Stream as StreamFault}
@@ -46,7 +52,7 @@ use Rattle.streaming.specs.declared.error.StreamError.TheVariants.{Session as St
 use Rattle.gbkeep.specs.declared.fault.Fault.TheVariants.{Cart, Memory, File, Output, Address, Word, Device, Script, Session, Line, Input, Recording, Behind, Differ, TestFailed, TestUndecided, NoBattery, BatteryLength}
 use Rattle.script.specs.Script.{IsRefused as IsScriptRefused}
 use Rattle.gbkeep.specs.Text.{Exchange, Text, IsUnread, IsUnwritten}
-use Rattle.gbkeep.specs.Request.{HasAddress, HasDevice, HasScript, IsDone, IsCompared, IsGameRefused, IsOutputRefused, IsRecordingRefused, IsTestDecided, IsWithoutBattery, IsOtherLength, IsStreamStopped, IsStreamedTo, IsRecordStopped, IsRecordedTo}
+use Rattle.gbkeep.specs.Request.{HasAddress, HasDevice, HasScript, IsDone, IsCompared, IsGameRefused, IsOutputRefused, IsRecordingRefused, IsTestDecided, IsWithoutBattery, IsOtherLength, IsStreamStopped, IsStreamedTo, IsRecordStopped, IsRecordedTo, IsDebugged, IsDebugStopped, IsDebugUnbegun}
 
 abbrev pub status_of : Fault → ℕ
 status_of (Cart fault) = 1
@@ -142,6 +148,20 @@ abbrev pub fault_of_import : ImportError → Fault
 fault_of_import ImportNoBattery = NoBattery
 fault_of_import (ImportLength found needed) = BatteryLength found needed
 fault_of_import ImportMemory = Memory
+
+-- and what a debugger that was not begun, or stopped, is
+abbrev pub fault_of_debug_rom : DebugRomError → Fault
+fault_of_debug_rom (DebugRomCart fault) = Cart fault
+fault_of_debug_rom DebugRomMemory = Memory
+fault_of_debug_rom (DebugRomStopped DebugInput) = Input
+fault_of_debug_rom (DebugRomStopped DebugOutput) = Output
+
+abbrev pub fault_of_debug_game : DebugGameError → Fault
+fault_of_debug_game (DebugGameCart fault) = Cart fault
+fault_of_debug_game (DebugGameSession fault) = Session fault
+fault_of_debug_game DebugGameMemory = Memory
+fault_of_debug_game (DebugGameStopped DebugInput) = Input
+fault_of_debug_game (DebugGameStopped DebugOutput) = Output
 
 -- why a battery file is not taken for this cartridge
 abbrev pub IsBatteryFault : (rom : List ℕ) → Fault → Type 0
@@ -275,7 +295,33 @@ abbrev pub IsRecordServed : Result Unit Fault → (input output : Text) → Type
 IsRecordServed (Ok u) input output = IsRecordedTo Whole input output
 IsRecordServed (Err fault) input output = IsRecordRefused fault input output
 
--- ---- any request: only a stream and a recorded play read the input
+-- why a debugger was not begun or stopped, and what was read and went out then
+abbrev pub IsDebugRefused : (save : Option (Bor (List ℕ))) → Fault → (input output : Text) → Type 0
+IsDebugRefused save (Cart fault) input output = IsUnread input × IsUnwritten output × ((rom : List ℕ) × (refusal_of rom ≡ Some fault))
+IsDebugRefused save Memory input output = IsUnread input × IsUnwritten output
+IsDebugRefused save File input output = IsUnread input × IsUnwritten output
+IsDebugRefused save Output input output = IsDebugStopped save DebugOutput input output
+IsDebugRefused save Address input output = ⊥
+IsDebugRefused save Word input output = ⊥
+IsDebugRefused save (Device fault) input output = IsDebugUnbegun save input output
+IsDebugRefused save (Script fault) input output = ⊥
+IsDebugRefused save (Session why) input output = IsDebugUnbegun save input output × ((rom : List ℕ) × IsAccepted rom)
+IsDebugRefused save (Line number) input output = ⊥
+IsDebugRefused save Input input output = IsDebugStopped save DebugInput input output
+IsDebugRefused save (Recording fault) input output = ⊥
+IsDebugRefused save (Behind count) input output = ⊥
+IsDebugRefused save Differ input output = ⊥
+IsDebugRefused save TestFailed input output = ⊥
+IsDebugRefused save TestUndecided input output = ⊥
+IsDebugRefused save NoBattery input output = ⊥
+IsDebugRefused save (BatteryLength found needed) input output = ⊥
+
+-- a debugger answered all lines, or was refused
+abbrev pub IsDebugServed : (save : Option (Bor (List ℕ))) → Result Unit Fault → (input output : Text) → Type 0
+IsDebugServed save (Ok u) input output = IsDebugged save input output
+IsDebugServed save (Err fault) input output = IsDebugRefused save fault input output
+
+-- ---- any request: only a stream, a recorded play and a debugger read the input
 
 abbrev pub IsDoneReading : Request → (input output : Text) → Type 0
 IsDoneReading (Info cart) input output = IsUnread input × IsDone (Info cart) output.before output.since
@@ -294,6 +340,7 @@ IsDoneReading (Verify cart save recording) input output = IsUnread input × IsDo
 IsDoneReading (Show cart save) input output = IsUnread input × IsDone (Show cart save) output.before output.since
 IsDoneReading (Export cart save out) input output = IsUnread input × IsDone (Export cart save out) output.before output.since
 IsDoneReading (Import cart battery save sectors) input output = IsUnread input × IsDone (Import cart battery save sectors) output.before output.since
+IsDoneReading (Debug cart save) input output = IsDebugged save input output
 
 abbrev pub IsRefusedReading : Request → Fault → (input output : Text) → Type 0
 IsRefusedReading (Info cart) fault input output = IsUnread input × IsRefused (Info cart) fault output.before output.since
@@ -312,6 +359,7 @@ IsRefusedReading (Verify cart save recording) fault input output = IsUnread inpu
 IsRefusedReading (Show cart save) fault input output = IsUnread input × IsRefused (Show cart save) fault output.before output.since
 IsRefusedReading (Export cart save out) fault input output = IsUnread input × IsRefused (Export cart save out) fault output.before output.since
 IsRefusedReading (Import cart battery save sectors) fault input output = IsUnread input × IsRefused (Import cart battery save sectors) fault output.before output.since
+IsRefusedReading (Debug cart save) fault input output = IsDebugRefused save fault input output
 
 abbrev pub IsServedReading : Request → Result Unit Fault → (input output : Text) → Type 0
 IsServedReading request (Ok u) input output = IsDoneReading request input output

@@ -1,12 +1,13 @@
 -- What a request wants of a ROM, and when the program has done it.
-use Rattle.std.specs.Prelude.{◌≡◌, ◌⊎◌, ◌≤◌, ◌++◌, ℕ, List, [], length, codes, decimal, true, false, Option, unwrap_or, IsOk, All}
+use Rattle.std.specs.Prelude.{◌≡◌, ◌⊎◌, ◌≤◌, ◌++◌, ℕ, List, [], length, codes, decimal, true, false, Option, None, Some, unwrap_or, IsOk, All}
 use Rattle.std.specs.Str.Parse.{IsNumeral, digits_value}
+use Rattle.std.specs.Borrow.{Bor}
 use Rattle.std.specs.Io.KnownBytes.{Appends, Keeps}
 use Rattle.exact_text.specs.Written.{AppendsProperPrefix}
 use Rattle.cartridge.specs.Accepted.{IsAccepted}
 use Rattle.cartridge.specs.Header.{ram_length_of}
 use Rattle.command_line.specs.declared.Request.{Request}
-use Rattle.command_line.specs.declared.Request.TheVariants.{Info, List as Listing, Step, New, Play, Frame, Trace, Stream, NewRecording, Record, Recorded, Verify, Test, Show, Export, Import}
+use Rattle.command_line.specs.declared.Request.TheVariants.{Info, List as Listing, Step, New, Play, Frame, Trace, Stream, NewRecording, Record, Recorded, Verify, Test, Show, Export, Import, Debug}
 use Rattle.machine.specs.Machine.{start}
 use Rattle.machine.specs.declared.input.Input.{Input}
 use Rattle.snapshot.specs.Legal.{IsMachineOf}
@@ -40,6 +41,10 @@ use Rattle.gbkeep.specs.Playing.{moves_in}
 use Rattle.gbkeep.specs.StepLine.{line_after}
 use Rattle.gbkeep.specs.Text.{Text, IsUnread, IsUnwritten}
 use Rattle.gbkeep.specs.Tracing.{trace_text}
+use Rattle.debugging.specs.Run.{begun}
+use Rattle.debugging.specs.Debugged.{Exchange as Exchanged, HasAnsweredAll, IsDebugCause}
+use Rattle.debugging.specs.declared.error.DebugError.{DebugError}
+use Rattle.debug_lines.specs.Debugging.{IsBegunAndBroken, IsBegunAndDebugged}
 
 -- how many sectors a new game's file has: as many as the words say, or else as many as a game of this ROM needs
 abbrev pub sectors_for : List ℕ → Option ℕ → ℕ
@@ -67,9 +72,10 @@ HasAddress (Test cart frames script) = Unit {0}
 HasAddress (Show cart save) = Unit {0}
 HasAddress (Export cart save out) = Unit {0}
 HasAddress (Import cart battery save sectors) = Unit {0}
+HasAddress (Debug cart save) = Unit {0}
 
 -- what it prints of a ROM; not here what is of a game of the ROM: the report of a play, a trace, a stream and a recorded play, and what a
--- game holds
+-- game holds; nor what is answered to lines
 abbrev pub printed : Request → List ℕ → List ℕ
 printed (Info cart) rom = info_of rom
 printed (Listing cart address count) rom = lines_from (start rom) (digits_value 16 address.now) count
@@ -87,6 +93,7 @@ printed (Test cart frames script) rom = []
 printed (Show cart save) rom = []
 printed (Export cart save out) rom = []
 printed (Import cart battery save sectors) rom = begun_line
+printed (Debug cart save) rom = []
 
 -- a count of inputs and a machine of this ROM, of which the text of a trace has P
 abbrev pub OfATrace : (rom : List ℕ) → (steps : ℕ) → (List ℕ → Type 0) → Type 0
@@ -124,6 +131,7 @@ IsDoneOn rom (Frame cart save out) old new = IsAccepted rom × IsReported [] old
 IsDoneOn rom (Trace cart save count) old new = IsAccepted rom × OfATrace rom count (Appends old new)
 IsDoneOn rom (Stream cart save) old new = ⊥
 IsDoneOn rom (Record cart save recording) old new = ⊥
+IsDoneOn rom (Debug cart save) old new = ⊥
 IsDoneOn rom (New cart save sectors) old new =
     IsAccepted rom × (need (snapshot_length (ram_length_of rom)) ≤ sectors_for rom sectors) × Appends old new (printed (New cart save sectors) rom)
 IsDoneOn rom (NewRecording cart recording sectors) old new = IsAccepted rom × (2 ≤ sectors) × Appends old new (printed (NewRecording cart recording sectors) rom)
@@ -158,6 +166,8 @@ HasDevice (Test cart frames script) = ⊥
 HasDevice (Show cart save) = Unit {0}
 HasDevice (Export cart save out) = Unit {0}
 HasDevice (Import cart battery save sectors) = Unit {0}
+HasDevice (Debug cart None) = ⊥
+HasDevice (Debug cart (Some save)) = Unit {0}
 
 -- it plays a script, which is empty where it names none
 abbrev pub HasScript : Request → Type 0
@@ -223,6 +233,7 @@ IsOutputRefused (Frame cart save out) old new = (rom : List ℕ) × IsAccepted r
 IsOutputRefused (Trace cart save count) old new = (rom : List ℕ) × IsAccepted rom × OfATrace rom count (AppendsProperPrefix old new)
 IsOutputRefused (Stream cart save) old new = ⊥
 IsOutputRefused (Record cart save recording) old new = ⊥
+IsOutputRefused (Debug cart save) old new = ⊥
 IsOutputRefused (NewRecording cart recording sectors) old new =
     (rom : List ℕ) × IsAccepted rom × (2 ≤ sectors) × AppendsProperPrefix old new (printed (NewRecording cart recording sectors) rom)
 IsOutputRefused (Test cart frames script) old new = (rom moves : List ℕ) × IsCutOff rom moves frames old new
@@ -235,7 +246,7 @@ IsOutputRefused (Import cart battery save sectors) old new = (rom : List ℕ) ×
     × (need (snapshot_length (ram_length_of rom)) ≤ sectors_for rom sectors)
     × AppendsProperPrefix old new (printed (Import cart battery save sectors) rom)
 
--- ---- a stream and a recorded play, the only requests that read the input
+-- ---- a stream, a recorded play and a debugger, the only requests that read the input
 
 -- of the answers to some lines of the input, from some position of this ROM, P holds: those up to this end
 abbrev pub OfAStream : (rom : List ℕ) → End → (input : Text) → (List Line → Type 0) → Type 0
@@ -289,3 +300,25 @@ IsRecordStopped why input output =
     (rom : List ℕ) × IsAccepted rom
     × ((IsUnread input × IsUnwritten output)
     ⊎ OfABrokenRecordedPlay rom input (λ lines. (saved : ℕ) × HasTold why saved lines output.before output.since))
+
+-- ---- a debugger, from power-on or over a game
+
+abbrev pub exchange_of : (input output : Text) → Exchanged
+exchange_of input output = record { unread = input.before; left = input.since; before = output.before; since = output.since }
+
+-- all lines were answered
+abbrev pub IsDebugged : (save : Option (Bor (List ℕ))) → (input output : Text) → Type 0
+IsDebugged None input output = (rom : List ℕ) × IsAccepted rom × HasAnsweredAll (begun (start rom)) (exchange_of input output)
+IsDebugged (Some save) input output = (rom : List ℕ) × IsAccepted rom
+    × ((from : Position) × IsMachineOf rom from.machine × IsBegunAndDebugged from.count from.machine (exchange_of input output))
+
+-- or not all, for this cause
+abbrev pub IsDebugStopped : (save : Option (Bor (List ℕ))) → DebugError → (input output : Text) → Type 0
+IsDebugStopped None why input output = (rom : List ℕ) × IsAccepted rom × IsDebugCause why (begun (start rom)) (exchange_of input output)
+IsDebugStopped (Some save) why input output = (rom : List ℕ) × IsAccepted rom
+    × ((from : Position) × IsMachineOf rom from.machine × IsBegunAndBroken why from.count from.machine (exchange_of input output))
+
+-- a game was to be debugged and was not taken up: nothing was read, and nothing went out
+abbrev pub IsDebugUnbegun : (save : Option (Bor (List ℕ))) → (input output : Text) → Type 0
+IsDebugUnbegun None input output = ⊥
+IsDebugUnbegun (Some save) input output = IsUnread input × IsUnwritten output

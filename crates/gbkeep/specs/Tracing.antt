@@ -1,5 +1,5 @@
 -- What `trace_lines` writes and leaves, and when it refuses.
-use Rattle.std.specs.Prelude.{◌≡◌, ℕ, List, [], ◌++◌, Option, Some, Result, Ok, Err}
+use Rattle.std.specs.Prelude.{◌≡◌, ℕ, List, ◌++◌, Option, Some, Result, Ok, Err}
 use Rattle.std.specs.Io.KnownBytes.{Appends, Keeps}
 use Rattle.exact_text.specs.Written.{AppendsProperPrefix}
 use Rattle.cartridge.specs.Accepted.{IsAccepted, refusal_of}
@@ -7,11 +7,11 @@ use Rattle.memory_map.specs.BusRules.{bus_rules}
 use Rattle.machine.specs.Machine.{MachineState}
 use Rattle.snapshot.specs.Legal.{IsMachineOf}
 use Rattle.sector_device.specs.DiskState.{DiskState}
-use Rattle.sector_log.specs.Content.{content}
-use Rattle.session.specs.Calls.{IsAtRest, faults_after}
-use Rattle.session.specs.Stands.{Position, stands}
+use Rattle.session.specs.Calls.{faults_after}
+use Rattle.session.specs.Stands.{Position}
 use Rattle.playing.specs.Played.{IsNotTakenUp}
 use Rattle.playing.specs.Report.{resumed_line}
+use Rattle.debug_lines.specs.Debugging.{IsTakenUp}
 use Rattle.debugger.specs.Report.{step_lines}
 use Rattle.gbkeep.specs.declared.error.TraceError.{TraceError}
 use Rattle.gbkeep.specs.declared.error.TraceError.TheVariants.{Cart, Session, Memory, Output}
@@ -21,12 +21,6 @@ use Rattle.gbkeep.specs.Text.{Call, IsUnwritten}
 -- of a game that was taken up with so many inputs and this machine, the line of that and those of the next steps
 abbrev pub trace_text : (inputs : ℕ) → MachineState → (steps : ℕ) → List ℕ
 trace_text inputs machine steps = (resumed_line inputs).text ++ step_lines bus_rules steps machine.processor
-
--- a game of this ROM was taken up there: if the device is honest, what reads gave stood for it, and the device is at rest with it
-pub record IsTakenUp (rom : List ℕ) (old now : DiskState) (from : Position) : Type 0 where
-  pub of_rom : IsMachineOf rom from.machine
-  pub stood : old.honest → stands rom (content old.sectors) ≡ Some from
-  pub rests : old.honest → IsAtRest rom now from.count [] from.machine
 
 -- the game was taken up, and the text of so many steps from there is written
 pub record HasTraced (rom : List ℕ) (old now : DiskState) (steps : ℕ) (before since : Option (List ℕ)) : Type 0 where

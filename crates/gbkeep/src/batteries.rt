@@ -9,11 +9,11 @@ ghost use Rattle.gbkeep.specs.Program.{IsBatteryFault, IsServed};
 ghost use Rattle.gbkeep.specs.Request.{IsBatteryTaken, exported_line};
 
 use crate::begin::begin_game_from;
-use crate::bytes::{MOST_BATTERY, MOST_ROM, durable_file, file_bytes};
 use crate::error::BeginError;
 use crate::fault::Fault;
+use crate::files::{MOST_BATTERY, MOST_ROM, durable_file, file_bytes};
+use crate::games::sectors_or;
 use crate::interrupted::{Beginning, new_file};
-use crate::saves::sectors_or;
 use arrayvec::ArrayString;
 use battery_files::{export_battery, machine_with_battery};
 use cartridge::Cartridge;

@@ -2,12 +2,14 @@
 
 ghost use Rattle.std.specs.Prelude.{◌≡◌, Some};
 ghost use Rattle.gbkeep.specs.declared.fault.Fault.TheVariants.{Cart, Device};
-ghost use Rattle.gbkeep.specs.Program.{fault_of_show, fault_of_export, fault_of_import};
+ghost use Rattle.gbkeep.specs.Program.{fault_of_show, fault_of_export, fault_of_import, fault_of_debug_rom, fault_of_debug_game};
 ghost use Rattle.gbkeep.specs.Program.{HasLine, fault_of_play, fault_of_record, fault_of_script, fault_of_stream, fault_of_test, fault_of_text, fault_of_trace, fault_of_verifying, line_of, status_of};
 
 use crate::error::{PlayError, StreamPlayError, TextError, TraceError};
 use battery_files::{ExportError, ImportError};
 use cartridge::CartError;
+use debug_lines::{DebugGameError, DebugRomError};
+use debugging::DebugError;
 use exact_text::write_whole;
 use recorded_play::RecordError;
 use recording::RecordingFault;
@@ -216,6 +218,33 @@ impl From<ImportError> for Fault {
             ImportError::NoBattery => Fault::NoBattery,
             ImportError::Length { found, needed } => Fault::BatteryLength { found, needed },
             ImportError::Memory => Fault::Memory,
+        }
+    }
+}
+
+impl From<DebugRomError> for Fault {
+    ghost from_gives = { λ why fault. fault ≡ fault_of_debug_rom why };
+
+    fn from(why: DebugRomError) -> Fault {
+        match why {
+            DebugRomError::Cart(why) => Fault::Cart(why),
+            DebugRomError::Memory => Fault::Memory,
+            DebugRomError::Debug(DebugError::Input) => Fault::Input,
+            DebugRomError::Debug(DebugError::Output) => Fault::Output,
+        }
+    }
+}
+
+impl From<DebugGameError> for Fault {
+    ghost from_gives = { λ why fault. fault ≡ fault_of_debug_game why };
+
+    fn from(why: DebugGameError) -> Fault {
+        match why {
+            DebugGameError::Cart(why) => Fault::Cart(why),
+            DebugGameError::Session(why) => Fault::Session(why),
+            DebugGameError::Memory => Fault::Memory,
+            DebugGameError::Debug(DebugError::Input) => Fault::Input,
+            DebugGameError::Debug(DebugError::Output) => Fault::Output,
         }
     }
 }

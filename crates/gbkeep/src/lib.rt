@@ -4,33 +4,34 @@
 //! `specs/` give; `run` is the whole program over any runtime, any reader and any two writers.
 #![tactic(auto)]
 
-mod asked;
 mod batteries;
 mod begin;
-mod bytes;
+mod debugs;
+mod drawing;
 pub mod error;
 mod fault;
+mod files;
+mod games;
 mod info;
 mod interrupted;
 mod listing;
-mod picture;
 pub mod program;
 mod recordings;
-mod saves;
-mod steps;
+mod stepping;
 mod streams;
 mod testing;
 mod trace;
+mod words;
 
 pub use begin::{begin_game, begin_game_from};
+pub use drawing::{play_and_draw, play_to_picture};
 pub use error::{
     BeginError, BeginRefused, PlayError, PlayRefused, StreamPlayError, StreamPlayRefused,
     TextError, TraceError, TraceRefused,
 };
 pub use info::info_lines;
 pub use listing::list_lines;
-pub use picture::{play_and_draw, play_to_picture};
 pub use program::{run, run_program};
-pub use steps::step_line;
+pub use stepping::step_line;
 pub use streams::stream_play;
 pub use trace::trace_lines;

@@ -3,16 +3,17 @@
 ghost use Rattle.std.specs.Prelude.{◌≡◌, ◌≤◌, ◌⊎◌, IfErr, map};
 ghost use Rattle.gbkeep.specs.Program.{Ends, EndsOnSome, HasEnded, IsPossible, IsServed, IsServedReading, KeepsAtMisuse};
 
-use crate::asked::{Asked, address_of, asked_by};
 use crate::batteries::{export, import};
-use crate::bytes::{MOST_ROM, file_bytes};
+use crate::debugs::debug;
 use crate::fault::{DONE, Fault, NOT_UNDERSTOOD, report};
+use crate::files::{MOST_ROM, file_bytes};
+use crate::games::{frame, new, play, show, stream, trace};
 use crate::info::info_lines;
 use crate::listing::list_lines;
 use crate::recordings::{new_recording, record, recorded, verify};
-use crate::saves::{frame, new, play, show, stream, trace};
-use crate::steps::step_line;
+use crate::stepping::step_line;
 use crate::testing::test;
+use crate::words::{Asked, address_of, read_words};
 use clap::Error;
 use command_line::Request;
 use std::convert::AsStr;
@@ -55,8 +56,9 @@ fn words<R: Env + AllocGlobal>(rt: &R) -> Result<Vec<String>, Fault>
 /// Runs the program on its words, the first of which is its own name, and answers its status:
 /// 0 done, 1 refused, 2 words not understood.
 ///
-/// `stream` and `record` read their lines from `input`; nothing else reads it. What is asked for goes to `out`, which gets nothing where the status is 2. A fault is one line on `err`, `gbkeep: ` and its text; of words
-/// that are not understood `err` gets `clap`'s text.
+/// `stream`, `record` and `debug` read their lines from `input`; nothing else reads it. What is asked for goes to `out`, which gets
+/// nothing where the status is 2. A fault is one line on `err`, `gbkeep: ` and its text; of words that are not understood `err` gets
+/// `clap`'s text.
 pub fn run<R: Files<File = File> + AllocGlobal, S: AsStr, I: Read, O: Write, E: Write>(
     rt: &R,
     words: &[S],
@@ -72,7 +74,7 @@ pub fn run<R: Files<File = File> + AllocGlobal, S: AsStr, I: Read, O: Write, E: 
       errors = record { before = E.contents err.old; since = E.contents err.new };
     }) result }
 {
-    answer(rt, asked_by(rt.alloc(), words), input, out, err)
+    answer(rt, read_words(rt.alloc(), words), input, out, err)
 }
 
 /// Answers what was read of the words.
@@ -180,6 +182,7 @@ fn serve<R: Files<File = File> + AllocGlobal, I: Read, O: Write>(
             frames,
             script,
         } => test(rt, cart, frames, script, out),
+        Request::Debug { cart, save } => debug(rt, cart, save, input, out),
     }
 }
 

@@ -3,8 +3,8 @@
 ghost use Rattle.std.specs.Prelude.{IfErr};
 ghost use Rattle.gbkeep.specs.Program.{IsServed, IsRecordServed, IsPairFault};
 
-use crate::bytes::{MOST_ROM, file_bytes};
 use crate::fault::Fault;
+use crate::files::{MOST_ROM, file_bytes};
 use crate::interrupted::blank_file;
 use cartridge::Cartridge;
 use command_line::Request;

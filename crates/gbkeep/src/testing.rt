@@ -2,8 +2,8 @@
 
 ghost use Rattle.gbkeep.specs.Program.{IsServed};
 
-use crate::bytes::{MOST_ROM, MOST_SCRIPT, file_bytes};
 use crate::fault::Fault;
+use crate::files::{MOST_ROM, MOST_SCRIPT, file_bytes};
 use command_line::Request;
 use std::fs::File;
 use std::io::Write;

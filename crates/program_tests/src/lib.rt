@@ -6,6 +6,8 @@ mod batteries;
 #[cfg(test)]
 mod debuggers;
 #[cfg(test)]
+mod debugs;
+#[cfg(test)]
 mod recordings;
 #[cfg(test)]
 mod runs;

@@ -113,6 +113,20 @@ fn reads_each_command(rt: HostRuntime) -> Result<(), Fail> {
             count: 1024
         })
     );
+    assert_eq!(rt;
+        request_of(alloc, ["gbkeep", "debug", "a.gb"].as_slice())?,
+        Some(Request::Debug {
+            cart: "a.gb",
+            save: None
+        })
+    );
+    assert_eq!(rt;
+        request_of(alloc, ["gbkeep", "debug", "a.gb", "a.save"].as_slice())?,
+        Some(Request::Debug {
+            cart: "a.gb",
+            save: Some("a.save")
+        })
+    );
     Ok(())
 }
 
@@ -155,6 +169,11 @@ fn does_not_understand_what_is_out_of_range(rt: HostRuntime) {
     assert_eq!(rt; status(alloc, ["gbkeep", "frame", "a", "b"].as_slice()), 2);
     assert_eq!(rt; status(alloc, ["gbkeep", "step", "a"].as_slice()), 2);
     assert_eq!(rt; status(alloc, ["gbkeep", "stream", "a"].as_slice()), 2);
+    assert_eq!(rt;
+        status(alloc, ["gbkeep", "debug", "a", "b", "c"].as_slice()),
+        2
+    );
+    assert_eq!(rt; status(alloc, ["gbkeep", "debug"].as_slice()), 2);
     assert_eq!(rt; status(alloc, ["gbkeep"].as_slice()), 2);
     assert_eq!(rt; status(alloc, ["gbkeep", "--help"].as_slice()), 0);
     assert_eq!(rt; status(alloc, ["gbkeep", "help", "step"].as_slice()), 0);

@@ -1,6 +1,7 @@
 //! The calls, each on a game of five inputs or on its cartridge. `None`: the memory before it was refused.
 use crate::answers::{Answer, refused};
 use cartridge::Cartridge;
+use debug_lines::{DebugGameError, DebugRomError, debug_game, debug_rom};
 use debugger::Debugger;
 use gbkeep::{PlayError, TextError, play_to_picture, step_line};
 use machine::{Input, Machine, Region};
@@ -19,6 +20,8 @@ const SECTORS: usize = 188;
 const INPUTS: u32 = 5;
 
 const SCRIPT: &[u8] = b"frames 01 2\nseconds 3\nsave\nframe 02\n";
+
+const LINES: &[u8] = b"step 3\nframe 01\nhistory 3\nserial\nstate\nregisters\n";
 
 fn set(bytes: &mut [u8], at: usize, value: u8) {
     if let Some(place) = bytes.get_mut(at) {
@@ -220,6 +223,42 @@ pub(crate) fn stepped(alloc: Global) -> Option<Answer> {
         Err(why) => why,
     };
     Some(refused(why == TextError::Memory && buffer == [0; 128]))
+}
+
+/// A debugger that is refused has read nothing and answered nothing.
+pub(crate) fn debugged_rom(alloc: Global) -> Option<Answer> {
+    let rom = rom(alloc)?;
+    let mut buffer = [0; 512];
+    let mut out: &mut [u8] = &mut buffer;
+    let mut input: &[u8] = LINES;
+    let why = match debug_rom(alloc, rom, &mut input, &mut out) {
+        Ok(()) => return Some(Answer::Done),
+        Err(why) => why,
+    };
+    let is_unread = input.len() == LINES.len();
+    Some(refused(why == DebugRomError::Memory && is_unread && buffer == [0; 512]))
+}
+
+pub(crate) fn debugged_game(alloc: Global) -> Option<Answer> {
+    let cartridge = cartridge(alloc)?;
+    let device = game(alloc, &cartridge)?;
+    let rom = rom(alloc)?;
+    let mut buffer = [0; 512];
+    let mut out: &mut [u8] = &mut buffer;
+    let mut input: &[u8] = LINES;
+    let answer = match debug_game(alloc, device, rom, &mut input, &mut out) {
+        Ok(_) => return Some(Answer::Done),
+        Err(left) => {
+            let is_memory = left.why == DebugGameError::Memory
+                || left.why == DebugGameError::Session(SessionError::Memory);
+            refused(is_memory && holds_the_game(alloc, left.device, &cartridge))
+        }
+    };
+    let is_unread = input.len() == LINES.len();
+    Some(match answer {
+        Answer::Refused => refused(is_unread && buffer == [0; 512]),
+        other => other,
+    })
 }
 
 pub(crate) fn device(alloc: Global) -> Option<Answer> {

@@ -12,7 +12,7 @@ use std::process::ExitCode;
 use std::{env, io};
 
 /// The calls, and their names.
-const CALLS: [&str; 12] = [
+const CALLS: [&str; 14] = [
     "power_on",
     "decode",
     "debugger",
@@ -23,6 +23,8 @@ const CALLS: [&str; 12] = [
     "play",
     "picture",
     "step_line",
+    "debug_rom",
+    "debug_game",
     "device",
     "image",
 ];
@@ -40,6 +42,8 @@ fn make(rt: &HostRuntime, call: &str) -> Answer {
         "play" => calls::played(alloc),
         "picture" => calls::drawn(alloc),
         "step_line" => calls::stepped(alloc),
+        "debug_rom" => calls::debugged_rom(alloc),
+        "debug_game" => calls::debugged_game(alloc),
         "device" => calls::device(alloc),
         "image" => calls::image(alloc),
         _ => None,

@@ -1,11 +1,10 @@
 //! The lines about a SAVE, as text.
 
 ghost use Rattle.std.specs.Prelude.{◌≡◌, ◌++◌, IfSome};
-ghost use Rattle.hex.specs.Hex.{encode_lower};
 ghost use Rattle.save_lines.specs.Shown.{inputs_line, logged_line, generation_line, sectors_line, rom_line, state_line};
 
 use arrayvec::ArrayString;
-use hex::encode_to_slice;
+use digest_text::digest_digits;
 use std::fmt::Write as FormatWrite;
 
 /// The lines of the numbers; there is room for them.
@@ -24,17 +23,6 @@ pub(crate) fn numbers_text(
         "inputs {inputs}\nlogged {logged}\ngeneration {generation}\nsectors {sectors}\n"
     ) {
         Ok(()) => Some(text),
-        Err(_) => None,
-    }
-}
-
-/// A digest as lower-case hexadecimal digits.
-fn digest_digits(digest: [u8; 32]) -> Option<ArrayString<64>>
-    ensures { IfSome result (λ text. text.bytes ≡ encode_lower digest) }
-{
-    let mut digits = [0u8; 64];
-    match encode_to_slice(digest, &mut digits) {
-        Ok(()) => ArrayString::from_byte_string(&digits).ok(),
         Err(_) => None,
     }
 }

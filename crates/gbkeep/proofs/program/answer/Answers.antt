@@ -1,8 +1,8 @@
 use Rattle.std.proofs.Common.{◌≡◌, Ok, sym, subst, ℕ, Result}
 use Rattle.gbkeep.specs.Program.{HasEnded}
 use Rattle.gbkeep.specs.Text.{Exchange}
-use Rattle.gbkeep.specs.declared.asked.Asked.{Asked}
-use Rattle.gbkeep.specs.declared.asked.Asked.TheVariants.{Command}
+use Rattle.gbkeep.specs.declared.words.Asked.{Asked}
+use Rattle.gbkeep.specs.declared.words.Asked.TheVariants.{Command}
 use Rattle.gbkeep.specs.declared.fault.Fault.{Fault}
 use Rattle.gbkeep.proofs.Endings.{refused_ends}
 use Rattle.gbkeep.proofs.program.answer.Goals as goal

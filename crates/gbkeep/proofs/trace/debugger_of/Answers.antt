@@ -5,7 +5,8 @@ use Rattle.snapshot.specs.Encoding.{encoded}
 use Rattle.snapshot.proofs.Machines.{one_machine}
 use Rattle.session.proofs.Beginnings.{machine_of_rom}
 use Rattle.debugger.specs.History.{DebuggerState}
-use Rattle.gbkeep.proofs.Traces.{filled, ok_of_some, some_of_ok}
+use Rattle.debug_lines.proofs.Copies.{filled, some_of_ok}
+use Rattle.gbkeep.proofs.Traces.{ok_of_some}
 use Rattle.gbkeep.proofs.trace.debugger_of.Goals as goal
 
 pub returns : goal.returns

@@ -6,7 +6,8 @@ use Rattle.session.specs.Stands.{Position}
 use Rattle.session.specs.Words.{acknowledged_of, device_of, machine_of}
 use Rattle.session.specs.declared.session.Counts.{Counts}
 use Rattle.gbkeep.specs.Tracing.{HasTraced, IsTraceCause, IsUntraced, trace_text}
-use Rattle.gbkeep.proofs.Traces.{taken_up, trace_cause}
+use Rattle.debug_lines.proofs.Begun.{taken_up}
+use Rattle.gbkeep.proofs.Traces.{trace_cause}
 use Rattle.std.proofs.Common.{Ok, Err}
 use Rattle.sector_device.specs.DiskState.{HasAnswered}
 use Rattle.session.proofs.Answering.{answered_error, answered_otherwise, answered_refusal, answered_value}

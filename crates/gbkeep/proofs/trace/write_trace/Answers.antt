@@ -6,7 +6,7 @@ use Rattle.memory_map.specs.BusRules.{bus_rules}
 use Rattle.machine.specs.Machine.{MachineState}
 use Rattle.playing.specs.Report.{resumed_line}
 use Rattle.debugger.specs.Report.{step_lines}
-use Rattle.gbkeep.proofs.Traces.{on_err_of, on_ok_of}
+use Rattle.debugging.proofs.Parts.{on_err_of, on_ok_of}
 use Rattle.gbkeep.proofs.trace.write_trace.Goals as goal
 
 pub returns-then-is_err-clause-err : goal.returns-then-is_err-clause-err

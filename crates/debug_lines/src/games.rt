@@ -1,0 +1,98 @@
+//! A debugger over a game.
+
+ghost use Rattle.std.specs.Prelude.{◌≡◌, IfErr, OnOk};
+ghost use Rattle.cartridge.specs.Accepted.{IsAccepted};
+ghost use Rattle.snapshot.specs.Legal.{IsMachineOf};
+ghost use Rattle.sector_device.specs.DiskState.{HasAnswered};
+ghost use Rattle.sector_device.specs.Runs.{HoldsSince};
+ghost use Rattle.session.specs.Calls.{StandsAsBefore};
+ghost use Rattle.session.specs.Resting.{IsOfItsRom};
+ghost use Rattle.debug_lines.specs.Debugging.{HasDebugged, IsBegunAndDebugged, IsDebugGameCause, IsNotDebugged, faults_after_debug, left_by};
+
+use crate::copy::copy_of;
+use crate::error::{DebugGameError, DebugGameRefused};
+use cartridge::Cartridge;
+use debugging::{DebugError, LineDebugger};
+use machine::Machine;
+use playing::write_resumed;
+use sector_device::SectorDevice;
+use session::resume;
+use std::alloc::Global;
+use std::io::{Read, Write};
+
+/// Takes up the game that a device holds, writes `resumed N`, N the count of its inputs, and debugs its machine, as `LineDebugger` obeys its
+/// lines. Nothing of that is saved: the device is left as taking the game up leaves it.
+///
+/// Refusals, in this order, each of which hands the device back: what is wrong with the image; why the game can't be taken up; no memory for
+/// the debugger, all with nothing read and nothing written; why the debugger stopped.
+pub fn debug_game<D: SectorDevice, R: Read, W: Write>(
+    alloc: Global,
+    device: D,
+    rom: Vec<u8>,
+    input: &mut R,
+    out: &mut W,
+) -> Result<D, DebugGameRefused<D>>
+    ensures accepted { OnOk result (IsAccepted rom.items) }
+    ensures debugged { OnOk result (HasDebugged rom.items (D.disk device) (D.disk (left_by result))
+        (record { unread = R.remaining input.old; left = R.remaining input.new; before = W.contents out.old; since = W.contents out.new })) }
+    ensures images { (D.disk device).honest → HoldsSince (D.disk device) (D.disk (left_by result)) (StandsAsBefore rom.items (D.disk device)) }
+    ensures cause { IfErr result (λ refused. IsDebugGameCause rom.items (D.disk device) (D.disk refused.device)
+        (record { unread = R.remaining input.old; left = R.remaining input.new; before = W.contents out.old; since = W.contents out.new })
+        refused.why) }
+    ensures untouched { IfErr result (λ refused. (fault : _) → refused.why ≡ DebugGameError.Cart fault → refused.device ≡ device) }
+    ensures answered { HasAnswered (λ refused. faults_after_debug refused.why) (D.disk device) (D.disk (left_by result)) result }
+{
+    let cartridge = match Cartridge::read(rom) {
+        Ok(cartridge) => cartridge,
+        Err(fault) => return Err(DebugGameRefused {
+            why: DebugGameError::Cart(fault),
+            device,
+        }),
+    };
+    let session = match resume(alloc, device, &cartridge) {
+        Ok(session) => session,
+        Err(refused) => return Err(DebugGameRefused {
+            why: DebugGameError::Session(refused.why),
+            device: refused.device,
+        }),
+    };
+    let inputs = session.counts().all;
+    let debugged = debug_machine(alloc, inputs, session.machine(), &cartridge, input, out);
+    let device = session.into_device();
+    match debugged {
+        Ok(()) => Ok(device),
+        Err(why) => Err(DebugGameRefused { why, device }),
+    }
+}
+
+/// Writes the line of the game and debugs its machine. `Err`: `Memory`, with nothing read and nothing written, or `Debug`.
+fn debug_machine<R: Read, W: Write>(
+    alloc: Global,
+    inputs: u64,
+    machine: &Machine,
+    cartridge: &Cartridge,
+    input: &mut R,
+    out: &mut W,
+) -> Result<(), DebugGameError>
+    requires rom { machine.now.processor.memory.banks.rom ≡ cartridge.now }
+    requires own { IsOfItsRom machine.now }
+    ensures ok { OnOk result (IsMachineOf cartridge.now machine.now × IsBegunAndDebugged inputs machine.now
+        (record { unread = R.remaining input.old; left = R.remaining input.new; before = W.contents out.old; since = W.contents out.new })) }
+    ensures err { IfErr result (IsNotDebugged cartridge.now inputs machine.now
+        (record { unread = R.remaining input.old; left = R.remaining input.new; before = W.contents out.old; since = W.contents out.new })) }
+{
+    let Some(copy) = copy_of(alloc, machine, cartridge) else {
+        return Err(DebugGameError::Memory);
+    };
+    let debugger = match LineDebugger::new(alloc, copy) {
+        Ok(debugger) => debugger,
+        Err(_) => return Err(DebugGameError::Memory),
+    };
+    if let Err(_) = write_resumed(out, inputs) {
+        return Err(DebugGameError::Debug(DebugError::Output));
+    }
+    match debugger.obey(input, out) {
+        Ok(()) => Ok(()),
+        Err(why) => Err(DebugGameError::Debug(why)),
+    }
+}

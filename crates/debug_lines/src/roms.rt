@@ -1,0 +1,48 @@
+//! A debugger from power-on.
+
+ghost use Rattle.std.specs.Prelude.{IfErr, OnOk};
+ghost use Rattle.cartridge.specs.Accepted.{IsAccepted};
+ghost use Rattle.machine.specs.Machine.{start};
+ghost use Rattle.debugging.specs.Debugged.{HasAnsweredAll};
+ghost use Rattle.debugging.specs.Run.{begun};
+ghost use Rattle.debug_lines.specs.Debugging.{IsDebugRomCause};
+
+use crate::error::DebugRomError;
+use cartridge::Cartridge;
+use debugging::LineDebugger;
+use machine::Machine;
+use std::alloc::Global;
+use std::io::{Read, Write};
+
+/// Debugs a cartridge from power-on, as `LineDebugger` obeys its lines.
+///
+/// Refusals, in this order: what is wrong with the image; no memory, both with nothing read and nothing written; why the debugger stopped.
+pub fn debug_rom<R: Read, W: Write>(
+    alloc: Global,
+    rom: Vec<u8>,
+    input: &mut R,
+    out: &mut W,
+) -> Result<(), DebugRomError>
+    ensures accepted { OnOk result (IsAccepted rom.items) }
+    ensures answered { OnOk result (HasAnsweredAll (begun (start rom.items))
+        (record { unread = R.remaining input.old; left = R.remaining input.new; before = W.contents out.old; since = W.contents out.new })) }
+    ensures cause { IfErr result (λ why. IsDebugRomCause rom.items
+        (record { unread = R.remaining input.old; left = R.remaining input.new; before = W.contents out.old; since = W.contents out.new }) why) }
+{
+    let cartridge = match Cartridge::read(rom) {
+        Ok(cartridge) => cartridge,
+        Err(fault) => return Err(DebugRomError::Cart(fault)),
+    };
+    let machine = match Machine::power_on(alloc, &cartridge) {
+        Ok(machine) => machine,
+        Err(_) => return Err(DebugRomError::Memory),
+    };
+    let debugger = match LineDebugger::new(alloc, machine) {
+        Ok(debugger) => debugger,
+        Err(_) => return Err(DebugRomError::Memory),
+    };
+    match debugger.obey(input, out) {
+        Ok(()) => Ok(()),
+        Err(why) => Err(DebugRomError::Debug(why)),
+    }
+}

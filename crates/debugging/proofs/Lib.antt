@@ -1,0 +1,9 @@
+pub mod Words
+pub mod Frames
+pub mod Places
+pub mod Opcodes
+pub mod Runs
+pub mod Parts
+pub mod Bytes
+pub mod Kept
+pub mod Exchanges

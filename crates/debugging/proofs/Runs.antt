@@ -1,0 +1,247 @@
+-- Runs of a debugger, one after another, and what they send.
+use Rattle.std.proofs.Common.{◌≡◌, ◌∙◌, ◌⊎◌, inl, inr, ℕ, zero, suc, ◌+◌, ◌-◌, ◌*◌, ◌<◌, ◌≤◌, Bool, true, false, List, [], ◌++◌, length, append-nil, append_assoc, ap, refl, subst, sym, arith}
+use Rattle.std.specs.Prelude.{◌==◌, nat_lt}
+use Rattle.std.specs.List.{Contains}
+use Rattle.std.proofs.lemmas.Bool.{lt-ltb, le-ltb}
+use Rattle.std.proofs.lemmas.Bool.Decides.{nat_tests}
+use Rattle.std.proofs.lemmas.List.Folds.{list_any_at}
+use Rattle.std.proofs.lemmas.Map.Views.{Contains-from_any}
+use Rattle.circular_buffer.specs.Buffer.{keep_last}
+use Rattle.memory_map.specs.State.{BusState}
+use Rattle.memory_map.specs.BusRules.{bus_rules}
+use Rattle.sm83_processor.specs.Steps.{step_of, after_steps}
+use Rattle.sm83_processor.specs.declared.processor.Processor.{Processor}
+use Rattle.machine.specs.Sent.{sent_in, sent_in_step}
+use Rattle.machine.proofs.Sent.{nothing_is_sent_in}
+use Rattle.debugger.specs.History.{DebuggerState, after_run}
+use Rattle.debugger.specs.Run.{HasMet, HasRun, IsStop}
+use Rattle.debugger.specs.declared.stop.Stop.{Stop}
+use Rattle.debugger.specs.declared.stop.Stop.TheVariants.{Break, Limit}
+use Rattle.debugger.proofs.Histories.{keep_last-all, keep_last-again, not_begun, runs}
+use Rattle.debugging.specs.Quiet.{IsQuietFor, Makes, MakesIn, StopsBefore, StopsIn}
+use Rattle.debugging.specs.Run.{RunState, after_steps_of, is_at, most_sent, processor_of, steps_before, steps_up_to}
+use Rattle.debugging.proofs.Places.{before_elsewhere, before_none, before_there, made}
+
+-- ---- bytes
+
+pub one_sent : (p : Processor BusState) → sent_in 1 p ≡ sent_in_step p
+unfolding sent_in
+one_sent p = append-nil _
+
+none_sent : (p : Processor BusState) → sent_in 0 p ≡ []
+unfolding sent_in
+none_sent p = refl
+
+sent_more : (m n : ℕ) (p : Processor BusState) → sent_in m p ++ sent_in n (after_steps bus_rules m p) ≡ sent_in (m + n) p
+unfolding sent_in after_steps
+sent_more zero n p = let e : n ≡ 0 + n = omega arith in ap (λ (k : ℕ). sent_in k p) e
+sent_more (suc m) n p =
+    let e : suc (m + n) ≡ suc m + n = omega arith in
+    append_assoc (sent_in_step p) (sent_in m (step_of bus_rules p).after) _
+    ∙ ap (λ (bytes : List ℕ). sent_in_step p ++ bytes) (sent_more m n (step_of bus_rules p).after)
+    ∙ ap (λ (k : ℕ). sent_in k p) e
+
+-- ---- runs
+
+abbrev run_as : DebuggerState → List ℕ → RunState
+run_as d sent = record { debugger = d; sent = sent }
+
+pub no_steps : (r : RunState) → length r.debugger.history ≤ r.debugger.size → length r.sent ≤ most_sent → r ≡ after_steps_of 0 r
+no_steps r held kept =
+    ap (λ (d : DebuggerState). run_as d r.sent) (not_begun r.debugger held)
+    ∙ ap (run_as (after_run 0 r.debugger)) (sym (keep_last-all most_sent r.sent kept) ∙ ap (keep_last most_sent) (sym (append-nil r.sent)
+    ∙ ap (λ (bytes : List ℕ). r.sent ++ bytes) (sym (none_sent (processor_of r)))))
+
+pub more_steps : (m n : ℕ) (r : RunState) → after_steps_of n (after_steps_of m r) ≡ after_steps_of (m + n) r
+more_steps m n r =
+    ap (λ (d : DebuggerState). run_as d (after_steps_of n (after_steps_of m r)).sent) (runs n m r.debugger)
+    ∙ ap (run_as (after_run (m + n) r.debugger)) (keep_last-again most_sent (r.sent ++ sent_in m (processor_of r)) (sent_in n (after_steps bus_rules m (processor_of r)))
+    ∙ ap (keep_last most_sent) (append_assoc r.sent _ _ ∙ ap (λ (bytes : List ℕ). r.sent ++ bytes) (sent_more m n (processor_of r))))
+
+pub and_one : (n : ℕ) (r now after : RunState) → now ≡ after_steps_of n r → after ≡ after_steps_of 1 now → after ≡ after_steps_of (n + 1) r
+and_one n r now after so_far step = step ∙ ap (after_steps_of 1) so_far ∙ more_steps n 1 r
+
+pub and_more : (m n : ℕ) (r now after : RunState) → now ≡ after_steps_of m r → after ≡ after_steps_of n now → after ≡ after_steps_of (m + n) r
+and_more m n r now after so_far more = more ∙ ap (after_steps_of n) so_far ∙ more_steps m n r
+
+-- a step whose byte, if it sent one, was kept
+pub step_noted : (r : RunState) (d after : DebuggerState) (old new bytes : List ℕ) (capacity : ℕ) → record { debugger = d; sent = old } ≡ r → capacity ≡ most_sent
+    → after ≡ after_run 1 d → new ≡ keep_last capacity (old ++ bytes) → bytes ≡ sent_in_step d.machine.processor
+    → record { debugger = after; sent = new } ≡ after_steps_of 1 r
+step_noted r d after old new bytes capacity same room run kept sent =
+    ap (λ (e : DebuggerState). run_as e new) run
+    ∙ ap (run_as (after_run 1 d)) (kept ∙ ap (λ (n : ℕ). keep_last n (old ++ bytes)) room
+    ∙ ap (λ (bs : List ℕ). keep_last most_sent (old ++ bs)) (sent ∙ sym (one_sent d.machine.processor)))
+    ∙ ap (after_steps_of 1) same
+
+-- steps in which no transfer can end
+pub quiet_run : (n k : ℕ) (r : RunState) (d : DebuggerState) → IsQuietFor k (processor_of r) → n ≤ k → length r.sent ≤ most_sent → d ≡ after_run n r.debugger
+    → record { debugger = d; sent = r.sent } ≡ after_steps_of n r
+quiet_run n k r d quiet few kept run =
+    ap (λ (e : DebuggerState). run_as e r.sent) run
+    ∙ ap (run_as (after_run n r.debugger)) (sym (keep_last-all most_sent r.sent kept) ∙ ap (keep_last most_sent) (sym (append-nil r.sent)
+    ∙ ap (λ (bytes : List ℕ). r.sent ++ bytes) (sym (nothing_is_sent_in n (processor_of r) (omega (arith, few, quiet.few)) (far quiet.far)))))
+  where
+    far : ((processor_of r).memory.serial.serial.cycles_left ≡ 0) ⊎ (6 * k < (processor_of r).memory.serial.serial.cycles_left)
+        → ((processor_of r).memory.serial.serial.cycles_left ≡ 0) ⊎ (6 * n < (processor_of r).memory.serial.serial.cycles_left)
+    far (inl none) = inl none
+    far (inr more) = inr (omega (arith, more, few))
+
+-- ---- addresses
+
+tells : (x y : ℕ) → (y == x) ≡ true → x ≡ y
+tells x y e = grind (arith, nat_tests)
+
+itself : (x : ℕ) → (x == x) ≡ true
+itself x = grind (arith, nat_tests)
+
+pub at_some : (addresses : List ℕ) (p : Processor BusState) → Contains addresses p.registers.pc → is_at addresses p ≡ true
+at_some addresses p there =
+    let pc = p.registers.pc in
+    list_any_at (λ (address : ℕ). address == pc) addresses there.0 pc there.1 (ap (λ (address : ℕ). address == pc) there.2 ∙ itself pc)
+
+pub at_none : (addresses : List ℕ) (p : Processor BusState) → ¬ (Contains addresses p.registers.pc) → is_at addresses p ≡ false
+at_none addresses p none = go (is_at addresses p) refl
+  where
+    go : (b : Bool) → is_at addresses p ≡ b → is_at addresses p ≡ false
+    go true e = absurd (none (Contains-from_any tells p.registers.pc addresses e))
+    go false e = e
+
+-- ---- a run up to a place, in parts
+
+pos-from_ne : (n : ℕ) → (n ≡ 0 → ⊥) → 0 < n
+pos-from_ne zero some = absurd (some refl)
+pos-from_ne (suc n) some = omega arith
+
+pub one_made : (is_there : Processor BusState → Bool) (old new : RunState) → new ≡ after_steps_of 1 old → Makes is_there 1 old new
+one_made is_there old new run = record { some = omega arith; past = λ k some less. absurd (omega (arith, some, less)); run = run }
+
+-- a debugger's run, in which no transfer can end
+pub quiet_made : (addresses : List ℕ) (n k : ℕ) (r : RunState) (d : DebuggerState) → IsQuietFor k (processor_of r) → 0 < n → n ≤ k → length r.sent ≤ most_sent
+    → HasRun addresses n r.debugger d → Makes (is_at addresses) n r (record { debugger = d; sent = r.sent })
+quiet_made addresses n k r d quiet some few kept ran = record {
+  some = some;
+  past = λ j some less. at_none addresses (after_steps bus_rules j (processor_of r)) (ran.past j some less);
+  run = quiet_run n k r d quiet few kept ran.run;
+}
+
+quiet_stops : (addresses : List ℕ) (limit k pc : ℕ) (r : RunState) (d : DebuggerState) → IsQuietFor k (processor_of r) → (m : ℕ) → length r.sent ≤ most_sent
+    → m ≤ k → m ≤ limit → HasMet addresses m pc r.debugger d → StopsBefore (is_at addresses) limit r (record { debugger = d; sent = r.sent })
+quiet_stops addresses limit k pc r d quiet m kept within few met = record {
+  steps = met.steps;
+  made = quiet_made addresses met.steps k r d quiet met.some (omega (arith, met.due, within)) kept met.ran;
+  due = omega (arith, met.due, few);
+  there = at_some addresses d.machine.processor (subst (Contains addresses) (met.here ∙ ap (λ (e : DebuggerState). e.machine.processor.registers.pc) (sym met.ran.run)) met.met);
+}
+
+-- what is known of fewer steps
+pub quiet_for_less : (m n : ℕ) (p : Processor BusState) → m ≤ n → IsQuietFor n p → IsQuietFor m p
+quiet_for_less m n p less quiet = record { few = omega (arith, less, quiet.few); far = fewer quiet.far }
+  where
+    fewer : (p.memory.serial.serial.cycles_left ≡ 0) ⊎ (6 * n < p.memory.serial.serial.cycles_left) → (p.memory.serial.serial.cycles_left ≡ 0) ⊎ (6 * m < p.memory.serial.serial.cycles_left)
+    fewer (inl none) = inl none
+    fewer (inr more) = inr (omega (arith, more, less))
+
+pub stops_sooner : (is_there : Processor BusState → Bool) (m n : ℕ) (old new : RunState) → m ≤ n → StopsBefore is_there m old new → StopsBefore is_there n old new
+stops_sooner is_there m n old new less it = record { steps = it.steps; made = it.made; due = omega (arith, it.due, less); there = it.there }
+
+module _ (limit : ℕ) (r inside : RunState) (d : DebuggerState) (same : inside ≡ r) (quiet : IsQuietFor limit (processor_of r)) (kept : length inside.sent ≤ most_sent) where
+  quiet_here : IsQuietFor limit (processor_of inside)
+  quiet_here = subst (λ (x : RunState). IsQuietFor limit (processor_of x)) (sym same) quiet
+
+  -- up to an address
+  pub until_made : (addresses : List ℕ) (stop : Stop) → 0 < limit → IsStop addresses limit inside.debugger d stop → stop ≡ Limit
+      → Makes (is_at addresses) limit r (record { debugger = d; sent = inside.sent })
+  until_made addresses stop some ran is =
+      subst (λ (x : RunState). Makes (is_at addresses) limit x (record { debugger = d; sent = inside.sent })) same
+      (quiet_made addresses limit limit inside d quiet_here some (omega arith) kept (subst (IsStop addresses limit inside.debugger d) is ran))
+
+  pub until_stops : (addresses : List ℕ) (stop : Stop) (pc : ℕ) → IsStop addresses limit inside.debugger d stop → stop ≡ Break pc
+      → StopsBefore (is_at addresses) limit r (record { debugger = d; sent = inside.sent })
+  until_stops addresses stop pc ran is =
+      let met : HasMet addresses limit pc inside.debugger d = subst (IsStop addresses limit inside.debugger d) is ran in
+      subst (λ (x : RunState). StopsBefore (is_at addresses) limit x (record { debugger = d; sent = inside.sent })) same
+      (quiet_stops addresses limit limit pc inside d quiet_here limit kept (omega arith) (omega arith) met)
+
+  -- up to any place
+  pub steps_made : (is_there : Processor BusState → Bool) → MakesIn is_there limit inside.debugger d → Makes is_there limit r (record { debugger = d; sent = inside.sent })
+  steps_made is_there it =
+      subst (λ (x : RunState). Makes is_there limit x (record { debugger = d; sent = inside.sent })) same
+      (record { some = it.some; past = it.past; run = quiet_run limit limit inside d quiet_here (omega arith) kept it.run })
+
+  pub steps_stop : (is_there : Processor BusState → Bool) → StopsIn is_there limit inside.debugger d → StopsBefore is_there limit r (record { debugger = d; sent = inside.sent })
+  steps_stop is_there it =
+      subst (λ (x : RunState). StopsBefore is_there limit x (record { debugger = d; sent = inside.sent })) same
+      (record {
+        steps = it.steps;
+        made = record { some = it.made.some; past = it.made.past; run = quiet_run it.steps limit inside d quiet_here (omega (arith, it.due)) kept it.made.run };
+        due = it.due;
+        there = it.there;
+      })
+
+-- `left` steps are still to be made of at most `limit`, the first of them wherever it begins
+pub record IsGoing (is_there : Processor BusState → Bool) (limit left : ℕ) (old now : RunState) : Type 0 where
+  pub few : left ≤ limit
+  pub run : now ≡ after_steps_of (limit - left) old
+  pub steps : steps_up_to is_there limit (processor_of old) ≡ (limit - left) + steps_up_to is_there left (processor_of now)
+
+pub begun_going : (is_there : Processor BusState → Bool) (limit : ℕ) (r : RunState) → r ≡ after_steps_of 0 r → IsGoing is_there limit limit r r
+begun_going is_there limit r same =
+    let none : limit - limit ≡ 0 = omega arith in
+    record {
+      few = omega arith;
+      run = same ∙ ap (λ (n : ℕ). after_steps_of n r) (sym none);
+      steps = omega (arith, none);
+    }
+
+module _ (is_there : Processor BusState → Bool) (limit left : ℕ) (old now : RunState) (going : IsGoing is_there limit left old now) where
+  add_up : (a b c d : ℕ) → a + b ≡ d → a + (b + c) ≡ d + c
+  add_up a b c d e = omega (arith, e)
+
+  more_made : (k : ℕ) (after : RunState) → k ≤ left → Makes is_there k now after
+      → (after ≡ after_steps_of (limit - (left - k)) old)
+      × (steps_up_to is_there limit (processor_of old) ≡ (limit - (left - k)) + steps_before is_there (left - k) (processor_of after))
+  more_made k after few makes =
+      let total : (limit - left) + k ≡ limit - (left - k) = omega (arith, few, going.few) in (
+        and_more (limit - left) k old now after going.run makes.run ∙ ap (λ (n : ℕ). after_steps_of n old) total,
+        going.steps ∙ ap (λ (n : ℕ). (limit - left) + n) (made is_there k left (processor_of now) makes.some few makes.past)
+            ∙ add_up (limit - left) k (steps_before is_there (left - k) (after_steps bus_rules k (processor_of now))) (limit - (left - k)) total
+            ∙ ap (λ (r : RunState). (limit - (left - k)) + steps_before is_there (left - k) (processor_of r)) (sym makes.run),
+      )
+
+  from : (n : ℕ) (r : RunState) → (0 < n → is_there (processor_of r) ≡ false) → steps_before is_there n (processor_of r) ≡ steps_up_to is_there n (processor_of r)
+  from zero r none = before_none is_there (processor_of r)
+  from (suc n) r none = before_elsewhere is_there (suc n) (processor_of r) (none (omega arith))
+
+  -- it goes on from elsewhere
+  pub goes_on : (k : ℕ) (after : RunState) → k ≤ left → Makes is_there k now after → (0 < left - k → is_there (processor_of after) ≡ false)
+      → IsGoing is_there limit (left - k) old after
+  goes_on k after few makes elsewhere =
+      let more = more_made k after few makes in
+      record {
+        few = omega (arith, going.few);
+        run = more.0;
+        steps = more.1 ∙ ap (λ (n : ℕ). (limit - (left - k)) + n) (from (left - k) after elsewhere);
+      }
+
+  -- it stops, before all steps are made
+  pub stops : (after : RunState) → StopsBefore is_there left now after
+      → (after ≡ after_steps_of (steps_up_to is_there limit (processor_of old)) old) × (true ≡ nat_lt (steps_up_to is_there limit (processor_of old)) limit)
+  stops after it =
+      let k = it.steps in
+      let more = more_made k after (omega (arith, it.due)) it.made in
+      let none = before_there is_there (left - k) (processor_of after) it.there in
+      let total : steps_up_to is_there limit (processor_of old) ≡ limit - (left - k) = omega (arith, more.1, none) in (
+        more.0 ∙ ap (λ (n : ℕ). after_steps_of n old) (sym total),
+        sym (lt-ltb _ _ (omega (arith, total, it.due, going.few))),
+      )
+
+-- all steps were made
+pub all_made : (is_there : Processor BusState → Bool) (limit left : ℕ) (old now : RunState) → IsGoing is_there limit left old now → left ≡ 0
+    → (now ≡ after_steps_of (steps_up_to is_there limit (processor_of old)) old) × (false ≡ nat_lt (steps_up_to is_there limit (processor_of old)) limit)
+all_made is_there limit left old now going none =
+    let rest : steps_up_to is_there left (processor_of now) ≡ 0 = ap (λ (n : ℕ). steps_up_to is_there n (processor_of now)) none in
+    let total : steps_up_to is_there limit (processor_of old) ≡ limit - left = omega (arith, going.steps, rest) in (
+      going.run ∙ ap (λ (n : ℕ). after_steps_of n old) (sym total),
+      sym (le-ltb _ _ (omega (arith, total, none))),
+    )

@@ -1,0 +1,135 @@
+-- What a debugger answers, and how it is then.
+use Rattle.std.specs.Prelude.{ℕ, zero, suc, ◌+◌, ◌*◌, ◌/◌, ◌%◌, ◌==◌, Bool, List, [], ◌∷◌, ◌++◌, codes, decimal, length, nat_lt, if◌then◌else◌, Option, None, Some}
+use Rattle.std.specs.List.{flat_map}
+use Rattle.hex.specs.Hex.{encode_lower}
+use Rattle.sha2.specs.Sha256.{sha256}
+use Rattle.circular_buffer.specs.Buffer.{keep_last}
+use Rattle.exact_text.specs.Hex.{byte_text, word_text}
+use Rattle.picture_unit.specs.Pgm.{picture_text}
+use Rattle.memory_map.specs.State.{BusState}
+use Rattle.memory_map.specs.BusRules.{bus_rules}
+use Rattle.sm83_processor.specs.declared.processor.Processor.{Processor}
+use Rattle.sm83_processor.specs.declared.step.Executed.{Executed}
+use Rattle.machine.specs.Machine.{MachineState, picture_rows}
+use Rattle.snapshot.specs.Encoding.{encoded}
+use Rattle.debugger.specs.Listing.{byte_after, lines_from}
+use Rattle.debugger.specs.Registers.{register_line}
+use Rattle.debugger.specs.Report.{line_seen, step_lines}
+use Rattle.debugging.specs.declared.order.Order.{Order}
+use Rattle.debugging.specs.declared.order.Order.TheVariants.{Frames, Seconds, Step, Until, UntilOpcode, Registers, History, List as Listing, Memory, Serial, Picture, State}
+use Rattle.debugging.specs.Orders.{order_of}
+use Rattle.debugging.specs.Run.{RunState, processor_of, after_steps_of, steps_up_to, is_at, is_before, after_frames, after_seconds}
+
+-- ---- texts
+
+-- where a run stands, and whether it stopped before all its steps were made
+abbrev pub place_text : Bool → Processor BusState → List ℕ
+place_text is_there p = (if is_there then codes "stopped " else codes "limit ") ++ (word_text p.registers.pc ++ codes "\n")
+
+-- how many follow
+abbrev pub count_line : List ℕ → ℕ → List ℕ
+count_line word count = word ++ (codes " " ++ (decimal count ++ codes "\n"))
+
+-- the last n instructions, or all if there are fewer: how many, and their lines, the oldest first
+abbrev pub history_text : ℕ → List Executed → List ℕ
+history_text n history = count_line (codes "history") (length (keep_last n history)) ++ flat_map line_seen (keep_last n history)
+
+-- the bytes of n addresses from one on, a space before each; addresses wrap around after FFFF
+unfoldable pub bytes_from : MachineState → ℕ → ℕ → List ℕ
+bytes_from m address zero = []
+bytes_from m address (suc n) = codes " " ++ (byte_text (byte_after m address 0) ++ bytes_from m ((address + 1) % 65536) n)
+
+abbrev pub memory_line : MachineState → ℕ → ℕ → List ℕ
+memory_line m address n = word_text address ++ (bytes_from m address n ++ codes "\n")
+
+-- k lines of sixteen bytes
+unfoldable pub full_lines : MachineState → ℕ → ℕ → List ℕ
+full_lines m address zero = []
+full_lines m address (suc k) = memory_line m address 16 ++ full_lines m ((address + 16) % 65536) k
+
+-- n bytes from an address on, sixteen a line, and fewer in the last one
+abbrev pub memory_text : MachineState → ℕ → ℕ → List ℕ
+memory_text m address n =
+    full_lines m address (n / 16) ++ (if n % 16 == 0 then [] else memory_line m ((address + n / 16 * 16) % 65536) (n % 16))
+
+-- how many bytes, then the bytes, and a newline
+abbrev pub serial_text : List ℕ → List ℕ
+serial_text sent = count_line (codes "serial") (length sent) ++ (sent ++ codes "\n")
+
+-- a digest in lower-case hexadecimal digits
+abbrev pub digest_line : List ℕ → List ℕ
+digest_line digest = codes "state " ++ (encode_lower digest ++ codes "\n")
+
+-- the SHA-256 of the machine's snapshot
+abbrev pub state_text : MachineState → List ℕ
+state_text m = digest_line (sha256 (encoded m))
+
+-- ---- orders
+
+-- how many steps an order makes
+abbrev pub until_steps : ℕ → List ℕ → RunState → ℕ
+until_steps limit addresses r = steps_up_to (is_at addresses) limit (processor_of r)
+
+abbrev pub until_opcode_steps : ℕ → ℕ → RunState → ℕ
+until_opcode_steps limit opcode r = steps_up_to (is_before opcode) limit (processor_of r)
+
+abbrev pub after_order : Order → RunState → RunState
+after_order (Frames buttons times) r = after_frames times buttons r
+after_order (Seconds n) r = after_seconds n r
+after_order (Step n) r = after_steps_of n r
+after_order (Until limit addresses) r = after_steps_of (until_steps limit addresses.items r) r
+after_order (UntilOpcode limit opcode) r = after_steps_of (until_opcode_steps limit opcode r) r
+after_order Registers r = r
+after_order (History n) r = r
+after_order (Listing address n) r = r
+after_order (Memory address n) r = r
+after_order Serial r = record r { sent = [] }
+after_order Picture r = r
+after_order State r = r
+
+-- the answer to an order that leaves the debugger as `new`
+abbrev pub answer_from : Order → (old new : RunState) → List ℕ
+answer_from (Frames buttons times) old new = codes "done\n"
+answer_from (Seconds n) old new = codes "done\n"
+answer_from (Step n) old new = step_lines bus_rules n (processor_of old)
+answer_from (Until limit addresses) old new = place_text (nat_lt (until_steps limit addresses.items old) limit) (processor_of new)
+answer_from (UntilOpcode limit opcode) old new = place_text (nat_lt (until_opcode_steps limit opcode old) limit) (processor_of new)
+answer_from Registers old new = register_line (processor_of old)
+answer_from (History n) old new = history_text n old.debugger.history
+answer_from (Listing address n) old new = lines_from old.debugger.machine address n
+answer_from (Memory address n) old new = memory_text old.debugger.machine address n
+answer_from Serial old new = serial_text old.sent
+answer_from Picture old new = picture_text (picture_rows old.debugger.machine)
+answer_from State old new = state_text old.debugger.machine
+
+abbrev pub answer_to : Order → RunState → List ℕ
+answer_to order r = answer_from order r (after_order order r)
+
+-- ---- lines
+
+abbrev pub wrong_line : ℕ → List ℕ
+wrong_line number = codes "wrong " ++ (decimal number ++ codes "\n")
+
+abbrev pub after_asked : Option Order → RunState → RunState
+after_asked None r = r
+after_asked (Some order) r = after_order order r
+
+abbrev pub answer_asked : Option Order → (number : ℕ) → RunState → List ℕ
+answer_asked None number r = wrong_line number
+answer_asked (Some order) number r = answer_to order r
+
+-- an empty line asks for nothing
+abbrev pub after_line : List ℕ → RunState → RunState
+after_line line r = if length line == 0 then r else after_asked (order_of line) r
+
+abbrev pub answer_line : List ℕ → (number : ℕ) → RunState → List ℕ
+answer_line line number r = if length line == 0 then [] else answer_asked (order_of line) number r
+
+-- the answers to these lines, the first of which has this number
+unfoldable pub answers : (number : ℕ) → List (List ℕ) → RunState → List ℕ
+answers number [] r = []
+answers number (line ∷ lines) r = answer_line line number r ++ answers (number + 1) lines (after_line line r)
+
+unfoldable pub after_lines : List (List ℕ) → RunState → RunState
+after_lines [] r = r
+after_lines (line ∷ lines) r = after_lines lines (after_line line r)

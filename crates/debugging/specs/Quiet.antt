@@ -1,0 +1,52 @@
+-- Parts of a run, as the code makes them.
+use Rattle.std.specs.Prelude.{◌≡◌, ◌⊎◌, ◌<◌, ◌≤◌, ◌*◌, ◌%◌, ◌==◌, ◌&&◌, ◌||◌, not, ℕ, Bool, true, false}
+use Rattle.memory_map.specs.State.{BusState}
+use Rattle.memory_map.specs.BusRules.{bus_rules}
+use Rattle.sm83_processor.specs.Steps.{after_steps}
+use Rattle.sm83_processor.specs.declared.processor.Processor.{Processor}
+use Rattle.debugger.specs.History.{DebuggerState, after_run}
+use Rattle.debugging.specs.Run.{RunState, after_steps_of, processor_of}
+
+-- no transfer can end in so many steps: each takes six M-cycles at most, and a transfer that begins 1,024
+pub record IsQuietFor (steps : ℕ) (p : Processor BusState) : Type 0 where
+  pub few : steps ≤ 170
+  pub far : (p.memory.serial.serial.cycles_left ≡ 0) ⊎ (6 * steps < p.memory.serial.serial.cycles_left)
+
+-- so many steps were made, and none but the first began at such a place
+pub record Makes (is_there : Processor BusState → Bool) (steps : ℕ) (old new : RunState) : Type 0 where
+  pub some : 0 < steps
+  pub past : (k : ℕ) → 0 < k → k < steps → is_there (after_steps bus_rules k (processor_of old)) ≡ false
+  pub run : new ≡ after_steps_of steps old
+
+-- fewer than `limit` steps were made, and the next one would begin at such a place
+pub record StopsBefore (is_there : Processor BusState → Bool) (limit : ℕ) (old new : RunState) : Type 0 where
+  pub steps : ℕ
+  pub made : Makes is_there steps old new
+  pub due : steps < limit
+  pub there : is_there (processor_of new) ≡ true
+
+-- the same of a debugger alone
+pub record MakesIn (is_there : Processor BusState → Bool) (steps : ℕ) (old new : DebuggerState) : Type 0 where
+  pub some : 0 < steps
+  pub past : (k : ℕ) → 0 < k → k < steps → is_there (after_steps bus_rules k old.machine.processor) ≡ false
+  pub run : new ≡ after_run steps old
+
+pub record StopsIn (is_there : Processor BusState → Bool) (limit : ℕ) (old new : DebuggerState) : Type 0 where
+  pub steps : ℕ
+  pub made : MakesIn is_there steps old new
+  pub due : steps < limit
+  pub there : is_there new.machine.processor ≡ true
+
+-- the processor waits: it is locked, stopped with no button that is looked at, or halted with no interrupt that waits
+abbrev pub is_waiting : Processor BusState → Bool
+is_waiting p =
+    p.state.locked
+    || ((p.state.stopped && bus_rules.value_at p.memory 0xFF00 % 16 == 15) || (p.state.halted && bus_rules.pending_interrupts p.memory == 0))
+
+-- an interrupt waits and is let in
+abbrev pub is_interrupted : Processor BusState → Bool
+is_interrupted p = p.state.ime && not (bus_rules.pending_interrupts p.memory == 0)
+
+-- neither, and this opcode is at PC
+abbrev pub is_next : ℕ → Processor BusState → Bool
+is_next opcode p = not (is_waiting p) && (not (is_interrupted p) && bus_rules.value_at p.memory p.registers.pc == opcode)

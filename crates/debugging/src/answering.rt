@@ -1,0 +1,311 @@
+//! What is answered to a line.
+
+ghost use Rattle.std.specs.Prelude.{◌≡◌, [], drop, length, IfSome, OnErr, OnOk};
+ghost use Rattle.std.specs.Io.KnownBytes.{Appends};
+ghost use Rattle.exact_text.specs.Written.{AppendsProperPrefix};
+ghost use Rattle.memory_map.specs.BusRules.{bus_rules};
+ghost use Rattle.snapshot.specs.Encoding.{snapshot_length};
+ghost use Rattle.std.specs.List.{flat_map};
+ghost use Rattle.debugger.specs.Registers.{register_line};
+ghost use Rattle.debugger.specs.Report.{line_seen, step_lines};
+ghost use Rattle.debugging.specs.Answers.{after_line, after_order, answer_line, answer_to, count_line, history_text, digest_line, place_text, serial_text, state_text, wrong_line};
+ghost use Rattle.debugging.specs.Run.{after_steps_of, processor_of};
+
+use crate::memory::write_memory;
+use crate::order::{Order, read_order};
+use crate::run::{Run, RunUntil};
+use arrayvec::ArrayString;
+use debugger::{Debugger, register_line, write_stepped};
+use digest_text::digest_digits;
+use exact_text::{OutputFailed, word_digits, write_whole};
+use machine::{Machine, Processor, StepKind, Stepped};
+use memory_map::Bus;
+use sha2::{Digest, Sha256};
+use snapshot::encode;
+use std::fmt::Write as FormatWrite;
+use std::io::Write;
+
+/// A run after a line was obeyed, and whether its answer was written.
+#[derive(Drop)]
+pub(crate) struct Answered {
+    pub(crate) run: Run,
+    pub(crate) written: Result<(), OutputFailed>,
+}
+
+/// Does what a line asks for, and answers it. `snapshot` has room for the machine's.
+pub(crate) fn answer<W: Write>(
+    run: Run,
+    line: &[u8],
+    number: u64,
+    snapshot: &mut [u8],
+    out: &mut W,
+) -> Answered
+    requires { length snapshot.old ≡ snapshot_length (length (processor_of run).memory.banks.ram) }
+    ensures run { OnOk result.written (result.run ≡ after_line line.now run) }
+    ensures ok { OnOk result.written (Appends (W.contents out.old) (W.contents out.new) (answer_line line.now number run)) }
+    ensures err { OnErr result.written (AppendsProperPrefix (W.contents out.old) (W.contents out.new) (answer_line line.now number run)) }
+    ensures room { length snapshot.new ≡ length snapshot.old }
+{
+    if line.is_empty() {
+        return Answered {
+            run,
+            written: Ok(()),
+        };
+    }
+    match read_order(line) {
+        Some(order) => obey(run, order, snapshot, out),
+        None => {
+            let written = write_wrong(number, out);
+            Answered { run, written }
+        }
+    }
+}
+
+/// The line about a wrong line.
+pub(crate) fn write_wrong<W: Write>(number: u64, out: &mut W) -> Result<(), OutputFailed>
+    ensures ok { OnOk result (Appends (W.contents out.old) (W.contents out.new) (wrong_line number)) }
+    ensures err { OnErr result (AppendsProperPrefix (W.contents out.old) (W.contents out.new) (wrong_line number)) }
+{
+    match wrong_text(number) {
+        Some(text) => write_whole(out, text.as_bytes()),
+        None => Err(OutputFailed),
+    }
+}
+
+fn wrong_text(number: u64) -> Option<ArrayString<32>>
+    ensures { IfSome result (λ text. text.bytes ≡ wrong_line number) }
+{
+    let mut text = ArrayString::new();
+    match writeln!(text, "wrong {number}") {
+        Ok(()) => Some(text),
+        Err(_) => None,
+    }
+}
+
+/// Does what an order asks for, and answers it.
+fn obey<W: Write>(run: Run, order: Order, snapshot: &mut [u8], out: &mut W) -> Answered
+    requires { length snapshot.old ≡ snapshot_length (length (processor_of run).memory.banks.ram) }
+    ensures run { OnOk result.written (result.run ≡ after_order order run) }
+    ensures ok { OnOk result.written (Appends (W.contents out.old) (W.contents out.new) (answer_to order run)) }
+    ensures err { OnErr result.written (AppendsProperPrefix (W.contents out.old) (W.contents out.new) (answer_to order run)) }
+    ensures room { length snapshot.new ≡ length snapshot.old }
+{
+    match order {
+        Order::Frames { buttons, times } => {
+            let run = run.frames(buttons, times);
+            let written = write_whole(out, b"done\n");
+            Answered { run, written }
+        }
+        Order::Seconds(count) => {
+            let run = run.seconds(count);
+            let written = write_whole(out, b"done\n");
+            Answered { run, written }
+        }
+        Order::Step(count) => write_steps(run, count, out),
+        Order::Until { steps, addresses } => {
+            let RunUntil { run, is_there } = run.run_until(addresses.as_slice(), steps);
+            let written = write_place(is_there, run.processor(), out);
+            Answered { run, written }
+        }
+        Order::UntilOpcode { steps, opcode } => {
+            let RunUntil { run, is_there } = run.run_until_opcode(opcode, steps);
+            let written = write_place(is_there, run.processor(), out);
+            Answered { run, written }
+        }
+        Order::Serial => write_serial(run, out),
+        Order::Picture => {
+            let run = run.draw_late();
+            let written = run.debugger().machine().picture().write_pgm(out);
+            Answered { run, written }
+        }
+        Order::Registers => {
+            let written = write_registers(&run, out);
+            Answered { run, written }
+        }
+        Order::History(count) => {
+            let written = write_history(&run, count, out);
+            Answered { run, written }
+        }
+        Order::List { address, count } => {
+            let written = run.debugger().list(address, count, out);
+            Answered { run, written }
+        }
+        Order::Memory { address, count } => {
+            let written = write_memory(run.debugger().machine(), address, count, out);
+            Answered { run, written }
+        }
+        Order::State => {
+            let written = write_state(run.debugger().machine(), snapshot, out);
+            Answered { run, written }
+        }
+    }
+}
+
+fn write_registers<W: Write>(run: &Run, out: &mut W) -> Result<(), OutputFailed>
+    ensures ok { OnOk result (Appends (W.contents out.old) (W.contents out.new) (register_line (processor_of run.now))) }
+    ensures err { OnErr result (AppendsProperPrefix (W.contents out.old) (W.contents out.new) (register_line (processor_of run.now))) }
+{
+    let text = register_line(run.processor());
+    write_whole(out, text.as_bytes())
+}
+
+/// Makes so many steps, and writes the line of each.
+fn write_steps<W: Write>(run: Run, count: u32, out: &mut W) -> Answered
+    ensures run { OnOk result.written (result.run ≡ after_steps_of count run) }
+    ensures ok { OnOk result.written (Appends (W.contents out.old) (W.contents out.new) (step_lines bus_rules count (processor_of run))) }
+    ensures err { OnErr result.written (AppendsProperPrefix (W.contents out.old) (W.contents out.new) (step_lines bus_rules count (processor_of run))) }
+{
+    run.no_step();
+    let mut run = run;
+    for _i in 0..count {
+        let step = run.step();
+        run = step.run;
+        if let Err(fault) = write_stepped(&step.stepped, out) {
+            return Answered {
+                run,
+                written: Err(fault),
+            };
+        }
+    }
+    Answered {
+        run,
+        written: Ok(()),
+    }
+}
+
+/// Writes where a run is, and whether it stopped there.
+fn write_place<W: Write>(
+    is_there: bool,
+    processor: &Processor<Bus>,
+    out: &mut W,
+) -> Result<(), OutputFailed>
+    ensures ok { OnOk result (Appends (W.contents out.old) (W.contents out.new) (place_text is_there processor.now)) }
+    ensures err { OnErr result (AppendsProperPrefix (W.contents out.old) (W.contents out.new) (place_text is_there processor.now)) }
+{
+    let text = place_text(is_there, processor);
+    write_whole(out, text.as_bytes())
+}
+
+fn place_text(is_there: bool, processor: &Processor<Bus>) -> ArrayString<16>
+    ensures { result.bytes ≡ place_text is_there processor.now }
+{
+    let mut text = ArrayString::new();
+    text.push_str(if is_there { "stopped " } else { "limit " });
+    text.push_str(word_digits(processor.registers.pc).as_str());
+    text.push_str("\n");
+    text
+}
+
+/// The line that says how many lines or bytes follow.
+fn count_text(word: &str, count: usize) -> Option<ArrayString<32>>
+    ensures { IfSome result (λ text. text.bytes ≡ count_line word.now count) }
+{
+    let mut text = ArrayString::new();
+    match writeln!(text, "{word} {count}") {
+        Ok(()) => Some(text),
+        Err(_) => None,
+    }
+}
+
+fn write_count<W: Write>(word: &str, count: usize, out: &mut W) -> Result<(), OutputFailed>
+    ensures ok { OnOk result (Appends (W.contents out.old) (W.contents out.new) (count_line word.now count)) }
+    ensures err { OnErr result (AppendsProperPrefix (W.contents out.old) (W.contents out.new) (count_line word.now count)) }
+{
+    match count_text(word, count) {
+        Some(text) => write_whole(out, text.as_bytes()),
+        None => Err(OutputFailed),
+    }
+}
+
+/// Writes how many instructions follow, and then the last ones of the history, at most `most`.
+fn write_history<W: Write>(run: &Run, most: u32, out: &mut W) -> Result<(), OutputFailed>
+    ensures ok { OnOk result (Appends (W.contents out.old) (W.contents out.new) (history_text most run.now.debugger.history)) }
+    ensures err { OnErr result (AppendsProperPrefix (W.contents out.old) (W.contents out.new) (history_text most run.now.debugger.history)) }
+{
+    let length = run.debugger().history_len();
+    let first = length.saturating_sub(most as usize);
+    if let Err(fault) = write_count("history", length - first, out) {
+        return Err(fault);
+    }
+    write_seen(run.debugger(), first, out)
+}
+
+/// Writes the instructions of a history from an index on.
+fn write_seen<W: Write>(debugger: &Debugger, first: usize, out: &mut W) -> Result<(), OutputFailed>
+    ensures ok { OnOk result (Appends (W.contents out.old) (W.contents out.new) (flat_map line_seen (drop first debugger.now.history))) }
+    ensures err { OnErr result (AppendsProperPrefix (W.contents out.old) (W.contents out.new) (flat_map line_seen (drop first debugger.now.history))) }
+{
+    for index in first..debugger.history_len() {
+        if let Some(executed) = debugger.history(index) {
+            let seen = Stepped {
+                kind: StepKind::Ran(executed),
+                cycles: 0,
+            };
+            if let Err(fault) = write_stepped(&seen, out) {
+                return Err(fault);
+            }
+        }
+    }
+    Ok(())
+}
+
+/// Writes how many bytes follow, and then the bytes that were not told yet, which are told then.
+fn write_serial<W: Write>(run: Run, out: &mut W) -> Answered
+    ensures run { OnOk result.written (result.run ≡ record run { sent = [] }) }
+    ensures ok { OnOk result.written (Appends (W.contents out.old) (W.contents out.new) (serial_text run.sent)) }
+    ensures err { OnErr result.written (AppendsProperPrefix (W.contents out.old) (W.contents out.new) (serial_text run.sent)) }
+{
+    let mut run = run;
+    let written = write_sent(&run, out);
+    if written.is_ok() {
+        run.forget_sent();
+    }
+    Answered { run, written }
+}
+
+fn write_sent<W: Write>(run: &Run, out: &mut W) -> Result<(), OutputFailed>
+    ensures ok { OnOk result (Appends (W.contents out.old) (W.contents out.new) (serial_text run.now.sent)) }
+    ensures err { OnErr result (AppendsProperPrefix (W.contents out.old) (W.contents out.new) (serial_text run.now.sent)) }
+{
+    let (first, second) = run.sent();
+    if let Err(fault) = write_count("serial", first.len() + second.len(), out) {
+        return Err(fault);
+    }
+    if let Err(fault) = write_whole(out, first) {
+        return Err(fault);
+    }
+    if let Err(fault) = write_whole(out, second) {
+        return Err(fault);
+    }
+    write_whole(out, b"\n")
+}
+
+/// Writes the digest of the machine's snapshot, for which there is room.
+fn write_state<W: Write>(
+    machine: &Machine,
+    snapshot: &mut [u8],
+    out: &mut W,
+) -> Result<(), OutputFailed>
+    requires { length snapshot.old ≡ snapshot_length (length machine.now.processor.memory.banks.ram) }
+    ensures ok { OnOk result (Appends (W.contents out.old) (W.contents out.new) (state_text machine.now)) }
+    ensures err { OnErr result (AppendsProperPrefix (W.contents out.old) (W.contents out.new) (state_text machine.now)) }
+    ensures room { length snapshot.new ≡ length snapshot.old }
+{
+    encode(machine, snapshot);
+    match digest_text(Sha256::digest(snapshot)) {
+        Some(text) => write_whole(out, text.as_bytes()),
+        None => Err(OutputFailed),
+    }
+}
+
+fn digest_text(digest: [u8; 32]) -> Option<ArrayString<80>>
+    ensures { IfSome result (λ text. text.bytes ≡ digest_line digest) }
+{
+    let digits = digest_digits(digest)?;
+    let digits = digits.as_str();
+    let mut text = ArrayString::new();
+    match writeln!(text, "state {digits}") {
+        Ok(()) => Some(text),
+        Err(_) => None,
+    }
+}

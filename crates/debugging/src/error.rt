@@ -1,0 +1,14 @@
+//! Why a debugger stopped before the end of its input.
+
+use thiserror::Error;
+
+/// Why `LineDebugger::obey` did not answer all lines, with the text of each reason.
+#[derive(Clone, Copy, Debug, PartialEq, Eq, Error)]
+pub enum DebugError {
+    /// A read of the input failed.
+    #[error("input failed")]
+    Input,
+    /// A write failed or took no byte: a proper prefix of the answers went out.
+    #[error("output failed")]
+    Output,
+}

@@ -1,0 +1,16 @@
+//! A debugger that is obeyed line by line: each line of an input is read, done and answered before the next is read.
+//!
+//! What a line asks for is defined in `specs/Orders.antt`, how the machine then runs in `specs/Run.antt`, and what is answered, byte for
+//! byte, in `specs/Answers.antt`.
+#![tactic(auto)]
+
+mod answering;
+pub mod error;
+mod memory;
+mod obeying;
+pub mod order;
+mod run;
+
+pub use error::DebugError;
+pub use obeying::LineDebugger;
+pub use order::{Order, read_order};

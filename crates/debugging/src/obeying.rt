@@ -1,0 +1,104 @@
+//! A debugger that obeys lines.
+
+ghost use Rattle.std.specs.Prelude.{◌≡◌, IfErr, IfOk, OnOk};
+ghost use Rattle.machine.specs.Machine.{MachineState};
+ghost use Rattle.debugging.specs.Run.{begun};
+ghost use Rattle.debugging.specs.Debugged.{HasAnsweredAll, IsDebugCause};
+
+use crate::answering::{answer, write_wrong};
+use crate::error::DebugError;
+use crate::run::Run;
+use arrayvec::ArrayVec;
+use input_lines::{NextLine, next_line};
+use machine::Machine;
+use memory_map::Region;
+use snapshot::length;
+use std::alloc::{AllocError, Global};
+use std::io::{Read, Write};
+use std::marker::Model;
+
+/// A machine that is run and looked at by lines.
+///
+/// Only `new` takes memory.
+#[derive(Drop)]
+pub struct LineDebugger {
+    run: Run,
+    // room for a snapshot of the machine
+    snapshot: Vec<u8>,
+}
+
+impl Model for LineDebugger {
+    ghost use Rattle.std.specs.Prelude.{◌≡◌, length};
+    ghost use Rattle.snapshot.specs.Encoding.{snapshot_length};
+    ghost use Rattle.debugging.specs.Run.{RunState, processor_of};
+
+    ghost Value = { RunState };
+
+    ghost view = { λ d. d.run };
+
+    ghost invariant = { λ d. length d.snapshot.items ≡ snapshot_length (length (processor_of d.run).memory.banks.ram) };
+}
+
+impl LineDebugger {
+    /// A debugger of this machine, none of whose lines were read yet.
+    pub fn new(alloc: Global, machine: Machine) -> Result<LineDebugger, AllocError>
+        ensures { IfOk result (λ d. d ≡ begun machine) }
+    {
+        let room = length(machine.region(Region::CartRam).len());
+        let snapshot = vec![in alloc; 0u8; room]?;
+        let run = Run::new(alloc, machine)?;
+        Ok(LineDebugger { run, snapshot })
+    }
+
+    /// Obeys the lines of an input as they come, each before more is read, with the answer to each on `out`. An empty line is counted and
+    /// skipped, and the last may lack its newline. A wrong line, which one of more than 128 bytes is, is answered by `wrong N`, N its number
+    /// from 1. No more than 2^64 - 2 lines are read.
+    ///
+    /// | Line | What is done | Answer |
+    /// |---|---|---|
+    /// | `step N` | N steps | the line of each: that of the instruction as in a listing, `wait`, or `interrupt` and the vector |
+    /// | `until N ADDR..` | steps up to one of the addresses, of which there are 1 to 16, but at most N; the first is made wherever it begins | `stopped ADDR`, or `limit ADDR` if all N were made, with PC |
+    /// | `until-op N XX` | steps up to an instruction with this opcode, but at most N | the same |
+    /// | `frame BB`, `frames BB N` | frames with these buttons; the history is empty then | `done` |
+    /// | `seconds N` | seconds of the cartridge's clock | `done` |
+    /// | `registers` | nothing | the line of registers |
+    /// | `history N` | nothing | `history K`, and the lines of the last K instructions that `step` and `until` ran: N of them, if there are as many, of 1,024 at most |
+    /// | `list ADDR N` | nothing | N lines |
+    /// | `memory ADDR N` | nothing | the bytes, sixteen a line, as nothing closes them |
+    /// | `serial` | nothing | `serial K`, K bytes that were sent since the last `serial`, at most the last 65,536, and a newline |
+    /// | `picture` | nothing | the picture as plain PGM |
+    /// | `state` | nothing | `state` and the SHA-256 of the machine's snapshot |
+    ///
+    /// Refusals: input failed, once every whole line is answered; output failed, where a proper prefix of the answers went out.
+    pub fn obey<R: Read, W: Write>(self, input: &mut R, out: &mut W) -> Result<(), DebugError>
+        ensures answered { OnOk result (HasAnsweredAll self
+            (record { unread = R.remaining input.old; left = R.remaining input.new; before = W.contents out.old; since = W.contents out.new })) }
+        ensures refused { IfErr result (λ why. IsDebugCause why self
+            (record { unread = R.remaining input.old; left = R.remaining input.new; before = W.contents out.old; since = W.contents out.new })) }
+    {
+        let LineDebugger {
+            mut run,
+            mut snapshot,
+        } = self;
+        let mut unread = ArrayVec::new();
+        for number in 1..u64::MAX {
+            match next_line(&mut unread, input) {
+                NextLine::Line(line) => {
+                    let answered = answer(run, line.as_slice(), number, &mut snapshot, out);
+                    run = answered.run;
+                    if answered.written.is_err() {
+                        return Err(DebugError::Output);
+                    }
+                }
+                NextLine::TooLong => {
+                    if write_wrong(number, out).is_err() {
+                        return Err(DebugError::Output);
+                    }
+                }
+                NextLine::End => return Ok(()),
+                NextLine::Failed => return Err(DebugError::Input),
+            }
+        }
+        Ok(())
+    }
+}

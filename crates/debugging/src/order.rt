@@ -1,0 +1,226 @@
+//! What a line asks a debugger for.
+
+ghost use Rattle.std.specs.Prelude.{◌≡◌};
+ghost use Rattle.std.specs.Option.{option_map};
+ghost use Rattle.std.specs.Str.{bytes_eq};
+ghost use Rattle.script.specs.Line.{words_of};
+ghost use Rattle.debugging.specs.Orders.{address_of, addresses_of, is_address, order_of, order_of_few, order_of_move, order_of_one, order_of_three, order_of_two, order_of_words, places_of, room_of, steps_of, until_order};
+ghost use Rattle.debugging.specs.Words.{words_after};
+
+use arrayvec::ArrayVec;
+use script::{Move, cut, digit_in, read_byte, read_count, read_line};
+
+const SPACE: u8 = b' ';
+
+/// The most bytes of a line.
+const MOST_BYTES: usize = 128;
+
+/// The most digits of an address.
+const MOST_DIGITS: usize = 4;
+
+/// The most lines, or bytes, that one order lists.
+const MOST_ROOM: u32 = 65_536;
+
+/// The most addresses at which a run stops.
+pub const MOST_ADDRESSES: usize = 16;
+
+/// What a line asks for.
+#[derive(Clone, Debug, PartialEq, Eq, Drop)]
+pub enum Order {
+    /// Frames with these buttons, as in a script.
+    Frames {
+        buttons: u8,
+        times: u32,
+    },
+    /// Seconds of the cartridge's clock.
+    Seconds(u32),
+    /// So many steps, with the line of each.
+    Step(u32),
+    /// Steps up to one of these addresses, but at most so many.
+    Until {
+        steps: u32,
+        addresses: ArrayVec<u16, 16>,
+    },
+    /// Steps up to an instruction with this opcode, but at most so many.
+    UntilOpcode {
+        steps: u32,
+        opcode: u8,
+    },
+    /// The registers.
+    Registers,
+    /// The last instructions, at most so many.
+    History(u32),
+    /// A listing of so many instructions.
+    List {
+        address: u16,
+        count: u32,
+    },
+    /// So many bytes of memory.
+    Memory {
+        address: u16,
+        count: u32,
+    },
+    /// What was sent over the serial port since it was last told.
+    Serial,
+    /// The picture as it is now.
+    Picture,
+    /// The digest of the machine's snapshot.
+    State,
+}
+
+/// What one line asks for, without its newline. `None` if it is wrong, or if it has more than 128 bytes; an empty line is wrong here.
+pub fn read_order(line: &[u8]) -> Option<Order>
+    ensures { result ≡ order_of line.now }
+{
+    if line.len() > MOST_BYTES {
+        return None;
+    }
+    match read_line(line) {
+        Some(one) => order_of_move(one),
+        None => read_words(line),
+    }
+}
+
+fn order_of_move(one: Move) -> Option<Order>
+    ensures { result ≡ order_of_move one }
+{
+    match one {
+        Move::Frames { buttons, times } => Some(Order::Frames { buttons, times }),
+        Move::Seconds(count) => Some(Order::Seconds(count)),
+        Move::Save => None,
+    }
+}
+
+/// An order of the debugger's own words.
+fn read_words(line: &[u8]) -> Option<Order>
+    ensures { result ≡ order_of_words (words_of line.now) }
+{
+    let (name, rest) = cut(line, SPACE);
+    let Some(rest) = rest else {
+        return with_none(name);
+    };
+    let (word, rest) = cut(rest, SPACE);
+    if is_word(name, b"until") {
+        return read_until(word, rest);
+    }
+    let Some(rest) = rest else {
+        return with_one(name, word);
+    };
+    let (other, rest) = cut(rest, SPACE);
+    match rest {
+        None => with_two(name, word, other),
+        Some(_) => None,
+    }
+}
+
+fn is_word(word: &[u8], name: &[u8]) -> bool
+    ensures { result ≡ bytes_eq word.now name.now }
+{
+    word == name
+}
+
+fn with_none(name: &[u8]) -> Option<Order>
+    ensures { result ≡ order_of_one name.now }
+{
+    if is_word(name, b"registers") {
+        return Some(Order::Registers);
+    }
+    if is_word(name, b"serial") {
+        return Some(Order::Serial);
+    }
+    if is_word(name, b"picture") {
+        return Some(Order::Picture);
+    }
+    if is_word(name, b"state") {
+        return Some(Order::State);
+    }
+    None
+}
+
+fn with_one(name: &[u8], word: &[u8]) -> Option<Order>
+    ensures { result ≡ order_of_two name.now word.now }
+{
+    if is_word(name, b"step") {
+        let steps = read_steps(word)?;
+        return Some(Order::Step(steps));
+    }
+    if is_word(name, b"history") {
+        let count = read_room(word)?;
+        return Some(Order::History(count));
+    }
+    None
+}
+
+fn with_two(name: &[u8], word: &[u8], other: &[u8]) -> Option<Order>
+    ensures { result ≡ order_of_three name.now word.now other.now }
+{
+    if is_word(name, b"list") {
+        let address = read_address(word)?;
+        let count = read_room(other)?;
+        return Some(Order::List { address, count });
+    }
+    if is_word(name, b"memory") {
+        let address = read_address(word)?;
+        let count = read_room(other)?;
+        return Some(Order::Memory { address, count });
+    }
+    if is_word(name, b"until-op") {
+        let steps = read_steps(word)?;
+        let opcode = read_byte(other)?;
+        return Some(Order::UntilOpcode { steps, opcode });
+    }
+    None
+}
+
+/// The order of a count of steps and addresses, where there are any.
+fn read_until(count: &[u8], rest: Option<&[u8]>) -> Option<Order>
+    ensures { result ≡ until_order count.now (words_after rest.entry) }
+{
+    let addresses = read_addresses(rest?)?;
+    let steps = read_steps(count)?;
+    Some(Order::Until { steps, addresses })
+}
+
+/// The addresses that the words write, if they all are addresses and no more than sixteen.
+fn read_addresses(text: &[u8]) -> Option<ArrayVec<u16, 16>>
+    ensures { option_map (λ v. v.items) result ≡ places_of (words_of text.now) }
+{
+    let mut addresses = ArrayVec::new();
+    let mut rest = Some(text);
+    while let Some(text) = rest {
+        let (word, after) = cut(text, SPACE);
+        let address = read_address(word)?;
+        if addresses.try_push(address).is_err() {
+            return None;
+        }
+        rest = after;
+    }
+    Some(addresses)
+}
+
+fn read_steps(word: &[u8]) -> Option<u32>
+    ensures { result ≡ steps_of word.now }
+{
+    read_count(word, 1, u32::MAX)
+}
+
+fn read_room(word: &[u8]) -> Option<u32>
+    ensures { result ≡ room_of word.now }
+{
+    read_count(word, 1, MOST_ROOM)
+}
+
+/// The address that one to four hexadecimal digits write, in either case.
+fn read_address(word: &[u8]) -> Option<u16>
+    ensures { result ≡ address_of word.now }
+{
+    if word.is_empty() || word.len() > MOST_DIGITS {
+        return None;
+    }
+    let mut value = 0;
+    for byte in word {
+        let digit = digit_in(*byte, 16)?;
+        value = value * 16 + u16::from(digit);
+    }
+    Some(value)
+}

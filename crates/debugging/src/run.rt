@@ -1,0 +1,382 @@
+//! A debugger's machine, run by steps, up to a place, or by frames.
+
+ghost use Rattle.std.specs.Prelude.{◌≡◌, ◌<◌, ◌≤◌, ◌++◌, [], length, true, false, IfOk, nat_lt};
+ghost use Rattle.circular_buffer.specs.Buffer.{keep_last};
+ghost use Rattle.machine.specs.Watched.{byte_list};
+ghost use Rattle.memory_map.specs.BusRules.{bus_rules};
+ghost use Rattle.sm83_processor.specs.Steps.{step_of};
+ghost use Rattle.debugging.specs.Answers.{until_opcode_steps, until_steps};
+ghost use Rattle.debugging.specs.Run.{after_frame, after_frames, after_seconds, after_steps_of, begun, is_at, is_before, processor_of};
+ghost use Rattle.debugging.specs.Quiet.{IsQuietFor, Makes, MakesIn, StopsBefore, StopsIn, is_interrupted, is_next, is_waiting};
+
+use circular_buffer::HeapCircularBuffer;
+use debugger::{Debugger, Stop, WatchedStep};
+use machine::{Executed, Input, Machine, Memory, Processor, Stepped, Watched};
+use memory_map::Bus;
+use std::alloc::{AllocError, Global};
+use std::marker::Model;
+
+/// The address of P1, whose low bits are the buttons that are looked at.
+const JOYPAD: u16 = 0xff00;
+
+/// The most bytes that are kept until they are told: the last ones.
+const MOST_SENT: usize = 65_536;
+
+/// The most instructions of the history.
+const MOST_HISTORY: usize = 1_024;
+
+/// The most M-cycles of a step.
+const MOST_CYCLES: u32 = 6;
+
+/// The most steps that are made at once because no transfer can end in them: one that begins takes 1,024 M-cycles.
+const MOST_QUIET: u32 = 170;
+
+/// A debugger, and the bytes that its machine sent over the serial port and that were not told yet.
+#[derive(Drop)]
+pub(crate) struct Run {
+    debugger: Debugger,
+    sent: HeapCircularBuffer<u8>,
+}
+
+impl Model for Run {
+    ghost use Rattle.std.specs.Prelude.{◌≡◌, ◌≤◌, length};
+    ghost use Rattle.debugging.specs.Run.{RunState, most_sent, most_history};
+
+    ghost Value = { RunState };
+
+    ghost view = { λ r. record { debugger = r.debugger; sent = r.sent.items } };
+
+    ghost invariant = { λ r. (r.sent.capacity ≡ most_sent) × (length r.sent.items ≤ most_sent) };
+}
+
+/// A run after a step, and what the step was.
+#[derive(Drop)]
+pub(crate) struct RunStep {
+    pub(crate) run: Run,
+    pub(crate) stepped: Stepped,
+}
+
+/// A run that went up to a place, and whether it stopped there before all its steps were made.
+#[derive(Drop)]
+pub(crate) struct RunUntil {
+    pub(crate) run: Run,
+    pub(crate) is_there: bool,
+}
+
+impl Run {
+    /// A run of this machine, of which nothing was run yet.
+    pub(crate) fn new(alloc: Global, machine: Machine) -> Result<Run, AllocError>
+        ensures { IfOk result (λ r. r ≡ begun machine) }
+    {
+        let sent = match HeapCircularBuffer::with_capacity(alloc, MOST_SENT) {
+            Ok(sent) => sent,
+            Err(fault) => return Err(fault),
+        };
+        match Debugger::new(alloc, machine, MOST_HISTORY) {
+            Ok(debugger) => Ok(Run { debugger, sent }),
+            Err(_) => Err(AllocError),
+        }
+    }
+
+    /// A read-only view of the debugger.
+    pub(crate) fn debugger(&self) -> &Debugger
+        ensures { result.now ≡ self.now.debugger }
+    {
+        &self.debugger
+    }
+
+    /// The bytes that were not told yet.
+    pub(crate) fn sent(&self) -> (&[u8], &[u8])
+        ensures { result.0.now ++ result.1.now ≡ self.now.sent }
+    {
+        self.sent.as_slices()
+    }
+
+    /// All bytes are told.
+    pub(crate) fn forget_sent(&mut self)
+        ensures { self.new ≡ record self.old { sent = [] } }
+    {
+        self.sent.clear();
+    }
+
+    /// A read-only view of the processor.
+    pub(crate) fn processor(&self) -> &Processor<Bus>
+        ensures { result.now ≡ processor_of self.now }
+    {
+        self.debugger.machine().processor()
+    }
+
+    /// No step: what is kept is within its bounds, so that a run of no step leaves it as it is.
+    pub(crate) fn no_step(&self)
+        ensures { self.now ≡ after_steps_of 0 self.now }
+    {
+        let _held = self.debugger.history_len();
+    }
+
+    /// One step.
+    pub(crate) fn step(self) -> RunStep
+        ensures run { result.run ≡ after_steps_of 1 self }
+        ensures stepped { result.stepped ≡ (step_of bus_rules (processor_of self)).stepped }
+    {
+        let Run { debugger, mut sent } = self;
+        let WatchedStep {
+            debugger,
+            stepped,
+            sent: byte,
+        } = debugger.step_watched();
+        note(&mut sent, byte);
+        RunStep {
+            run: Run { debugger, sent },
+            stepped,
+        }
+    }
+
+    /// Steps in which no transfer can end, up to one of these addresses, but at most `limit`. The first is made wherever it begins. Returns
+    /// whether it stopped before all were made. Condition: `limit` is not 0.
+    fn quiet_until(&mut self, addresses: &[u16], limit: u32) -> bool
+        requires some { 0 < limit }
+        requires quiet { IsQuietFor limit (processor_of self.old) }
+        ensures made { result ≡ false → Makes (is_at addresses.now) limit self.old self.new }
+        ensures there { result ≡ true → StopsBefore (is_at addresses.now) limit self.old self.new }
+    {
+        match self.debugger.run_until(addresses, limit) {
+            Stop::Break(_) => true,
+            Stop::Limit => false,
+        }
+    }
+
+    /// The same up to an instruction with this opcode.
+    fn quiet_until_opcode(&mut self, opcode: u8, limit: u32) -> bool
+        requires some { 0 < limit }
+        requires quiet { IsQuietFor limit (processor_of self.old) }
+        ensures made { result ≡ false → Makes (is_before opcode) limit self.old self.new }
+        ensures there { result ≡ true → StopsBefore (is_before opcode) limit self.old self.new }
+    {
+        step_until(&mut self.debugger, opcode, limit)
+    }
+
+    /// Steps up to one of these addresses, but at most `limit`. The first step is made wherever it begins.
+    pub(crate) fn run_until(self, addresses: &[u16], limit: u32) -> RunUntil
+        ensures run { result.run ≡ after_steps_of (until_steps limit addresses.now self) self }
+        ensures there { result.is_there ≡ nat_lt (until_steps limit addresses.now self) limit }
+    {
+        self.no_step();
+        let mut run = self;
+        let mut left = limit;
+        while left > 0 {
+            let quiet = quiet_steps(run.processor()).min(left);
+            if quiet == 0 {
+                run = run.step().run;
+                left -= 1;
+                if left > 0 && is_at(addresses, run.processor()) {
+                    return RunUntil {
+                        run,
+                        is_there: true,
+                    };
+                }
+                continue;
+            }
+            if run.quiet_until(addresses, quiet) {
+                return RunUntil {
+                    run,
+                    is_there: true,
+                };
+            }
+            left -= quiet;
+            if left > 0 && is_at(addresses, run.processor()) {
+                return RunUntil {
+                    run,
+                    is_there: true,
+                };
+            }
+        }
+        RunUntil {
+            run,
+            is_there: false,
+        }
+    }
+
+    /// Steps up to an instruction with this opcode, but at most `limit`. The first step is made wherever it begins.
+    pub(crate) fn run_until_opcode(self, opcode: u8, limit: u32) -> RunUntil
+        ensures run { result.run ≡ after_steps_of (until_opcode_steps limit opcode self) self }
+        ensures there { result.is_there ≡ nat_lt (until_opcode_steps limit opcode self) limit }
+    {
+        self.no_step();
+        let mut run = self;
+        let mut left = limit;
+        while left > 0 {
+            let quiet = quiet_steps(run.processor()).min(left);
+            if quiet == 0 {
+                run = run.step().run;
+                left -= 1;
+                if left > 0 && is_before(opcode, run.processor()) {
+                    return RunUntil {
+                        run,
+                        is_there: true,
+                    };
+                }
+                continue;
+            }
+            if run.quiet_until_opcode(opcode, quiet) {
+                return RunUntil {
+                    run,
+                    is_there: true,
+                };
+            }
+            left -= quiet;
+            if left > 0 && is_before(opcode, run.processor()) {
+                return RunUntil {
+                    run,
+                    is_there: true,
+                };
+            }
+        }
+        RunUntil {
+            run,
+            is_there: false,
+        }
+    }
+
+    /// Plays a frame with these buttons.
+    fn frame(self, buttons: u8) -> Run
+        ensures { result ≡ after_frame buttons self }
+    {
+        let Run { debugger, mut sent } = self;
+        let (machine, mut history) = debugger.into_parts();
+        history.clear();
+        let mut frame = machine.begin_frame(buttons);
+        'playing: while !frame.is_over() {
+            let Watched {
+                frame: after,
+                sent: byte,
+                breaks: _,
+            } = frame.run_on();
+            frame = after;
+            note(&mut sent, byte);
+        }
+        Run {
+            debugger: Debugger::from_parts(frame.end(), history),
+            sent,
+        }
+    }
+
+    /// Plays so many frames with these buttons.
+    pub(crate) fn frames(self, buttons: u8, times: u32) -> Run
+        ensures { result ≡ after_frames times buttons self }
+    {
+        let mut run = self;
+        for _i in 0..times {
+            run = run.frame(buttons);
+        }
+        run
+    }
+
+    /// Lets seconds of the cartridge's clock pass.
+    pub(crate) fn seconds(self, count: u32) -> Run
+        ensures { result ≡ after_seconds count self }
+    {
+        let Run { debugger, sent } = self;
+        let (mut machine, history) = debugger.into_parts();
+        machine.apply(Input::Seconds(count));
+        Run {
+            debugger: Debugger::from_parts(machine, history),
+            sent,
+        }
+    }
+
+    /// Draws what was only noted, so that the picture is read quickly. No value changes.
+    pub(crate) fn draw_late(self) -> Run
+        ensures { result ≡ self }
+    {
+        let Run { debugger, sent } = self;
+        let (mut machine, history) = debugger.into_parts();
+        machine.draw_late();
+        Run {
+            debugger: Debugger::from_parts(machine, history),
+            sent,
+        }
+    }
+}
+
+/// Keeps a byte, if one was sent.
+fn note(sent: &mut HeapCircularBuffer<u8>, byte: Option<u8>)
+    requires { length sent.old.items ≤ sent.old.capacity }
+    ensures items { sent.new.items ≡ keep_last sent.old.capacity (sent.old.items ++ byte_list byte) }
+    ensures capacity { sent.new.capacity ≡ sent.old.capacity }
+    ensures within { length sent.new.items ≤ sent.old.capacity }
+{
+    if let Some(byte) = byte {
+        let _ = sent.push_back(byte);
+    }
+}
+
+/// Steps up to an instruction with this opcode, but at most `limit`. The first is made wherever it begins. Returns whether it stopped before
+/// all were made. Condition: `limit` is not 0.
+fn step_until(debugger: &mut Debugger, opcode: u8, limit: u32) -> bool
+    requires { 0 < limit }
+    ensures made { result ≡ false → MakesIn (is_before opcode) limit debugger.old debugger.new }
+    ensures there { result ≡ true → StopsIn (is_before opcode) limit debugger.old debugger.new }
+{
+    // the history is within its size, so a run of no step leaves it as it is
+    let _held = debugger.history_len();
+    for _made in 0..limit - 1 {
+        let _ = debugger.step();
+        if is_before(opcode, debugger.machine().processor()) {
+            return true;
+        }
+    }
+    let _ = debugger.step();
+    false
+}
+
+/// For how many steps no transfer can end, 170 at most: each takes six M-cycles at most.
+fn quiet_steps(processor: &Processor<Bus>) -> u32
+    ensures { IsQuietFor result processor.now }
+{
+    let left = u32::from(processor.memory.serial().cycles_left);
+    if left == 0 {
+        return MOST_QUIET;
+    }
+    ((left - 1) / MOST_CYCLES).min(MOST_QUIET)
+}
+
+/// Whether PC is one of these addresses.
+fn is_at(addresses: &[u16], processor: &Processor<Bus>) -> bool
+    ensures { result ≡ is_at addresses.now processor.now }
+{
+    addresses.contains(&processor.registers.pc)
+}
+
+/// Whether the next step runs an instruction with this opcode.
+fn is_before(opcode: u8, processor: &Processor<Bus>) -> bool
+    ensures { result ≡ is_before opcode processor.now }
+{
+    is_next(opcode, processor)
+}
+
+fn is_next(opcode: u8, processor: &Processor<Bus>) -> bool
+    ensures { result ≡ is_next opcode processor.now }
+{
+    if is_waiting(processor) || is_interrupted(processor) {
+        return false;
+    }
+    Bus::read(&processor.memory, processor.registers.pc) == opcode
+}
+
+/// Whether nothing ends a wait.
+fn is_waiting(processor: &Processor<Bus>) -> bool
+    ensures { result ≡ is_waiting processor.now }
+{
+    let state = &processor.state;
+    let memory = &processor.memory;
+    state.locked
+        || (state.stopped && Bus::read(memory, JOYPAD) % 16 == 15)
+        || (state.halted && Bus::pending_interrupts(memory) == 0)
+}
+
+/// Whether an interrupt is taken, if the processor does not wait.
+fn is_interrupted(processor: &Processor<Bus>) -> bool
+    ensures { result ≡ is_interrupted processor.now }
+{
+    processor.state.ime && Bus::pending_interrupts(&processor.memory) != 0
+}

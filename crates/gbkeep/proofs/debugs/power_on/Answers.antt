@@ -1,0 +1,10 @@
+use Rattle.std.proofs.Common.{None, subst, sym}
+use Rattle.gbkeep.specs.Program.{IsDebugRefused}
+use Rattle.gbkeep.specs.declared.fault.Fault.{Fault}
+use Rattle.gbkeep.proofs.DebugTexts.{debug_rom_refused}
+use Rattle.gbkeep.proofs.debugs.power_on.Goals as goal
+
+pub returns-in-Err : goal.returns-in-Err
+returns-in-Err g c =
+    subst (λ (fault : Fault). IsDebugRefused None fault (record { before = g.I.Read.remaining c.args.input.now; since = g.I.Read.remaining c.debug_rom.new.input }) (record { before = g.O.Write.contents c.args.out.now; since = g.O.Write.contents c.debug_rom.new.out })) (sym c.from.ensures)
+    (debug_rom_refused c.args.rom.items _ _ c.in-Err.why c.in-Err.ensures.cause)

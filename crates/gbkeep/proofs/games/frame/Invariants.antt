@@ -1,0 +1,5 @@
+use Rattle.std.proofs.Common.{[]}
+use Rattle.gbkeep.proofs.games.frame.Given as goal
+
+abbrev pub ghost-attach : goal.ghost-attach
+ghost-attach g a = []

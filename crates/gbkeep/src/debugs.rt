@@ -1,0 +1,63 @@
+//! A debugger over files.
+
+ghost use Rattle.gbkeep.specs.Program.{IsDebugServed};
+
+use crate::fault::Fault;
+use crate::files::{MOST_ROM, file_bytes};
+use debug_lines::{debug_game, debug_rom};
+use sector_device::FileDevice;
+use std::fs::File;
+use std::io::{Read, Write};
+use std::path::Path;
+use std::rt::Files;
+
+/// Debugs a cartridge from power-on, or the game in a file, which keeps nothing of that. The lines of the input are obeyed as they come,
+/// and each answer goes out as it is written.
+pub(crate) fn debug<R: Files<File = File> + AllocGlobal, I: Read, O: Write>(
+    rt: &R,
+    cart: &str,
+    save: Option<&str>,
+    input: &mut I,
+    out: &mut O,
+) -> Result<(), Fault>
+    ensures { IsDebugServed save.entry result (record { before = I.remaining input.old; since = I.remaining input.new })
+        (record { before = O.contents out.old; since = O.contents out.new }) }
+{
+    let rom = file_bytes(rt, cart, MOST_ROM)?;
+    match save {
+        None => power_on(rt, rom, input, out),
+        Some(save) => resumed(rt, rom, save, input, out),
+    }
+}
+
+fn power_on<R: AllocGlobal, I: Read, O: Write>(
+    rt: &R,
+    rom: Vec<u8>,
+    input: &mut I,
+    out: &mut O,
+) -> Result<(), Fault>
+    ensures { IsDebugServed None result (record { before = I.remaining input.old; since = I.remaining input.new })
+        (record { before = O.contents out.old; since = O.contents out.new }) }
+{
+    match debug_rom(rt.alloc(), rom, input, out) {
+        Ok(()) => Ok(()),
+        Err(why) => Err(Fault::from(why)),
+    }
+}
+
+fn resumed<R: Files<File = File> + AllocGlobal, I: Read, O: Write>(
+    rt: &R,
+    rom: Vec<u8>,
+    save: &str,
+    input: &mut I,
+    out: &mut O,
+) -> Result<(), Fault>
+    ensures { IsDebugServed (Some save.entry) result (record { before = I.remaining input.old; since = I.remaining input.new })
+        (record { before = O.contents out.old; since = O.contents out.new }) }
+{
+    let device = FileDevice::attach(rt, Path::new(save))?;
+    match debug_game(rt.alloc(), device, rom, input, out) {
+        Ok(_) => Ok(()),
+        Err(refused) => Err(Fault::from(refused.why)),
+    }
+}

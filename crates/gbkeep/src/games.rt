@@ -1,0 +1,165 @@
+//! The commands over save files.
+
+ghost use Rattle.std.specs.Prelude.{◌≡◌, unwrap_or};
+ghost use Rattle.gbkeep.specs.Program.{IsServed, IsStreamServed};
+
+use crate::begin::begin_game;
+use crate::drawing::play_to_picture;
+use crate::error::BeginError;
+use crate::fault::Fault;
+use crate::files::{MOST_ROM, MOST_SCRIPT, emptied_file, file_bytes, not_a_pipe};
+use crate::interrupted::{Beginning, new_file};
+use crate::streams::stream_play;
+use crate::trace::trace_lines;
+use cartridge::Cartridge;
+use command_line::Request;
+use save_lines::show_lines;
+use sector_device::FileDevice;
+use session::{SessionError, sectors_needed};
+use std::fs;
+use std::fs::File;
+use std::io::{Read, Write};
+use std::path::Path;
+use std::rt::Files;
+
+/// Makes a file of so many sectors, or of as many as the game needs, and begins a game in it, also where an interrupted `new` of the same
+/// words left its file. Where that fails once the file is made, the file is taken away again. A game that is begun stays, also where its
+/// line can't be written.
+pub(crate) fn new<R: Files<File = File> + AllocGlobal, O: Write>(
+    rt: &R,
+    cart: &str,
+    save: &str,
+    sectors: Option<u32>,
+    out: &mut O,
+) -> Result<(), Fault>
+    ensures { IsServed (Request.New cart.entry save.entry sectors) result (O.contents out.old) (O.contents out.new) }
+{
+    let rom = file_bytes(rt, cart, MOST_ROM)?;
+    let cartridge = Cartridge::read(rom)?;
+    let need = sectors_needed(&cartridge);
+    let sectors = sectors_or(sectors, need);
+    if sectors < need {
+        return Err(Fault::Session(SessionError::TooSmall { need }));
+    }
+    let device = new_file(rt, save, sectors, &cartridge, Beginning::PowerOn)?;
+    match begin_game(rt.alloc(), device, &cartridge, out) {
+        Ok(_) => Ok(()),
+        Err(refused) => match refused.why {
+            BeginError::Session(why) => {
+                let _ = fs::remove_file(rt, save);
+                Err(Fault::Session(why))
+            }
+            BeginError::Output => Err(Fault::Output),
+        },
+    }
+}
+
+/// As many sectors as are asked for, or else as many as are needed.
+pub(crate) fn sectors_or(sectors: Option<u32>, need: u64) -> u64
+    ensures { result ≡ unwrap_or sectors need }
+{
+    match sectors {
+        Some(sectors) => u64::from(sectors),
+        None => need,
+    }
+}
+
+/// Plays a script, with the report on `out`: each line goes out as it is written, so that one of a save comes only behind the save.
+pub(crate) fn play<R: Files<File = File> + AllocGlobal, O: Write>(
+    rt: &R,
+    cart: &str,
+    save: &str,
+    script: &str,
+    out: &mut O,
+) -> Result<(), Fault>
+    ensures { IsServed (Request.Play cart.entry save.entry script.entry) result (O.contents out.old) (O.contents out.new) }
+{
+    let rom = file_bytes(rt, cart, MOST_ROM)?;
+    not_a_pipe(rt, script)?;
+    let device = FileDevice::attach(rt, Path::new(save))?;
+    let script = file_bytes(rt, script, MOST_SCRIPT)?;
+    match play_to_picture(
+        rt.alloc(),
+        device,
+        rom,
+        script.as_slice(),
+        out,
+        None::<&mut File>,
+    ) {
+        Ok(_) => Ok(()),
+        Err(refused) => Err(Fault::from(refused.why)),
+    }
+}
+
+/// Plays an empty script, with the report on `out`, and writes the picture to a file, which is made or emptied before. It is refused where
+/// it is the save file or the cartridge, by whatever name.
+pub(crate) fn frame<R: Files<File = File> + AllocGlobal, O: Write>(
+    rt: &R,
+    cart: &str,
+    save: &str,
+    picture: &str,
+    out: &mut O,
+) -> Result<(), Fault>
+    ensures { IsServed (Request.Frame cart.entry save.entry picture.entry) result (O.contents out.old) (O.contents out.new) }
+{
+    let rom = file_bytes(rt, cart, MOST_ROM)?;
+    let device = FileDevice::attach(rt, Path::new(save))?;
+    let mut picture = emptied_file(rt, picture, [cart, save])?;
+    match play_to_picture(rt.alloc(), device, rom, b"", out, Some(&mut picture)) {
+        Ok(_) => Ok(()),
+        Err(refused) => Err(Fault::from(refused.why)),
+    }
+}
+
+/// Prints what the game in a file holds. Nothing is written to the file.
+pub(crate) fn show<R: Files<File = File> + AllocGlobal, O: Write>(
+    rt: &R,
+    cart: &str,
+    save: &str,
+    out: &mut O,
+) -> Result<(), Fault>
+    ensures { IsServed (Request.Show cart.entry save.entry) result (O.contents out.old) (O.contents out.new) }
+{
+    let rom = file_bytes(rt, cart, MOST_ROM)?;
+    let device = FileDevice::attach(rt, Path::new(save))?;
+    match show_lines(rt.alloc(), device, rom, out) {
+        Ok(_) => Ok(()),
+        Err(refused) => Err(Fault::from(refused.why)),
+    }
+}
+
+/// Takes up the game in a file and prints its next steps, which are not saved.
+pub(crate) fn trace<R: Files<File = File> + AllocGlobal, O: Write>(
+    rt: &R,
+    cart: &str,
+    save: &str,
+    count: u32,
+    out: &mut O,
+) -> Result<(), Fault>
+    ensures { IsServed (Request.Trace cart.entry save.entry count) result (O.contents out.old) (O.contents out.new) }
+{
+    let rom = file_bytes(rt, cart, MOST_ROM)?;
+    let device = FileDevice::attach(rt, Path::new(save))?;
+    match trace_lines(rt.alloc(), device, rom, count, out) {
+        Ok(_) => Ok(()),
+        Err(refused) => Err(Fault::from(refused.why)),
+    }
+}
+
+/// Takes up the game in a file and obeys the lines of the input as they come, with all answers on `out`: each goes out as it is written.
+pub(crate) fn stream<R: Files<File = File> + AllocGlobal, I: Read, O: Write>(
+    rt: &R,
+    cart: &str,
+    save: &str,
+    input: &mut I,
+    out: &mut O,
+) -> Result<(), Fault>
+    ensures { IsStreamServed result (record { before = I.remaining input.old; since = I.remaining input.new }) (record { before = O.contents out.old; since = O.contents out.new }) }
+{
+    let rom = file_bytes(rt, cart, MOST_ROM)?;
+    let device = FileDevice::attach(rt, Path::new(save))?;
+    match stream_play(rt.alloc(), device, rom, input, out) {
+        Ok(_) => Ok(()),
+        Err(refused) => Err(Fault::from(refused.why)),
+    }
+}

@@ -1,0 +1,319 @@
+"""The lines of `gbkeep debug`, read and answered by the second machine: what each asks for, and each byte of the answer. Written from docs/COMMANDS.md,
+docs/SNAPSHOT.md and docs/MACHINE.md, by somebody who had read of the code what its calls promise. debug_lines.py --check compares its own parts."""
+import collections, hashlib, random, re, sys
+import reference as ref
+
+MOST_LINE, MOST_SENT, MOST_HISTORY = 128, 65536, 1024
+COUNT, HEX = rb'([0-9]{1,10})', rb'[0-9A-Fa-f]'
+ADDRESS, BYTE = rb'(' + HEX + rb'{1,4})', rb'(' + HEX + rb'{2})'
+
+
+def steps(word): return within(word, 1, 4294967295)
+def room(word): return within(word, 1, 65536)
+def byte(word): return int(word, 16)
+def address(word): return int(word, 16)
+def addresses(words): return [int(word, 16) for word in words.split()]
+
+
+def within(word, low, high):
+    """The number, or None where it is none of these."""
+    return int(word) if low <= int(word) <= high else None
+
+
+# the form of each line, and what reads its words
+FORMS = [(re.compile(form), name, readers) for form, name, readers in (
+    (rb'step ' + COUNT, 'step', (steps,)),
+    (rb'until ' + COUNT + rb'((?: ' + HEX + rb'{1,4}){1,16})', 'until', (steps, addresses)),
+    (rb'until-op ' + COUNT + b' ' + BYTE, 'until-op', (steps, byte)),
+    (rb'frame ' + BYTE, 'frame', (byte,)),
+    (rb'frames ' + BYTE + b' ' + COUNT, 'frames', (byte, lambda word: within(word, 1, 1000000))),
+    (rb'seconds ' + COUNT, 'seconds', (lambda word: within(word, 0, 4294967295),)),
+    (rb'registers', 'registers', ()),
+    (rb'history ' + COUNT, 'history', (room,)),
+    (rb'list ' + ADDRESS + b' ' + COUNT, 'list', (address, room)),
+    (rb'memory ' + ADDRESS + b' ' + COUNT, 'memory', (address, room)),
+    (rb'serial', 'serial', ()),
+    (rb'picture', 'picture', ()),
+    (rb'state', 'state', ()))]
+
+
+def order_of(line):
+    """What a line asks for, as a name and its values; None where it is wrong. An empty line is no line here."""
+    if len(line) > MOST_LINE:
+        return None
+    for form, name, readers in FORMS:
+        found = form.fullmatch(line)
+        if found:
+            values = [read(word) for read, word in zip(readers, found.groups())]
+            return None if None in values else (name, *values)
+    return None
+
+
+def lines_of(text):
+    """The lines of an input, the last of which may lack its newline."""
+    lines = text.split(b'\n')
+    return lines[:-1] if lines[-1] == b'' else lines
+
+
+# ---- the machine
+
+def snapshot(m):
+    """The machine as bytes, by the table of docs/SNAPSHOT.md."""
+    b, c, d, e, h, l, f, a = m.r
+    kind = {'none': 0, 'MBC1': 1, 'MBC2': 2, 'MBC3': 3, 'MBC3+clock': 4, 'MBC5': 5}[m.kind]
+
+    def word(value): return [value & 255, value >> 8]
+
+    data = list(b'GBSNAP01') + [a, f, b, c, d, e, h, l] + word(m.sp) + word(m.pc)
+    data.append(m.ime | m.enable << 1 | m.halted << 2 | m.stopped << 3 | m.locked << 4 | m.repeat << 5)
+    data += [m.overrun, m.ie, m.iflag, m.buttons, m.p1] + word(m.counter) + [m.tima, m.tma, m.tac, m.sb, m.sc] + word(m.left)
+    data += [m.dma, m.copied, m.lcdc, m.stat, m.scy, m.scx, m.lyc, m.bgp, m.obp0, m.obp1, m.wy, m.wx, m.line_, m.mc, m.window_line]
+    data.append(m.seen | m.statsig << 1)
+    rom_bank = {0: 0, 1: m.lower}.get(kind, m.bank)
+    ram_bank = {1: m.upper, 3: m.select, 4: m.select, 5: m.rambank}.get(kind, 0)
+    data += [kind, int(m.ramon)] + word(rom_bank) + [ram_bank, {1: int(m.mode1), 4: int(m.armed)}.get(kind, 0)]
+    data += m.live + m.latched + [0] * 61
+    picture = [row[at] << 6 | row[at + 1] << 4 | row[at + 2] << 2 | row[at + 3] for row in m.shades for at in range(0, 160, 4)]
+    return bytes(data) + bytes(m.vram) + bytes(m.wram) + bytes(m.oam) + bytes(m.hram) + bytes(m.sound) + bytes(picture) + bytes(m.cram)
+
+
+def pass_seconds(m, count):
+    """So many seconds of the clock, at once where no register is beyond its range."""
+    c = m.live
+    if m.kind != 'MBC3+clock' or c[4] & 0x40:
+        return
+    while count and (c[0] > 59 or c[1] > 59 or c[2] > 23):
+        m.second()
+        count -= 1
+    if not count:
+        return
+    whole = c[0] + 60 * (c[1] + 60 * (c[2] + 24 * (c[3] + 256 * (c[4] & 1)))) + count
+    minutes, c[0] = divmod(whole, 60)
+    hours, c[1] = divmod(minutes, 60)
+    days, c[2] = divmod(hours, 24)
+    c[3] = days % 256
+    c[4] = c[4] & 0xC0 | days // 256 % 2 | (0x80 if days >= 512 else 0)
+
+
+class Debugger:
+    """A machine that is run by lines. It draws from power-on, since `picture` and `state` show what was drawn."""
+
+    def __init__(self, machine):
+        self.m = machine
+        machine.draws = True
+        machine.sent.clear()
+        self.history = collections.deque(maxlen=MOST_HISTORY)
+
+    def step(self):
+        line = self.m.trace_line()
+        if not self.m.what:
+            self.history.append(line)
+        return line
+
+    def is_before(self, opcode):
+        """The next step runs an instruction with this opcode: the processor does not wait, and takes no interrupt."""
+        m = self.m
+        shared = m.ie & m.iflag & 31
+        waits = m.locked or m.stopped and m.nibble() == 15 or m.halted and not shared
+        return not waits and not (m.ime and shared) and m.read(m.pc) == opcode
+
+    def until(self, limit, is_there):
+        """The first step is made wherever it begins."""
+        made, there = 0, False
+        while made < limit and not there:
+            self.step()
+            made += 1
+            there = made < limit and is_there()
+        return '%s %04X\n' % ('stopped' if there else 'limit', self.m.pc)
+
+    def memory(self, at, count):
+        rows = []
+        for first in range(0, count, 16):
+            row = [(at + first + i) & 0xFFFF for i in range(min(16, count - first))]
+            rows.append('%04X%s\n' % (row[0], ''.join(' %02X' % self.m.read(place, peek=True) for place in row)))
+        return ''.join(rows)
+
+    def listing(self, at, count):
+        rows = []
+        for _ in range(count):
+            code = [self.m.read((at + i) & 0xFFFF, peek=True) for i in range(3)]
+            rows.append(ref.list_line(at, code))
+            at = (at + ref.text(code)[0]) & 0xFFFF
+        return ''.join(rows)
+
+    def serial(self):
+        sent = bytes(self.m.sent[-MOST_SENT:])
+        self.m.sent.clear()
+        return b'serial %d\n' % len(sent) + sent + b'\n'
+
+    def frames(self, buttons, count):
+        for _ in range(count):
+            self.m.frame(buttons)
+            self.history.clear()
+        return 'done\n'
+
+    def obeyed(self, name, *words):
+        """Does what an order asks for, and gives its answer."""
+        m = self.m
+        if name == 'step': return ''.join(self.step() for _ in range(words[0]))
+        if name == 'until': return self.until(words[0], lambda: m.pc in words[1])
+        if name == 'until-op': return self.until(words[0], lambda: self.is_before(words[1]))
+        if name == 'frame': return self.frames(words[0], 1)
+        if name == 'frames': return self.frames(*words)
+        if name == 'seconds':
+            pass_seconds(m, words[0])
+            return 'done\n'
+        if name == 'registers': return m.registers()
+        if name == 'history':
+            last = list(self.history)[-words[0]:]
+            return 'history %d\n%s' % (len(last), ''.join(last))
+        if name == 'list': return self.listing(*words)
+        if name == 'memory': return self.memory(*words)
+        if name == 'serial': return self.serial()
+        if name == 'picture': return m.picture()
+        return 'state %s\n' % hashlib.sha256(snapshot(m)).hexdigest()
+
+    def answer(self, line, number):
+        """The answer to a line, and what it does to the machine."""
+        if not line:
+            return b''
+        order = order_of(line)
+        if order is None:
+            return b'wrong %d\n' % number
+        text = self.obeyed(*order)
+        return text if isinstance(text, bytes) else text.encode()
+
+    def answers(self, text):
+        """The answer to each line of an input."""
+        return [self.answer(line, number) for number, line in enumerate(lines_of(text), 1)]
+
+
+# ---- lines to try
+
+WRONG = [b'step', b'step 0', b'step 4294967296', b'step 00000000001', b'step -1', b'step +1', b'step 1 1', b'step 0x1', b'step 1 ', b' step 1', b'step  1',
+         b'Step 1', b'step\t1', b'step 1\r', b'step 99999999999999999999', b'until', b'until 1', b'until 1 ', b'until 0 100', b'until 4294967296 100',
+         b'until 1 10000', b'until 1 100 ', b'until 1  100', b'until 1 100 g', b'until 1 ' + b' '.join([b'0'] * 17), b'until-op 1', b'until-op 1 4',
+         b'until-op 1 040', b'until-op 1 GG', b'until-op 0 40', b'until-op 1 40 41', b'until_op 1 40', b'frame', b'frame 1', b'frame 1G', b'frames 00 0',
+         b'frames 00 1000001', b'frames 00', b'frame 00 1', b'seconds', b'seconds -1', b'seconds 4294967296', b'registers ', b'registers 1', b'Registers',
+         b'history', b'history 0', b'history 65537', b'history 1 1', b'list 100', b'list 100 0', b'list 100 65537', b'list 10000 1', b'list  1', b'list g 1',
+         b'memory 0', b'memory 0 0', b'memory 0 65537', b'memory 00000 1', b'memory -1 1', b'memory 1 1 1', b'memory 0x10 1', b'serial 1', b'serial\0', b'picture 1',
+         b'state 0', b'state\r', b'save', b'resume', b'quit', b' ', b'  ', b'\r', b'\0', b'\xff', b'\xc3\xa9', b'step \xd9\xa1', b'x' * 128, b'x' * 129,
+         b'registers' + b' ' * 119, b'registers' + b' ' * 120, b'0' * 1023, b'0' * 1024, b'0' * 1025, b's' * 5000]
+
+
+def seen_in(rom, steps):
+    """The addresses at which a ROM's first steps begin, and the bytes that stand there."""
+    m = ref.Machine(rom)
+    seen = {}
+    for _ in range(steps):
+        seen[m.pc] = m.read(m.pc, peek=True)
+        m.step()
+    return sorted(seen), sorted(set(seen.values()))
+
+
+def a_line(rnd, most, seen):
+    """A line that is right."""
+    places, opcodes = seen
+
+    def place():
+        at = rnd.choice([rnd.randrange(65536), rnd.choice(places), rnd.choice(places), 0xFFFF - rnd.randrange(20), 0xFE00 + rnd.randrange(160),
+                         0x8000 + rnd.randrange(0x2000), 0xA000 + rnd.randrange(0x2000), 0xFF00 + rnd.randrange(256), 0x40 + 8 * rnd.randrange(5)])
+        return rnd.choice(['%X', '%04x', '%04X']) % at
+
+    def count(high): return rnd.choice(['%d', '%d', '%05d', '%010d']) % rnd.randrange(1, high + 1)
+
+    choice = rnd.randrange(14)
+    if choice < 2: return 'step ' + count(most // 4 + 1)
+    if choice < 4: return 'until %s %s' % (count(most), ' '.join(place() for _ in range(rnd.choice([1, 1, 2, 3, 16]))))
+    if choice < 6: return 'until-op %s %02x' % (count(most), rnd.choice([0x40, rnd.choice(opcodes), rnd.choice(opcodes), rnd.randrange(256)]))
+    if choice == 6: return rnd.choice(['frame %02X', 'frames %02x 1']) % rnd.choice([0, 0, 1, 0x80, 0xFF, rnd.randrange(256)])
+    if choice == 7: return 'seconds %d' % rnd.choice([0, 1, 59, 60, 3600, 86400, 44236800, 4294967295, rnd.randrange(200000)])
+    if choice == 8: return 'history ' + rnd.choice(['1', '3', '1024', '65536', count(100)])
+    if choice == 9: return 'list %s %s' % (place(), count(rnd.choice([1, 20, 300])))
+    if choice == 10: return 'memory %s %s' % (place(), rnd.choice(['1', '16', '17', count(300), count(300), '65536']))
+    return rnd.choice(['registers', 'serial', 'state', 'state'] + ['picture'] * (rnd.random() < 0.2))
+
+
+def random_lines(rnd, count, most, wrong, seen):
+    """An input of lines that are right, wrong and empty, and of arbitrary bytes. A run has `most` steps at most. The last line may lack its newline."""
+    lines = []
+    for _ in range(count):
+        chance = rnd.random()
+        if chance > wrong: lines.append(a_line(rnd, most, seen).encode())
+        elif chance > wrong / 2: lines.append(rnd.choice(WRONG))
+        elif chance > wrong / 4: lines.append(b'')
+        elif chance > wrong / 8: lines.append(spoilt(rnd, a_line(rnd, most, seen).encode()))
+        else: lines.append(rnd.randbytes(rnd.choice([1, 3, 10, 200])).replace(b'\n', b''))
+    return b'\n'.join(lines) + rnd.choice([b'', b'\n', b'\n', b'\n\n'])
+
+
+def spoilt(rnd, line):
+    """A line with a byte that is another, gone or there once more. It may be right still, but asks for no more steps: no two words become one."""
+    at = rnd.randrange(len(line))
+    before, byte, after = line[:at], line[at:at + 1], line[at + 1:]
+    shorter = before + (b'' if byte != b' ' else b'  ') + after
+    other = before + rnd.choice([b' ', b'\r', b'\0', b'\xff', b'G']) + after
+    return rnd.choice([shorter, other, before + b' ' + byte + after, line + b'\r', before, line.upper(), line.replace(b' ', b'\t')])
+
+
+def check():
+    """A reader by words beside the one by forms, on many lines; seconds one by one beside all at once."""
+    def by_words(line):
+        if len(line) > 128 or not line: return None
+        words = line.split(b' ')
+
+        def number(word, low, high):
+            if not 1 <= len(word) <= 10 or not all(0x30 <= one <= 0x39 for one in word) or not low <= int(word) <= high: raise ValueError
+            return int(word)
+
+        def hexes(word, least, most):
+            if not least <= len(word) <= most or not all(one in b'0123456789abcdefABCDEF' for one in word): raise ValueError
+            return int(word, 16)
+
+        name, rest = words[0], words[1:]
+        try:
+            if name in (b'registers', b'serial', b'picture', b'state') and not rest: return (name.decode(),)
+            if name == b'step' and len(rest) == 1: return 'step', number(rest[0], 1, 2 ** 32 - 1)
+            if name == b'history' and len(rest) == 1: return 'history', number(rest[0], 1, 2 ** 16)
+            if name in (b'list', b'memory') and len(rest) == 2: return name.decode(), hexes(rest[0], 1, 4), number(rest[1], 1, 2 ** 16)
+            if name == b'until-op' and len(rest) == 2: return 'until-op', number(rest[0], 1, 2 ** 32 - 1), hexes(rest[1], 2, 2)
+            if name == b'until' and 2 <= len(rest) <= 17: return 'until', number(rest[0], 1, 2 ** 32 - 1), [hexes(word, 1, 4) for word in rest[1:]]
+            if name == b'frame' and len(rest) == 1: return 'frame', hexes(rest[0], 2, 2)
+            if name == b'frames' and len(rest) == 2: return 'frames', hexes(rest[0], 2, 2), number(rest[1], 1, 1000000)
+            if name == b'seconds' and len(rest) == 1: return 'seconds', number(rest[0], 0, 2 ** 32 - 1)
+        except ValueError:
+            pass
+        return None
+
+    rnd = random.Random(1)
+    seen = collections.Counter()
+    for _ in range(5000):
+        for line in lines_of(random_lines(rnd, 5, 100, 0.4, ([0x100], [0x40]))):
+            if not line: continue
+            order = order_of(line)
+            if order != by_words(line): sys.exit('%r: %r and %r' % (line, order, by_words(line)))
+            seen[order[0] if order else 'wrong'] += 1
+    for line in WRONG:
+        if order_of(line) is not None: sys.exit('%r is not wrong: %r' % (line, order_of(line)))
+    rom = bytearray(32768)
+    rom[0x147] = 0x10
+    for _ in range(300):
+        one, other = ref.Machine(rom), ref.Machine(rom)
+        start = [rnd.randrange(64), rnd.randrange(64), rnd.randrange(32), rnd.choice([0, 255, rnd.randrange(256)]), rnd.choice([0, 1, 1, 0x80, 0x81, 0x40])]
+        one.live, other.live = list(start), list(start)
+        count = rnd.choice([0, 1, 60, 4000, rnd.randrange(200000)])
+        for _ in range(count): one.second()
+        pass_seconds(other, count)
+        if one.live != other.live: sys.exit('%d seconds from %r: %r and %r' % (count, start, one.live, other.live))
+    for code in (0, 2, 3, 4, 5):
+        rom[0x149] = code
+        if len(snapshot(ref.Machine(rom))) != 22607 + 1024 * ref.RAMS[code]: sys.exit('a snapshot has another length')
+    print('lines: %s' % ', '.join('%d %s' % (many, name) for name, many in seen.most_common()))
+
+
+if __name__ == '__main__':
+    if sys.argv[1:2] == ['--check']:
+        check()
+    else:       # ROM: answers the lines of standard input
+        debugger = Debugger(ref.Machine(open(sys.argv[1], 'rb').read()))
+        sys.stdout.buffer.write(b''.join(debugger.answers(sys.stdin.buffer.read())))
