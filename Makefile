@@ -65,13 +65,13 @@ edits:
 
 bench:
 	cd crates/bench && $(RT) run -- frames
-	sh scripts/instructions.sh crates/bench/out/bench
+	$(MAKE) bin/gbkeep
+	python3 -B scripts/instructions.py crates/bench/out/bench bin/gbkeep
 	cd crates/bench && $(RT) run -- lines
 	cd crates/bench && $(RT) run -- units
 	cd crates/bench && $(RT) run -- snapshots
 	cd crates/bench && $(RT) run -- storage
 	cd crates/bench && RT_SECONDS=600 $(RT) run -- sessions
-	$(MAKE) bin/gbkeep
 	python3 -B scripts/program_cost.py bin/gbkeep
 
 SECONDS ?= 20

@@ -7,11 +7,11 @@ top=$(cd "$(dirname "$0")/.." && pwd)
 folder=$(mktemp -d)
 trap 'rm -rf "$folder"' EXIT
 mkdir -p "$folder/crates/app/src"
-for crate in sector_device input_entries sector_log; do
+for crate in sector_device input_entries log_format sector_log; do
     (cd "$top/crates" && tar --exclude=out -cf - "$crate") | (cd "$folder/crates" && tar -xf -)
 done
 cp "$top/HANDLES" "$folder"
-grep -E '^(sector_device|input_entries|sector_log):' "$top/crates.txt" > "$folder/crates.txt"
+grep -E '^(sector_device|input_entries|log_format|sector_log):' "$top/crates.txt" > "$folder/crates.txt"
 echo 'app: sector_log sector_device' >> "$folder/crates.txt"
 cat > "$folder/crates/app/src/lib.rt" <<'APP'
 //! Appends to a log that was only opened.

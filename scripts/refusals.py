@@ -3,8 +3,8 @@ is not there, and a row whose refusals are not those that the call's contract le
 Then it deletes each row, each refusal, each clause and each test from the table, and turns the order of each row's refusals round, and wants each
 of these to be seen.
 
-A contract tells by a definition with an equation for each variant of the error, where ⊥ stands for an impossible one. Where it has none, a row
-has what the body answers itself, and of a type of one refusal that one. An order is compared as far as the body names the refusals; `whole_lives::live`,
+A contract tells by a definition with an equation for each variant of the error, where ⊥ stands for an impossible one, or by a record whose field
+`cause` has such a definition. Where it has none, a row has what the body answers itself, and of a type of one refusal that one. An order is compared as far as the body names the refusals; `whole_lives::live`,
 whose causes are stated of the sectors that are left, is compared by its names alone.
 
 usage: refusals.py, at the top of the repository"""
@@ -25,7 +25,7 @@ def sources(crate):
 
 def public_calls(text):
     """The calls of a file that anybody may make, as (name, head, contract); that of a method begins with its type."""
-    for found in re.finditer(r'^( *)pub (?:const )?fn (\w+)(.*?)^\1\{', text, re.S | re.M):
+    for found in re.finditer(r'^( *)pub (?:const )?fn (\w+)(.*?)(?:^\1\{| \{$)', text, re.S | re.M):
         types = re.findall(r'^impl\b(?:<[^>]*>)? (?:.* for )?(\w+)', text[:found.start()], re.M) if found[1] else []
         yield '::'.join([*types[-1:], found[2]]), *parted(found[3])
     for trait in re.finditer(r'^pub trait (\w+).*?^\}', text, re.S | re.M):
@@ -64,6 +64,20 @@ def equations_of(definitions):
     found = {}
     for name, given, value in re.findall(r'^(Is\w+) (.*?) =((?:.*\n)(?:    .*\n)*)', definitions, re.M):
         found.setdefault(name, []).append((given, value.strip()))
+    return found
+
+
+def causes_of(definitions):
+    """The definition that the field `cause` of each record has, and of what stands for such a record."""
+    fields = re.findall(r'^pub record (\w+).*? where\n((?:  .*\n)*)', definitions, re.M)
+    found = {name: cause for name, body in fields for cause in re.findall(r'^  pub cause : (Is\w+)', body, re.M)}
+    stand_for = dict(re.findall(r'^([A-Z]\w+) [^=\n]* =\s+([A-Z]\w+)', definitions, re.M))
+    for name in stand_for:
+        other = name
+        while other in stand_for:
+            other = stand_for[other]
+        if other in found:
+            found[name] = found[other]
     return found
 
 
@@ -111,14 +125,15 @@ class Call:
     """What the sources say of a call: the clauses of its contract, the variants of its error, those that are possible (None: it is not
     told), those that the body names, as they come, and the calls that it makes."""
 
-    def __init__(self, name, head, contract, enums, behind, equations, bodies):
+    def __init__(self, name, head, contract, enums, behind, equations, causes, bodies):
         error = re.search(r'(\w+)(?:<[\w, ]+>)?>\s*(?:where.*)?$', head.rpartition('->')[2].strip(), re.S)[1]
         error = behind.get(error, error)
         self.clauses = set(re.findall(r'ensures (\w+) \{', contract)) or {'the only one'}
         self.variants = enums.get(error, {error})
         # what stands before an arrow is asked, and not told
         told = re.sub(r'\bIs\w+ [\w.]+ →', '→', contract)
-        cans = [can for used in re.findall(r'\bIs\w+', told) for can in [possible(used, equations, self.variants)] if can is not None]
+        used = re.findall(r'\bIs\w+', told) + [causes[name] for name in re.findall(r'\b[A-Z]\w+', told) if name in causes]
+        cans = [can for one in used for can in [possible(one, equations, self.variants)] if can is not None]
         self.can = set.intersection(*cans) if cans else self.variants if len(self.variants) == 1 else None
         own = name.rpartition('::')[2]
         self.order = [one for one in answered(bodies, own) if one in (self.can or self.variants)]
@@ -133,7 +148,9 @@ class Sources:
                       for name in re.findall(r'#\[test\]\nfn (\w+)', text)}
         parts = [parts_of(self.texts, crate) for crate in self.crates]
         enums = {name: variants for one, _ in parts for name, variants in one.items()}
-        equations = {crate: equations_of(''.join(definitions_in(path.read_text()) for path in sorted((Path('crates') / crate / 'specs').glob('*.antt')))) for crate in self.crates}
+        specs = {crate: ''.join(definitions_in(path.read_text()) for path in sorted((Path('crates') / crate / 'specs').glob('*.antt'))) for crate in self.crates}
+        equations = {crate: equations_of(text) for crate, text in specs.items()}
+        causes = {crate: causes_of(text) for crate, text in specs.items()}
         self.calls, self.others = {}, 0
         for crate, (_, own) in zip(self.crates, parts):
             # what hands something back may be another crate's
@@ -143,10 +160,11 @@ class Sources:
             bodies = bodies_of(self.texts[crate])
             # two crates may have definitions of one name: a crate's own goes first
             here = {name: found for others in (*equations.values(), equations[crate]) for name, found in others.items()}
+            why = {name: found for others in (*causes.values(), causes[crate]) for name, found in others.items()}
             for text in self.texts[crate].values() if is_library(crate) else []:
                 for name, head, contract in public_calls(text):
                     if 'Result<' in head.rpartition('->')[2]:
-                        self.calls[crate, name] = Call(name, head, contract, enums, behind, here, bodies)
+                        self.calls[crate, name] = Call(name, head, contract, enums, behind, here, why, bodies)
                     else:
                         self.others += 1
 

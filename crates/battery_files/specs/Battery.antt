@@ -1,5 +1,5 @@
 -- Battery files: what other emulators and cartridges keep of a game. The types with a battery are those of Pan Docs, "The Cartridge
--- Header", "0147 - Cartridge type"; the bytes behind the RAM are those that other emulators write for MBC3's clock.
+-- Header", "0147 - Cartridge type"; the bytes after the RAM are those that other emulators write for MBC3's clock.
 use Rattle.std.specs.Prelude.{ℕ, ◌+◌, Bool, ◌==◌, ◌||◌, if◌then◌else◌, List, [], ◌∷◌, ◌++◌}
 use Rattle.cartridge.specs.Header.{kind_of, ram_length_of}
 use Rattle.bank_controllers.specs.declared.clock.ClockRegisters.{ClockRegisters}

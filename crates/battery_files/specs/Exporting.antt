@@ -3,7 +3,7 @@ use Rattle.std.specs.Prelude.{◌≡◌, ℕ, List, true, false, Some, Result, O
 use Rattle.cartridge.specs.Accepted.{IsAccepted, refusal_of}
 use Rattle.machine.specs.Machine.{MachineState}
 use Rattle.sector_device.specs.DiskState.{DiskState}
-use Rattle.sector_log.specs.Content.{content}
+use Rattle.log_format.specs.Content.{content}
 use Rattle.session.specs.Calls.{faults_after}
 use Rattle.session.specs.Found.{IsLookCause}
 use Rattle.session.specs.Stands.{stands}

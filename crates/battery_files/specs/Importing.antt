@@ -60,7 +60,7 @@ with_clocks live latched m =
 abbrev pub start_with_ram : (rom battery : List ℕ) → MachineState
 start_with_ram rom battery = with_ram (ram_in (kind_of_image rom) (ram_length_of rom) battery) (start rom)
 
--- and with the live and the latched clock that the file has behind the RAM, where it has more than that
+-- and with the live and the latched clock that the file has after the RAM, where it has more than that
 unfoldable pub start_with : (rom battery : List ℕ) → MachineState
 start_with rom battery =
     if nat_lt (ram_length_of rom) (length battery)

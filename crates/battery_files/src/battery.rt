@@ -9,7 +9,7 @@ use cartridge::{Cartridge, Controller};
 use machine::{Machine, Region};
 use std::alloc::{AllocError, Global};
 
-/// The bytes of a file behind the RAM: ten registers of four bytes, and a time of eight.
+/// The bytes of a file after the RAM: ten registers of four bytes, and a time of eight.
 pub(crate) const CLOCK_LENGTH: usize = 48;
 
 /// Whether the cartridge type in an image, the byte at 0147, names a battery: 03, 06, 09, 0F, 10, 13, 1B and 1E.
@@ -74,7 +74,7 @@ fn clock_bytes(live: ClockRegisters, latched: ClockRegisters) -> [u8; 48]
     ]
 }
 
-/// Bytes with a clock's behind them.
+/// Bytes with a clock's after them.
 fn with_clock(
     mut bytes: Vec<u8>,
     live: ClockRegisters,
@@ -93,7 +93,7 @@ fn ram_of(alloc: Global, machine: &Machine) -> Result<Vec<u8>, AllocError>
     machine.region(Region::CartRam).to_vec(alloc)
 }
 
-/// The battery file of a machine: the cartridge's RAM, and behind it 48 bytes if there is the clock of MBC3. The time in them is 0.
+/// The battery file of a machine: the cartridge's RAM, and after it 48 bytes if there is the clock of MBC3. The time in them is 0.
 pub fn battery_of(alloc: Global, machine: &Machine) -> Result<Vec<u8>, AllocError>
     ensures { IfOk result (λ bytes. bytes.items ≡ battery_of machine.now) }
 {

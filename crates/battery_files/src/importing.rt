@@ -17,7 +17,7 @@ use cartridge::{Cartridge, Controller};
 use machine::{Machine, Region};
 use std::alloc::{AllocError, Global};
 
-/// The bytes behind the RAM where the time of writing has four of them.
+/// The bytes after the RAM where the time of writing has four of them.
 const SHORT_CLOCK_LENGTH: usize = 44;
 
 /// The bytes of the registers of one clock.

@@ -1,10 +1,12 @@
 //! Benchmarks: `bench WORD` times frames, lines, units, snapshots or sessions, or counts the device calls of the log.
 //!
-//! `bench frames ROM COUNT` plays a ROM once, and `bench sessions COUNT` takes up a log once, for a tool that counts instructions.
+//! `bench frames ROM COUNT` and `bench cart FILE COUNT` play a ROM once, and `bench sessions COUNT` takes up a log once, for a tool that counts
+//! instructions.
 //! Without a word it prints its words.
 #![tactic(auto)]
 
 mod best;
+mod carts;
 mod counting;
 mod debugging;
 mod frames;
@@ -27,6 +29,14 @@ fn main(rt: HostRuntime) -> io::Result<()> {
             match (name.as_deref(), count.as_deref()) {
                 (Some(name), Some(count)) => frames::play(&rt, name, count.parse().unwrap_or(1)),
                 _ => frames::time(&rt),
+            }
+        }
+        Some("cart") => {
+            let path = words.next();
+            let count = words.next();
+            match (path.as_deref(), count.as_deref()) {
+                (Some(path), Some(count)) => carts::play(&rt, path, count.parse().unwrap_or(1)),
+                _ => usage(&rt),
             }
         }
         Some("steps") => {
@@ -54,6 +64,7 @@ fn main(rt: HostRuntime) -> io::Result<()> {
 fn usage(rt: &HostRuntime) -> io::Result<()> {
     println!(rt; "bench frames: frames a second of four small ROMs")?;
     println!(rt; "bench frames ROM COUNT: plays busy, scrolling, raster or halting once")?;
+    println!(rt; "bench cart FILE COUNT: plays a cartridge file once")?;
     println!(rt;
         "bench steps CALL COUNT: steps of the busy loop, once, by run_steps or run_until with 8 breakpoints"
     )?;

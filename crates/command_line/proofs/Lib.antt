@@ -1,6 +1,6 @@
 pub mod Building
 pub mod Getters
-pub mod Leaves
-pub mod Tops
-pub mod Walks
+pub mod CommandOperands
+pub mod AllWords
+pub mod ClapWalks
 pub mod Named

@@ -6,7 +6,7 @@ use Rattle.cartridge.specs.Accepted.{IsAccepted, refusal_of}
 use Rattle.machine.specs.Machine.{MachineState, start}
 use Rattle.snapshot.specs.Legal.{IsMachineOf}
 use Rattle.sector_device.specs.DiskState.{DiskState}
-use Rattle.sector_log.specs.Content.{content}
+use Rattle.log_format.specs.Content.{content}
 use Rattle.session.specs.Calls.{IsAtRest, faults_after}
 use Rattle.session.specs.Stands.{Position, stands}
 use Rattle.playing.specs.Played.{IsNotTakenUp}
@@ -47,7 +47,7 @@ abbrev pub IsBegunAndDebugged : (inputs : ℕ) → MachineState → Exchange →
 IsBegunAndDebugged inputs machine io = (rest : Exchange) × IsBegun inputs io rest × HasAnsweredAll (begun machine) rest
 
 -- Why not all lines were answered: the input failed after some of them; or the output, which has a proper prefix of the line of the game or,
--- behind it, of the answers.
+-- after it, of the answers.
 abbrev pub IsBegunAndBroken : DebugError → (inputs : ℕ) → MachineState → Exchange → Type 0
 IsBegunAndBroken FailedInput inputs machine io = (rest : Exchange) × IsBegun inputs io rest × HasAnsweredSome (begun machine) rest
 IsBegunAndBroken FailedOutput inputs machine io =

@@ -34,6 +34,22 @@ pub struct Debugger {
     history: HeapCircularBuffer<Executed>,
 }
 
+/// Room for the instructions of a run that are not in the history yet. What it holds between two runs
+/// says nothing.
+#[derive(Clone, Copy)]
+pub struct RunRoom {
+    kept: [Executed; KEPT],
+}
+
+impl RunRoom {
+    /// Room for any run.
+    pub fn new() -> RunRoom {
+        RunRoom {
+            kept: [NOTHING; KEPT],
+        }
+    }
+}
+
 /// A debugger after a step, and what was seen in it.
 #[derive(Drop)]
 pub struct WatchedStep {
@@ -116,11 +132,17 @@ impl Debugger {
     pub fn run_until(&mut self, breaks: &[u16], limit: u32) -> Stop
         ensures { IsStop breaks.now limit self.old self.new result }
     {
+        self.run_until_in(&mut RunRoom::new(), breaks, limit)
+    }
+
+    /// As `run_until`, in room that many short runs share: making it takes as long as ten steps.
+    pub fn run_until_in(&mut self, room: &mut RunRoom, breaks: &[u16], limit: u32) -> Stop
+        ensures { IsStop breaks.now limit self.old self.new result }
+    {
         // the history is within its size, so a run of no step leaves it as it is
         prove!(self.history.len() <= self.history.capacity());
         let marks = marks_of(breaks);
-        let mut kept = [NOTHING; KEPT];
-        let mut is_fast = false;
+        let mut is_fast = self.machine.is_fast();
         let mut made = 0;
         while made < limit {
             let pc = self.machine.registers().pc;
@@ -128,7 +150,7 @@ impl Debugger {
                 return Stop::Break(pc);
             }
             if is_fast {
-                let (more, is_more) = self.run_fast(&marks, breaks, limit - made, &mut kept);
+                let (more, is_more) = self.run_fast(&marks, breaks, limit - made, &mut room.kept);
                 made += more;
                 is_fast = is_more;
             } else {

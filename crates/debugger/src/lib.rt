@@ -11,7 +11,7 @@ pub mod registers;
 pub mod stepped;
 pub mod stop;
 
-pub use debugger::{Debugger, WatchedStep};
+pub use debugger::{Debugger, RunRoom, WatchedStep};
 pub use exact_text::OutputFailed;
 pub use registers::{RegisterLine, register_line};
 pub use stepped::write_stepped;

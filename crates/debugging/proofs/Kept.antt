@@ -1,20 +1,17 @@
 -- No order changes the length of cartridge RAM.
 use Rattle.std.proofs.Common.{◌≡◌, ◌∙◌, ℕ, zero, suc, Bool, true, false, List, [], ◌∷◌, length, Option, None, Some, refl}
 use Rattle.std.specs.Prelude.{◌==◌, if◌then◌else◌}
-use Rattle.std.specs.Fn.{iterate}
 use Rattle.bank_controllers.specs.CartridgeState.{IsSameCartridge}
 use Rattle.bank_controllers.proofs.Same.{same_itself, same_then, seconds-same}
-use Rattle.sm83_processor.proofs.KeptBySteps.{IsKept, by_step}
+use Rattle.sm83_processor.proofs.KeptBySteps.{by_step}
 use Rattle.sm83_processor.specs.Steps.{step_of, after_steps}
 use Rattle.sm83_processor.specs.declared.processor.Processor.{Processor}
 use Rattle.memory_map.specs.State.{BusState}
 use Rattle.memory_map.specs.Bus as bus
 use Rattle.memory_map.specs.BusRules.{bus_rules}
-use Rattle.memory_map.specs.Ticks.{tick}
-use Rattle.memory_map.proofs.SameCartridge.{same_of, write_same, acknowledged_banks, ticks_banks}
 use Rattle.machine.specs.declared.input.Input.TheVariants.{Frame}
 use Rattle.machine.specs.Machine.{after}
-use Rattle.machine.proofs.KeptByInputs.{by_inputs}
+use Rattle.machine.proofs.KeptByInputs.{bus_keeps, by_inputs}
 use Rattle.debugging.specs.declared.order.Order.{Order}
 use Rattle.debugging.specs.declared.order.Order.TheVariants.{Frames, Seconds, Step, Until, UntilOpcode, Registers, History, List as Listing, Memory, Serial, Picture, State}
 use Rattle.debugging.specs.Orders.{order_of}
@@ -23,15 +20,6 @@ use Rattle.debugging.specs.Answers.{after_asked, after_line, after_lines, after_
 
 abbrev pub ram_length : RunState → ℕ
 ram_length r = length (processor_of r).memory.banks.ram
-
-bus_keeps : IsKept bus_rules (λ old new. IsSameCartridge old.banks new.banks)
-bus_keeps = record {
-  itself = λ b. same_itself b.banks;
-  follows = λ a b c. same_then a.banks b.banks c.banks;
-  written = λ b address value. write_same address value b;
-  acknowledged = λ b bit. same_of b.banks (bus.acknowledged bit b).banks (acknowledged_banks bit b);
-  passed = λ b n. same_of b.banks (iterate tick n b).banks (ticks_banks n b);
-}
 
 by_steps : (n : ℕ) (p : Processor BusState) → IsSameCartridge p.memory.banks (after_steps bus_rules n p).memory.banks
 unfolding after_steps

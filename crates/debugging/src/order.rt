@@ -76,15 +76,15 @@ pub fn read_order(line: &[u8]) -> Option<Order>
         return None;
     }
     match read_line(line) {
-        Some(one) => order_of_move(one),
+        Some(a_move) => order_of_move(a_move),
         None => read_words(line),
     }
 }
 
-fn order_of_move(one: Move) -> Option<Order>
-    ensures { result ≡ order_of_move one }
+fn order_of_move(a_move: Move) -> Option<Order>
+    ensures { result ≡ order_of_move a_move }
 {
-    match one {
+    match a_move {
         Move::Frames { buttons, times } => Some(Order::Frames { buttons, times }),
         Move::Seconds(count) => Some(Order::Seconds(count)),
         Move::Save => None,

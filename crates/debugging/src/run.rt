@@ -10,7 +10,7 @@ ghost use Rattle.debugging.specs.Run.{after_frame, after_frames, after_seconds, 
 ghost use Rattle.debugging.specs.Quiet.{IsQuietFor, Makes, MakesIn, StopsBefore, StopsIn, is_interrupted, is_next, is_waiting};
 
 use circular_buffer::HeapCircularBuffer;
-use debugger::{Debugger, Stop, WatchedStep};
+use debugger::{Debugger, RunRoom, Stop, WatchedStep};
 use machine::{Executed, Input, Machine, Memory, Processor, Stepped, Watched};
 use memory_map::Bus;
 use std::alloc::{AllocError, Global};
@@ -133,13 +133,13 @@ impl Run {
 
     /// Steps in which no transfer can end, up to one of these addresses, but at most `limit`. The first is made wherever it begins. Returns
     /// whether it stopped before all were made. Condition: `limit` is not 0.
-    fn quiet_until(&mut self, addresses: &[u16], limit: u32) -> bool
+    fn quiet_until(&mut self, room: &mut RunRoom, addresses: &[u16], limit: u32) -> bool
         requires some { 0 < limit }
         requires quiet { IsQuietFor limit (processor_of self.old) }
         ensures made { result ≡ false → Makes (is_at addresses.now) limit self.old self.new }
         ensures there { result ≡ true → StopsBefore (is_at addresses.now) limit self.old self.new }
     {
-        match self.debugger.run_until(addresses, limit) {
+        match self.debugger.run_until_in(room, addresses, limit) {
             Stop::Break(_) => true,
             Stop::Limit => false,
         }
@@ -161,6 +161,7 @@ impl Run {
         ensures there { result.is_there ≡ nat_lt (until_steps limit addresses.now self) limit }
     {
         self.no_step();
+        let mut room = RunRoom::new();
         let mut run = self;
         let mut left = limit;
         while left > 0 {
@@ -176,7 +177,7 @@ impl Run {
                 }
                 continue;
             }
-            if run.quiet_until(addresses, quiet) {
+            if run.quiet_until(&mut room, addresses, quiet) {
                 return RunUntil {
                     run,
                     is_there: true,

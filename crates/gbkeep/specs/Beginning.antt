@@ -8,11 +8,11 @@ use Rattle.snapshot.specs.Encoding.{snapshot_length}
 use Rattle.sector_device.specs.DiskState.{DiskState}
 use Rattle.sector_device.specs.Looking.{HasLooked}
 use Rattle.sector_device.specs.Runs.{HoldsSince}
-use Rattle.sector_log.specs.Content.{generation_in}
+use Rattle.log_format.specs.Content.{generation_in}
 use Rattle.session.specs.Calls.{CanBeginGame, IsAtRest, faults_after}
 use Rattle.session.specs.Found.{IsNewGameCause}
 use Rattle.session.specs.declared.error.SessionError.{SessionError}
-use Rattle.session.specs.declared.error.SessionError.TheVariants.{Device, Worn}
+use Rattle.session.specs.declared.error.SessionError.TheVariants.{Device, GenerationsUsedUp}
 use Rattle.gbkeep.specs.declared.error.BeginError.{BeginError}
 use Rattle.gbkeep.specs.declared.error.BeginError.TheVariants.{Session, Output}
 use Rattle.gbkeep.specs.declared.error.BeginRefused.{BeginRefused}
@@ -34,7 +34,7 @@ IsBegun rom old now = IsBegunFrom rom (start rom) old now
 pub record IsNotBegun (rom : List ℕ) (old now : DiskState) (output : Text) (why : SessionError) : Type 0 where
   -- the first reason that holds
   pub cause : IsNewGameCause (snapshot_length (ram_length_of rom)) (length old.sectors) why
-  pub worn : why ≡ Worn → old.honest → generation_in old.sectors ≡ 2 ^ 64 - 1
+  pub worn : why ≡ GenerationsUsedUp → old.honest → generation_in old.sectors ≡ 2 ^ 64 - 1
   pub unwritten : IsUnwritten output
   -- unless a call failed, each image at each moment is one that stood before
   pub untouched : (why ≡ Device) ⊎ (old.honest → HoldsSince old now old.image)

@@ -5,7 +5,7 @@ use Rattle.cartridge.specs.declared.controller.Controller.{Controller}
 use Rattle.cartridge.specs.declared.controller.Controller.TheVariants.{NoMbc, Mbc1, Mbc2, Mbc3, Mbc3Clock, Mbc5}
 use Rattle.exact_text.specs.Hex.{byte_text}
 use Rattle.snapshot.specs.Encoding.{snapshot_length}
-use Rattle.sector_log.specs.Content.{need}
+use Rattle.log_format.specs.Content.{need}
 
 -- a byte of a title; one that ASCII does not print as a full stop
 abbrev pub shown : ℕ → ℕ

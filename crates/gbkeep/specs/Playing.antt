@@ -10,10 +10,10 @@ use Rattle.script.specs.Script.{moves_of, IsRefused as IsScriptRefused}
 use Rattle.script.specs.declared.moves.Move.{Move}
 use Rattle.sector_device.specs.DiskState.{DiskState}
 use Rattle.sector_device.specs.declared.device.SectorDevice.{Ghosts}
-use Rattle.sector_log.specs.Content.{content}
+use Rattle.log_format.specs.Content.{content}
 use Rattle.session.specs.Calls.{faults_after}
 use Rattle.session.specs.Stands.{Position, stands}
-use Rattle.session.specs.Words.{device_of}
+use Rattle.session.specs.Accessors.{device_of}
 use Rattle.session.specs.declared.error.SessionError.{SessionError}
 use Rattle.session.specs.declared.session.Session.{Session as PlaySession}
 use Rattle.playing.specs.Played.{IsNotTakenUp, HasPlayed, HasStopped}
@@ -50,7 +50,7 @@ pub record HasReported (rom script : List ℕ) (old : DiskState) (before since :
   pub report : Appends before since (report_of count (moves_in script))
   pub counted : old.honest → (from : Position) × (stands rom (content old.sectors) ≡ Some from) × (count ≡ from.count)
 
--- a machine; if the device is honest, the one behind all inputs of the script, from what reads gave
+-- a machine; if the device is honest, the one after all inputs of the script, from what reads gave
 pub record IsLastMachine (rom script : List ℕ) (old : DiskState) (machine : MachineState) : Type 0 where
   pub reached : old.honest → (from : Position) × (stands rom (content old.sectors) ≡ Some from) × (machine ≡ after from.machine (inputs_of_script script))
 

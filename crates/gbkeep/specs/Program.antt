@@ -14,7 +14,7 @@ use Rattle.command_line.specs.Commands.{gbkeep as command}
 use Rattle.command_line.specs.Words.{AsksFor, AskForSome, Word as WordText}
 use Rattle.command_line.specs.declared.Request.{Request}
 use Rattle.command_line.specs.declared.Request.TheVariants.{Info, List as Listing, Step, New, Play, Frame, Trace, Stream, NewRecording, Record, Recorded, Verify, Test, Show, Export, Import, Debug}
-use Rattle.session.specs.declared.error.SessionError.TheVariants.{Memory as GameMemory, Device as GameDevice, NoSession as GameNoSession, OtherCartridge as GameOtherCartridge, Worn as GameWorn, Broken as GameBroken, SaveFirst as GameSaveFirst, CountFull as GameCountFull, Output as GameOutput, TooSmall as GameTooSmall, Damaged as GameDamaged}
+use Rattle.session.specs.declared.error.SessionError.TheVariants.{Memory as GameMemory, Device as GameDevice, NoSession as GameNoSession, OtherCartridge as GameOtherCartridge, GenerationsUsedUp as GameGenerationsUsedUp, Broken as GameBroken, SaveFirst as GameSaveFirst, CountFull as GameCountFull, Output as GameOutput, TooSmall as GameTooSmall, Damaged as GameDamaged}
 use Rattle.gbkeep.specs.declared.words.Asked.{Asked}
 use Rattle.gbkeep.specs.declared.words.Asked.TheVariants.{Command, Help, Misuse, OutOfRange}
 use Rattle.gbkeep.specs.declared.error.TextError.{TextError}
@@ -191,7 +191,7 @@ line_of (Session GameMemory) = Some (codes "gbkeep: no memory\n")
 line_of (Session GameDevice) = Some (codes "gbkeep: device failed\n")
 line_of (Session GameNoSession) = Some (codes "gbkeep: no session\n")
 line_of (Session GameOtherCartridge) = Some (codes "gbkeep: other cartridge\n")
-line_of (Session GameWorn) = Some (codes "gbkeep: generations used up\n")
+line_of (Session GameGenerationsUsedUp) = Some (codes "gbkeep: generations used up\n")
 line_of (Session GameBroken) = Some (codes "gbkeep: broken, open it again\n")
 line_of (Session GameSaveFirst) = Some (codes "gbkeep: save first\n")
 line_of (Session GameCountFull) = Some (codes "gbkeep: count full\n")
@@ -224,12 +224,9 @@ IsRefused request Memory old new = HasAddress request × Keeps old new
 IsRefused request File old new = HasAddress request × Keeps old new
 IsRefused request Output old new = HasAddress request × IsOutputRefused request old new
 IsRefused request Address old new = (¬ (HasAddress request)) × Keeps old new
-IsRefused request Word old new = ⊥
 IsRefused request (Device fault) old new = HasDevice request × Keeps old new
 IsRefused request (Script fault) old new = HasScript request × Keeps old new × ((script : List ℕ) × IsScriptRefused script fault)
 IsRefused request (Session fault) old new = IsGameRefused request fault old new
-IsRefused request (Line number) old new = ⊥
-IsRefused request Input old new = ⊥
 IsRefused request (Recording fault) old new = IsRecordingRefused request fault old new
 IsRefused request (Behind count) old new = IsCompared request old new
 IsRefused request Differ old new = IsCompared request old new
@@ -237,6 +234,7 @@ IsRefused request TestFailed old new = IsTestDecided request Failed old new
 IsRefused request TestUndecided old new = IsTestDecided request Undecided old new
 IsRefused request NoBattery old new = IsWithoutBattery request old new
 IsRefused request (BatteryLength found needed) old new = IsOtherLength request found needed old new
+IsRefused request fault old new = ⊥
 
 -- a request that reads no input was done or refused
 abbrev pub IsServed : Request → Result Unit Fault → Option (List ℕ) → Option (List ℕ) → Type 0
@@ -248,21 +246,11 @@ abbrev pub IsStreamRefused : Fault → (input output : Text) → Type 0
 IsStreamRefused (Cart fault) input output = IsUnread input × IsUnwritten output × ((rom : List ℕ) × (refusal_of rom ≡ Some fault))
 IsStreamRefused Memory input output = IsUnread input × IsUnwritten output
 IsStreamRefused File input output = IsUnread input × IsUnwritten output
-IsStreamRefused Output input output = ⊥
-IsStreamRefused Address input output = ⊥
-IsStreamRefused Word input output = ⊥
 IsStreamRefused (Device fault) input output = IsUnread input × IsUnwritten output
-IsStreamRefused (Script fault) input output = ⊥
 IsStreamRefused (Session why) input output = IsStreamStopped why input output
 IsStreamRefused (Line number) input output = IsStreamedTo (WrongLine number) input output
 IsStreamRefused Input input output = IsStreamedTo FailedRead input output
-IsStreamRefused (Recording fault) input output = ⊥
-IsStreamRefused (Behind count) input output = ⊥
-IsStreamRefused Differ input output = ⊥
-IsStreamRefused TestFailed input output = ⊥
-IsStreamRefused TestUndecided input output = ⊥
-IsStreamRefused NoBattery input output = ⊥
-IsStreamRefused (BatteryLength found needed) input output = ⊥
+IsStreamRefused fault input output = ⊥
 
 -- a stream was done or refused
 abbrev pub IsStreamServed : Result Unit Fault → (input output : Text) → Type 0
@@ -274,21 +262,13 @@ abbrev pub IsRecordRefused : Fault → (input output : Text) → Type 0
 IsRecordRefused (Cart fault) input output = IsUnread input × IsUnwritten output × ((rom : List ℕ) × (refusal_of rom ≡ Some fault))
 IsRecordRefused Memory input output = IsUnread input × IsUnwritten output
 IsRecordRefused File input output = IsUnread input × IsUnwritten output
-IsRecordRefused Output input output = ⊥
-IsRecordRefused Address input output = ⊥
-IsRecordRefused Word input output = ⊥
 IsRecordRefused (Device fault) input output = IsUnread input × IsUnwritten output
-IsRecordRefused (Script fault) input output = ⊥
 IsRecordRefused (Session why) input output = IsRecordStopped why input output
 IsRecordRefused (Line number) input output = IsRecordedTo (WrongLine number) input output
 IsRecordRefused Input input output = IsRecordedTo FailedRead input output
 IsRecordRefused (Recording fault) input output = IsRecordStopped GameDevice input output
 IsRecordRefused (Behind count) input output = IsUnread input × IsUnwritten output × ((rom : List ℕ) × IsAccepted rom)
-IsRecordRefused Differ input output = ⊥
-IsRecordRefused TestFailed input output = ⊥
-IsRecordRefused TestUndecided input output = ⊥
-IsRecordRefused NoBattery input output = ⊥
-IsRecordRefused (BatteryLength found needed) input output = ⊥
+IsRecordRefused fault input output = ⊥
 
 -- a recorded play was done or refused
 abbrev pub IsRecordServed : Result Unit Fault → (input output : Text) → Type 0
@@ -301,20 +281,10 @@ IsDebugRefused save (Cart fault) input output = IsUnread input × IsUnwritten ou
 IsDebugRefused save Memory input output = IsUnread input × IsUnwritten output
 IsDebugRefused save File input output = IsUnread input × IsUnwritten output
 IsDebugRefused save Output input output = IsDebugStopped save DebugOutput input output
-IsDebugRefused save Address input output = ⊥
-IsDebugRefused save Word input output = ⊥
 IsDebugRefused save (Device fault) input output = IsDebugUnbegun save input output
-IsDebugRefused save (Script fault) input output = ⊥
 IsDebugRefused save (Session why) input output = IsDebugUnbegun save input output × ((rom : List ℕ) × IsAccepted rom)
-IsDebugRefused save (Line number) input output = ⊥
 IsDebugRefused save Input input output = IsDebugStopped save DebugInput input output
-IsDebugRefused save (Recording fault) input output = ⊥
-IsDebugRefused save (Behind count) input output = ⊥
-IsDebugRefused save Differ input output = ⊥
-IsDebugRefused save TestFailed input output = ⊥
-IsDebugRefused save TestUndecided input output = ⊥
-IsDebugRefused save NoBattery input output = ⊥
-IsDebugRefused save (BatteryLength found needed) input output = ⊥
+IsDebugRefused save fault input output = ⊥
 
 -- a debugger answered all lines, or was refused
 abbrev pub IsDebugServed : (save : Option (Bor (List ℕ))) → Result Unit Fault → (input output : Text) → Type 0

@@ -12,7 +12,7 @@ use Rattle.machine.specs.Machine.{start}
 use Rattle.machine.specs.declared.input.Input.{Input}
 use Rattle.snapshot.specs.Legal.{IsMachineOf}
 use Rattle.snapshot.specs.Encoding.{snapshot_length}
-use Rattle.sector_log.specs.Content.{need}
+use Rattle.log_format.specs.Content.{need}
 use Rattle.script.specs.Script.{moves_of}
 use Rattle.script.specs.declared.moves.Move.{Move}
 use Rattle.recording.specs.declared.fault.RecordingFault.{RecordingFault}
@@ -150,9 +150,6 @@ IsDone request old new = (rom : List ℕ) × IsDoneOn rom request old new
 
 -- it names a save file or a recording
 abbrev pub HasDevice : Request → Type 0
-HasDevice (Info cart) = ⊥
-HasDevice (Listing cart address count) = ⊥
-HasDevice (Step cart count) = ⊥
 HasDevice (New cart save sectors) = Unit {0}
 HasDevice (Play cart save script) = Unit {0}
 HasDevice (Frame cart save out) = Unit {0}
@@ -162,12 +159,11 @@ HasDevice (NewRecording cart recording sectors) = Unit {0}
 HasDevice (Record cart save recording) = Unit {0}
 HasDevice (Recorded cart recording) = Unit {0}
 HasDevice (Verify cart save recording) = Unit {0}
-HasDevice (Test cart frames script) = ⊥
 HasDevice (Show cart save) = Unit {0}
 HasDevice (Export cart save out) = Unit {0}
 HasDevice (Import cart battery save sectors) = Unit {0}
-HasDevice (Debug cart None) = ⊥
 HasDevice (Debug cart (Some save)) = Unit {0}
+HasDevice request = ⊥
 
 -- it plays a script, which is empty where it names none
 abbrev pub HasScript : Request → Type 0
@@ -228,12 +224,8 @@ IsOutputRefused (Listing cart address count) old new =
 IsOutputRefused (Step cart count) old new = (rom : List ℕ) × IsAccepted rom × AppendsProperPrefix old new (printed (Step cart count) rom)
 IsOutputRefused (New cart save sectors) old new = (rom : List ℕ) × IsAccepted rom × (need (snapshot_length (ram_length_of rom)) ≤ sectors_for rom sectors)
     × AppendsProperPrefix old new (printed (New cart save sectors) rom)
-IsOutputRefused (Play cart save script) old new = ⊥
 IsOutputRefused (Frame cart save out) old new = (rom : List ℕ) × IsAccepted rom × IsReported [] old new
 IsOutputRefused (Trace cart save count) old new = (rom : List ℕ) × IsAccepted rom × OfATrace rom count (AppendsProperPrefix old new)
-IsOutputRefused (Stream cart save) old new = ⊥
-IsOutputRefused (Record cart save recording) old new = ⊥
-IsOutputRefused (Debug cart save) old new = ⊥
 IsOutputRefused (NewRecording cart recording sectors) old new =
     (rom : List ℕ) × IsAccepted rom × (2 ≤ sectors) × AppendsProperPrefix old new (printed (NewRecording cart recording sectors) rom)
 IsOutputRefused (Test cart frames script) old new = (rom moves : List ℕ) × IsCutOff rom moves frames old new
@@ -245,6 +237,7 @@ IsOutputRefused (Export cart save out) old new =
 IsOutputRefused (Import cart battery save sectors) old new = (rom : List ℕ) × IsAccepted rom × IsBatteryTaken rom
     × (need (snapshot_length (ram_length_of rom)) ≤ sectors_for rom sectors)
     × AppendsProperPrefix old new (printed (Import cart battery save sectors) rom)
+IsOutputRefused request old new = ⊥
 
 -- ---- a stream, a recorded play and a debugger, the only requests that read the input
 

@@ -7,7 +7,7 @@ ghost use Rattle.exact_text.specs.Written.{AppendsProperPrefix};
 ghost use Rattle.picture_unit.specs.Pgm.{picture_text};
 ghost use Rattle.sector_device.specs.DiskState.{HasAnswered};
 ghost use Rattle.sector_device.specs.Runs.{HoldsSince};
-ghost use Rattle.session.specs.Words.{device_of, machine_of};
+ghost use Rattle.session.specs.Accessors.{device_of, machine_of};
 ghost use Rattle.playing.specs.Played.{PlayImage, HasPlayed};
 ghost use Rattle.gbkeep.specs.Playing.{HasDrawn, HasDrawnPart, HasReported, IsLastMachine, IsPlayCause, IsPlayable, IsUnplayable, faults_after_play, inputs_of_script, left_by, left_by_session};
 

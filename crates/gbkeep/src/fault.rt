@@ -296,7 +296,7 @@ fn write_session_line<E: Write>(fault: SessionError, err: &mut E)
         SessionError::Device => write_line("gbkeep: device failed\n", err),
         SessionError::NoSession => write_line("gbkeep: no session\n", err),
         SessionError::OtherCartridge => write_line("gbkeep: other cartridge\n", err),
-        SessionError::Worn => write_line("gbkeep: generations used up\n", err),
+        SessionError::GenerationsUsedUp => write_line("gbkeep: generations used up\n", err),
         SessionError::Broken => write_line("gbkeep: broken, open it again\n", err),
         SessionError::SaveFirst => write_line("gbkeep: save first\n", err),
         SessionError::CountFull => write_line("gbkeep: count full\n", err),

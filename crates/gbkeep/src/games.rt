@@ -64,7 +64,7 @@ pub(crate) fn sectors_or(sectors: Option<u32>, need: u64) -> u64
     }
 }
 
-/// Plays a script, with the report on `out`: each line goes out as it is written, so that one of a save comes only behind the save.
+/// Plays a script, with the report on `out`: each line goes out as it is written, so that one of a save comes only after the save.
 pub(crate) fn play<R: Files<File = File> + AllocGlobal, O: Write>(
     rt: &R,
     cart: &str,

@@ -33,7 +33,7 @@ module _ {M : Type 0} (r : Rules M) (R : M → M → Type 0) (k : IsKept r R) wh
 
 -- ---- the cartridge in the bus
 
-bus_keeps : IsKept bus_rules (λ old new. IsSameCartridge old.banks new.banks)
+pub bus_keeps : IsKept bus_rules (λ old new. IsSameCartridge old.banks new.banks)
 bus_keeps = record {
   itself = λ b. same_itself b.banks;
   follows = λ a b c. same_then a.banks b.banks c.banks;

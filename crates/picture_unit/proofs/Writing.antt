@@ -1,51 +1,87 @@
 -- The text of a row, value by value, and that of the rows.
-use Rattle.std.proofs.Common.{◌≡◌, ℕ, ◌+◌, ◌<◌, ◌*◌, ◌-◌, ◌%◌, List, [], ◌∷◌, ◌++◌, length, take, drop, get_or, set, refl, sym, ◌∙◌, ap, arith, append_assoc, add-one, subst, zero, suc}
+use Rattle.std.proofs.Common.{◌≡◌, ℕ, ◌+◌, ◌<◌, ◌≤◌, ◌*◌, ◌-◌, ◌%◌, ◌/◌, List, [], ◌∷◌, ◌++◌, length, take, drop, get_or, refl, sym, ◌∙◌, ap, arith, map, append_assoc, zero, suc, inl, inr}
 use Rattle.std.specs.Prelude.{◌==◌, if◌then◌else◌}
 use Rattle.std.specs.List.{flat_map}
-use Rattle.std.proofs.Math.Nat.{suc-add}
-use Rattle.std.proofs.lemmas.List.{append-nil, drop_all, take_all, length-set}
-use Rattle.std.proofs.lemmas.Grind.{take-set_at}
-use Rattle.std.proofs.Math.Seq.{drop-cons}
+use Rattle.std.proofs.Math.Seq.{take-add}
+use Rattle.std.proofs.lemmas.Bool.{cases_eq}
+use Rattle.std.proofs.lemmas.List.{ext_get_or, get_or-map, get_or-take, get_or-drop, take-append-drop, length-map, length-take-le, length-drop}
+use Rattle.std.proofs.lemmas.List.Folds.{flat_map-map}
+use Rattle.std.proofs.lemmas.Grind.{flat_map-append}
 use Rattle.picture_unit.specs.Pgm.{values_text}
 
--- the next value of a row
-values-step : (column : ℕ) (row : List ℕ) → column < length row → values_text column (drop column row) ≡ (48 + (3 - get_or row column 0)) ∷ (if column % 32 == 31 then 10 else 32) ∷ values_text (column + 1) (drop (column + 1) row)
+length-values_text : (x : ℕ) (row : List ℕ) → length (values_text x row) ≡ 2 * length row
 unfolding values_text
-values-step column row within = rw (drop-cons row column 0 within, add-one)
+length-values_text x [] = refl
+length-values_text x (shade ∷ rest) =
+    let rest' : length (values_text (x + 1) rest) ≡ 2 * length rest = length-values_text (x + 1) rest
+    in omega arith
 
-take_two : (text : List ℕ) (at a b : ℕ) → at + 1 < length text → take (at + 1 + 1) (set (set text at a) (at + 1) b) ≡ take at text ++ a ∷ b ∷ []
-take_two text at a b room =
-    let room' : at + 1 < length (set text at a) = rw length-set room
-    in take-set_at (set text at a) (at + 1) (at + 1 + 1) b (omega arith) room'
-    ∙ (ap (λ l. l ++ b ∷ []) (take-set_at text at (at + 1) a (omega arith) (omega arith)) ∙ append_assoc (take at text) (a ∷ []) (b ∷ []))
-
-pub values-written : (text row whole : List ℕ) (column separator : ℕ) → column < length row → 2 * column + 1 < length text → separator ≡ (if column % 32 == 31 then 10 else 32) → take (2 * column) text ++ values_text column (drop column row) ≡ whole → take (2 * (column + 1)) (set (set text (2 * column) (48 + (3 - get_or row column 0))) (2 * column + 1) separator) ++ values_text (column + 1) (drop (column + 1) row) ≡ whole
-values-written text row whole column separator within room is before =
-    let twice : 2 * (column + 1) ≡ 2 * column + 1 + 1 = omega arith
-    in rw (twice, take_two text (2 * column) (48 + (3 - get_or row column 0)) separator room, append_assoc, is)
-    (ap (λ l. take (2 * column) text ++ l) (sym (values-step column row within)) ∙ before)
-
-pub values-done : (text row whole : List ℕ) (column : ℕ) → column ≡ 160 → length row ≡ 160 → length text ≡ 320 → take (2 * column) text ++ values_text column (drop column row) ≡ whole → text ≡ whole
+-- what the text of a row has for a column
+digit-at : (x : ℕ) (row : List ℕ) (i : ℕ) → i < length row → get_or (values_text x row) (2 * i) 0 ≡ 48 + (3 - get_or row i 0)
 unfolding values_text
-values-done text row whole column last size room before =
-    let none : drop column row ≡ [] = drop_all column row (omega arith)
-    in let all : take (2 * column) text ≡ text = take_all (2 * column) text (omega arith)
-    in let P : List ℕ → Type 0 = λ l. take (2 * column) text ++ values_text column l ≡ whole
-    in let short : take (2 * column) text ++ [] ≡ whole = subst P none before
-    in sym all ∙ (sym (append-nil (take (2 * column) text)) ∙ short)
+digit-at x [] i within = absurd (omega arith)
+digit-at x (shade ∷ rest) zero within = refl
+digit-at x (shade ∷ rest) (suc i) within =
+    let twice : 2 * suc i ≡ suc (suc (2 * i)) = omega arith
+    in rw twice (digit-at (x + 1) rest i (omega arith))
 
--- the rows before one, that row, and the rows after it
-pub flat_map-split : (f : List ℕ → List ℕ) (rows : List (List ℕ)) (i : ℕ) → i < length rows → flat_map f rows ≡ flat_map f (take i rows) ++ (f (get_or rows i []) ++ flat_map f (drop (i + 1) rows))
-flat_map-split f [] i h = absurd (omega arith)
-flat_map-split f (row ∷ rows) zero h = refl
-flat_map-split f (row ∷ rows) (suc i) h =
-    let h' : i < length rows = omega arith
-    in rw suc-add (ap (λ l. f row ++ l) (flat_map-split f rows i h') ∙ sym (append_assoc (f row) (flat_map f (take i rows)) (f (get_or rows i []) ++ flat_map f (drop (i + 1) rows))))
+separator-at : (x : ℕ) (row : List ℕ) (i column : ℕ) → i < length row → column ≡ x + i → get_or (values_text x row) (2 * i + 1) 0 ≡ (if column % 32 == 31 then 10 else 32)
+unfolding values_text
+separator-at x [] i column within is = absurd (omega arith)
+separator-at x (shade ∷ rest) zero column within is =
+    let here : column ≡ x = omega arith
+    in rw here refl
+separator-at x (shade ∷ rest) (suc i) column within is =
+    let twice : 2 * suc i + 1 ≡ suc (suc (2 * i + 1)) = omega arith
+    in rw twice (separator-at (x + 1) rest i column (omega arith) (omega arith))
 
--- one row more
-pub flat_map-more : (f : List ℕ → List ℕ) (rows : List (List ℕ)) (i : ℕ) → i < length rows → flat_map f (take (i + 1) rows) ≡ flat_map f (take i rows) ++ f (get_or rows i [])
-flat_map-more f [] i h = absurd (omega arith)
-flat_map-more f (row ∷ rows) zero h = append-nil (f row)
-flat_map-more f (row ∷ rows) (suc i) h =
-    let h' : i < length rows = omega arith
-    in rw suc-add (ap (λ l. f row ++ l) (flat_map-more f rows i h') ∙ sym (append_assoc (f row) (flat_map f (take i rows)) (f (get_or rows i []))))
+-- the digits of the columns before one
+abbrev pub HasDigits : List ℕ → List ℕ → ℕ → Type 0
+HasDigits text row columns = (i : ℕ) → i < columns → get_or text (2 * i) 0 ≡ 48 + (3 - get_or row i 0)
+
+-- a space follows each digit of the columns from one on
+abbrev pub HasSpaces : List ℕ → ℕ → ℕ → Type 0
+HasSpaces text from columns = (i : ℕ) → from ≤ i → i < columns → get_or text (2 * i + 1) 0 ≡ 32
+
+-- what follows the digits of the columns before one
+abbrev pub HasSeparators : List ℕ → ℕ → Type 0
+HasSeparators text columns = (i : ℕ) → i < columns → get_or text (2 * i + 1) 0 ≡ (if i % 32 == 31 then 10 else 32)
+
+-- a text that has each digit and what follows it is that of the row
+pub row-written : (text row : List ℕ) → length text ≡ 320 → length row ≡ 160 → HasDigits text row 160 → HasSeparators text 160 → text ≡ values_text 0 row
+row-written text row size width digits separators =
+    let size' : length (values_text 0 row) ≡ 320 = length-values_text 0 row ∙ omega arith
+    in ext_get_or 0 text (values_text 0 row) (size ∙ sym size') (λ j within.
+    let i = j / 2 in
+    let below : i < 160 = omega arith in
+    elim (cases_eq (j % 2) 0) [
+      | inl even ↦
+          let at : j ≡ 2 * i = omega arith
+          in rw at (digits i below ∙ sym (digit-at 0 row i (omega arith)))
+      | inr odd ↦
+          let at : j ≡ 2 * i + 1 = omega arith
+          in rw at (separators i below ∙ sym (separator-at 0 row i i (omega arith) (omega arith)))
+    ])
+
+-- texts that are each that of a row
+pub texts-written : (f : List ℕ → List ℕ) (texts rows : List (List ℕ)) (first count : ℕ) → length texts ≡ count → first + count ≤ length rows → ((i : ℕ) → i < count → get_or texts i [] ≡ f (get_or rows (first + i) [])) → texts ≡ map f (take count (drop first rows))
+texts-written f texts rows first count size within written =
+    let room : count ≤ length (drop first rows) = rw length-drop (omega arith)
+    in let size' : length (take count (drop first rows)) ≡ count = length-take-le count (drop first rows) room
+    in ext_get_or [] texts (map f (take count (drop first rows))) (size ∙ sym (length-map (take count (drop first rows)) f ∙ size')) (λ i below.
+    let here : i < count = omega arith in
+    written i here ∙ sym (get_or-map f (take count (drop first rows)) i [] [] (omega arith) ∙ ap f (get_or-take count (drop first rows) i [] here ∙ get_or-drop first rows i [])))
+
+-- the text of the rows before one, and of so many more
+pub texts-more : (f : List ℕ → List ℕ) (rows : List (List ℕ)) (first count : ℕ) → flat_map f (take first rows) ++ flat_map (λ text. text) (map f (take count (drop first rows))) ≡ flat_map f (take (first + count) rows)
+texts-more f rows first count =
+    ap (λ l. flat_map f (take first rows) ++ l) (flat_map-map (λ text. text) f (take count (drop first rows)))
+    ∙ (sym (flat_map-append f (take first rows) (take count (drop first rows))) ∙ ap (flat_map f) (sym (take-add first count rows)))
+
+-- the rows before one, so many, and the rows after them
+pub texts-split : (f : List ℕ → List ℕ) (rows : List (List ℕ)) (first count : ℕ) → flat_map f rows ≡ flat_map f (take first rows) ++ (flat_map (λ text. text) (map f (take count (drop first rows))) ++ flat_map f (drop (first + count) rows))
+texts-split f rows first count =
+    ap (flat_map f) (sym (take-append-drop (first + count) rows))
+    ∙ (flat_map-append f (take (first + count) rows) (drop (first + count) rows)
+    ∙ (ap (λ l. l ++ flat_map f (drop (first + count) rows)) (sym (texts-more f rows first count))
+    ∙ append_assoc (flat_map f (take first rows)) (flat_map (λ text. text) (map f (take count (drop first rows)))) (flat_map f (drop (first + count) rows))))

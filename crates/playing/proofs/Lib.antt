@@ -3,3 +3,6 @@ pub mod MoveLaws
 pub mod ReportLaws
 pub mod Telling
 pub mod Stops
+pub mod Making
+mod Steps
+pub mod Wholes

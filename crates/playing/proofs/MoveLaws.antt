@@ -1,55 +1,80 @@
--- The inputs of moves, and of parts of them.
-use Rattle.std.proofs.Common.{◌≡◌, ℕ, zero, suc, ◌+◌, ◌-◌, ◌<◌, List, [], ◌∷◌, ◌++◌, length, take, drop, replicate, get_or, refl, sym, ap, ◌∙◌, arith, append_assoc, append-nil}
+-- Inputs and moves, one after another.
+use Rattle.std.proofs.Common.{◌≡◌, ℕ, zero, suc, ◌+◌, ◌-◌, ◌<◌, List, [], ◌∷◌, ◌++◌, length, take, drop, replicate, get_or, Option, refl, sym, ap, ◌∙◌, subst, arith, append-nil}
 use Rattle.std.proofs.Math.Seq.{take-suc}
 use Rattle.std.proofs.lemmas.List.{replicate-append-replicate}
-use Rattle.machine.specs.Machine.{MachineState, after}
 use Rattle.machine.specs.declared.input.Input.{Input}
 use Rattle.script.specs.declared.moves.Move.{Move}
-use Rattle.session.proofs.StandsLaws.{after_append}
-use Rattle.playing.specs.Report.{inputs_of_move, inputs_of_moves}
+use Rattle.session.specs.declared.error.SessionError.{SessionError}
+use Rattle.playing.specs.Making.{Place, all_of, Makes, StopsMaking, GivesInputs, StopsAmongInputs, MakesMoves, StopsAmongMoves}
+use Rattle.playing.specs.Report.{unsaved_behind, lines_of_inputs, inputs_of_move, inputs_of_moves, unsaved_behind_move, unsaved_behind_moves, lines_of_move, lines_of_moves}
+use Rattle.playing.proofs.ReportLaws.{inputs_append, unsaved_append, lines_append, unsaved_moves, lines_moves}
+use Rattle.playing.proofs.Making.{Asked, makes_by, stops_by, does_then, stops_among_more, stops_before_more}
 
--- ---- frames
+-- ---- inputs
 
-pub frames_next : (given : List Input) (input : Input) (i : ℕ) → given ++ replicate (i + 1) input ≡ (given ++ replicate i input) ++ input ∷ []
-frames_next given input i =
-    ap (λ (l : List Input). given ++ l) (sym (replicate-append-replicate i 1 input)) ∙ sym (append_assoc given (replicate i input) (input ∷ []))
+abbrev inputs : Asked Input
+inputs = record {
+  inputs = λ given. given;
+  unsaved = unsaved_behind;
+  lines = λ machine. lines_of_inputs;
+  inputs_append = λ first second. refl;
+  unsaved_append = unsaved_append;
+  lines_append = λ machine. lines_append;
+}
 
-pub frames_all : (given : List Input) (input : Input) (i n : ℕ) → i < n → ((given ++ replicate i input) ++ input ∷ []) ++ replicate (n - (i + 1)) input ≡ given ++ replicate n input
-frames_all given input i n less =
+one_frame_more : (input : Input) (i : ℕ) → replicate i input ++ input ∷ [] ≡ replicate (i + 1) input
+one_frame_more input i = replicate-append-replicate i 1 input
+
+all_frames : (input : Input) (i n : ℕ) → i < n → (replicate i input ++ input ∷ []) ++ replicate (n - (i + 1)) input ≡ replicate n input
+all_frames input i n less =
     let e : i + 1 + (n - (i + 1)) ≡ n = omega arith in
-    ap (λ (l : List Input). l ++ replicate (n - (i + 1)) input) (sym (frames_next given input i))
-    ∙ append_assoc given (replicate (i + 1) input) (replicate (n - (i + 1)) input)
-    ∙ ap (λ (l : List Input). given ++ l) (replicate-append-replicate (i + 1) (n - (i + 1)) input)
-    ∙ ap (λ (k : ℕ). given ++ replicate k input) e
+    ap (λ (l : List Input). l ++ replicate (n - (i + 1)) input) (one_frame_more input i) ∙ replicate-append-replicate (i + 1) (n - (i + 1)) input ∙ ap (λ (k : ℕ). replicate k input) e
 
--- the machine after one more
-pub machine_frames : (first there next : MachineState) (input : Input) (i : ℕ) → there ≡ after first (replicate i input) → next ≡ after there (input ∷ []) → next ≡ after first (replicate (i + 1) input)
-machine_frames first there next input i so_far one =
-    one ∙ ap (λ (m : MachineState). after m (input ∷ [])) so_far ∙ after_append first (replicate i input) (input ∷ [])
-    ∙ ap (after first) (replicate-append-replicate i 1 input)
+module _ (a b c : Place) (x y z : Option (List ℕ)) (input : Input) (i : ℕ) (so_far : GivesInputs a b x y (replicate i input)) where
+  pub frame_given : GivesInputs b c y z (input ∷ []) → GivesInputs a c x z (replicate (i + 1) input)
+  frame_given one = subst (GivesInputs a c x z) (one_frame_more input i) (does_then inputs a b c x y z (replicate i input) (input ∷ []) so_far one)
+
+  pub frame_stopped : (may_fail : Type 0) (why : SessionError) (n : ℕ) → i < n → StopsAmongInputs b c y z may_fail (input ∷ []) why → StopsAmongInputs a c x z may_fail (replicate n input) why
+  frame_stopped may_fail why n less stop =
+      subst (λ (l : List Input). StopsAmongInputs a c x z may_fail l why) (all_frames input i n less)
+      (stops_before_more inputs a c x z may_fail (replicate i input ++ input ∷ []) (replicate (n - (i + 1)) input) why (stops_among_more inputs a b c x y z may_fail (replicate i input) (input ∷ []) why so_far stop))
 
 -- ---- moves
 
-pub inputs_append : (first second : List Move) → inputs_of_moves (first ++ second) ≡ inputs_of_moves first ++ inputs_of_moves second
-inputs_append [] second = refl
-inputs_append (m ∷ first) second = ap (λ (l : List Input). inputs_of_move m ++ l) (inputs_append first second) ∙ sym (append_assoc (inputs_of_move m) (inputs_of_moves first) (inputs_of_moves second))
+abbrev moves_asked : Asked Move
+moves_asked = record {
+  inputs = inputs_of_moves;
+  unsaved = unsaved_behind_moves;
+  lines = λ machine. lines_of_moves;
+  inputs_append = inputs_append;
+  unsaved_append = unsaved_moves;
+  lines_append = λ machine. lines_moves;
+}
 
-pub split : (moves : List Move) (i : ℕ) → take i moves ++ drop i moves ≡ moves
+-- one move
+module _ {a b : Place} {x y : Option (List ℕ)} (m : Move) where
+  pub move_made : Makes a b x y (inputs_of_move m) (unsaved_behind_move (length a.pending) m) (lines_of_move (all_of a) (length a.pending) m) → MakesMoves a b x y (m ∷ [])
+  move_made made = makes_by (sym (append-nil (inputs_of_move m))) refl (sym (append-nil (lines_of_move (all_of a) (length a.pending) m))) made
+
+  pub move_stopped : {may_fail : Type 0} {why : SessionError} → StopsMaking a b x y may_fail (inputs_of_move m) (lines_of_move (all_of a) (length a.pending) m) why → StopsAmongMoves a b x y may_fail (m ∷ []) why
+  move_stopped stop = stops_by (sym (append-nil (inputs_of_move m))) (sym (append-nil (lines_of_move (all_of a) (length a.pending) m))) stop
+
+split : (moves : List Move) (i : ℕ) → take i moves ++ drop i moves ≡ moves
 split moves zero = refl
 split [] (suc i) = refl
 split (m ∷ moves) (suc i) = ap (λ (l : List Move). m ∷ l) (split moves i)
 
-pub moves_next : (given : List Input) (moves : List Move) (i : ℕ) (d : Move) → i < length moves → given ++ inputs_of_moves (take (i + 1) moves) ≡ (given ++ inputs_of_moves (take i moves)) ++ inputs_of_move (get_or moves i d)
-moves_next given moves i d less =
-    let next : suc i ≡ i + 1 = omega arith in
-    ap (λ (k : ℕ). given ++ inputs_of_moves (take k moves)) (sym next)
-    ∙ ap (λ (l : List Move). given ++ inputs_of_moves l) (take-suc moves i d less)
-    ∙ ap (λ (l : List Input). given ++ l) (inputs_append (take i moves) (get_or moves i d ∷ []) ∙ ap (λ (l : List Input). inputs_of_moves (take i moves) ++ l) (append-nil (inputs_of_move (get_or moves i d))))
-    ∙ sym (append_assoc given (inputs_of_moves (take i moves)) (inputs_of_move (get_or moves i d)))
+one_move_more : (moves : List Move) (i : ℕ) (d : Move) → i < length moves → take i moves ++ get_or moves i d ∷ [] ≡ take (i + 1) moves
+one_move_more moves i d less = let next : suc i ≡ i + 1 = omega arith in sym (take-suc moves i d less) ∙ ap (λ (k : ℕ). take k moves) next
 
-pub moves_all : (given : List Input) (moves : List Move) (i : ℕ) (d : Move) → i < length moves
-    → ((given ++ inputs_of_moves (take i moves)) ++ inputs_of_move (get_or moves i d)) ++ inputs_of_moves (drop (i + 1) moves) ≡ given ++ inputs_of_moves moves
-moves_all given moves i d less =
-    ap (λ (l : List Input). l ++ inputs_of_moves (drop (i + 1) moves)) (sym (moves_next given moves i d less))
-    ∙ append_assoc given (inputs_of_moves (take (i + 1) moves)) (inputs_of_moves (drop (i + 1) moves))
-    ∙ ap (λ (l : List Input). given ++ l) (sym (inputs_append (take (i + 1) moves) (drop (i + 1) moves)) ∙ ap inputs_of_moves (split moves (i + 1)))
+all_moves : (moves : List Move) (i : ℕ) (d : Move) → i < length moves → (take i moves ++ get_or moves i d ∷ []) ++ drop (i + 1) moves ≡ moves
+all_moves moves i d less = ap (λ (l : List Move). l ++ drop (i + 1) moves) (one_move_more moves i d less) ∙ split moves (i + 1)
+
+module _ (a b c : Place) (x y z : Option (List ℕ)) (moves : List Move) (i : ℕ) (d : Move) (less : i < length moves) (so_far : MakesMoves a b x y (take i moves)) where
+  pub next_made : MakesMoves b c y z (get_or moves i d ∷ []) → MakesMoves a c x z (take (i + 1) moves)
+  next_made one = subst (MakesMoves a c x z) (one_move_more moves i d less) (does_then moves_asked a b c x y z (take i moves) (get_or moves i d ∷ []) so_far one)
+
+  pub next_stopped : (may_fail : Type 0) (why : SessionError) → StopsAmongMoves b c y z may_fail (get_or moves i d ∷ []) why → StopsAmongMoves a c x z may_fail moves why
+  next_stopped may_fail why stop =
+      subst (λ (l : List Move). StopsAmongMoves a c x z may_fail l why) (all_moves moves i d less)
+      (stops_before_more moves_asked a c x z may_fail (take i moves ++ get_or moves i d ∷ []) (drop (i + 1) moves) why (stops_among_more moves_asked a b c x y z may_fail (take i moves) (get_or moves i d ∷ []) why so_far stop))

@@ -1,5 +1,5 @@
 -- How a play goes on over one save, over one input, and over several.
-use Rattle.std.proofs.Common.{◌≡◌, inl, ℕ, ◌+◌, ◌-◌, ◌≤◌, List, [], ◌∷◌, ◌++◌, length, take, drop, Some, Result, Ok, Err, OnOk, OnErr, sym, ap, ◌∙◌, subst, arith, length-append, length-drop, append-nil}
+use Rattle.std.proofs.Common.{◌≡◌, inl, ℕ, ◌+◌, ◌-◌, ◌≤◌, List, [], ◌∷◌, ◌++◌, length, take, drop, Some, Result, Ok, Err, OnOk, sym, ap, ◌∙◌, subst, arith, length-append, length-drop, append-nil}
 use Rattle.std.proofs.Math.Seq.{take-add}
 use Rattle.std.proofs.lemmas.List.{take_all, drop_all, drop-append-le, take-append-le, length-take-le, length-map}
 use Rattle.machine.specs.Machine.{MachineState, after, applied}
@@ -7,7 +7,7 @@ use Rattle.machine.specs.declared.input.Input.{Input}
 use Rattle.sector_device.specs.DiskState.{DiskState}
 use Rattle.sector_device.specs.Runs.{HoldsSince}
 use Rattle.sector_device.proofs.Runs.{holds_since}
-use Rattle.sector_log.specs.Content.{content}
+use Rattle.log_format.specs.Content.{content}
 use Rattle.input_entries.specs.declared.Entry.{Entry}
 use Rattle.session.specs.Calls.{IsAtRest}
 use Rattle.session.specs.Inputs.{input_of, inputs_of}
@@ -158,10 +158,6 @@ pub on_ok : {T E : Type 0} (r : Result T E) {P Q : Type 0} → OnOk r P → (P �
 on_ok (Ok x) p to = to p
 on_ok (Err e) p to = tt
 
-pub on_err : {T E : Type 0} (r : Result T E) {P Q : Type 0} → OnErr r P → (P → Q) → OnErr r Q
-on_err (Ok x) p to = tt
-on_err (Err e) p to = to p
-
 -- ---- runs
 
 -- a stop before more inputs
@@ -196,16 +192,6 @@ going_by {rom} {old} {new} {acknowledged} {pending} {machine} {from} {given} {gi
 
 pub stopped_by : {rom : List ℕ} {old new : DiskState} {acknowledged : ℕ} {from : Position} {given given' : List Input} → given ≡ given' → Stopped rom old new acknowledged from given → Stopped rom old new acknowledged from given'
 stopped_by {rom} {old} {new} {acknowledged} {from} {given} {given'} same stopped = subst (Stopped rom old new acknowledged from) same stopped
-
--- a run, and one after it that gives nothing more
-pub going_on : (rom : List ℕ) (old mid new : DiskState) (acknowledged : ℕ) (pending : List Entry) (machine : MachineState) (from : Position) (given : List Input)
-    → HoldsSince old mid (Reaches rom from 0 given) → Going rom mid new acknowledged pending machine from given → Going rom old new acknowledged pending machine from given
-going_on rom old mid new acknowledged pending machine from given first second = record { moments = since_then first second.moments; played = second.played }
-
-pub stopped_on : (rom : List ℕ) (old mid new : DiskState) (acknowledged : ℕ) (from : Position) (given : List Input)
-    → HoldsSince old mid (Reaches rom from 0 given) → Stopped rom mid new acknowledged from given → Stopped rom old new acknowledged from given
-stopped_on rom old mid new acknowledged from given first second =
-    record { honest = second.honest; moments = since_then first second.moments; least = second.least; acknowledged_is = second.acknowledged_is; images = second.images }
 
 -- ---- whole plays
 

@@ -1,31 +1,36 @@
 -- Why a play stops.
-use Rattle.std.proofs.Common.{◌≡◌, ◌==◌, ℕ, ◌≤◌, ◌<◌, ◌-◌, ◌^◌, Bool, false, true, inl, inr, ◌⊎◌, ⊎_elim, if◌then◌else◌, Result, Ok, Err, refl, sym, subst, arith}
-use Rattle.std.specs.Prelude.{IfErr}
+use Rattle.std.proofs.Common.{◌≡◌, ◌==◌, ℕ, ◌≤◌, ◌<◌, ◌-◌, ◌^◌, Bool, false, true, inl, inr, ◌⊎◌, ⊎_elim, if◌then◌else◌, Result, Ok, Err, refl, sym, ap, subst, arith}
+use Rattle.std.specs.Prelude.{IfErr, IsErrAnd}
 use Rattle.std.proofs.lemmas.Bool.{eqb-true}
 use Rattle.sector_device.specs.DiskState.{DiskState}
-use Rattle.sector_log.specs.Content.{generation_in}
+use Rattle.log_format.specs.Content.{generation_in}
 use Rattle.session.specs.Calls.{IsSaveCause, input_answer}
 use Rattle.session.specs.declared.error.SessionError.{SessionError}
-use Rattle.session.specs.declared.error.SessionError.TheVariants.{Memory, Device, NoSession, TooSmall, OtherCartridge, Damaged, Worn, Broken, SaveFirst, CountFull, Output}
+use Rattle.session.specs.declared.error.SessionError.TheVariants.{Memory, Device, NoSession, TooSmall, OtherCartridge, Damaged, GenerationsUsedUp, Broken, SaveFirst, CountFull, Output}
 use Rattle.playing.specs.Played.{IsStop}
 
 pub if_err : {T E : Type 0} (r : Result T E) {P Q : E → Type 0} → IfErr r P → ((e : E) → P e → Q e) → IfErr r Q
 if_err (Ok x) p to = tt
 if_err (Err e) p to = to e p
 
+-- an error that `?` hands on is the same one
+pub handed_on : {T E : Type 0} {e : E} (r : Result T E) → IsErrAnd r (λ f. f ≡ e) → r ≡ Err e
+handed_on (Ok x) is = absurd is
+handed_on (Err f) is = ap Err is
+
 -- ---- a save that is refused
 
 pub save_not_output : (why : SessionError) (broken fits : Bool) (generation : ℕ) → IsSaveCause why broken fits generation → why ≡ Output → ⊥
 save_not_output why broken fits generation cause is = subst (λ (w : SessionError). IsSaveCause w broken fits generation) is cause
 
-pub save_stops : (why : SessionError) (broken fits : Bool) (generation all : ℕ) (now : DiskState) → broken ≡ false → IsSaveCause why broken fits generation → (why ≡ Worn → now.honest → generation_in now.sectors ≡ 2 ^ 64 - 1) → IsStop why all now
+pub save_stops : (why : SessionError) (broken fits : Bool) (generation all : ℕ) (now : DiskState) → broken ≡ false → IsSaveCause why broken fits generation → (why ≡ GenerationsUsedUp → now.honest → generation_in now.sectors ≡ 2 ^ 64 - 1) → IsStop why all now
 save_stops Memory broken fits generation all now whole cause worn = absurd cause
 save_stops Device broken fits generation all now whole cause worn = tt
 save_stops NoSession broken fits generation all now whole cause worn = absurd cause
 save_stops (TooSmall needed) broken fits generation all now whole cause worn = absurd cause
 save_stops OtherCartridge broken fits generation all now whole cause worn = absurd cause
 save_stops (Damaged damage) broken fits generation all now whole cause worn = absurd cause
-save_stops Worn broken fits generation all now whole cause worn = worn refl
+save_stops GenerationsUsedUp broken fits generation all now whole cause worn = worn refl
 save_stops Broken broken fits generation all now whole cause worn = cc
 save_stops SaveFirst broken fits generation all now whole cause worn = absurd cause
 save_stops CountFull broken fits generation all now whole cause worn = absurd cause
@@ -59,7 +64,7 @@ full_stops why all now full least = subst (λ (w : SessionError). IsStop w all n
 
 pub stops_among : (why : SessionError) (less all : ℕ) (now : DiskState) → less ≤ all → IsStop why less now → IsStop why all now
 stops_among CountFull less all now more stop = omega arith
-stops_among Worn less all now more stop = stop
+stops_among GenerationsUsedUp less all now more stop = stop
 stops_among Device less all now more stop = stop
 stops_among Output less all now more stop = stop
 stops_among Memory less all now more stop = stop

@@ -6,14 +6,14 @@ use Rattle.machine.specs.declared.input.Input.{Input}
 use Rattle.sector_device.specs.DiskState.{DiskState, Settled}
 use Rattle.sector_device.specs.Looking.{HasLooked}
 use Rattle.sector_device.specs.Runs.{HoldsSince}
-use Rattle.sector_log.specs.Content.{content, generation_in}
+use Rattle.log_format.specs.Content.{content, generation_in}
 use Rattle.input_entries.specs.declared.Entry.{Entry}
 use Rattle.script.specs.declared.moves.Move.{Move}
 use Rattle.session.specs.Calls.{CanBeTakenUp, IsAtRest, StandsAsBefore}
 use Rattle.session.specs.Found.{IsResumeCause}
 use Rattle.session.specs.Inputs.{inputs_of}
 use Rattle.session.specs.declared.error.SessionError.{SessionError}
-use Rattle.session.specs.declared.error.SessionError.TheVariants.{Memory, Device, NoSession, TooSmall, OtherCartridge, Damaged, Worn, Broken, SaveFirst, CountFull, Output}
+use Rattle.session.specs.declared.error.SessionError.TheVariants.{Device, GenerationsUsedUp, CountFull, Output}
 use Rattle.session.specs.Stands.{Position, stands}
 use Rattle.playing.specs.Report.{inputs_of_moves, report_lines, HasTold}
 
@@ -58,13 +58,13 @@ pub record ReachesFromReads (rom : List ℕ) (old : DiskState) (given : List Inp
 abbrev pub PlayImage : (rom : List ℕ) → DiskState → List Input → List (List ℕ) → Type 0
 PlayImage rom old given image = StandsAsBefore rom old image ⊎ ReachesFromReads rom old given image
 
--- what reads gave stood for a position, and the device is at rest with all of these inputs behind it
+-- what reads gave stood for a position, and the device is at rest with all of these inputs after it
 pub record HasPlayed (rom : List ℕ) (old now : DiskState) (given : List Input) : Type 0 where
   pub from : Position
   pub stood : stands rom (content old.sectors) ≡ Some from
   pub rests : IsAtRest rom now (from.count + length given) [] (after from.machine given)
 
--- this count and this machine are those behind all of these inputs, from what reads gave
+-- this count and this machine are those after all of these inputs, from what reads gave
 pub record HasReached (rom : List ℕ) (old : DiskState) (count : ℕ) (machine : MachineState) (given : List Input) : Type 0 where
   pub from : Position
   pub stood : stands rom (content old.sectors) ≡ Some from
@@ -88,17 +88,11 @@ pub record IsNotTakenUp (rom : List ℕ) (old now : DiskState) (why : SessionErr
 
 -- Why a play that was taken up stops: the generations used up, a failed call, more inputs in all than can be counted, or the report.
 abbrev pub IsStop : SessionError → (all : ℕ) → (now : DiskState) → Type 0
-IsStop Worn all now = now.honest → generation_in now.sectors ≡ 2 ^ 64 - 1
+IsStop GenerationsUsedUp all now = now.honest → generation_in now.sectors ≡ 2 ^ 64 - 1
 IsStop Device all now = ⊤
 IsStop CountFull all now = 2 ^ 64 ≤ all
 IsStop Output all now = ⊤
-IsStop Memory all now = ⊥
-IsStop NoSession all now = ⊥
-IsStop (TooSmall needed) all now = ⊥
-IsStop OtherCartridge all now = ⊥
-IsStop (Damaged damage) all now = ⊥
-IsStop Broken all now = ⊥
-IsStop SaveFirst all now = ⊥
+IsStop why all now = ⊥
 
 -- it was taken up at this count, and each image that is left stands for the first of these inputs from there, at least up to the
 -- count that is saved

@@ -45,7 +45,7 @@ unsaved_after unsaved = if unsaved + 1 == most_unsaved then 0 else unsaved + 1
 abbrev pub line_due : (unsaved count : ℕ) → List Line
 line_due unsaved count = if unsaved + 1 == most_unsaved then saved_line count ∷ [] else []
 
--- from a count of inputs of which so many are unsaved: how many are unsaved behind these
+-- from a count of inputs of which so many are unsaved: how many are unsaved after these
 abbrev pub unsaved_behind : ℕ → List Input → ℕ
 unsaved_behind unsaved [] = unsaved
 unsaved_behind unsaved (i ∷ inputs) = unsaved_behind (unsaved_after unsaved) inputs

@@ -3,9 +3,9 @@
 #![tactic(auto)]
 
 mod moves;
+mod played;
 mod report;
-mod whole;
 
-pub use moves::make_move;
-pub use report::{write_resumed, write_saved};
-pub use whole::play;
+pub use moves::{make_move, make_moves};
+pub use played::play;
+pub use report::{Report, Silent, write_resumed, write_saved};

@@ -1,5 +1,5 @@
 //! The lines of a report.
-ghost use Rattle.std.specs.Prelude.{IfSome, OnOk, OnErr, ◌≡◌};
+ghost use Rattle.std.specs.Prelude.{◌≡◌, ℕ, List, Option, None, IfSome, OnOk, OnErr, ⊤};
 ghost use Rattle.std.specs.Io.KnownBytes.{Appends};
 ghost use Rattle.exact_text.specs.Written.{AppendsProperPrefix};
 ghost use Rattle.playing.specs.Report.{resumed_line, saved_line};
@@ -48,5 +48,43 @@ pub fn write_saved<W: Write>(out: &mut W, count: u64) -> Result<(), OutputFailed
     match saved_text(count) {
         Some(text) => write_whole(out, text.as_bytes()),
         None => Err(OutputFailed),
+    }
+}
+
+/// A report that moves are made over.
+pub trait Report {
+    /// What it has, where that is known.
+    ghost contents: { Self → Option (List ℕ) };
+    /// Whether a line of it may fail.
+    ghost may_fail: { Type 0 };
+
+    /// Writes the line `saved N`: this count of inputs is saved.
+    fn saved(&mut self, count: u64) -> Result<(), OutputFailed>
+        ensures ok { OnOk result (Appends (contents self.old) (contents self.new) (saved_line count).text) }
+        ensures err { OnErr result (AppendsProperPrefix (contents self.old) (contents self.new) (saved_line count).text) }
+        ensures fails { OnErr result may_fail };
+}
+
+impl<W: Write> Report for W {
+    ghost contents = { W.contents };
+
+    ghost may_fail = { ⊤ };
+
+    fn saved(&mut self, count: u64) -> Result<(), OutputFailed> {
+        write_saved(self, count)
+    }
+}
+
+/// A report that nothing is written to, and that never fails.
+#[derive(Drop)]
+pub struct Silent;
+
+impl Report for Silent {
+    ghost contents = { λ _. None };
+
+    ghost may_fail = { ⊥ };
+
+    fn saved(&mut self, _count: u64) -> Result<(), OutputFailed> {
+        Ok(())
     }
 }

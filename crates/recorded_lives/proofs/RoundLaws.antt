@@ -9,7 +9,7 @@ use Rattle.machine.specs.declared.input.Input.{Input}
 use Rattle.sector_device.specs.DiskState.{DiskState}
 use Rattle.sector_device.specs.Memory.{MemoryState, memory_disk}
 use Rattle.sector_device.specs.RecordLaws.{counts_last, reads_image}
-use Rattle.sector_log.specs.Content.{content}
+use Rattle.log_format.specs.Content.{content}
 use Rattle.recording.specs.Recorded.{recorded}
 use Rattle.session.specs.Inputs.{input_of}
 use Rattle.session.specs.Stands.{Position, stands}

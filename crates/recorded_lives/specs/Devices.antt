@@ -1,8 +1,8 @@
 -- Lives of a SAVE and its recording on two devices.
-use Rattle.std.specs.Prelude.{◌≡◌, ◌⊎◌, ℕ, List, [], ◌∷◌, map, take, slice_get, Bool, true, false, Option, Some}
+use Rattle.std.specs.Prelude.{◌≡◌, ◌⊎◌, ℕ, List, [], ◌∷◌, map, take, slice_get, Bool, true, false, Some}
 use Rattle.sector_device.specs.DiskState.{DiskState, next_count}
 use Rattle.sector_device.specs.Memory.{MemoryState, memory_disk}
-use Rattle.sector_log.specs.Content.{content}
+use Rattle.log_format.specs.Content.{content}
 use Rattle.session.specs.Stands.{Position, stands}
 use Rattle.session.specs.declared.error.SessionError.TheVariants.{Memory, Device}
 use Rattle.recorded_play.specs.Agreeing.{AllAgree, recorded_inputs}

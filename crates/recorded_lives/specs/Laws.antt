@@ -3,7 +3,7 @@ use Rattle.std.specs.Prelude.{◌≡◌, ◌≤◌, ℕ, List, [], ◌∷◌, �
 use Rattle.machine.specs.declared.input.Input.{Input}
 use Rattle.recorded_lives.specs.Lives.{Files, Agree, Played, kept_of, IsRecordedLife}
 
--- what the rounds added to the recording, one round behind the other
+-- what the rounds added to the recording, one round after the other
 abbrev pub all_kept : List Played → List Input
 all_kept [] = []
 all_kept (round ∷ rounds) = kept_of round ++ all_kept rounds

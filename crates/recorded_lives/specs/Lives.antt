@@ -1,6 +1,6 @@
 -- What a life of a SAVE and its recording is, whatever was cut in it.
 use Rattle.std.specs.Prelude.{◌≡◌, ◌⊎◌, ◌≤◌, ◌-◌, ℕ, List, [], ◌∷◌, ◌++◌, length, take, drop, Bool, true, All}
-use Rattle.machine.specs.Machine.{MachineState, after, start}
+use Rattle.machine.specs.Machine.{after, start}
 use Rattle.machine.specs.declared.input.Input.{Input}
 use Rattle.session.specs.Stands.{Position}
 use Rattle.playing.specs.Report.{Line, texts}
@@ -28,7 +28,7 @@ pub record Played : Type 0 where
   -- its report, and the lines of it
   pub report : List ℕ
   pub told : List Line
-  -- how many inputs more are recorded behind it
+  -- how many inputs more are recorded after it
   pub kept : ℕ
   -- whether it came to its end before the cut
   pub whole : Bool
@@ -44,7 +44,7 @@ kept_of round = take round.kept (inputs_of_lines round.lines)
 abbrev pub Begins : (lines : List (List ℕ)) → (rest text : List ℕ) → Type 0
 Begins lines rest text = (text ≡ joined lines ++ rest) ⊎ ((text ++ 10 ∷ [] ≡ joined lines) × (rest ≡ []))
 
--- the position behind all inputs that are recorded
+-- the position after all inputs that are recorded
 abbrev pub end_of : (rom : List ℕ) → (recorded : List Input) → Position
 end_of rom recorded = record { count = length recorded; machine = after (start rom) recorded }
 
@@ -59,7 +59,7 @@ pub record IsWhole (round : Played) (unread : List ℕ) (untold : List Line) (la
 pub record IsRound (rom : List ℕ) (round : Played) (first last : Files) : Type 0 where
   pub unread : List ℕ
   pub lines_are : Begins round.lines unread round.text
-  -- it told the first of what a stream of these lines tells that goes on behind all that is recorded
+  -- it told the first of what a stream of these lines tells that goes on after all that is recorded
   pub untold : List Line
   pub told_are : stream_lines (end_of rom first.recorded) (orders_of round.lines) ≡ round.told ++ untold
   pub report_is : round.report ≡ texts round.told

@@ -2,8 +2,8 @@
 ghost use Rattle.std.specs.Prelude.{◌≡◌, Some, false, IfOk, IfErr};
 ghost use Rattle.sector_device.specs.Memory.{memory_disk};
 ghost use Rattle.sector_device.specs.MemoryDevice.{memory};
-ghost use Rattle.recording.specs.Words.{device_of as device_of_recording};
-ghost use Rattle.session.specs.Words.{device_of};
+ghost use Rattle.recording.specs.Accessors.{device_of as device_of_recording};
+ghost use Rattle.session.specs.Accessors.{device_of};
 ghost use Rattle.session.specs.declared.error.SessionError.TheVariants.{Memory as NoMemory};
 ghost use Rattle.recorded_play.specs.declared.error.RecordError.TheVariants.{Session as OfSession};
 ghost use Rattle.recorded_lives.specs.Devices.{StandTogether, CountsCut, IsByNoFuse};

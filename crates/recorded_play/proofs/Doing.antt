@@ -14,7 +14,8 @@ use Rattle.playing.specs.Report.{Line, texts, saved_line, line_due, unsaved_afte
 use Rattle.playing.proofs.ReportLaws.{appends_lines, appends_line}
 use Rattle.playing.proofs.Telling.{told_by, told_more, told_then, told_part, told_nothing}
 use Rattle.streaming.specs.Answers.{inputs_of_orders, unsaved_behind_orders, lines_of_orders, picture_line}
-use Rattle.streaming.specs.Obeying.{Place, all_of, answers_from}
+use Rattle.playing.specs.Making.{Place, all_of}
+use Rattle.streaming.specs.Obeying.{answers_from}
 use Rattle.streaming.specs.Orders.{orders_in, orders_of}
 use Rattle.streaming.specs.declared.order.Order.{Order}
 use Rattle.streaming.specs.declared.order.Order.TheVariants.{Make, Picture}

@@ -4,7 +4,7 @@ use Rattle.machine.specs.Machine.{MachineState, after}
 use Rattle.sector_device.specs.DiskState.{DiskState}
 use Rattle.sector_device.specs.Runs.{HoldsSince}
 use Rattle.sector_device.proofs.Looking.{looked_self}
-use Rattle.sector_log.specs.Content.{generation_in}
+use Rattle.log_format.specs.Content.{generation_in}
 use Rattle.session.specs.Calls.{IsAtRest, StandsAsBefore}
 use Rattle.session.specs.Found.{IsTakeUpCause}
 use Rattle.session.specs.declared.error.SessionError.{SessionError}
@@ -12,9 +12,9 @@ use Rattle.session.specs.Stands.{Position}
 use Rattle.session.proofs.Writes.{since_weaker}
 use Rattle.session.proofs.Beginnings.{since_then}
 use Rattle.playing.proofs.PlayLaws.{begun_played, all_saved}
-use Rattle.streaming.specs.Obeying.{Place, all_of}
+use Rattle.playing.specs.Making.{Place, all_of}
 use Rattle.recorded_play.specs.Steps.{IsPlayedAt}
-use Rattle.session.specs.declared.error.SessionError.TheVariants.{Memory, Device, NoSession, TooSmall, OtherCartridge, Damaged, Worn, Broken, SaveFirst, CountFull, Output}
+use Rattle.session.specs.declared.error.SessionError.TheVariants.{Memory, Device, NoSession, TooSmall, OtherCartridge, Damaged, GenerationsUsedUp, Broken, SaveFirst, CountFull, Output}
 use Rattle.recorded_play.specs.CatchingUp.{recorded_in, FailsRecorded, HasCaughtUp, IsCatchUpStop}
 use Rattle.recorded_play.specs.GoingOn.{GoesOn, StopsGoingOn, IsGoOnCause}
 use Rattle.recorded_play.specs.declared.error.RecordError.{RecordError}
@@ -27,7 +27,7 @@ go_on_stop (Session NoSession) all now stop = stop
 go_on_stop (Session (TooSmall needed)) all now stop = stop
 go_on_stop (Session OtherCartridge) all now stop = stop
 go_on_stop (Session (Damaged damage)) all now stop = stop
-go_on_stop (Session Worn) all now stop = stop
+go_on_stop (Session GenerationsUsedUp) all now stop = stop
 go_on_stop (Session Broken) all now stop = stop
 go_on_stop (Session SaveFirst) all now stop = stop
 go_on_stop (Session CountFull) all now stop = stop
@@ -83,14 +83,14 @@ module _ (rom : List ℕ) (old : DiskState) (a b : Place) (old_recording new_rec
   }
 
 -- why a game that was looked at is not resumed
-pub resume_stop : (why : SessionError) (generation all : ℕ) (now : DiskState) → (generation ≡ 2 ^ 64 - 1 → why ≡ Worn → now.honest → generation_in now.sectors ≡ 2 ^ 64 - 1) → IsTakeUpCause generation why → IsGoOnCause (Session why) all now
+pub resume_stop : (why : SessionError) (generation all : ℕ) (now : DiskState) → (generation ≡ 2 ^ 64 - 1 → why ≡ GenerationsUsedUp → now.honest → generation_in now.sectors ≡ 2 ^ 64 - 1) → IsTakeUpCause generation why → IsGoOnCause (Session why) all now
 resume_stop Memory generation all now worn cause = tt
 resume_stop Device generation all now worn cause = (tt, λ is. absurd (cc))
 resume_stop NoSession generation all now worn cause = absurd cause
 resume_stop (TooSmall needed) generation all now worn cause = absurd cause
 resume_stop OtherCartridge generation all now worn cause = absurd cause
 resume_stop (Damaged damage) generation all now worn cause = absurd cause
-resume_stop Worn generation all now worn cause = (worn cause refl, λ is. absurd (cc))
+resume_stop GenerationsUsedUp generation all now worn cause = (worn cause refl, λ is. absurd (cc))
 resume_stop Broken generation all now worn cause = absurd cause
 resume_stop SaveFirst generation all now worn cause = absurd cause
 resume_stop CountFull generation all now worn cause = absurd cause

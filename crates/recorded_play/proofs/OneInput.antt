@@ -22,7 +22,8 @@ use Rattle.playing.proofs.ReportLaws.{lines_append, line_is_due}
 use Rattle.playing.proofs.Stops.{full_not_output, full_stops}
 use Rattle.playing.proofs.Telling.{told_nothing}
 use Rattle.streaming.specs.Answers.{inputs_of_orders, unsaved_behind_orders}
-use Rattle.streaming.specs.Obeying.{Place, all_of, answers_from}
+use Rattle.playing.specs.Making.{Place, all_of}
+use Rattle.streaming.specs.Obeying.{answers_from}
 use Rattle.streaming.specs.declared.order.Order.{Order}
 use Rattle.streaming.specs.declared.order.Order.TheVariants.{Make}
 use Rattle.recorded_play.specs.Steps.{Game, Comes}

@@ -30,7 +30,7 @@ use Rattle.session.proofs.StandsLaws.{after_append, after_none, after_one, logge
 use Rattle.playing.specs.Played.{IsStop}
 use Rattle.playing.proofs.PlayLaws.{going_nowhere, going_input, going_then, going_by, stopped_then, stopped_by, stopped_more, stopped_here}
 use Rattle.playing.proofs.Stops.{stops_among, full_stops, full_not_output}
-use Rattle.streaming.specs.Obeying.{Place, all_of}
+use Rattle.playing.specs.Making.{Place, all_of}
 use Rattle.recorded_play.specs.CatchingUp.{given_by, given_by_all, recorded_in, Goes, Fails, Passes, PassesRecorded, FailsRecorded, HasCaughtUp, IsCatchUpStop}
 use Rattle.recorded_play.specs.declared.error.RecordError.{RecordError}
 use Rattle.recorded_play.specs.declared.error.RecordError.TheVariants.{Session, Recording, Behind, Line, Input as FailedInput}

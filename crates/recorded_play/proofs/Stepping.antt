@@ -7,7 +7,7 @@ use Rattle.machine.specs.Machine.{MachineState, start, after}
 use Rattle.machine.specs.declared.input.Input.{Input}
 use Rattle.sector_device.specs.DiskState.{DiskState}
 use Rattle.sector_device.specs.Runs.{HoldsSince}
-use Rattle.sector_log.specs.Content.{content}
+use Rattle.log_format.specs.Content.{content}
 use Rattle.input_entries.specs.declared.Entry.{Entry}
 use Rattle.recording.specs.Recorded.{recorded}
 use Rattle.session.specs.Inputs.{input_of, inputs_of}
@@ -20,7 +20,7 @@ use Rattle.session.proofs.Beginnings.{since_then}
 use Rattle.playing.specs.Played.{Reaches}
 use Rattle.playing.proofs.PlayLaws.{going_nowhere, going_then, going_by, stopped_after, stopped_then, stopped_by, stopped_more}
 use Rattle.playing.proofs.Stops.{stops_among}
-use Rattle.streaming.specs.Obeying.{all_of}
+use Rattle.playing.specs.Making.{all_of}
 use Rattle.replaying.specs.Agreeing.{Agrees}
 use Rattle.recorded_play.specs.Agreeing.{AllAgree}
 use Rattle.recorded_play.specs.Steps.{Game, power_on, HoldsFirst, IsFull, IsInStep, IsBehind, Comes, Halts, IsRecordStop}

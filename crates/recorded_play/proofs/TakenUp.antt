@@ -10,7 +10,7 @@ use Rattle.sector_device.specs.DiskState.{DiskState, Settled}
 use Rattle.sector_device.specs.Looking.{HasLooked, LooksOnly}
 use Rattle.sector_device.proofs.Looking.{looked_then, looked_self, settled_looked, has_looked}
 use Rattle.sector_device.specs.Runs.{HoldsSince}
-use Rattle.sector_log.specs.Content.{ImageContent, content, generation_in}
+use Rattle.log_format.specs.Content.{ImageContent, content, generation_in}
 use Rattle.input_entries.specs.Inputs.{inputs}
 use Rattle.input_entries.specs.declared.Entry.{Entry}
 use Rattle.recording.specs.Calls.{IsOpenCause}
@@ -21,7 +21,7 @@ use Rattle.session.specs.Calls.{IsAtRest, StandsAsBefore}
 use Rattle.session.specs.Found.{IsResumeCause, IsLookCause}
 use Rattle.session.specs.Inputs.{input_of, inputs_of}
 use Rattle.session.specs.declared.error.SessionError.{SessionError}
-use Rattle.session.specs.declared.error.SessionError.TheVariants.{Memory, Device, NoSession, TooSmall, OtherCartridge as SessionOtherCartridge, Damaged, Worn, Broken as SessionBroken, SaveFirst, CountFull, Output}
+use Rattle.session.specs.declared.error.SessionError.TheVariants.{Memory, Device, NoSession, TooSmall, OtherCartridge as SessionOtherCartridge, Damaged, GenerationsUsedUp, Broken as SessionBroken, SaveFirst, CountFull, Output}
 use Rattle.session.specs.Stands.{Position, stands}
 use Rattle.snapshot.specs.Legal.{IsMachineOf}
 use Rattle.session.proofs.Writes.{since_weaker}
@@ -162,7 +162,7 @@ module _ (rom : List ℕ) (save looked now : DiskState) (recording opened now_re
   session_cause (TooSmall needed) honest cause = inr (stop_recorded (TooSmall needed) honest cause.0 cause.1)
   session_cause SessionOtherCartridge honest cause = inr (stop_recorded SessionOtherCartridge honest cause.0 cause.1)
   session_cause (Damaged damage) honest cause = inr (stop_recorded (Damaged damage) honest cause.0 cause.1)
-  session_cause Worn honest cause = inr (stop_recorded Worn honest cause.0 cause.1)
+  session_cause GenerationsUsedUp honest cause = inr (stop_recorded GenerationsUsedUp honest cause.0 cause.1)
   session_cause SessionBroken honest cause = inr (stop_recorded SessionBroken honest cause.0 cause.1)
   session_cause SaveFirst honest cause = inr (stop_recorded SaveFirst honest cause.0 cause.1)
   session_cause CountFull honest cause = inr (stop_recorded CountFull honest cause.0 cause.1)
@@ -218,7 +218,7 @@ look_is_resume rom generation held NoSession cause = cause
 look_is_resume rom generation held (TooSmall needed) cause = cause
 look_is_resume rom generation held SessionOtherCartridge cause = cause
 look_is_resume rom generation held (Damaged damage) cause = cause
-look_is_resume rom generation held Worn cause = absurd cause
+look_is_resume rom generation held GenerationsUsedUp cause = absurd cause
 look_is_resume rom generation held SessionBroken cause = cause
 look_is_resume rom generation held SaveFirst cause = cause
 look_is_resume rom generation held CountFull cause = cause

@@ -1,6 +1,6 @@
 -- A whole recorded play: from a game that is taken up to what is left.
 use Rattle.std.proofs.Common.{◌≡◌, inl, inr, ℕ, suc, ◌+◌, ◌-◌, List, [], ◌∷◌, ◌++◌, length, take, drop, Option, Some, sym, ap, ◌∙◌, subst, arith, length-append, length-drop}
-use Rattle.std.proofs.lemmas.List.{take_all, drop_all, take-append-drop, length-take-le}
+use Rattle.std.proofs.lemmas.List.{take_all, drop_all, take-append-drop}
 use Rattle.std.specs.Io.KnownBytes.{Appends}
 use Rattle.exact_text.proofs.Writes.{appends_twice}
 use Rattle.machine.specs.Machine.{MachineState, start, after}
@@ -20,7 +20,8 @@ use Rattle.playing.proofs.PlayLaws.{begun_played, all_saved, reaches_more, reach
 use Rattle.playing.proofs.Telling.{told_by}
 use Rattle.streaming.specs.Orders.{orders_of}
 use Rattle.streaming.specs.Answers.{inputs_of_orders, lines_of_orders, ended, stream_lines}
-use Rattle.streaming.specs.Obeying.{all_of, answers_from}
+use Rattle.playing.specs.Making.{all_of}
+use Rattle.streaming.specs.Obeying.{answers_from}
 use Rattle.streaming.specs.declared.order.Order.{Order}
 use Rattle.streaming.specs.declared.obeying.End.{End}
 use Rattle.streaming.proofs.Wholes.{ended_gives}

@@ -11,7 +11,8 @@ use Rattle.playing.proofs.Telling.{told_part, told_then}
 use Rattle.streaming.specs.Orders.{orders_of, IsRight}
 use Rattle.input_lines.specs.Reading.{ReadsLines}
 use Rattle.streaming.specs.Answers.{last_orders, ended}
-use Rattle.streaming.specs.Obeying.{all_of, answers_from}
+use Rattle.playing.specs.Making.{all_of}
+use Rattle.streaming.specs.Obeying.{answers_from}
 use Rattle.streaming.specs.declared.order.Order.{Order}
 use Rattle.std.proofs.KnownBytes.{Consumes-nil}
 use Rattle.streaming.proofs.Wholes.{ended_gives}

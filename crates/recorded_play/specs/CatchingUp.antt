@@ -14,10 +14,10 @@ use Rattle.session.specs.Stands.{Position}
 use Rattle.session.specs.declared.error.SessionError.{SessionError}
 use Rattle.session.specs.declared.error.SessionError.TheVariants.{Output}
 use Rattle.playing.specs.Played.{IsStop, Going, Stopped}
-use Rattle.streaming.specs.Obeying.{Place, all_of}
+use Rattle.playing.specs.Making.{Place, all_of}
 use Rattle.recorded_play.specs.Steps.{IsPlayedAt, IsOfDevices, save_faults_after, recording_faults_after}
 use Rattle.recorded_play.specs.declared.error.RecordError.{RecordError}
-use Rattle.recorded_play.specs.declared.error.RecordError.TheVariants.{Session, Recording, Behind, Line, Input as FailedInput}
+use Rattle.recorded_play.specs.declared.error.RecordError.TheVariants.{Session, Recording}
 
 -- the inputs of an entry, none if it is none
 abbrev pub given_by : StoredEntry → List Input
@@ -57,9 +57,7 @@ pub record Passes (old new : Place) (skip left : ℕ) (passed : List Input) : Ty
 abbrev pub IsCatchUpStop : RecordError → (all : ℕ) → (now : DiskState) → Type 0
 IsCatchUpStop (Session why) all now = IsStop why all now × (why ≡ Output → ⊥)
 IsCatchUpStop (Recording why) all now = why ≡ Device
-IsCatchUpStop (Behind count) all now = ⊥
-IsCatchUpStop (Line number) all now = ⊥
-IsCatchUpStop FailedInput all now = ⊥
+IsCatchUpStop why all now = ⊥
 
 -- ---- with the recording that is read
 

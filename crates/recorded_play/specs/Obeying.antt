@@ -11,7 +11,8 @@ use Rattle.streaming.specs.Orders.{orders_of, IsRight}
 use Rattle.input_lines.specs.Reading.{ReadsLines}
 use Rattle.streaming.specs.Reading.{ReadsTo}
 use Rattle.streaming.specs.Answers.{inputs_of_orders, unsaved_behind_orders, ended}
-use Rattle.streaming.specs.Obeying.{all_of, answers_from}
+use Rattle.playing.specs.Making.{all_of}
+use Rattle.streaming.specs.Obeying.{answers_from}
 use Rattle.streaming.specs.declared.order.Order.{Order}
 use Rattle.streaming.specs.declared.order.Order.TheVariants.{Make}
 use Rattle.streaming.specs.declared.obeying.End.{End}

@@ -9,13 +9,13 @@ use Rattle.input_entries.specs.declared.Entry.{Entry}
 use Rattle.recording.specs.Calls.{faults_after as faults_after_recording}
 use Rattle.recording.specs.Growing.{fits_image}
 use Rattle.recording.specs.declared.fault.RecordingFault.{RecordingFault}
-use Rattle.recording.specs.declared.fault.RecordingFault.TheVariants.{Memory, Device, TooSmall, NotBlank, NoRecording, OtherCartridge, Full, Broken}
+use Rattle.recording.specs.declared.fault.RecordingFault.TheVariants.{Device, Full}
 use Rattle.session.specs.Calls.{faults_after as faults_after_save}
 use Rattle.session.specs.Inputs.{inputs_of}
 use Rattle.session.specs.Stands.{Position}
 use Rattle.session.specs.declared.session.Session.{Session as PlaySession}
 use Rattle.playing.specs.Played.{IsPlayed, IsStop, Going, Stopped, Reaches}
-use Rattle.streaming.specs.Obeying.{Place, place, all_of}
+use Rattle.playing.specs.Making.{Place, place, all_of}
 use Rattle.recorded_play.specs.Agreeing.{recorded_inputs}
 use Rattle.recorded_play.specs.declared.error.RecordError.{RecordError}
 use Rattle.recorded_play.specs.declared.error.RecordError.TheVariants.{Session, Recording, Behind, Line, Input as FailedInput}
@@ -79,7 +79,7 @@ pub record IsBehind (rom : List ℕ) (old now : Game) (all : List Input) : Type 
 
 -- ---- refusals
 
--- The recording holds the first of these inputs, and has too few sectors for those behind them that were given and are not saved.
+-- The recording holds the first of these inputs, and has too few sectors for those after them that were given and are not saved.
 pub record IsFull (rom : List ℕ) (recording : DiskState) (all : List Input) : Type 0 where
   pub saved : ℕ
   pub recorded_is : recorded_inputs rom recording.sectors ≡ Some (take saved all)
@@ -117,20 +117,13 @@ recording_faults_after FailedInput faults = faults
 abbrev pub StopsAppend : RecordingFault → Type 0
 StopsAppend Device = ⊤
 StopsAppend Full = ⊤
-StopsAppend Memory = ⊥
-StopsAppend TooSmall = ⊥
-StopsAppend NotBlank = ⊥
-StopsAppend NoRecording = ⊥
-StopsAppend OtherCartridge = ⊥
-StopsAppend Broken = ⊥
+StopsAppend why = ⊥
 
 -- Why a game that was taken up stops, with so many inputs in all: as a play does, or by its recording.
 abbrev pub IsRecordStop : RecordError → (all : ℕ) → (now : DiskState) → Type 0
 IsRecordStop (Session why) all now = IsStop why all now
 IsRecordStop (Recording why) all now = StopsAppend why
-IsRecordStop (Behind count) all now = ⊥
-IsRecordStop (Line number) all now = ⊥
-IsRecordStop FailedInput all now = ⊥
+IsRecordStop why all now = ⊥
 
 -- ---- steps
 

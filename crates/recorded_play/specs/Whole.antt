@@ -9,14 +9,14 @@ use Rattle.sector_device.specs.DiskState.{DiskState, Settled}
 use Rattle.sector_device.specs.Looking.{HasLooked}
 use Rattle.sector_device.specs.Runs.{HoldsSince}
 use Rattle.sector_device.specs.declared.device.SectorDevice.{Ghosts}
-use Rattle.sector_log.specs.Content.{content, generation_in}
+use Rattle.log_format.specs.Content.{content, generation_in}
 use Rattle.recording.specs.Calls.{IsOpenCause}
-use Rattle.recording.specs.Words.{device_of as device_of_recording}
+use Rattle.recording.specs.Accessors.{device_of as device_of_recording}
 use Rattle.recording.specs.declared.fault.RecordingFault.TheVariants.{NoRecording, OtherCartridge, Full}
 use Rattle.session.specs.Calls.{IsAtRest, StandsAsBefore}
 use Rattle.session.specs.Found.{IsResumeCause}
 use Rattle.session.specs.Stands.{Position, stands}
-use Rattle.session.specs.Words.{device_of}
+use Rattle.session.specs.Accessors.{device_of}
 use Rattle.session.specs.declared.error.SessionError.{SessionError}
 use Rattle.session.specs.declared.error.SessionError.TheVariants.{Output}
 use Rattle.playing.specs.Played.{PlayImage, Reaches, IsStop}
@@ -153,11 +153,9 @@ IsTakeUpCause FailedInput rom old_save now_save recording = ⊥
 
 -- the recording is none, or that of another ROM, or behind
 abbrev pub IsForeign : RecordError → Type 0
-IsForeign (Session why) = ⊥
 IsForeign (Recording why) = (why ≡ NoRecording) ⊎ (why ≡ OtherCartridge)
 IsForeign (Behind count) = ⊤
-IsForeign (WrongLine number) = ⊥
-IsForeign FailedInput = ⊥
+IsForeign why = ⊥
 
 -- It was not taken up, and the recording was only looked at.
 pub record IsNotTakenUp (rom : List ℕ) (old_save now_save old_recording now_recording : DiskState) (why : RecordError) : Type 0 where

@@ -3,10 +3,10 @@ ghost use Rattle.std.specs.Prelude.{◌≡◌, ◌≤◌, ◌<◌, ◌+◌, ◌�
 ghost use Rattle.machine.specs.declared.input.Input.TheVariants.{Frame};
 ghost use Rattle.sector_device.specs.DiskState.{sector_at};
 ghost use Rattle.recording.specs.Format.{entries_at};
-ghost use Rattle.recording.specs.Words.{device_of as device_of_recording, is_broken as is_broken_recording, used_of, full_of, tail_of, count_of};
+ghost use Rattle.recording.specs.Accessors.{device_of as device_of_recording, is_broken as is_broken_recording, used_of, full_of, tail_of, count_of};
 ghost use Rattle.session.specs.Calls.{most_unsaved};
-ghost use Rattle.session.specs.Words.{device_of, machine_of, pending_of, acknowledged_of, is_broken};
-ghost use Rattle.streaming.specs.Obeying.{place, all_of};
+ghost use Rattle.session.specs.Accessors.{device_of, machine_of, pending_of, acknowledged_of, is_broken};
+ghost use Rattle.playing.specs.Making.{place, all_of};
 ghost use Rattle.recorded_play.specs.CatchingUp.{given_by, given_by_all, recorded_in, Passes, Fails, Goes, PassesRecorded, FailsRecorded, HasCaughtUp};
 
 use crate::error::RecordError;

@@ -1,8 +1,8 @@
 //! Moves given to a recorded session, saved when a save is due, and reported.
 ghost use Rattle.std.specs.Prelude.{◌≡◌, ◌<◌, ◌∷◌, [], length, false, OnOk, IfErr};
-ghost use Rattle.recording.specs.Words.{device_of as device_of_recording, is_broken as is_broken_recording};
+ghost use Rattle.recording.specs.Accessors.{device_of as device_of_recording, is_broken as is_broken_recording};
 ghost use Rattle.session.specs.Calls.{most_unsaved};
-ghost use Rattle.session.specs.Words.{device_of, pending_of, is_broken};
+ghost use Rattle.session.specs.Accessors.{device_of, pending_of, is_broken};
 ghost use Rattle.script.specs.declared.moves.Move.TheVariants.{Frames};
 ghost use Rattle.streaming.specs.declared.order.Order.TheVariants.{Make};
 ghost use Rattle.recorded_play.specs.Steps.{game};
@@ -83,7 +83,7 @@ fn give_frames<D: SectorDevice, E: SectorDevice, W: Write>(
 pub(crate) fn make_move<D: SectorDevice, E: SectorDevice, W: Write>(
     session: &mut Session<D>,
     recording: &mut Recording<E>,
-    one: Move,
+    a_move: Move,
     out: &mut W,
 ) -> Result<(), RecordError>
     requires whole { is_broken session.old ≡ false }
@@ -92,15 +92,15 @@ pub(crate) fn make_move<D: SectorDevice, E: SectorDevice, W: Write>(
     ensures obeyed { OnOk result (Obeys
         (game (D.disk (device_of session.old)) (E.disk (device_of_recording recording.old)) session.old)
         (game (D.disk (device_of session.new)) (E.disk (device_of_recording recording.new)) session.new)
-        (W.contents out.old) (W.contents out.new) (Make one ∷ [])) }
+        (W.contents out.old) (W.contents out.new) (Make a_move ∷ [])) }
     ensures stopped { IfErr result (λ why. StopsAmong
         (game (D.disk (device_of session.old)) (E.disk (device_of_recording recording.old)) session.old)
         (game (D.disk (device_of session.new)) (E.disk (device_of_recording recording.new)) session.new)
-        (W.contents out.old) (W.contents out.new) (Make one ∷ []) why) }
+        (W.contents out.old) (W.contents out.new) (Make a_move ∷ []) why) }
     ensures whole { OnOk result ((is_broken session.new ≡ false) × (is_broken_recording recording.new ≡ false) ×
         (length (pending_of session.new) < most_unsaved)) }
 {
-    match one {
+    match a_move {
         Move::Frames { buttons, times } => give_frames(session, recording, buttons, times, out),
         Move::Seconds(seconds) => give(session, recording, Input::Seconds(seconds), out),
         Move::Save => save_line(session, recording, out),

@@ -8,11 +8,11 @@ mod catching_up;
 pub mod error;
 mod giving;
 mod obeying;
+mod recorded;
 mod saving;
 pub mod taking_up;
-mod whole;
 
 pub use error::{RecordError, RecordRefused};
+pub use recorded::record;
 pub use saving::save_both;
 pub use taking_up::{RecordedGame, take_up};
-pub use whole::record;

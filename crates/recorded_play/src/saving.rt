@@ -2,8 +2,8 @@
 ghost use Rattle.std.specs.Prelude.{◌≡◌, ◌+◌, ◌∷◌, [], List, ℕ, length, false, Ok, IfOk, IfErr, OnOk, OnErr};
 ghost use Rattle.machine.specs.declared.input.Input.{Input as GivenInput};
 ghost use Rattle.sector_device.specs.Runs.{HoldsSince};
-ghost use Rattle.recording.specs.Words.{device_of as device_of_recording, is_broken as is_broken_recording};
-ghost use Rattle.session.specs.Words.{device_of, pending_of, acknowledged_of, is_broken};
+ghost use Rattle.recording.specs.Accessors.{device_of as device_of_recording, is_broken as is_broken_recording};
+ghost use Rattle.session.specs.Accessors.{device_of, pending_of, acknowledged_of, is_broken};
 ghost use Rattle.script.specs.declared.moves.Move.TheVariants.{Save};
 ghost use Rattle.streaming.specs.declared.order.Order.TheVariants.{Make};
 ghost use Rattle.replaying.specs.Agreeing.{Agrees};
@@ -23,7 +23,7 @@ use std::io::Write;
 /// device call.
 ///
 /// Refusals: `Recording` with `Full`, which changes nothing, or `Device`; then `Session` with
-/// `Worn` or `Device`: the recording has the inputs then, and the SAVE those that it had.
+/// `GenerationsUsedUp` or `Device`: the recording has the inputs then, and the SAVE those that it had.
 pub fn save_both<D: SectorDevice, E: SectorDevice>(
     session: &mut Session<D>,
     recording: &mut Recording<E>,

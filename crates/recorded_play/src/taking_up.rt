@@ -2,9 +2,9 @@
 ghost use Rattle.std.specs.Prelude.{◌≡◌, [], length, false, Ok, Err, IfOk, IfErr};
 ghost use Rattle.snapshot.specs.Legal.{IsMachineOf};
 ghost use Rattle.sector_device.specs.DiskState.{HasAnswered};
-ghost use Rattle.recording.specs.Words.{device_of as device_of_recording, is_broken as is_broken_recording};
-ghost use Rattle.session.specs.Words.{device_of, machine_of, rom_of, pending_of, acknowledged_of, is_broken, device_of_look, machine_of_look, rom_of_look, count_of_look, generation_of_look};
-ghost use Rattle.sector_log.specs.Content.{generation_in};
+ghost use Rattle.recording.specs.Accessors.{device_of as device_of_recording, is_broken as is_broken_recording};
+ghost use Rattle.session.specs.Accessors.{device_of, machine_of, rom_of, pending_of, acknowledged_of, is_broken, device_of_look, machine_of_look, rom_of_look, count_of_look, generation_of_look};
+ghost use Rattle.log_format.specs.Content.{generation_in};
 ghost use Rattle.recorded_play.specs.Agreeing.{AllAgree};
 ghost use Rattle.recorded_play.specs.GoingOn.{GoesOn, StopsGoingOn};
 ghost use Rattle.recorded_play.specs.Steps.{save_faults_after, recording_faults_after};
@@ -26,7 +26,7 @@ pub struct RecordedGame<D: SectorDevice, E: SectorDevice> {
 }
 
 /// Resumes the game that was looked at, and gives it what the recording has beyond it.
-fn go_on<D: SectorDevice, E: SectorDevice>(
+fn resume_and_catch_up<D: SectorDevice, E: SectorDevice>(
     alloc: Global,
     look: Look<D>,
     recording: Recording<E>,
@@ -70,7 +70,7 @@ fn go_on<D: SectorDevice, E: SectorDevice>(
 ///
 /// Refusals, in this order: those of a look at the SAVE, as `Session`; those of opening the
 /// recording, as `Recording`; `Behind` if the recording has fewer inputs than the SAVE, all with
-/// nothing written; then `Session` with `Memory`, `Worn` or `Device`, or `Recording` with `Device`.
+/// nothing written; then `Session` with `Memory`, `GenerationsUsedUp` or `Device`, or `Recording` with `Device`.
 pub fn take_up<D: SectorDevice, E: SectorDevice>(
     alloc: Global,
     save: D,
@@ -112,5 +112,5 @@ pub fn take_up<D: SectorDevice, E: SectorDevice>(
             recording: recording.into_device(),
         });
     }
-    go_on(alloc, look, recording, cartridge)
+    resume_and_catch_up(alloc, look, recording, cartridge)
 }

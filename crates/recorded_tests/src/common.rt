@@ -66,6 +66,14 @@ pub(crate) fn new_recording(
     copy(rt, alloc, &recording.into_device())
 }
 
+/// A new game and a new recording of this cartridge.
+pub(crate) fn new_pair(rt: &impl Abort, alloc: Global, cartridge: &Cartridge) -> Pair {
+    Pair {
+        save: new_save(rt, alloc, cartridge),
+        recording: new_recording(rt, alloc, cartridge, 8),
+    }
+}
+
 /// A device with the sectors of the last sync, and an empty record.
 pub(crate) fn copy(rt: &impl Abort, alloc: Global, device: &MemoryDevice) -> MemoryDevice {
     device.image(alloc, &[]).or_stop(rt)
@@ -222,4 +230,22 @@ pub(crate) fn agree(
     let found = snapshot_of(alloc, look.machine()).or_stop(rt);
     holds!(rt; found == want);
     (count, recording.input_count())
+}
+
+/// The greatest count that a report tells.
+pub(crate) fn told(text: &[u8]) -> u64 {
+    let mut most = 0;
+    let mut number: u64 = 0;
+    for byte in text {
+        if byte.is_ascii_digit() {
+            number = number
+                .saturating_mul(10)
+                .saturating_add(u64::from(*byte - b'0'));
+        }
+        if *byte == b'\n' {
+            most = number;
+            number = 0;
+        }
+    }
+    most
 }

@@ -1,6 +1,8 @@
 //! Recorded plays cut at any call of either device.
 use crate::asserting::{OrStop, holds, same};
-use crate::common::{Pair, agree, both, cartridge_of, new_recording, new_save, plays, records};
+use crate::common::{
+    Pair, agree, both, cartridge_of, new_recording, new_save, plays, records, told,
+};
 use cartridge::Cartridge;
 use recorded_play::RecordError;
 use recording::RecordingFault;
@@ -8,24 +10,6 @@ use session::SessionError;
 use std::alloc::Global;
 use std::process::Abort;
 use std::test::Fail;
-
-/// The greatest count that a report tells.
-fn told(text: &[u8]) -> u64 {
-    let mut most = 0;
-    let mut number: u64 = 0;
-    for byte in text {
-        if byte.is_ascii_digit() {
-            number = number
-                .saturating_mul(10)
-                .saturating_add(u64::from(*byte - b'0'));
-        }
-        if *byte == b'\n' {
-            most = number;
-            number = 0;
-        }
-    }
-    most
-}
 
 /// How many choices of the unsynced writes of both are tried for each cut: none, all, those of one file alone, and others.
 const CHOICES: u64 = 20;

@@ -19,18 +19,18 @@ IsOldOrEmpty old id image = old.image image ⊎ (recorded id image ≡ Some [])
 
 -- ---- an append
 
--- what is recorded, with these inputs behind it
+-- what is recorded, with these inputs after it
 abbrev pub with_more : List Entry → Option (List Entry) → Option (List Entry)
 with_more more None = None
 with_more more (Some before) = Some (before ++ more)
 
--- the image holds what the old one holds, of whatever ROM, with a prefix of these inputs behind it
+-- the image holds what the old one holds, of whatever ROM, with a prefix of these inputs after it
 pub record HoldsPrefix (old : List (List ℕ)) (more : List Entry) (image : List (List ℕ)) : Type 0 where
   pub count : ℕ
   pub within : count ≤ length more
   pub adds : (id : List ℕ) → recorded id image ≡ with_more (take count more) (recorded id old)
 
--- one image is left, with all these inputs behind what reads gave
+-- one image is left, with all these inputs after what reads gave
 pub record IsAppended (old now : DiskState) (more : List Entry) : Type 0 where
   pub settled : Settled now
   pub adds : (id : List ℕ) → recorded id now.sectors ≡ with_more more (recorded id old.sectors)
@@ -48,21 +48,14 @@ IsCreateCause Memory now = Unit {0}
 IsCreateCause TooSmall now = length now.sectors < 2
 IsCreateCause NotBlank now = (2 ≤ length now.sectors) × (now.honest → IsBlank now.sectors → ⊥)
 IsCreateCause Device now = 2 ≤ length now.sectors
-IsCreateCause NoRecording now = ⊥
-IsCreateCause OtherCartridge now = ⊥
-IsCreateCause Full now = ⊥
-IsCreateCause Broken now = ⊥
+IsCreateCause why now = ⊥
 
 -- why sector 0 is not the head that is asked for
 abbrev pub IsHeadCause : RecordingFault → List ℕ → DiskState → Type 0
 IsHeadCause NoRecording id now = now.honest → is_head (sector_at now.sectors 0) ≡ false
 IsHeadCause OtherCartridge id now = now.honest → (is_head (sector_at now.sectors 0) ≡ true) × (is_head_of id (sector_at now.sectors 0) ≡ false)
 IsHeadCause Device id now = Unit {0}
-IsHeadCause Memory id now = ⊥
-IsHeadCause TooSmall id now = ⊥
-IsHeadCause NotBlank id now = ⊥
-IsHeadCause Full id now = ⊥
-IsHeadCause Broken id now = ⊥
+IsHeadCause why id now = ⊥
 
 -- why none is opened: want of memory, else that
 abbrev pub IsOpenCause : RecordingFault → List ℕ → DiskState → Type 0
@@ -74,22 +67,13 @@ abbrev pub IsAppendCause : RecordingFault → Bool → Bool → Type 0
 IsAppendCause Broken broken fits = broken ≡ true
 IsAppendCause Full broken fits = (broken ≡ false) × (fits ≡ false)
 IsAppendCause Device broken fits = (broken ≡ false) × (fits ≡ true)
-IsAppendCause Memory broken fits = ⊥
-IsAppendCause TooSmall broken fits = ⊥
-IsAppendCause NotBlank broken fits = ⊥
-IsAppendCause NoRecording broken fits = ⊥
-IsAppendCause OtherCartridge broken fits = ⊥
+IsAppendCause why broken fits = ⊥
 
 -- why a sector of the list is not read
 abbrev pub IsReadCause : RecordingFault → Bool → Type 0
 IsReadCause Broken broken = broken ≡ true
 IsReadCause Device broken = broken ≡ false
-IsReadCause Memory broken = ⊥
-IsReadCause TooSmall broken = ⊥
-IsReadCause NotBlank broken = ⊥
-IsReadCause NoRecording broken = ⊥
-IsReadCause OtherCartridge broken = ⊥
-IsReadCause Full broken = ⊥
+IsReadCause why broken = ⊥
 
 -- ---- faults
 

@@ -21,7 +21,7 @@ abbrev pub with_inputs : List StoredEntry → List Entry → List StoredEntry
 with_inputs list [] = list
 with_inputs list (e ∷ es) = with_inputs (with_input list e) es
 
--- the entries after the full sectors, with these inputs behind them, fit this many sectors
+-- the entries after the full sectors, with these inputs after them, fit this many sectors
 unfoldable pub fits : List StoredEntry → ℕ → List Entry → Bool
 fits tail sectors more = nat_le (length (with_inputs tail more)) (entries_per_sector * sectors)
 
@@ -33,7 +33,7 @@ full_sectors image = length (entries image) / entries_per_sector
 abbrev pub last_entries : List (List ℕ) → List StoredEntry
 last_entries image = drop (entries_per_sector * full_sectors image) (entries image)
 
--- the image has sectors enough for these inputs behind those that it holds
+-- the image has sectors enough for these inputs after those that it holds
 unfoldable pub fits_image : List (List ℕ) → List Entry → Bool
 fits_image image more = fits (last_entries image) (list_sectors_in (length image) - full_sectors image) more
 

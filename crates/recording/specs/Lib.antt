@@ -4,6 +4,6 @@ pub mod Growing
 pub mod Promises
 pub mod Recorded
 pub mod Sizes
-pub mod Words
+pub mod Accessors
 -- what only the code needs
 pub mod Keeping

@@ -9,7 +9,7 @@ use Rattle.recording.specs.Calls.{IsBlank, IsAppended}
 use Rattle.recording.specs.Growing.{fits}
 use Rattle.recording.specs.Recorded.{recorded, entries}
 use Rattle.recording.specs.Sizes.{list_sectors_in}
-use Rattle.recording.specs.Words.{is_broken, full_of, tail_of, count_of}
+use Rattle.recording.specs.Accessors.{is_broken, full_of, tail_of, count_of}
 use Rattle.recording.specs.declared.recording.Recording.{Recording}
 
 module _ {D : Type 0} {disk : Ghosts D} where
@@ -45,7 +45,7 @@ module _ {D : Type 0} {disk : Ghosts D} where
     pub was_unbroken : is_broken before ≡ false
     -- the inputs fit the device
     pub did_fit : fits (tail_of before) (list_sectors_in (length old.sectors) - full_of before) more ≡ true
-    -- one image is left, with all of them behind what was recorded
+    -- one image is left, with all of them after what was recorded
     pub appended : old.honest → IsAppended old now more
     -- they are counted
     pub count_is : count_of after ≡ count_of before + length more

@@ -8,7 +8,7 @@ ghost use Rattle.recording.specs.Format.{is_head_of};
 ghost use Rattle.recording.specs.Keeping.{Kept, IsStored, HasBegun};
 ghost use Rattle.recording.specs.Sizes.{entries_per_sector};
 ghost use Rattle.recording.specs.Promises.{HasCreated, HasOpened};
-ghost use Rattle.recording.specs.Words.{device_of, left_by_open};
+ghost use Rattle.recording.specs.Accessors.{device_of, left_by_open};
 ghost use Rattle.recording.specs.declared.fault.RecordingFault.TheVariants.{Memory, Device};
 
 use crate::fault::{RecordingFault, Refused};

@@ -113,7 +113,7 @@ pub(crate) fn grown_length(entries: &[StoredEntry], more: &[Entry]) -> u64
     count
 }
 
-/// Whether the entries after the full sectors, with these inputs behind them, fit this many sectors.
+/// Whether the entries after the full sectors, with these inputs after them, fit this many sectors.
 #[tactic(auto, unfolding(crate::specs::Growing::fits))]
 pub(crate) fn fits(entries: &[StoredEntry], sectors: u64, more: &[Entry]) -> bool
     requires few { length entries.now ≤ entries_per_sector }

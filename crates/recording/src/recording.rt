@@ -43,7 +43,7 @@ pub struct Recording<D: SectorDevice> {
 
 impl<D: SectorDevice> Recording<D> {
     ghost use Rattle.recording.specs.Promises.{HasAppended};
-    ghost use Rattle.recording.specs.Words.{device_of, is_broken, full_of, tail_of, count_of, used_of, page_of};
+    ghost use Rattle.recording.specs.Accessors.{device_of, is_broken, full_of, tail_of, count_of, used_of, page_of};
 
     /// The recording that was created or opened.
     pub(crate) fn at(
@@ -118,7 +118,7 @@ impl<D: SectorDevice> Recording<D> {
         fits(&self.tail, left, more)
     }
 
-    /// Adds inputs behind those that are there. A power cut at any moment leaves the old list with a
+    /// Adds inputs after those that are there. A power cut at any moment leaves the old list with a
     /// prefix of them, and no sector that is full is written. Adding none makes no device call.
     /// `Err`: `Broken`, or `Full` if the device has too few sectors for their entries, with the
     /// recording as it was, or `Device`, which breaks it.

@@ -44,8 +44,8 @@ pub(crate) fn clear_rest<D: SectorDevice>(
     sync_once(device)
 }
 
-/// Goes on to the next sector, if the entries fill theirs.
-fn go_on(full: u64, entries: &mut Vec<StoredEntry>) -> u64
+/// Leaves the sector of the entries for the next one, if they fill it.
+fn leave_if_full(full: u64, entries: &mut Vec<StoredEntry>) -> u64
     requires short { length entries.old.items ≤ entries_per_sector }
     requires range { full + 1 < 2 ^ 64 }
     ensures next { length entries.old.items ≡ entries_per_sector → (result ≡ full + 1) × (entries.new.items ≡ []) }
@@ -60,7 +60,7 @@ fn go_on(full: u64, entries: &mut Vec<StoredEntry>) -> u64
     }
 }
 
-/// Writes the sector that the list ends in and those after it, in order, with these inputs behind
+/// Writes the sector that the list ends in and those after it, in order, with these inputs after
 /// the last entries, and syncs. Answers how many sectors are full then.
 pub(crate) fn write_inputs<D: SectorDevice>(
     device: &mut D,
@@ -90,7 +90,7 @@ pub(crate) fn write_inputs<D: SectorDevice>(
     while done < more.len() {
         done += fill(tail, &more[done..]);
         device.write(full + 1, &list_sector((full + 1) as u32, tail))?;
-        full = go_on(full, tail);
+        full = leave_if_full(full, tail);
     }
     sync_once(device)?;
     Ok(full)

@@ -7,7 +7,7 @@ use Rattle.input_entries.specs.declared.Entry.{Entry}
 use Rattle.recording.specs.Calls.{IsOpenCause}
 use Rattle.recording.specs.Recorded.{recorded}
 use Rattle.recording.specs.declared.fault.RecordingFault.{RecordingFault}
-use Rattle.sector_log.specs.Content.{content}
+use Rattle.log_format.specs.Content.{content}
 use Rattle.session.specs.Stands.{Position, stands}
 use Rattle.session.proofs.Answering.{answered_otherwise, answered_value}
 use Rattle.replaying.specs.Replayed.{LeadsTo, IsCompareCause, IsOfComparing}

@@ -4,7 +4,7 @@ use Rattle.sha2.specs.Sha256.{sha256}
 use Rattle.machine.specs.Machine.{after, start}
 use Rattle.input_entries.specs.declared.Entry.{Entry}
 use Rattle.recording.specs.Recorded.{recorded}
-use Rattle.sector_log.specs.Content.{content}
+use Rattle.log_format.specs.Content.{content}
 use Rattle.session.specs.Inputs.{inputs_of}
 use Rattle.session.specs.Stands.{Position, stands}
 

@@ -6,7 +6,7 @@ use Rattle.sector_device.specs.DiskState.{DiskState}
 use Rattle.input_entries.specs.declared.Entry.{Entry}
 use Rattle.recording.specs.Calls.{IsOpenCause, faults_after as faults_after_recording}
 use Rattle.recording.specs.Recorded.{recorded}
-use Rattle.sector_log.specs.Content.{content}
+use Rattle.log_format.specs.Content.{content}
 use Rattle.session.specs.Calls.{faults_after as faults_after_session}
 use Rattle.session.specs.Found.{IsLookCause}
 use Rattle.session.specs.Inputs.{inputs_of}

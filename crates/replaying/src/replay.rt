@@ -7,7 +7,7 @@ ghost use Rattle.sector_device.specs.Looking.{HasLooked};
 ghost use Rattle.input_entries.specs.Inputs.{is_entry, inputs_in, inputs, all_entries, frame, seconds as seconds_entry};
 ghost use Rattle.recording.specs.Calls.{faults_after};
 ghost use Rattle.recording.specs.Recorded.{entries};
-ghost use Rattle.recording.specs.Words.{device_of, is_broken};
+ghost use Rattle.recording.specs.Accessors.{device_of, is_broken};
 ghost use Rattle.session.specs.Inputs.{inputs_of};
 ghost use Rattle.replaying.specs.Replayed.{HasPlayed, HasReplayed};
 

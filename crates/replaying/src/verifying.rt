@@ -9,10 +9,10 @@ ghost use Rattle.sector_device.specs.DiskState.{HasAnswered};
 ghost use Rattle.sector_device.specs.Looking.{HasLooked};
 ghost use Rattle.input_entries.specs.Inputs.{inputs};
 ghost use Rattle.recording.specs.Recorded.{entries};
-ghost use Rattle.recording.specs.Words.{device_of, is_broken, count_of};
+ghost use Rattle.recording.specs.Accessors.{device_of, is_broken, count_of};
 ghost use Rattle.session.specs.Inputs.{inputs_of};
 ghost use Rattle.session.specs.Resting.{IsOfItsRom};
-ghost use Rattle.session.specs.Words.{machine_of_look, count_of_look};
+ghost use Rattle.session.specs.Accessors.{machine_of_look, count_of_look};
 ghost use Rattle.replaying.specs.Replayed.{LeadsTo, IsCompareCause, IsOfComparing};
 ghost use Rattle.replaying.specs.Verifying.{IsVerified, IsVerifyCause, save_faults_after, recording_faults_after};
 

@@ -5,7 +5,7 @@ ghost use Rattle.sector_device.specs.DiskState.{HasAnswered, sector_at};
 ghost use Rattle.sector_device.specs.Looking.{HasLooked};
 ghost use Rattle.input_entries.specs.Inputs.{inputs};
 ghost use Rattle.recording.specs.Format.{entries_at};
-ghost use Rattle.recording.specs.Words.{device_of, is_broken, full_of, tail_of, count_of, used_of};
+ghost use Rattle.recording.specs.Accessors.{device_of, is_broken, full_of, tail_of, count_of, used_of};
 ghost use Rattle.session.specs.Inputs.{inputs_of};
 ghost use Rattle.replaying.specs.Lines.{HasWritten, HasStopped};
 ghost use Rattle.replaying.specs.Writing.{script_in, WritesPart, IsWriteCause, faults_after};

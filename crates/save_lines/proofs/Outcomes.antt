@@ -5,8 +5,8 @@ use Rattle.exact_text.specs.Written.{AppendsProperPrefix}
 use Rattle.snapshot.specs.Legal.{IsMachineOf}
 use Rattle.input_entries.specs.Inputs.{inputs}
 use Rattle.sector_device.specs.DiskState.{DiskState}
-use Rattle.sector_log.specs.Content.{content, generation_in}
-use Rattle.sector_log.specs.Found.{log_of}
+use Rattle.log_format.specs.Content.{content, generation_in}
+use Rattle.log_format.specs.Found.{log_of}
 use Rattle.session.specs.Stands.{stands}
 use Rattle.session.specs.declared.error.SessionError.{SessionError}
 use Rattle.session.specs.declared.error.SessionError.TheVariants.{Memory}

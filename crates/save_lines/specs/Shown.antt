@@ -11,12 +11,12 @@ use Rattle.snapshot.specs.Legal.{IsMachineOf}
 use Rattle.input_entries.specs.Inputs.{inputs}
 use Rattle.sector_device.specs.DiskState.{DiskState}
 use Rattle.sector_device.specs.declared.device.SectorDevice.{Ghosts}
-use Rattle.sector_log.specs.Content.{content, generation_in}
-use Rattle.sector_log.specs.Found.{log_of}
+use Rattle.log_format.specs.Content.{content, generation_in}
+use Rattle.log_format.specs.Found.{log_of}
 use Rattle.session.specs.Calls.{faults_after}
 use Rattle.session.specs.Found.{IsLookCause}
 use Rattle.session.specs.Stands.{stands}
-use Rattle.session.specs.Words.{count_of_look, logged_of_look, generation_of_look, machine_of_look}
+use Rattle.session.specs.Accessors.{count_of_look, logged_of_look, generation_of_look, machine_of_look}
 use Rattle.session.specs.declared.look.Look.{Look}
 use Rattle.save_lines.specs.declared.error.ShowError.{ShowError}
 use Rattle.save_lines.specs.declared.error.ShowError.TheVariants.{Cart, Session, Output}

@@ -1,44 +1,30 @@
 -- What an image holds in the middle of one append.
-use Rattle.std.proofs.Common.{◌≡◌, ◌⊎◌, inl, inr, ⊎_elim, ℕ, suc, ◌+◌, ◌-◌, ◌*◌, ◌/◌, ◌%◌, ◌<◌, ◌≤◌, List, [], ◌∷◌, length, take, drop, get_or, Bool, true, if◌then◌else◌, refl, sym, ap, ◌∙◌, subst, arith, length-append, length-take, length-drop, Option, Some, None, nat_le}
+use Rattle.std.proofs.Common.{◌≡◌, ◌⊎◌, inl, inr, ⊎_elim, ℕ, ◌+◌, ◌-◌, ◌*◌, ◌/◌, ◌%◌, ◌<◌, ◌≤◌, List, [], length, take, drop, get_or, refl, sym, ap, ◌∙◌, subst, arith, length-append, length-take, length-drop, Option, Some}
 use Rattle.std.proofs.lemmas.List.{ext_get_or, get_or-take, get_or-drop, length-take-le, drop_all}
 use Rattle.sector_device.specs.DiskState.{DiskState, Settled, sector_at}
 use Rattle.sector_device.specs.Runs.{Mixed}
 use Rattle.sector_device.proofs.Runs.{mixed_old}
-use Rattle.sector_log.specs.Log.{log_sector, log_from, log_area}
+use Rattle.log_format.specs.Log.{log_sector, log_from, log_area}
 use Rattle.sector_log.specs.Layout.{replaced}
-use Rattle.sector_log.specs.declared.root.Root.{Root}
-use Rattle.sector_log.specs.Content.{chosen, last_generation, generation_in, area_length, area_start, area, blob_sectors, header_of, content_in, content_by, content, ImageContent}
-use Rattle.sector_log.specs.Calls.{HoldsPrefix, ChangesOpenLog, Adds, IsAppended}
+use Rattle.log_format.specs.declared.root.Root.{Root}
+use Rattle.log_format.specs.Content.{chosen, last_generation, generation_in, area_length, area_start, area, blob_sectors, header_of, content_by, content, ImageContent}
+use Rattle.log_format.specs.Appends.{HoldsPrefix, Adds}
+use Rattle.sector_log.specs.Calls.{ChangesOpenLog, IsAppended}
 use Rattle.sector_log.specs.Store.{IsStored}
 use Rattle.input_entries.specs.declared.Entry.{Entry}
 use Rattle.input_entries.specs.declared.StoredEntry.{StoredEntry}
-use Rattle.sector_log.specs.declared.root.Version.TheVariants.{Two}
+use Rattle.log_format.specs.declared.root.Version.TheVariants.{Two}
 use Rattle.input_entries.specs.Inputs.{inputs, all_input, AllFive}
-use Rattle.sector_log.specs.Inputs.{AreInputs, grown, sealed}
+use Rattle.log_format.specs.Inputs.{AreInputs, grown, sealed}
 use Rattle.input_entries.proofs.CodeLengths.{AreCodes}
-use Rattle.sector_log.proofs.AppendLaw.{EachOldOrNew}
-use Rattle.sector_log.proofs.Runs.{Prefix}
-use Rattle.sector_log.proofs.Grown.{sealed_sector, length-grown, law_in_area, read_back, whole_grown, inputs_grown, codes_grown}
+use Rattle.log_format.proofs.AppendLaw.{EachOldOrNew, each_from_index}
+use Rattle.log_format.proofs.Runs.{Prefix}
+use Rattle.log_format.proofs.Grown.{sealed_sector, length-grown, law_in_area, read_back, whole_grown, inputs_grown, codes_grown}
 use Rattle.std.proofs.lemmas.Bool.{cases_lt}
-use Rattle.std.proofs.lemmas.Bool.Decides.{nat_tests}
 use Rattle.std.specs.List.{flat_map}
-use Rattle.sector_log.proofs.ContentLaw.{chosen_same}
-use Rattle.sector_log.proofs.Places.{length-log_area, log_area_at, replaced_at, replaced_before, replaced_after, length-replaced}
-
-pub each_from_index : (old new cs : List (List ℕ)) → length old ≡ length cs → length new ≡ length cs → ((k : ℕ) → k < length cs → (sector_at cs k ≡ sector_at old k) ⊎ (sector_at cs k ≡ sector_at new k)) → EachOldOrNew old new cs
-each_from_index [] new [] a b each = tt
-each_from_index [] new (c ∷ cs) a b each = absurd (omega arith)
-each_from_index (o ∷ old) new [] a b each = absurd (omega arith)
-each_from_index (o ∷ old) [] (c ∷ cs) a b each = absurd (omega arith)
-each_from_index (o ∷ old) (n ∷ new) (c ∷ cs) a b each =
-    (each 0 (omega arith), each_from_index old new cs (omega arith) (omega arith) (λ k le. each (suc k) (omega arith)))
-
-pub body_is : (root : Root) (sectors : List (List ℕ)) → root.version ≡ Two → 32 + blob_sectors root.blob_length ≤ length sectors
-    → content_in root sectors ≡ record { header = header_of root; body = Some (record { blob = take root.blob_length (flat_map (λ (s : List ℕ). s) (drop 32 sectors)); log = log_from Two 0 (take 32 sectors) }) }
-body_is root sectors two fits =
-    let enough : nat_le (32 + blob_sectors root.blob_length) (length sectors) ≡ true = grind (arith, nat_tests) in
-    ap (λ (b : Bool). record { header = header_of root; body = if b then Some (record { blob = take root.blob_length (flat_map (λ (s : List ℕ). s) (drop 32 sectors)); log = log_from root.version 0 (take 32 sectors) }) else None }) enough
-    ∙ ap (λ v. record { header = header_of root; body = Some (record { blob = take root.blob_length (flat_map (λ (s : List ℕ). s) (drop 32 sectors)); log = log_from v 0 (take 32 sectors) }) }) two
+use Rattle.log_format.proofs.ContentLaw.{chosen_same, body_is}
+use Rattle.log_format.proofs.Areas.{length-log_area, log_area_at}
+use Rattle.sector_log.proofs.Places.{replaced_at, replaced_before, replaced_after, length-replaced}
 
 module _ (base : List (List ℕ)) (start : ℕ) (log : List StoredEntry) (root : Root) (two : root.version ≡ Two)
     (chosen_is : chosen base ≡ Some root) (start_is : area_start root.generation base ≡ start) (within : start + area_length base ≤ length base)

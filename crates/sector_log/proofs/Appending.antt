@@ -1,35 +1,27 @@
 -- The steps of one append, over the disk of the device.
-use Rattle.std.proofs.Common.{◌≡◌, inl, ℕ, zero, suc, ◌+◌, ◌/◌, ◌<◌, ◌≤◌, List, [], ◌∷◌, ◌++◌, length, refl, sym, ap, ◌∙◌, subst, arith, true, false, nat_le, take, drop, Some, length-append}
+use Rattle.std.proofs.Common.{◌≡◌, inl, ℕ, zero, suc, ◌+◌, ◌/◌, ◌<◌, ◌≤◌, List, [], ◌∷◌, ◌++◌, length, refl, sym, ap, ◌∙◌, subst, arith, false, nat_le, take, drop, Some, length-append}
 use Rattle.std.proofs.lemmas.List.{append-nil, take-append-drop}
 use Rattle.std.proofs.lemmas.Bool.Decides.{nat_tests}
 use Rattle.std.specs.List.{flat_map}
-use Rattle.sector_log.specs.Content.{area, header_of, content}
-use Rattle.sector_log.specs.Found.{log_of}
-use Rattle.sector_log.specs.declared.found.Header.{Header}
+use Rattle.log_format.specs.Content.{area, header_of, content}
+use Rattle.log_format.specs.Found.{log_of}
+use Rattle.log_format.specs.declared.content.Header.{Header}
 use Rattle.sector_device.specs.DiskState.{DiskState, Settled, Throughout, sector_at}
 use Rattle.sector_device.specs.Runs.{HoldsThroughout, HoldsSince, Mixed, WrittenUpTo}
 use Rattle.sector_device.proofs.Runs.{throughout_weaker, written_all, holds_since}
-use Rattle.sector_log.specs.Log.{log_area}
+use Rattle.log_format.specs.Log.{log_area}
 use Rattle.input_entries.specs.Inputs.{inputs, all_input, all_entries, AllFive}
-use Rattle.sector_log.specs.Inputs.{AreInputs, sealed, grown, fits}
+use Rattle.log_format.specs.Inputs.{AreInputs, sealed, grown, fits}
 use Rattle.sector_log.specs.Layout.{replaced}
-use Rattle.sector_log.specs.Calls.{HoldsPrefix, ChangesOpenLog, IsAppended, Adds}
-use Rattle.sector_log.specs.Store.{IsStored, HaveSix, StandForInputs, Kept}
+use Rattle.log_format.specs.Appends.{HoldsPrefix, Adds}
+use Rattle.sector_log.specs.Calls.{ChangesOpenLog, IsAppended}
+use Rattle.sector_log.specs.Store.{IsStored, StandForInputs, Kept}
 use Rattle.input_entries.specs.declared.Entry.{Entry}
 use Rattle.input_entries.specs.declared.StoredEntry.{StoredEntry}
-use Rattle.sector_log.specs.declared.root.Root.{Root}
+use Rattle.log_format.specs.declared.root.Root.{Root}
 use Rattle.input_entries.proofs.CodeLengths.{AreCodes}
 use Rattle.sector_log.proofs.AppendContent.{holds_more, changes_open, same_front, same_back, rests_after, length-target, added_after, content_base}
-use Rattle.sector_log.proofs.Grown.{whole_grown, codes_grown}
-
-pub codes_of_six : (es : List StoredEntry) → HaveSix es → AreCodes es
-codes_of_six [] six = tt
-codes_of_six (e ∷ es) six = (six 0 (omega arith), codes_of_six es (λ k le. six (suc k) (omega arith)))
-
-pub six_of_codes : (es : List StoredEntry) → AreCodes es → HaveSix es
-six_of_codes [] codes k le = absurd (omega arith)
-six_of_codes (e ∷ es) codes zero le = codes.0
-six_of_codes (e ∷ es) codes (suc k) le = six_of_codes es codes.1 k (omega arith)
+use Rattle.log_format.proofs.Grown.{whole_grown, codes_grown, codes_of_six, six_of_codes}
 
 pub entries_of_each : (es : List StoredEntry) → StandForInputs es → all_entries es
 entries_of_each [] each = tt
@@ -42,13 +34,6 @@ each_of_entries (e ∷ es) are (suc k) le = each_of_entries es are.1 k (omega ar
 
 pub are_inputs : (log : List StoredEntry) → Kept log → AreInputs log
 are_inputs log kept = record { each = entries_of_each log kept.entries; few = kept.few }
-
-pub fits_means : (log : List StoredEntry) (new : List Entry) → fits log new ≡ true → (length (grown log new) ≤ 2688) × (length (inputs log) + length new ≤ 216000)
-unfolding fits
-fits_means log new is =
-    let entries : length (grown log new) ≤ 2688 = grind (arith, nat_tests) in
-    let counts : length (inputs log) + length new ≤ 216000 = grind (arith, nat_tests) in
-    (entries, counts)
 
 -- what the store keeps of the longer log
 module _ (log all : List StoredEntry) (new : List Entry) (kept : Kept log) (fives : AllFive new) (input : all_input new) (few : length (inputs log) + length new ≤ 216000) (room : length (grown log new) ≤ 2688) (is_all : all ≡ grown log new) where

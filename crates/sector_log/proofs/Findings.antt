@@ -3,15 +3,15 @@ use Rattle.std.proofs.Common.{◌≡◌, ◌+◌, ◌-◌, ◌^◌, ◌<◌, ◌
 use Rattle.std.proofs.lemmas.Bool.{cases_Bool}
 use Rattle.std.proofs.lemmas.Bool.Decides.{nat_tests}
 use Rattle.sector_device.specs.DiskState.{DiskState}
-use Rattle.sector_log.specs.Content.{Body, header_of, need, area, content, content_by, content_in}
-use Rattle.sector_log.specs.Inputs.{counted}
+use Rattle.log_format.specs.Content.{Body, header_of, need, area, content, content_by, content_in}
+use Rattle.log_format.specs.Inputs.{counted}
 use Rattle.sector_log.specs.Reading.{IsFound}
-use Rattle.sector_log.specs.Found.{found_by, found_in, is_too_small, no_body, log_of, log_in, blob_in, Seen, seen_in, IsSound, found_with}
+use Rattle.log_format.specs.Found.{found_by, found_in, is_too_small, no_body, log_of, log_in, blob_in, Seen, seen_in, IsSound, found_with}
 use Rattle.input_entries.specs.declared.StoredEntry.{StoredEntry}
-use Rattle.sector_log.specs.declared.found.Header.{Header}
-use Rattle.sector_log.specs.declared.root.Root.{Root}
-use Rattle.sector_log.specs.declared.found.Found.TheVariants.{Nothing, Intact, Damaged}
-use Rattle.sector_log.specs.declared.found.Part.TheVariants.{Length, Count}
+use Rattle.log_format.specs.declared.content.Header.{Header}
+use Rattle.log_format.specs.declared.root.Root.{Root}
+use Rattle.log_format.specs.declared.content.Found.TheVariants.{Nothing, Intact, Damaged}
+use Rattle.log_format.specs.declared.content.Part.TheVariants.{Length, Count}
 
 by_short : (root : Root) (body : Option Body) → no_body body ≡ true → Damaged (header_of root) (Length (need root.blob_length)) ≡ found_by (header_of root) body
 by_short root None short = refl

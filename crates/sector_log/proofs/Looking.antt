@@ -1,21 +1,22 @@
 -- Calls that only look, and what they find.
-use Rattle.std.proofs.Common.{◌≡◌, ◌⊎◌, inl, inr, ℕ, zero, suc, ◌+◌, ◌-◌, ◌*◌, ◌%◌, ◌<◌, ◌≤◌, ◌==◌, ◌++◌, List, [], ◌∷◌, length, take, drop, get_or, min, Bool, true, false, if◌then◌else◌, nat_le, Option, Some, None, refl, sym, ap, ◌∙◌, arith, append_assoc, length-take, length-drop}
-use Rattle.std.proofs.lemmas.List.{take-take, get_or-take, get_or-drop, drop_all, append-nil, length-take-le, take-append-le, take_all, drop-drop}
-use Rattle.sector_log.proofs.AppendLaw.{take-past}
+use Rattle.std.proofs.Common.{◌≡◌, inl, inr, ℕ, suc, ◌+◌, ◌-◌, ◌*◌, ◌<◌, ◌≤◌, ◌==◌, ◌++◌, List, [], ◌∷◌, length, take, drop, get_or, min, Bool, true, false, if◌then◌else◌, nat_le, Option, Some, None, refl, sym, ap, ◌∙◌, arith, append_assoc, length-take, length-drop}
+use Rattle.std.proofs.lemmas.List.{drop-take, take-take, get_or-take, get_or-drop, drop_all, append-nil, length-take-le, take-append-le, take_all, drop-drop}
+use Rattle.log_format.proofs.AppendLaw.{take-past}
 use Rattle.std.proofs.Math.Seq.{drop-cons}
-use Rattle.std.proofs.lemmas.Bool.{cases_Bool, cases_lt}
+use Rattle.std.proofs.lemmas.Bool.{cases_lt}
 use Rattle.std.proofs.lemmas.Bool.Decides.{nat_tests}
 use Rattle.std.specs.List.{flat_map}
 use Rattle.sector_device.specs.DiskState.{DiskState, Settled, sector_at}
-use Rattle.sector_log.specs.Log.{entries_of_full_sector, entries_at, log_from}
-use Rattle.sector_log.specs.Content.{Body, root_at, newer, chosen, area_length, area_start, area, blob_sectors, content, content_by, content_in}
-use Rattle.sector_log.specs.Found.{log_of, log_in, is_too_small, no_body, blob_by, blob_in}
+use Rattle.log_format.specs.Log.{entries_of_full_sector, entries_at, log_from}
+use Rattle.log_format.specs.Content.{Body, chosen, area_length, area_start, area, blob_sectors, content, content_by, content_in}
+use Rattle.log_format.specs.Found.{log_of, log_in, is_too_small, no_body, blob_by, blob_in}
 use Rattle.sector_device.specs.Looking.{LooksOnly}
 use Rattle.sector_log.specs.Reading.{IsFound}
 use Rattle.input_entries.specs.declared.StoredEntry.{StoredEntry}
-use Rattle.sector_log.specs.declared.root.Root.{Root}
-use Rattle.sector_log.specs.declared.root.Version.{Version}
+use Rattle.log_format.specs.declared.root.Root.{Root}
+use Rattle.log_format.specs.declared.root.Version.{Version}
 use Rattle.sector_device.proofs.Looking.{settled_looked}
+use Rattle.log_format.proofs.ContentLaw.{area_size}
 
 -- the next sector of an area
 pub area_next : (sectors : List (List ℕ)) (start index : ℕ) → index < 32 → start + 32 ≤ length sectors
@@ -41,28 +42,6 @@ nothing_chosen now settled none = record {
   too_small_is = ap (λ (r : Option Root). is_too_small (content_by r now.sectors)) none;
   log_is = ap (λ (r : Option Root). log_of (content_by r now.sectors)) none;
 }
-
-pub few_sectors : (image : List (List ℕ)) → length image < 2 → chosen image ≡ None
-few_sectors image few = let fails : nat_le 2 (length image) ≡ false = grind (arith, nat_tests) in ap (λ (t : Bool). if t then newer (root_at 0 image) (root_at 1 image) else None) fails
-
-pub enough_sectors : (image : List (List ℕ)) → 2 ≤ length image → chosen image ≡ newer (root_at 0 image) (root_at 1 image)
-enough_sectors image many = let holds : nat_le 2 (length image) ≡ true = grind (arith, nat_tests) in ap (λ (t : Bool). if t then newer (root_at 0 image) (root_at 1 image) else None) holds
-
-pub area_size : (image : List (List ℕ)) (g : ℕ) → 2 ≤ length image → length (area g image) ≡ area_length image
-area_size image g many = elim (parity g) [
-  | inl even ↦
-      let start : area_start g image ≡ 2 = omega (arith, ap (λ n. 2 + n * area_length image) even) in
-      omega (arith, length-take (area_length image) (drop (area_start g image) image), length-drop (area_start g image) image, start)
-  | inr odd ↦
-      let start : area_start g image ≡ 2 + area_length image = omega (arith, ap (λ n. 2 + n * area_length image) odd) in
-      omega (arith, length-take (area_length image) (drop (area_start g image) image), length-drop (area_start g image) image, start)
-]
-  where
-    parity : (n : ℕ) → (n % 2 ≡ 0) ⊎ (n % 2 ≡ 1)
-    parity n = elim (cases_Bool (n % 2 == 0)) [
-      | inl holds ↦ let e : n % 2 ≡ 0 = grind (arith, nat_tests) in inl e
-      | inr fails ↦ let e : n % 2 ≡ 1 = grind (arith, nat_tests) in inr e
-    ]
 
 -- the blob does not fit
 pub found_short : (now : DiskState) (root : Root) → Settled now → 2 ≤ length now.sectors → chosen now.sectors ≡ Some root → area_length now.sectors < 32 + blob_sectors root.blob_length → IsFound now (Some root) true []
@@ -137,15 +116,6 @@ blob_next sectors start room index size part s less fits is long part_is =
     ∙ take_split (size - 512 * index) s (flat_map (λ (x : List ℕ). x) (drop (index + 1) all)) long
     ∙ (λ i. take (sym part_is i) s ++ take (left i) (flat_map (λ (x : List ℕ). x) (drop (index + 1) all)))
 
-pub drop_take : {X : Type 0} → (a n : ℕ) (xs : List X) → drop a (take (a + n) xs) ≡ take n (drop a xs)
-drop_take zero n xs = let e : 0 + n ≡ n = omega arith in ap (λ k. take k xs) e
-drop_take (suc a) n [] = let e : suc a + n ≡ suc (a + n) = omega arith in ap (λ k. drop (suc a) (take k [])) e ∙ sym (empty n)
-  where
-    empty : {X : Type 0} → (n : ℕ) → take {A = X} n [] ≡ []
-    empty zero = refl
-    empty (suc n) = refl
-drop_take (suc a) n (x ∷ xs) = let e : suc a + n ≡ suc (a + n) = omega arith in ap (λ k. drop (suc a) (take k (x ∷ xs))) e ∙ drop_take a n xs
-
 -- the blob of the chosen root
 module _ (now : List (List ℕ)) (root : Root) (most : ℕ) (is : chosen now ≡ Some root) where
   here : content now ≡ content_by (Some root) now
@@ -173,7 +143,7 @@ module _ (now : List (List ℕ)) (root : Root) (most : ℕ) (is : chosen now ≡
       let holds : nat_le (32 + blob_sectors root.blob_length) (length all) ≡ true = let e = area_size now root.generation many in grind (arith, nat_tests) in
       let few : nat_le root.blob_length most ≡ true = grind (arith, nat_tests) in
       let part : drop 32 all ≡ take room (drop start now) =
-      ap (λ n. drop 32 (take n (drop (area_start root.generation now) now))) size ∙ drop_take 32 room (drop (area_start root.generation now) now)
+      ap (λ n. drop 32 (take n (drop (area_start root.generation now) now))) size ∙ drop-take 32 room (drop (area_start root.generation now) now)
       ∙ ap (take room) (drop-drop 32 (area_start root.generation now) now ∙ ap (λ n. drop n now) (sym at)) in
       ap (blob_in most) here
       ∙ ap (λ (t : Bool). blob_by most root.blob_length (if t then Some (record { blob = take root.blob_length (flat_map (λ (s : List ℕ). s) (drop 32 all)); log = log_from root.version 0 (take 32 all) }) else None)) holds

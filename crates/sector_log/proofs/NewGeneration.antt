@@ -9,19 +9,20 @@ use Rattle.sector_device.specs.DiskState.{DiskState, Settled, Throughout, Rememb
 use Rattle.sector_device.specs.Runs.{HoldsThroughout, HoldsSince, Mixed}
 use Rattle.sector_device.specs.DiskState.{HasSynced, HasWritten}
 use Rattle.sector_device.proofs.Runs.{throughout_weaker, goes_on, has_synced, holds_since}
-use Rattle.sector_log.specs.declared.root.Version.TheVariants.{Two}
-use Rattle.sector_log.specs.declared.root.Root.{Root}
-use Rattle.sector_log.specs.Log.{log_from, log_area, padded, blob_area, fresh_area}
+use Rattle.log_format.specs.declared.root.Version.TheVariants.{Two}
+use Rattle.log_format.specs.declared.root.Root.{Root}
+use Rattle.log_format.specs.Log.{log_from, log_area, padded, blob_area, fresh_area}
 use Rattle.sector_log.specs.Layout.{replaced}
-use Rattle.sector_log.specs.Content.{root_bytes, root_in, is_valid_root, root_at, newer, chosen, last_generation, generation_in, area_length, area_start, area, content, content_by, new_generation, Holds}
+use Rattle.log_format.specs.Content.{root_bytes, root_in, is_valid_root, root_at, newer, chosen, last_generation, generation_in, area_length, area_start, area, content, content_by, new_generation, Holds}
 use Rattle.sector_log.specs.Calls.{HasOldOrNewContent, HasBegun}
-use Rattle.sector_log.specs.Store.{IsStored, IsNextGeneration, Fits}
-use Rattle.sector_log.proofs.AppendLaw.{take-past}
-use Rattle.sector_log.proofs.AppendContent.{each_from_index, body_is}
-use Rattle.sector_log.proofs.Grown.{read_back}
-use Rattle.sector_log.proofs.ContentLaw.{mixed_outside, chosen_same}
-use Rattle.sector_log.proofs.Places.{length-replaced, replaced_at, replaced_before, replaced_after, length-fresh_area, length-log_area, fresh_in_log, fresh_in_blob}
-use Rattle.sector_log.proofs.Roots.{root_written}
+use Rattle.sector_log.specs.Store.{IsStored, IsNextGeneration}
+use Rattle.log_format.specs.Widths.{Fits}
+use Rattle.log_format.proofs.AppendLaw.{take-past, each_from_index}
+use Rattle.log_format.proofs.ContentLaw.{body_is, mixed_outside, chosen_same}
+use Rattle.log_format.proofs.Grown.{read_back}
+use Rattle.sector_log.proofs.Places.{length-replaced, replaced_at, replaced_before, replaced_after}
+use Rattle.log_format.proofs.Areas.{length-fresh_area, length-log_area, fresh_in_log, fresh_in_blob}
+use Rattle.log_format.proofs.Roots.{root_written}
 
 -- the chosen one is no older
 newer_than_second : (a : Option Root) (b r : Root) → newer a (Some b) ≡ Some r → b.generation ≤ r.generation

@@ -1,32 +1,11 @@
--- Runs of sectors in an image, and the log's.
-use Rattle.std.proofs.Common.{◌≡◌, ℕ, zero, suc, ◌+◌, ◌-◌, ◌*◌, ◌/◌, ◌<◌, ◌≤◌, min, List, [], ◌++◌, length, take, drop, get_or, refl, sym, ap, ◌∙◌, arith, length-append, length-drop}
-use Rattle.std.proofs.lemmas.List.{length-take-le, get_or_append_left, get_or-append-add, get_or-append_right, get_or-take, get_or-drop, drop-drop, take_min, drop_min}
+-- Runs of sectors in an image.
+use Rattle.std.proofs.Common.{◌≡◌, ℕ, ◌+◌, ◌-◌, ◌*◌, ◌<◌, ◌≤◌, List, [], ◌++◌, length, take, drop, get_or, sym, ap, ◌∙◌, arith, length-append, length-drop}
+use Rattle.std.proofs.lemmas.List.{length-take-le, get_or_append_left, get_or-append-add, get_or-append_right, get_or-take, get_or-drop}
 use Rattle.sector_device.specs.DiskState.{sector_at}
 use Rattle.sector_log.specs.Layout.{replaced}
-use Rattle.sector_log.specs.Log.{log_sector, log_sectors, log_area, padded, blob_area, fresh_area}
+use Rattle.log_format.specs.Log.{log_sector, log_area}
 use Rattle.input_entries.specs.declared.StoredEntry.{StoredEntry}
-
-pub length-log_sectors : (n index : ℕ) (entries : List StoredEntry) → length (log_sectors n index entries) ≡ n
-length-log_sectors zero index entries = refl
-length-log_sectors (suc n) index entries = omega (arith, length-log_sectors n (suc index) (drop 84 entries))
-
-pub log_sectors_at : (n index k : ℕ) (entries : List StoredEntry) → k < n → sector_at (log_sectors n index entries) k ≡ log_sector (index + k) (take 84 (drop (84 * k) entries))
-log_sectors_at zero index k entries le = absurd (omega arith)
-log_sectors_at (suc n) index zero entries le = let e : index ≡ index + 0 = omega arith in ap (λ i. log_sector i (take 84 entries)) e
-log_sectors_at (suc n) index (suc k) entries le =
-    let e : suc index + k ≡ index + suc k = omega arith in
-    let m : 84 + 84 * k ≡ 84 * suc k = omega arith in
-    log_sectors_at n (suc index) k (drop 84 entries) (omega arith)
-    ∙ (λ i. log_sector (e i) (take 84 (drop-drop (84 * k) 84 entries i)))
-    ∙ ap (λ j. log_sector (index + suc k) (take 84 (drop j entries))) m
-
-pub length-log_area : (entries : List StoredEntry) → length (log_area entries) ≡ 32
-unfolding log_area
-length-log_area entries = length-log_sectors 32 0 entries
-
-pub log_area_at : (k : ℕ) (entries : List StoredEntry) → k < 32 → sector_at (log_area entries) k ≡ log_sector k (take 84 (drop (84 * k) entries))
-unfolding log_area
-log_area_at k entries le = let e : 0 + k ≡ k = omega arith in log_sectors_at 32 0 k entries le ∙ ap (λ i. log_sector i (take 84 (drop (84 * k) entries))) e
+use Rattle.log_format.proofs.Areas.{length-log_area, log_area_at}
 
 module _ (start : ℕ) (s image : List (List ℕ)) (room : start + length s ≤ length image) where
   front : length (take start image) ≡ start
@@ -58,55 +37,3 @@ module _ (start : ℕ) (s image : List (List ℕ)) (room : start + length s ≤ 
 pub new_log_at : (start k : ℕ) (entries : List StoredEntry) (image : List (List ℕ)) → start + 32 ≤ length image → k < 32 → sector_at (replaced start (log_area entries) image) (start + k) ≡ log_sector k (take 84 (drop (84 * k) entries))
 new_log_at start k entries image room le =
     replaced_at start (log_area entries) image (omega (arith, length-log_area entries)) k (omega (arith, length-log_area entries)) ∙ log_area_at k entries le
-
-pub chunk_is : {X : Type 0} (log : List X) (at from to : ℕ) → from ≡ min at (length log) → to ≡ min (from + 84) (length log) → take (to - from) (drop from log) ≡ take 84 (drop at log)
-chunk_is log at from to f t =
-    let width : to - from ≡ min 84 (length (drop from log)) = omega (arith, length-drop from log) in
-    ap (λ n. take n (drop from log)) width ∙ take_min 84 (drop from log) ∙ ap (take 84) (ap (λ n. drop n log) f ∙ drop_min at log)
-
-pub length-blob_area : (n : ℕ) (blob : List ℕ) → length (blob_area n blob) ≡ n
-length-blob_area zero blob = refl
-length-blob_area (suc n) blob = omega (arith, length-blob_area n (drop 512 blob))
-
-pub blob_area_at : (n k : ℕ) (blob : List ℕ) → k < n → sector_at (blob_area n blob) k ≡ padded (take 512 (drop (512 * k) blob))
-blob_area_at zero k blob le = absurd (omega arith)
-blob_area_at (suc n) zero blob le = refl
-blob_area_at (suc n) (suc k) blob le =
-    let m : 512 + 512 * k ≡ 512 * suc k = omega arith in
-    blob_area_at n k (drop 512 blob) (omega arith) ∙ ap (λ (l : List ℕ). padded (take 512 l)) (drop-drop (512 * k) 512 blob) ∙ ap (λ j. padded (take 512 (drop j blob))) m
-
-pub length-fresh_area : (blob : List ℕ) → length (fresh_area blob) ≡ 32 + (length blob + 511) / 512
-unfolding fresh_area
-length-fresh_area blob = omega (arith, length-append (log_area []) (blob_area ((length blob + 511) / 512) blob), length-log_area [], length-blob_area ((length blob + 511) / 512) blob)
-
-blank_at : (k n : ℕ) → k < n → take 84 (drop {A = StoredEntry} k []) ≡ []
-blank_at zero n le = refl
-blank_at (suc k) n le = refl
-
-pub fresh_log_at : (k : ℕ) (blob : List ℕ) → k < 32 → sector_at (fresh_area blob) k ≡ padded []
-unfolding fresh_area
-fresh_log_at k blob le =
-    get_or_append_left (log_area []) (blob_area ((length blob + 511) / 512) blob) [] k (omega (arith, length-log_area []))
-    ∙ log_area_at k [] le ∙ ap (log_sector k) (blank_at (84 * k) (84 * k + 1) (omega arith))
-
-pub fresh_blob_at : (k : ℕ) (blob : List ℕ) → 32 ≤ k → k < 32 + (length blob + 511) / 512 → sector_at (fresh_area blob) k ≡ padded (take 512 (drop (512 * (k - 32)) blob))
-unfolding fresh_area
-fresh_blob_at k blob from to =
-    get_or-append_right (log_area []) (blob_area ((length blob + 511) / 512) blob) 32 k [] (length-log_area []) from
-    ∙ blob_area_at ((length blob + 511) / 512) (k - 32) blob (omega arith)
-
-pub part_is : (blob : List ℕ) (from to : ℕ) → to ≡ min (from + 512) (length blob) → take (to - from) (drop from blob) ≡ take 512 (drop from blob)
-part_is blob from to t =
-    let width : to - from ≡ min 512 (length (drop from blob)) = omega (arith, length-drop from blob) in
-    ap (λ n. take n (drop from blob)) width ∙ take_min 512 (drop from blob)
-
--- the front of a fresh area is a blank log, and the blob follows
-pub fresh_in_log : (k : ℕ) (blob : List ℕ) → k < 32 → sector_at (fresh_area blob) k ≡ sector_at (log_area []) k
-unfolding fresh_area
-fresh_in_log k blob le = get_or_append_left (log_area []) (blob_area ((length blob + 511) / 512) blob) [] k (omega (arith, length-log_area []))
-
-pub fresh_in_blob : (k : ℕ) (blob : List ℕ) → sector_at (fresh_area blob) (32 + k) ≡ sector_at (blob_area ((length blob + 511) / 512) blob) k
-unfolding fresh_area
-fresh_in_blob k blob =
-    let e : 32 + k - 32 ≡ k = omega arith in
-    get_or-append_right (log_area []) (blob_area ((length blob + 511) / 512) blob) 32 (32 + k) [] (length-log_area []) (omega arith) ∙ ap (λ n. get_or (blob_area ((length blob + 511) / 512) blob) n []) e

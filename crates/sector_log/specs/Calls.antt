@@ -1,15 +1,12 @@
 -- What the calls of a log make of a device, by the content of its images.
-use Rattle.std.specs.Prelude.{◌≡◌, ◌⊎◌, ◌++◌, ◌^◌, ◌+◌, ◌-◌, ◌/◌, ◌≤◌, ◌<◌, ℕ, List, length, take, Option, Some, Bool, true, false}
+use Rattle.std.specs.Prelude.{◌≡◌, ◌⊎◌, ◌^◌, ◌+◌, ◌-◌, ◌/◌, ◌≤◌, ◌<◌, ℕ, List, length, Some, Bool, true, false}
 use Rattle.sector_device.specs.DiskState.{DiskState, Settled, next_count, sector_at}
-use Rattle.sector_log.specs.Content.{ImageContent, area_start, content, generation_in, new_generation, need, Holds}
-use Rattle.input_entries.specs.Inputs.{inputs}
-use Rattle.sector_log.specs.Inputs.{AreInputs}
-use Rattle.sector_log.specs.Sizes.{entries_per_sector, log_sectors_per_area}
+use Rattle.log_format.specs.Appends.{Adds}
+use Rattle.log_format.specs.Content.{area_start, content, generation_in, new_generation, need, Holds}
+use Rattle.log_format.specs.Sizes.{entries_per_sector, log_sectors_per_area}
 use Rattle.input_entries.specs.declared.Entry.{Entry}
-use Rattle.input_entries.specs.declared.StoredEntry.{StoredEntry}
-use Rattle.sector_log.specs.declared.found.Header.{Header}
 use Rattle.sector_log.specs.declared.fault.LogFault.{LogFault}
-use Rattle.sector_log.specs.declared.fault.LogFault.TheVariants.{Memory, Device, TooSmall, Worn, LogFull, Broken}
+use Rattle.sector_log.specs.declared.fault.LogFault.TheVariants.{Memory, Device, TooSmall, GenerationsUsedUp, LogFull, Broken}
 
 -- ---- a new generation
 
@@ -31,11 +28,9 @@ pub record CanBegin (blob_length count last : ℕ) : Type 0 where
 -- why no generation is begun: too few sectors, else the generations are used up, else a failed call
 abbrev pub IsBeginCause : LogFault → ℕ → ℕ → ℕ → Type 0
 IsBeginCause (TooSmall needed) blob_length count last = (needed ≡ need blob_length) × (count < need blob_length)
-IsBeginCause Worn blob_length count last = (need blob_length ≤ count) × (last ≡ 2 ^ 64 - 1)
+IsBeginCause GenerationsUsedUp blob_length count last = (need blob_length ≤ count) × (last ≡ 2 ^ 64 - 1)
 IsBeginCause Device blob_length count last = CanBegin blob_length count last
-IsBeginCause Memory blob_length count last = ⊥
-IsBeginCause LogFull blob_length count last = ⊥
-IsBeginCause Broken blob_length count last = ⊥
+IsBeginCause why blob_length count last = ⊥
 
 -- the same for a store that a failed call may have broken
 abbrev pub IsReplaceCause : LogFault → Bool → ℕ → ℕ → ℕ → Type 0
@@ -44,25 +39,7 @@ IsReplaceCause why broken blob_length count last = (broken ≡ false) × IsBegin
 
 -- ---- an append
 
--- the second content is the first with these inputs behind its log
-pub record Adds (more : List Entry) (old new : Option ImageContent) : Type 0 where
-  pub header : Header
-  pub blob : List ℕ
-  pub before : List StoredEntry
-  pub after : List StoredEntry
-  pub old_is : old ≡ Some (record { header = header; body = Some (record { blob = blob; log = before }) })
-  pub new_is : new ≡ Some (record { header = header; body = Some (record { blob = blob; log = after }) })
-  pub are : AreInputs after
-  pub adds : inputs after ≡ inputs before ++ more
-
--- the image has the content of the old one with a prefix of these inputs behind its log
-pub record HoldsPrefix (old : List (List ℕ)) (more : List Entry) (image : List (List ℕ)) : Type 0 where
-  pub count : ℕ
-  pub within : count ≤ length more
-  pub adds : Adds (take count more) (content old) (content image)
-  pub generation_is : generation_in image ≡ generation_in old
-
--- one image is left, with all these inputs behind the log of what reads gave
+-- one image is left, with all these inputs after the log of what reads gave
 pub record IsAppended (old now : DiskState) (more : List Entry) : Type 0 where
   pub settled : Settled now
   pub adds : Adds more (content old.sectors) (content now.sectors)
@@ -80,9 +57,7 @@ abbrev pub IsAppendCause : LogFault → Bool → Bool → Type 0
 IsAppendCause Broken broken fits = broken ≡ true
 IsAppendCause LogFull broken fits = (broken ≡ false) × (fits ≡ false)
 IsAppendCause Device broken fits = (broken ≡ false) × (fits ≡ true)
-IsAppendCause Memory broken fits = ⊥
-IsAppendCause (TooSmall needed) broken fits = ⊥
-IsAppendCause Worn broken fits = ⊥
+IsAppendCause why broken fits = ⊥
 
 -- ---- faults
 
@@ -91,6 +66,6 @@ abbrev pub faults_after : LogFault → ℕ → ℕ
 faults_after Device faults = next_count faults
 faults_after Memory faults = faults
 faults_after (TooSmall needed) faults = faults
-faults_after Worn faults = faults
+faults_after GenerationsUsedUp faults = faults
 faults_after LogFull faults = faults
 faults_after Broken faults = faults

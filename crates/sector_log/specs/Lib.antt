@@ -1,12 +1,7 @@
 pub mod Calls
-pub mod Content
-pub mod Found
-pub mod Inputs
-pub mod Laws
-pub mod Layout
-pub mod Log
 pub mod Promises
+pub mod Accessors
+-- what only the code needs
+pub mod Layout
 pub mod Reading
-pub mod Sizes
 pub mod Store
-pub mod Words

@@ -1,16 +1,16 @@
 -- What each public call of a log promises at Ok, a record for each call. `old` and `now` are what its device stands at before the
--- call and behind it. What holds at an error too stands in the clauses of the call.
+-- call and after it. What holds at an error too stands in the clauses of the call.
 use Rattle.std.specs.Prelude.{◌≡◌, ◌+◌, ℕ, List, [], length, true, false, Some}
 use Rattle.sector_device.specs.DiskState.{DiskState, Settled}
 use Rattle.sector_device.specs.declared.device.SectorDevice.{Ghosts}
 use Rattle.sector_log.specs.Calls.{HasBegun, CanBegin, IsAppended}
-use Rattle.sector_log.specs.Content.{content, generation_in, chosen, version_of}
-use Rattle.sector_log.specs.Found.{IsSound, seen_in, log_of}
-use Rattle.sector_log.specs.Inputs.{fits, grown}
-use Rattle.sector_log.specs.Words.{found_generation, longest_blob, seen, is_broken, entries_of, generation_of, id_of}
+use Rattle.log_format.specs.Content.{content, generation_in, chosen, version_of}
+use Rattle.log_format.specs.Found.{IsSound, seen_in, log_of}
+use Rattle.log_format.specs.Inputs.{fits, grown}
+use Rattle.sector_log.specs.Accessors.{found_generation, longest_blob, seen, is_broken, entries_of, generation_of, id_of}
 use Rattle.input_entries.specs.declared.Entry.{Entry}
 use Rattle.sector_log.specs.declared.opened.Opened.{Opened}
-use Rattle.sector_log.specs.declared.root.Version.TheVariants.{Two}
+use Rattle.log_format.specs.declared.root.Version.TheVariants.{Two}
 use Rattle.sector_log.specs.declared.store.Store.{Store}
 
 module _ {D : Type 0} {disk : Ghosts D} where
@@ -50,9 +50,9 @@ module _ {D : Type 0} {disk : Ghosts D} where
     pub was_unbroken : is_broken before ≡ false
     -- the inputs fit the log
     pub did_fit : fits (entries_of before) more ≡ true
-    -- one image is left, with all of them behind the log
+    -- one image is left, with all of them after the log
     pub appended : old.honest → IsAppended old now more
-    -- the entries are those of before with the inputs behind them
+    -- the entries are those of before with the inputs after them
     pub entries_are : entries_of after ≡ grown (entries_of before) more
     -- they are what reads give
     pub reads : old.honest → log_of (content now.sectors) ≡ entries_of after

@@ -2,10 +2,10 @@
 use Rattle.std.specs.Prelude.{◌≡◌, ℕ, List, Option, Some, None, Bool, if◌then◌else◌}
 use Rattle.std.proofs.Props.{props}
 use Rattle.sector_device.specs.DiskState.{DiskState, Settled}
-use Rattle.sector_log.specs.Content.{chosen, content}
-use Rattle.sector_log.specs.Found.{log_of, is_too_small, blob_in}
+use Rattle.log_format.specs.Content.{chosen, content}
+use Rattle.log_format.specs.Found.{log_of, is_too_small, blob_in}
 use Rattle.input_entries.specs.declared.StoredEntry.{StoredEntry}
-use Rattle.sector_log.specs.declared.root.Root.{Root}
+use Rattle.log_format.specs.declared.root.Root.{Root}
 
 -- one image is left; it has this chosen root, and this log unless it is damaged in length
 pub record IsFound (now : DiskState) (root : Option Root) (too_small : Bool) (log : List StoredEntry) : Type 0 where

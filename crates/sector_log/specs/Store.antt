@@ -1,15 +1,17 @@
 -- What a store knows of its device, and the root that it writes next.
-use Rattle.std.specs.Prelude.{◌≡◌, ◌⊎◌, ◌^◌, ◌+◌, ◌≤◌, ◌<◌, ℕ, List, [], slice_index_or, length, Some, Bool, true, false}
+use Rattle.std.specs.Prelude.{◌≡◌, ◌⊎◌, ◌+◌, ◌≤◌, ◌<◌, ℕ, List, [], slice_index_or, length, Some, Bool, true, false}
 use Rattle.std.proofs.Props.{props}
 use Rattle.sector_device.specs.DiskState.{DiskState, Settled}
-use Rattle.sector_log.specs.declared.root.Root.{Root}
-use Rattle.sector_log.specs.Content.{chosen, generation_in, area_length, area_start, blob_sectors}
+use Rattle.log_format.specs.declared.root.Root.{Root}
+use Rattle.log_format.specs.Content.{chosen, generation_in, area_length, area_start, blob_sectors}
 use Rattle.sector_log.specs.Layout.{replaced}
-use Rattle.sector_log.specs.Log.{log_area}
+use Rattle.log_format.specs.Log.{log_area}
 use Rattle.input_entries.specs.Inputs.{inputs, is_entry}
-use Rattle.sector_log.specs.Sizes.{log_sectors_per_area, most_entries, most_inputs}
+use Rattle.log_format.specs.Sizes.{log_sectors_per_area, most_entries, most_inputs}
 use Rattle.input_entries.specs.declared.StoredEntry.{StoredEntry}
-use Rattle.sector_log.specs.declared.root.Version.TheVariants.{Two}
+use Rattle.log_format.specs.declared.root.Version.TheVariants.{Two}
+use Rattle.log_format.specs.Inputs.{HaveSix}
+use Rattle.log_format.specs.Widths.{Fits}
 
 -- one image is left; its chosen root's area begins at `start`, holds the whole blob, and has exactly this log
 pub record IsStored (now : DiskState) (start : ℕ) (root : Root) (log : List StoredEntry) : Type 0 where
@@ -27,10 +29,6 @@ StoredUnlessBroken now start root log broken = broken ≡ false → now.honest �
 pub stored_prop : (now : DiskState) (start : ℕ) (root : Root) (log : List StoredEntry) (broken : Bool) → IsProp (StoredUnlessBroken now start root log broken)
 stored_prop now start root log broken = hlevel props
 
--- each entry has its six bytes
-abbrev pub HaveSix : List StoredEntry → Type 0
-HaveSix log = (k : ℕ) → k < length log → length (slice_index_or log k (record { code = [] })).code ≡ 6
-
 -- each entry stands for inputs
 abbrev pub StandForInputs : List StoredEntry → Type 0
 StandForInputs log = (k : ℕ) → k < length log → is_entry (slice_index_or log k (record { code = [] })) ≡ true
@@ -44,13 +42,6 @@ pub record Kept (log : List StoredEntry) : Type 0 where
 
 pub kept_prop : (log : List StoredEntry) → IsProp (Kept log)
 kept_prop log = hlevel props
-
--- its numbers have their widths
-pub record Fits (root : Root) : Type 0 where
-  pub generation : root.generation < 2 ^ 64
-  pub id : length root.id ≡ 32
-  pub base : root.base < 2 ^ 64
-  pub blob_length : root.blob_length < 2 ^ 32
 
 -- the root of the generation that follows, for the area that begins at `start`
 pub record IsNextGeneration (image : List (List ℕ)) (start : ℕ) (root : Root) (blob : List ℕ) : Type 0 where

@@ -22,7 +22,7 @@ pub enum LogFault {
     },
     /// The last generation is the greatest `u64`.
     #[error("generations used up")]
-    Worn,
+    GenerationsUsedUp,
     /// The inputs don't fit the log.
     #[error("log full")]
     LogFull,

@@ -1,17 +1,16 @@
 //! A new generation: the other area, a sync, the root, a sync.
 ghost use Rattle.std.specs.Prelude.{◌≡◌, ◌≢◌, ◌≤◌, ◌<◌, ◌+◌, ◌/◌, ◌^◌, ◌-◌, [], length, IfOk, IfSome, IsNone, OnOk};
 ghost use Rattle.sector_device.specs.DiskState.{HasCalled, Settled, Throughout, Remembers};
-ghost use Rattle.sector_log.specs.declared.root.Version.TheVariants.{Two};
+ghost use Rattle.log_format.specs.declared.root.Version.TheVariants.{Two};
 ghost use Rattle.sector_log.specs.Calls.{HasOldOrNewContent, HasBegun, CanBegin, IsBeginCause};
-ghost use Rattle.sector_log.specs.Content.{generation_in};
+ghost use Rattle.log_format.specs.Content.{generation_in};
 ghost use Rattle.sector_log.specs.Store.{IsStored, IsNextGeneration, root_after};
-ghost use Rattle.sector_log.specs.Sizes.{log_sectors_per_area};
+ghost use Rattle.log_format.specs.Sizes.{log_sectors_per_area};
 ghost use Rattle.sector_log.specs.declared.fault.LogFault.TheVariants.{Device};
 
 use crate::fault::LogFault;
-use crate::format::root_sector;
-use crate::root::{Root, Version, area_length, sectors_needed};
 use crate::writes::{fill_area, sync_once};
+use log_format::{Root, Version, area_length, root_sector, sectors_needed};
 use sector_device::{DeviceFault, SectorDevice};
 
 /// Writes a new generation. A power cut at any moment leaves the old content or the new one.
@@ -56,7 +55,7 @@ pub(crate) fn refusal(count: u64, last: u64, blob_length: usize) -> Option<LogFa
         return Some(LogFault::TooSmall { need });
     }
     if last == u64::MAX {
-        return Some(LogFault::Worn);
+        return Some(LogFault::GenerationsUsedUp);
     }
     None
 }

@@ -4,17 +4,16 @@ ghost use Rattle.sector_device.specs.DiskState.{HasAnswered};
 ghost use Rattle.sector_device.specs.Runs.{HoldsSince};
 ghost use Rattle.sector_log.specs.Calls.{HasOldOrNewContent, IsBeginCause, faults_after};
 ghost use Rattle.sector_log.specs.Reading.{FoundIs, found_prop, BlobIs, blob_prop};
-ghost use Rattle.sector_log.specs.Content.{content, generation_in};
-ghost use Rattle.sector_log.specs.Found.{found_in, log_of, blob_in};
-ghost use Rattle.sector_log.specs.Sizes.{most_entries_read};
+ghost use Rattle.log_format.specs.Content.{content, generation_in};
+ghost use Rattle.log_format.specs.Found.{found_in, log_of, blob_in};
+ghost use Rattle.log_format.specs.Sizes.{most_entries_read};
 ghost use Rattle.sector_log.specs.declared.fault.LogFault.TheVariants.{Memory, Device};
 
 use crate::StoredEntry;
 use crate::fault::{LogFault, Refused};
-use crate::found::{Found, Header, Part, counted};
 use crate::generation::{begin_generation, refusal};
-use crate::root::{Root, last_generation, sectors_needed};
 use crate::store::Store;
+use log_format::{Found, Header, Part, Root, counted, last_generation, sectors_needed};
 use sector_device::SectorDevice;
 
 /// A device whose log was read, and to which nothing can be appended: only `begin` makes a store of
@@ -38,7 +37,7 @@ pub struct Opened<D: SectorDevice> {
 
 impl<D: SectorDevice> Opened<D> {
     ghost use Rattle.sector_log.specs.Promises.{HasBegunStore};
-    ghost use Rattle.sector_log.specs.Words.{device_under, found_generation, longest_blob, seen, left_by_begin, device_of, is_broken, entries_of, generation_of, id_of};
+    ghost use Rattle.sector_log.specs.Accessors.{device_under, found_generation, longest_blob, seen, left_by_begin, device_of, is_broken, entries_of, generation_of, id_of};
 
     /// What reads give: nothing, a content, or a damaged content.
     pub fn found(&self) -> Found
@@ -73,7 +72,7 @@ impl<D: SectorDevice> Opened<D> {
     }
 
     /// The entries of the log; none if nothing is found or the blob does not fit the area.
-    #[tactic(auto, unfolding(crate::specs::Words::seen))]
+    #[tactic(auto, unfolding(crate::specs::Accessors::seen))]
     pub fn entries(&self) -> &[StoredEntry]
         ensures seen { result.now ≡ (seen self.now).log }
         ensures reads { (D.disk (device_under self.now)).honest → log_of (content (D.disk (device_under self.now)).sectors) ≡ result.now }
@@ -82,7 +81,7 @@ impl<D: SectorDevice> Opened<D> {
     }
 
     /// The blob, if it fits its area and is no longer than the `most` of `open_log`.
-    #[tactic(auto, unfolding(crate::specs::Words::seen))]
+    #[tactic(auto, unfolding(crate::specs::Accessors::seen))]
     pub fn blob(&self) -> Option<&[u8]>
         ensures seen_some { IfSome result (λ blob. (seen self.now).blob ≡ Some blob.now) }
         ensures seen_none { IsNone result → (seen self.now).blob ≡ None }
@@ -113,8 +112,8 @@ impl<D: SectorDevice> Opened<D> {
     }
 
     /// Begins a new generation with this blob and an empty log. A power cut at any moment leaves
-    /// the old content or the new one. `Err`: `TooSmall` or `Worn`, with the device as it was, or
-    /// `Device`.
+    /// the old content or the new one. `Err`: `TooSmall` or `GenerationsUsedUp`, with the device
+    /// as it was, or `Device`.
     pub fn begin(self, id: [u8; 32], base: u64, blob: &[u8]) -> Result<Store<D>, Refused<D>>
         requires { length blob.now < 2 ^ 32 }
         ensures images { (D.disk (device_under self)).honest →

@@ -4,13 +4,13 @@ ghost use Rattle.sector_device.specs.DiskState.{HasAnswered};
 ghost use Rattle.sector_device.specs.Looking.{HasLooked};
 ghost use Rattle.sector_log.specs.Calls.{faults_after};
 ghost use Rattle.sector_log.specs.Promises.{HasOpened};
-ghost use Rattle.sector_log.specs.Words.{device_under, left_by_open};
+ghost use Rattle.sector_log.specs.Accessors.{device_under, left_by_open};
 ghost use Rattle.sector_log.specs.declared.fault.LogFault.TheVariants.{Memory, Device};
 
 use crate::fault::{LogFault, Refused};
 use crate::opened::Opened;
-use crate::reading::{look, look_blob};
-use crate::sizes::MOST_ENTRIES_READ;
+use crate::reading::{read_chosen_blob, read_chosen_log};
+use log_format::MOST_ENTRIES_READ;
 use sector_device::SectorDevice;
 use std::alloc::Global;
 
@@ -39,13 +39,13 @@ pub fn open_log<D: SectorDevice>(
             device,
         });
     };
-    let Ok(found) = look(&mut device, &mut log) else {
+    let Ok(found) = read_chosen_log(&mut device, &mut log) else {
         return Err(Refused {
             why: LogFault::Device,
             device,
         });
     };
-    let Ok(blob_read) = look_blob(&mut device, found.root, most, &mut blob) else {
+    let Ok(blob_read) = read_chosen_blob(&mut device, found.root, most, &mut blob) else {
         return Err(Refused {
             why: LogFault::Device,
             device,

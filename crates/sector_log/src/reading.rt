@@ -1,19 +1,19 @@
 //! What is on a device.
 ghost use Rattle.std.specs.Prelude.{◌≡◌, ◌≤◌, ◌<◌, ◌+◌, ◌/◌, ◌^◌, ◌++◌, [], length, take, drop, IfOk, vec_capacity, Bool, if◌then◌else◌, Option, Some, None};
 ghost use Rattle.sector_device.specs.DiskState.{HasCalled, Settled};
-ghost use Rattle.sector_log.specs.Log.{log_from};
+ghost use Rattle.log_format.specs.Log.{log_from};
 ghost use Rattle.std.specs.List.{flat_map};
-ghost use Rattle.sector_log.specs.Content.{root_at, newer, chosen, content};
-ghost use Rattle.sector_log.specs.Found.{blob_in};
+ghost use Rattle.log_format.specs.Content.{root_at, newer, chosen, content};
+ghost use Rattle.log_format.specs.Found.{blob_in};
 ghost use Rattle.sector_device.specs.Looking.{LooksOnly};
 ghost use Rattle.sector_log.specs.Reading.{IsFound};
-ghost use Rattle.sector_log.specs.Sizes.{log_sectors_per_area, most_entries_read};
+ghost use Rattle.log_format.specs.Sizes.{log_sectors_per_area, most_entries_read};
 
 use crate::StoredEntry;
-use crate::parse::{newer, parse_root, read_entries};
-use crate::root::{Root, Version, area_length};
-use crate::sizes::LOG_SECTORS_PER_AREA;
 use crate::writes::sync_once;
+use log_format::{
+    LOG_SECTORS_PER_AREA, Root, Version, area_length, newer, parse_root, read_entries,
+};
 use sector_device::{DeviceFault, SectorDevice};
 
 fn read_root<D: SectorDevice>(device: &mut D, slot: u64) -> Result<Option<Root>, DeviceFault>
@@ -76,7 +76,7 @@ pub(crate) struct Finding {
 }
 
 /// Syncs, and reads the chosen root and its log. It writes nothing.
-pub(crate) fn look<D: SectorDevice>(
+pub(crate) fn read_chosen_log<D: SectorDevice>(
     device: &mut D,
     log: &mut Vec<StoredEntry>,
 ) -> Result<Finding, DeviceFault>
@@ -159,7 +159,7 @@ fn read_blob<D: SectorDevice>(
 
 /// Reads the blob of the chosen root, if it fits its area and is no longer than `most`, and answers
 /// whether it was read.
-pub(crate) fn look_blob<D: SectorDevice>(
+pub(crate) fn read_chosen_blob<D: SectorDevice>(
     device: &mut D,
     found: Option<Root>,
     most: usize,

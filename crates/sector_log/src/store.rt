@@ -2,20 +2,19 @@
 ghost use Rattle.std.specs.Prelude.{◌≡◌, ◌≤◌, ◌<◌, ◌+◌, ◌-◌, ◌^◌, ◌⊎◌, ◌↔◌, [], ℕ, length, true, false, Some, OnOk, IfErr, IsErrOf, vec_capacity};
 ghost use Rattle.sector_device.specs.DiskState.{HasAnswered};
 ghost use Rattle.sector_device.specs.Runs.{HoldsSince};
-ghost use Rattle.sector_log.specs.Calls.{HoldsPrefix, ChangesOpenLog, IsAppendCause, HasOldOrNewContent, IsReplaceCause, faults_after};
+ghost use Rattle.log_format.specs.Appends.{HoldsPrefix};
+ghost use Rattle.sector_log.specs.Calls.{ChangesOpenLog, IsAppendCause, HasOldOrNewContent, IsReplaceCause, faults_after};
 ghost use Rattle.sector_log.specs.Store.{IsStored, Kept, kept_prop, StoredUnlessBroken, stored_prop};
 ghost use Rattle.input_entries.specs.Inputs.{inputs, all_input};
-ghost use Rattle.sector_log.specs.Inputs.{fits};
-ghost use Rattle.sector_log.specs.Sizes.{log_sectors_per_area, most_entries_read};
+ghost use Rattle.log_format.specs.Inputs.{fits};
+ghost use Rattle.log_format.specs.Sizes.{log_sectors_per_area, most_entries_read};
 ghost use Rattle.sector_log.specs.declared.fault.LogFault.TheVariants.{Device, Broken};
 
-use crate::entries::{add_inputs, grown_length};
 use crate::fault::LogFault;
 use crate::generation::{begin_generation, refusal};
-use crate::root::Root;
-use crate::sizes::{ENTRIES_PER_SECTOR, MOST_ENTRIES, MOST_INPUTS};
 use crate::writes::{sync_once, write_log};
 use crate::{Entry, StoredEntry};
+use log_format::{ENTRIES_PER_SECTOR, MOST_ENTRIES, MOST_INPUTS, Root, add_inputs, grown_length};
 use sector_device::{DeviceFault, SectorDevice};
 
 /// The log of a generation that this process began. Inputs can be appended until a call of the
@@ -40,7 +39,7 @@ pub struct Store<D: SectorDevice> {
 
 impl<D: SectorDevice> Store<D> {
     ghost use Rattle.sector_log.specs.Promises.{HasAppended, HasReplaced};
-    ghost use Rattle.sector_log.specs.Words.{device_of, is_broken, entries_of, generation_of, id_of};
+    ghost use Rattle.sector_log.specs.Accessors.{device_of, is_broken, entries_of, generation_of, id_of};
 
     /// The store that a new generation leaves.
     pub(crate) fn at(device: D, start: u64, root: Root, log: Vec<StoredEntry>) -> Self
@@ -122,8 +121,8 @@ impl<D: SectorDevice> Store<D> {
     }
 
     /// Begins a new generation with this blob and an empty log. A power cut at any moment leaves
-    /// the old content or the new one. `Err`: `Broken`, `TooSmall` or `Worn`, with the store as it
-    /// was, or `Device`, which breaks it.
+    /// the old content or the new one. `Err`: `Broken`, `TooSmall` or `GenerationsUsedUp`, with
+    /// the store as it was, or `Device`, which breaks it.
     pub fn replace(&mut self, base: u64, blob: &[u8]) -> Result<(), LogFault>
         requires { length blob.now < 2 ^ 32 }
         ensures images { is_broken self.old ≡ false → (D.disk (device_of self.old)).honest →

@@ -2,13 +2,12 @@
 ghost use Rattle.std.specs.Prelude.{◌≡◌, ◌≤◌, ◌<◌, ◌+◌, ◌*◌, ◌/◌, ◌^◌, ℕ, length, take, drop, OnOk};
 ghost use Rattle.sector_device.specs.DiskState.{HasCalled, HasSynced, Settled, sector_at};
 ghost use Rattle.sector_device.specs.Runs.{HoldsThroughout, Mixed, WrittenUpTo};
-ghost use Rattle.sector_log.specs.Log.{log_area, fresh_area};
+ghost use Rattle.log_format.specs.Log.{log_area, fresh_area};
 ghost use Rattle.sector_log.specs.Layout.{replaced};
-ghost use Rattle.sector_log.specs.Sizes.{entries_per_sector, log_sectors_per_area, most_entries};
+ghost use Rattle.log_format.specs.Sizes.{entries_per_sector, log_sectors_per_area, most_entries};
 
 use crate::StoredEntry;
-use crate::format::{area_sector, log_sector};
-use crate::sizes::{ENTRIES_PER_SECTOR, LOG_SECTORS_PER_AREA};
+use log_format::{ENTRIES_PER_SECTOR, LOG_SECTORS_PER_AREA, area_sector, log_sector};
 use sector_device::{DeviceFault, SectorDevice};
 
 /// The entries in the log's sector at this index.

@@ -17,14 +17,14 @@ use Rattle.sector_device.specs.Runs.{HoldsSince}
 use Rattle.sector_device.proofs.Runs.{throughout_then, remembers_then, holds_since}
 use Rattle.sector_device.specs.Looking.{HasLooked}
 use Rattle.sector_log.specs.Calls.{HasBegun, HasOldOrNewContent, faults_after as log_faults_after}
-use Rattle.sector_log.specs.Content.{content, new_generation}
-use Rattle.sector_log.specs.Found.{log_of}
+use Rattle.log_format.specs.Content.{content, new_generation}
+use Rattle.log_format.specs.Found.{log_of}
 use Rattle.input_entries.specs.declared.StoredEntry.{StoredEntry}
 use Rattle.sector_log.specs.declared.fault.LogFault.{LogFault}
-use Rattle.sector_log.specs.declared.fault.LogFault.TheVariants.{Memory as LogMemory, Device as LogDevice, TooSmall as LogTooSmall, Worn as LogWorn, LogFull, Broken as LogBroken}
+use Rattle.sector_log.specs.declared.fault.LogFault.TheVariants.{Memory as LogMemory, Device as LogDevice, TooSmall as LogTooSmall, GenerationsUsedUp as LogGenerationsUsedUp, LogFull, Broken as LogBroken}
 use Rattle.session.specs.Beginning.{session_fault}
 use Rattle.session.specs.declared.error.SessionError.{SessionError}
-use Rattle.session.specs.declared.error.SessionError.TheVariants.{Memory, Device, Worn}
+use Rattle.session.specs.declared.error.SessionError.TheVariants.{Memory, Device, GenerationsUsedUp}
 use Rattle.session.specs.Calls.{IsAtRest, HasOldContentOrGame, StandsAsBefore, faults_after}
 use Rattle.session.specs.Found.{IsNewGameCause}
 use Rattle.session.specs.Resting.{IsOfItsRom, Rests}
@@ -61,9 +61,9 @@ if_err (Ok x) p to = tt
 if_err (Err e) p to = to e p
 
 -- looking at what a device holds finds no last generation
-pub looking_is_not_worn : {A : Type 0} (why : LogFault) → ((why ≡ LogMemory) × A) ⊎ (why ≡ LogDevice) → session_fault why ≡ Worn → ⊥
-looking_is_not_worn why (inl memory) worn = let same : Memory ≡ Worn = sym (ap session_fault memory.0) ∙ worn in cc
-looking_is_not_worn why (inr device) worn = let same : Device ≡ Worn = sym (ap session_fault device) ∙ worn in cc
+pub looking_is_not_worn : {A : Type 0} (why : LogFault) → ((why ≡ LogMemory) × A) ⊎ (why ≡ LogDevice) → session_fault why ≡ GenerationsUsedUp → ⊥
+looking_is_not_worn why (inl memory) worn = let same : Memory ≡ GenerationsUsedUp = sym (ap session_fault memory.0) ∙ worn in cc
+looking_is_not_worn why (inr device) worn = let same : Device ≡ GenerationsUsedUp = sym (ap session_fault device) ∙ worn in cc
 
 -- out of memory, the device was not touched
 pub looking_wants_memory : {A : Type 0} (why : LogFault) → ((why ≡ LogMemory) × A) ⊎ (why ≡ LogDevice) → session_fault why ≡ Memory → A
@@ -78,7 +78,7 @@ looking_is_a_cause blob_length count why (inr device) is = subst (IsNewGameCause
 -- a refusal of the log leaves the count of faults that it leaves as one of a session
 pub same_faults : (why : LogFault) (faults : ℕ) → log_faults_after why faults ≡ faults_after (session_fault why) faults
 same_faults (LogTooSmall needed) faults = refl
-same_faults LogWorn faults = refl
+same_faults LogGenerationsUsedUp faults = refl
 same_faults LogDevice faults = refl
 same_faults LogMemory faults = refl
 same_faults LogFull faults = refl

@@ -12,16 +12,16 @@ use Rattle.snapshot.specs.Legal.{IsLegalSnapshot, IsRefusal}
 use Rattle.snapshot.specs.declared.error.SnapError.TheVariants.{SnapLength}
 use Rattle.snapshot.proofs.Machines.{machine_back, encoded_legal}
 use Rattle.sector_device.specs.DiskState.{IsSized}
-use Rattle.sector_log.specs.Content.{ImageContent, Body, content, need}
-use Rattle.sector_log.specs.Found.{Seen, seen_in, found_in, found_by, log_of, blob_in, blob_by}
+use Rattle.log_format.specs.Content.{ImageContent, Body, content, need}
+use Rattle.log_format.specs.Found.{Seen, seen_in, found_in, found_by, log_of, blob_in, blob_by}
 use Rattle.input_entries.specs.Inputs.{inputs}
-use Rattle.sector_log.specs.Inputs.{counted, first_wrong}
+use Rattle.log_format.specs.Inputs.{counted, first_wrong}
 use Rattle.input_entries.specs.declared.StoredEntry.{StoredEntry}
-use Rattle.sector_log.specs.declared.found.Header.{Header}
-use Rattle.sector_log.specs.declared.found.Found.{Found}
-use Rattle.sector_log.specs.declared.found.Found.TheVariants.{Nothing, Intact, Damaged as DamagedLog}
-use Rattle.sector_log.specs.declared.found.Part.TheVariants.{Length, Count as TooMany}
-use Rattle.sector_log.proofs.FoundLaws.{found_length, found_fits}
+use Rattle.log_format.specs.declared.content.Header.{Header}
+use Rattle.log_format.specs.declared.content.Found.{Found}
+use Rattle.log_format.specs.declared.content.Found.TheVariants.{Nothing, Intact, Damaged as DamagedLog}
+use Rattle.log_format.specs.declared.content.Part.TheVariants.{Length, Count as TooMany}
+use Rattle.log_format.proofs.FoundLaws.{found_length, found_fits}
 use Rattle.session.specs.Inputs.{logged}
 use Rattle.session.specs.Stands.{Position, is_snapshot, position_in, stands}
 use Rattle.session.specs.Resting.{IsOfItsRom}
@@ -30,7 +30,7 @@ use Rattle.session.specs.Found.{IsShort, IsResumeCause}
 use Rattle.session.specs.Recovery.{IsHeaderCause, IsRebuildCause, IsRecoveryCause, IsRecovered}
 use Rattle.session.specs.declared.error.Damage.TheVariants.{Count, Snapshot, Entry}
 use Rattle.session.specs.declared.error.SessionError.{SessionError}
-use Rattle.session.specs.declared.error.SessionError.TheVariants.{Memory, Device, NoSession, TooSmall, OtherCartridge, Damaged, Worn, Broken, SaveFirst, CountFull, Output}
+use Rattle.session.specs.declared.error.SessionError.TheVariants.{Memory, Device, NoSession, TooSmall, OtherCartridge, Damaged, GenerationsUsedUp, Broken, SaveFirst, CountFull, Output}
 use Rattle.session.proofs.StandsLaws.{sound_by, stands_sound, legal_is_snapshot, encoded_is_snapshot}
 use Rattle.session.proofs.Beginnings.{own_after, rom_after, own_of_machine}
 
@@ -125,7 +125,7 @@ header_cause rom generation held (Damaged Count) cause =
     let found = found_uncounted held cause.0 cause.1 in record { header = cause.0; body = found.body; is = found.is; holds = (cause.2, found.many) }
 header_cause rom generation held (Damaged (Snapshot e)) cause = absurd cause
 header_cause rom generation held (Damaged (Entry k)) cause = absurd cause
-header_cause rom generation held Worn cause = absurd cause
+header_cause rom generation held GenerationsUsedUp cause = absurd cause
 header_cause rom generation held Broken cause = absurd cause
 header_cause rom generation held SaveFirst cause = absurd cause
 header_cause rom generation held CountFull cause = absurd cause
@@ -164,7 +164,7 @@ module _ (rom : List ℕ) (generation most : ℕ) (held : Option ImageContent) (
       record { header = c; body = found.body; is = found.is; holds = ((own, found.counts), subst (λ (b : List ℕ). IsRefusal rom b e) (sym (bytes_are bytes is)) cause.0, cause.1) }
   rebuild_cause bytes (Damaged (Entry k)) is cause =
       record { header = c; body = found.body; is = found.is; holds = (((own, found.counts), subst (λ (b : List ℕ). IsLegalSnapshot rom b) (sym (bytes_are bytes is)) cause.0), sym (ap first_wrong log_is) ∙ cause.1) }
-  rebuild_cause bytes Worn is cause =
+  rebuild_cause bytes GenerationsUsedUp is cause =
       record { header = c; body = found.body; is = found.is; holds = (((own, found.counts), subst (λ (b : List ℕ). IsLegalSnapshot rom b) (sym (bytes_are bytes is)) cause.0), sym (ap first_wrong log_is) ∙ cause.1, cause.2) }
   rebuild_cause bytes Broken is cause = absurd cause
   rebuild_cause bytes SaveFirst is cause = absurd cause
@@ -286,7 +286,7 @@ begin_cause rom generation held blob_length count last NoSession enough unworn c
 begin_cause rom generation held blob_length count last (TooSmall n) enough unworn cause = absurd (let less = cause.1 in omega arith)
 begin_cause rom generation held blob_length count last OtherCartridge enough unworn cause = absurd cause
 begin_cause rom generation held blob_length count last (Damaged d) enough unworn cause = absurd cause
-begin_cause rom generation held blob_length count last Worn enough unworn cause = absurd (let top = cause.1 in omega arith)
+begin_cause rom generation held blob_length count last GenerationsUsedUp enough unworn cause = absurd (let top = cause.1 in omega arith)
 begin_cause rom generation held blob_length count last Broken enough unworn cause = absurd cause
 begin_cause rom generation held blob_length count last SaveFirst enough unworn cause = absurd cause
 begin_cause rom generation held blob_length count last CountFull enough unworn cause = absurd cause

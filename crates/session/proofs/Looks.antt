@@ -11,10 +11,10 @@ use Rattle.sector_device.specs.Looking.{HasLooked}
 use Rattle.sector_device.specs.Runs.{HoldsSince}
 use Rattle.input_entries.specs.Inputs.{inputs}
 use Rattle.sector_log.specs.Calls.{HasOldOrNewContent}
-use Rattle.sector_log.specs.Content.{ImageContent, content, generation_in, need}
-use Rattle.sector_log.specs.Found.{Seen, seen_in, log_of}
-use Rattle.sector_log.specs.declared.found.Header.{Header}
-use Rattle.sector_log.specs.declared.found.Found.TheVariants.{Intact}
+use Rattle.log_format.specs.Content.{ImageContent, content, generation_in, need}
+use Rattle.log_format.specs.Found.{Seen, seen_in, log_of}
+use Rattle.log_format.specs.declared.content.Header.{Header}
+use Rattle.log_format.specs.declared.content.Found.TheVariants.{Intact}
 use Rattle.session.specs.Beginning.{IsBeginRefusal}
 use Rattle.session.specs.Calls.{IsAtRest, StandsAsBefore}
 use Rattle.session.specs.Found.{IsResumeCause, IsLookCause, IsTakeUpCause}
@@ -22,7 +22,7 @@ use Rattle.session.specs.Recovery.{IsRecovered}
 use Rattle.session.specs.Resting.{IsLookedAt}
 use Rattle.session.specs.Stands.{Position, stands, further}
 use Rattle.session.specs.declared.error.SessionError.{SessionError}
-use Rattle.session.specs.declared.error.SessionError.TheVariants.{Memory, Device, NoSession, TooSmall, OtherCartridge, Damaged, Worn, Broken, SaveFirst, CountFull, Output}
+use Rattle.session.specs.declared.error.SessionError.TheVariants.{Memory, Device, NoSession, TooSmall, OtherCartridge, Damaged, GenerationsUsedUp, Broken, SaveFirst, CountFull, Output}
 use Rattle.session.proofs.Beginnings.{since_now, resume_images}
 use Rattle.session.proofs.Finding.{recovered_stands, recovered_machine, recovered_fits}
 use Rattle.session.proofs.StandsLaws.{after_none}
@@ -93,7 +93,7 @@ look_cause rom held NoSession cause = cause
 look_cause rom held (TooSmall n) cause = cause
 look_cause rom held OtherCartridge cause = cause
 look_cause rom held (Damaged d) cause = cause
-look_cause rom held Worn cause = absurd (let top = cause.holds.2 in omega arith)
+look_cause rom held GenerationsUsedUp cause = absurd (let top = cause.holds.2 in omega arith)
 look_cause rom held Broken cause = cause
 look_cause rom held SaveFirst cause = cause
 look_cause rom held CountFull cause = cause
@@ -107,7 +107,7 @@ take_up_cause blob_length count last NoSession enough cause = absurd cause
 take_up_cause blob_length count last (TooSmall n) enough cause = absurd (let less = cause.1 in omega arith)
 take_up_cause blob_length count last OtherCartridge enough cause = absurd cause
 take_up_cause blob_length count last (Damaged d) enough cause = absurd cause
-take_up_cause blob_length count last Worn enough cause = cause.1
+take_up_cause blob_length count last GenerationsUsedUp enough cause = cause.1
 take_up_cause blob_length count last Broken enough cause = absurd cause
 take_up_cause blob_length count last SaveFirst enough cause = absurd cause
 take_up_cause blob_length count last CountFull enough cause = absurd cause

@@ -5,14 +5,14 @@ use Rattle.snapshot.specs.Encoding.{encoded}
 use Rattle.snapshot.specs.Legal.{IsMachineOf, IsLegalSnapshot}
 use Rattle.snapshot.proofs.Machines.{encoded_legal}
 use Rattle.input_entries.specs.Inputs.{inputs}
-use Rattle.sector_log.specs.Inputs.{counted, first_wrong}
+use Rattle.log_format.specs.Inputs.{counted, first_wrong}
 use Rattle.input_entries.specs.declared.StoredEntry.{StoredEntry}
-use Rattle.sector_log.proofs.FoundLaws.{counts_inputs}
-use Rattle.sector_log.proofs.Wrong.{none_wrong}
+use Rattle.log_format.proofs.FoundLaws.{counts_inputs}
+use Rattle.log_format.proofs.Wrong.{none_wrong}
 use Rattle.session.specs.Recovery.{IsLogCause, IsRebuildCause}
 use Rattle.session.specs.declared.error.Damage.TheVariants.{Count, Snapshot, Entry}
 use Rattle.session.specs.declared.error.SessionError.{SessionError}
-use Rattle.session.specs.declared.error.SessionError.TheVariants.{Memory, Device, NoSession, TooSmall, OtherCartridge, Damaged, Worn, Broken, SaveFirst, CountFull, Output}
+use Rattle.session.specs.declared.error.SessionError.TheVariants.{Memory, Device, NoSession, TooSmall, OtherCartridge, Damaged, GenerationsUsedUp, Broken, SaveFirst, CountFull, Output}
 
 -- a log of inputs counts as many as it stands for
 pub counted_all : (log : List StoredEntry) → first_wrong log ≡ None → counted 0 log ≡ length (inputs log)
@@ -31,7 +31,7 @@ log_cause rom bytes log generation OtherCartridge legal cause = absurd cause
 log_cause rom bytes log generation (Damaged Count) legal cause = absurd cause
 log_cause rom bytes log generation (Damaged (Snapshot e)) legal cause = absurd cause
 log_cause rom bytes log generation (Damaged (Entry k)) legal cause = (legal, cause)
-log_cause rom bytes log generation Worn legal cause = (legal, cause.0, cause.1)
+log_cause rom bytes log generation GenerationsUsedUp legal cause = (legal, cause.0, cause.1)
 log_cause rom bytes log generation Broken legal cause = absurd cause
 log_cause rom bytes log generation SaveFirst legal cause = absurd cause
 log_cause rom bytes log generation CountFull legal cause = absurd cause

@@ -8,7 +8,7 @@ use Rattle.machine.specs.Machine.{MachineState, after, applied}
 use Rattle.machine.specs.declared.input.Input.{Input}
 use Rattle.machine.specs.declared.input.Input.TheVariants.{Frame, Seconds}
 use Rattle.input_entries.specs.Inputs.{frame, seconds, is_entry, inputs_in, inputs}
-use Rattle.sector_log.specs.Inputs.{wrong_from}
+use Rattle.log_format.specs.Inputs.{wrong_from}
 use Rattle.input_entries.specs.declared.Entry.{Entry}
 use Rattle.input_entries.specs.declared.StoredEntry.{StoredEntry}
 use Rattle.session.specs.Inputs.{input_of, inputs_of, logged}

@@ -7,9 +7,9 @@ use Rattle.sha2.specs.Sha256.{sha256}
 use Rattle.machine.specs.Machine.{MachineState}
 use Rattle.snapshot.specs.Encoding.{snapshot_length}
 use Rattle.sector_device.specs.declared.device.SectorDevice.{Ghosts}
-use Rattle.sector_log.specs.Content.{need}
+use Rattle.log_format.specs.Content.{need}
 use Rattle.input_entries.specs.Inputs.{is_input}
-use Rattle.sector_log.specs.Words.{device_of as device_of_store, is_broken as is_broken_store, id_of, entries_of}
+use Rattle.sector_log.specs.Accessors.{device_of as device_of_store, is_broken as is_broken_store, id_of, entries_of}
 use Rattle.input_entries.specs.declared.Entry.{Entry}
 use Rattle.sector_log.specs.declared.store.Store.{Store}
 use Rattle.session.specs.Calls.{most_unsaved}

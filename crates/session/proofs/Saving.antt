@@ -15,11 +15,12 @@ use Rattle.snapshot.specs.Table.{kind_of_image}
 use Rattle.sector_device.specs.DiskState.{DiskState}
 use Rattle.sector_device.specs.Runs.{HoldsSince}
 use Rattle.sector_device.proofs.Runs.{holds_since}
-use Rattle.sector_log.specs.Calls.{IsAppended, HoldsPrefix}
-use Rattle.sector_log.specs.Content.{content, new_generation}
-use Rattle.sector_log.specs.Found.{log_of}
+use Rattle.sector_log.specs.Calls.{IsAppended}
+use Rattle.log_format.specs.Appends.{HoldsPrefix}
+use Rattle.log_format.specs.Content.{content, new_generation}
+use Rattle.log_format.specs.Found.{log_of}
 use Rattle.input_entries.specs.Inputs.{is_input}
-use Rattle.sector_log.specs.Inputs.{grown}
+use Rattle.log_format.specs.Inputs.{grown}
 use Rattle.input_entries.specs.declared.Entry.{Entry}
 use Rattle.input_entries.specs.declared.StoredEntry.{StoredEntry}
 use Rattle.session.specs.Calls.{IsAtRest, IsSaved}

@@ -18,13 +18,13 @@ use Rattle.snapshot.specs.Reading.{machine_in}
 use Rattle.snapshot.specs.Legal.{IsMachineOf, IsLegalSnapshot}
 use Rattle.snapshot.specs.declared.field.SnapshotField.{SnapshotField}
 use Rattle.snapshot.proofs.Machines.{machine_back, encoded_legal}
-use Rattle.sector_log.specs.Content.{Body}
+use Rattle.log_format.specs.Content.{Body}
 use Rattle.input_entries.specs.Inputs.{inputs}
-use Rattle.sector_log.specs.Inputs.{counted, first_wrong, AreInputs}
+use Rattle.log_format.specs.Inputs.{counted, first_wrong, AreInputs}
 use Rattle.input_entries.specs.declared.Entry.{Entry}
-use Rattle.sector_log.specs.declared.found.Header.{Header}
-use Rattle.sector_log.proofs.FoundLaws.{counts_inputs}
-use Rattle.sector_log.proofs.Wrong.{none_wrong}
+use Rattle.log_format.specs.declared.content.Header.{Header}
+use Rattle.log_format.proofs.FoundLaws.{counts_inputs}
+use Rattle.log_format.proofs.Wrong.{none_wrong}
 use Rattle.session.specs.Inputs.{input_of, inputs_of, logged}
 use Rattle.session.specs.Stands.{Position, is_snapshot, is_sound, position_in, stands}
 use Rattle.session.specs.Laws.{MoreInputsStandFurther, ASnapshotStandsForItsMachine}

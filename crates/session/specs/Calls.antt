@@ -5,13 +5,13 @@ use Rattle.machine.specs.Machine.{MachineState, start}
 use Rattle.cartridge.specs.Header.{ram_length_of}
 use Rattle.snapshot.specs.Encoding.{encoded, snapshot_length}
 use Rattle.sector_device.specs.DiskState.{DiskState, Settled, next_count}
-use Rattle.sector_log.specs.Content.{ImageContent, content, generation_in, need, new_generation}
-use Rattle.sector_log.specs.Calls.{Adds}
-use Rattle.sector_log.specs.Found.{log_of}
-use Rattle.sector_log.specs.Inputs.{grown}
+use Rattle.log_format.specs.Content.{ImageContent, content, generation_in, need, new_generation}
+use Rattle.log_format.specs.Appends.{Adds}
+use Rattle.log_format.specs.Found.{log_of}
+use Rattle.log_format.specs.Inputs.{grown}
 use Rattle.input_entries.specs.declared.Entry.{Entry}
 use Rattle.session.specs.declared.error.SessionError.{SessionError}
-use Rattle.session.specs.declared.error.SessionError.TheVariants.{Memory, Device, NoSession, TooSmall, OtherCartridge, Damaged, Worn, Broken, SaveFirst, CountFull, Output}
+use Rattle.session.specs.declared.error.SessionError.TheVariants.{Memory, Device, NoSession, TooSmall, OtherCartridge, Damaged, GenerationsUsedUp, Broken, SaveFirst, CountFull, Output}
 use Rattle.session.specs.Inputs.{inputs_of}
 use Rattle.session.specs.Stands.{Position, stands, further}
 
@@ -24,7 +24,7 @@ pub record IsAtRest (rom : List ℕ) (now : DiskState) (acknowledged : ℕ) (pen
 
 -- ---- a new game
 
--- a snapshot of the machine that a game begins with, behind which there is no input
+-- a snapshot of the machine that a game begins with, after which there is no input
 abbrev pub game_content : (rom : List ℕ) → MachineState → ImageContent
 game_content rom machine = new_generation (sha256 rom) 0 (encoded machine)
 
@@ -74,7 +74,7 @@ pub record StandsAsBefore (rom : List ℕ) (old : DiskState) (image : List (List
 
 -- ---- a save
 
--- behind the log where the entries fit it, else in a new generation with a snapshot of the machine and an empty log
+-- after the log where the entries fit it, else in a new generation with a snapshot of the machine and an empty log
 abbrev pub IsSaved : (fits : Bool) → (rom : List ℕ) → (all : ℕ) → MachineState → List Entry → (old new : List (List ℕ)) → Type 0
 IsSaved true rom all machine entries old new =
     Adds entries (content old) (content new) × (log_of (content new) ≡ grown (log_of (content old)) entries) × (generation_in new ≡ generation_in old)
@@ -95,16 +95,9 @@ input_answer broken pending all =
 -- why nothing is saved: a call failed before; else the entries don't fit and the generations are used up; else a call failed
 abbrev pub IsSaveCause : SessionError → (broken fits : Bool) → (generation : ℕ) → Type 0
 IsSaveCause Broken broken fits generation = broken ≡ true
-IsSaveCause Worn broken fits generation = (broken ≡ false) × (fits ≡ false) × (generation ≡ 2 ^ 64 - 1)
+IsSaveCause GenerationsUsedUp broken fits generation = (broken ≡ false) × (fits ≡ false) × (generation ≡ 2 ^ 64 - 1)
 IsSaveCause Device broken fits generation = (broken ≡ false) × ((fits ≡ true) ⊎ (generation < 2 ^ 64 - 1))
-IsSaveCause Memory broken fits generation = ⊥
-IsSaveCause NoSession broken fits generation = ⊥
-IsSaveCause (TooSmall needed) broken fits generation = ⊥
-IsSaveCause OtherCartridge broken fits generation = ⊥
-IsSaveCause (Damaged damage) broken fits generation = ⊥
-IsSaveCause SaveFirst broken fits generation = ⊥
-IsSaveCause CountFull broken fits generation = ⊥
-IsSaveCause Output broken fits generation = ⊥
+IsSaveCause why broken fits generation = ⊥
 
 -- the device's count of failed calls after an answer: one more after `Device`, and after no other
 abbrev pub faults_after : SessionError → ℕ → ℕ
@@ -114,7 +107,7 @@ faults_after NoSession faults = faults
 faults_after (TooSmall needed) faults = faults
 faults_after OtherCartridge faults = faults
 faults_after (Damaged damage) faults = faults
-faults_after Worn faults = faults
+faults_after GenerationsUsedUp faults = faults
 faults_after Broken faults = faults
 faults_after SaveFirst faults = faults
 faults_after CountFull faults = faults

@@ -3,13 +3,13 @@ use Rattle.std.specs.Prelude.{◌≡◌, ◌≢◌, ◌≤◌, ◌<◌, ◌+◌,
 use Rattle.sha2.specs.Sha256.{sha256}
 use Rattle.snapshot.specs.declared.error.SnapError.TheVariants.{Memory as NoMemory}
 use Rattle.snapshot.specs.Legal.{IsLegalSnapshot, IsRefusal}
-use Rattle.sector_log.specs.Content.{ImageContent, Body, need}
-use Rattle.sector_log.specs.Inputs.{counted, first_wrong}
-use Rattle.sector_log.specs.declared.found.Header.{Header}
+use Rattle.log_format.specs.Content.{ImageContent, Body, need}
+use Rattle.log_format.specs.Inputs.{counted, first_wrong}
+use Rattle.log_format.specs.declared.content.Header.{Header}
 use Rattle.session.specs.declared.error.Damage.{Damage}
 use Rattle.session.specs.declared.error.Damage.TheVariants.{Count, Snapshot, Entry}
 use Rattle.session.specs.declared.error.SessionError.{SessionError}
-use Rattle.session.specs.declared.error.SessionError.TheVariants.{Memory, Device, NoSession, TooSmall, OtherCartridge, Damaged, Worn, Broken, SaveFirst, CountFull, Output}
+use Rattle.session.specs.declared.error.SessionError.TheVariants.{Memory, Device, NoSession, TooSmall, OtherCartridge, Damaged, GenerationsUsedUp}
 
 -- the blob does not fit an area, which would need so many sectors
 pub record IsShort (held : Option ImageContent) (needed : ℕ) : Type 0 where
@@ -51,15 +51,12 @@ IsResumeCause rom generation held NoSession = held ≡ None
 IsResumeCause rom generation held (TooSmall needed) = IsShort held needed
 IsResumeCause rom generation held OtherCartridge = IsWhole held (λ header body. ¬ (IsOfRom rom header))
 IsResumeCause rom generation held (Damaged damage) = IsDamaged rom held damage
-IsResumeCause rom generation held Worn = IsWhole held (λ header body. HasSnapshot rom header body × (first_wrong body.log ≡ None) × (generation ≡ 2 ^ 64 - 1))
-IsResumeCause rom generation held Broken = ⊥
-IsResumeCause rom generation held SaveFirst = ⊥
-IsResumeCause rom generation held CountFull = ⊥
-IsResumeCause rom generation held Output = ⊥
+IsResumeCause rom generation held GenerationsUsedUp = IsWhole held (λ header body. HasSnapshot rom header body × (first_wrong body.log ≡ None) × (generation ≡ 2 ^ 64 - 1))
+IsResumeCause rom generation held why = ⊥
 
 -- why a game is not looked at: as it is not taken up, but that generations used up are no reason
 abbrev pub IsLookCause : (rom : List ℕ) → Option ImageContent → SessionError → Type 0
-IsLookCause rom held Worn = ⊥
+IsLookCause rom held GenerationsUsedUp = ⊥
 IsLookCause rom held why = IsResumeCause rom 0 held why
 
 -- why a game that was looked at is not taken up: the generations used up, else a failed call; nothing is said of running out
@@ -67,26 +64,13 @@ IsLookCause rom held why = IsResumeCause rom 0 held why
 abbrev pub IsTakeUpCause : (generation : ℕ) → SessionError → Type 0
 IsTakeUpCause generation Memory = ⊤
 IsTakeUpCause generation Device = generation < 2 ^ 64 - 1
-IsTakeUpCause generation Worn = generation ≡ 2 ^ 64 - 1
-IsTakeUpCause generation NoSession = ⊥
-IsTakeUpCause generation (TooSmall needed) = ⊥
-IsTakeUpCause generation OtherCartridge = ⊥
-IsTakeUpCause generation (Damaged damage) = ⊥
-IsTakeUpCause generation Broken = ⊥
-IsTakeUpCause generation SaveFirst = ⊥
-IsTakeUpCause generation CountFull = ⊥
-IsTakeUpCause generation Output = ⊥
+IsTakeUpCause generation GenerationsUsedUp = generation ≡ 2 ^ 64 - 1
+IsTakeUpCause generation why = ⊥
 
 -- why no new game is begun on a device of so many sectors; nothing is said of running out of memory, nor of a failed call
 abbrev pub IsNewGameCause : (blob_length count : ℕ) → SessionError → Type 0
 IsNewGameCause blob_length count Memory = ⊤
 IsNewGameCause blob_length count Device = ⊤
 IsNewGameCause blob_length count (TooSmall needed) = (needed ≡ need blob_length) × (count < need blob_length)
-IsNewGameCause blob_length count Worn = need blob_length ≤ count
-IsNewGameCause blob_length count NoSession = ⊥
-IsNewGameCause blob_length count OtherCartridge = ⊥
-IsNewGameCause blob_length count (Damaged damage) = ⊥
-IsNewGameCause blob_length count Broken = ⊥
-IsNewGameCause blob_length count SaveFirst = ⊥
-IsNewGameCause blob_length count CountFull = ⊥
-IsNewGameCause blob_length count Output = ⊥
+IsNewGameCause blob_length count GenerationsUsedUp = need blob_length ≤ count
+IsNewGameCause blob_length count why = ⊥

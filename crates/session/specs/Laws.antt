@@ -5,13 +5,13 @@ use Rattle.machine.specs.Machine.{MachineState}
 use Rattle.machine.specs.declared.input.Input.TheVariants.{Frame, Seconds}
 use Rattle.snapshot.specs.Encoding.{encoded}
 use Rattle.snapshot.specs.Legal.{IsMachineOf}
-use Rattle.sector_log.specs.Calls.{Adds}
-use Rattle.sector_log.specs.Content.{ImageContent, new_generation}
+use Rattle.log_format.specs.Appends.{Adds}
+use Rattle.log_format.specs.Content.{ImageContent, new_generation}
 use Rattle.input_entries.specs.declared.Entry.{Entry}
 use Rattle.session.specs.Inputs.{inputs_of, entry_of, input_of}
 use Rattle.session.specs.Stands.{Position, stands, further}
 
--- a content with more inputs behind its log stands for these inputs further
+-- a content with more inputs after its log stands for these inputs further
 abbrev pub MoreInputsStandFurther : Type 0
 MoreInputsStandFurther =
     (rom : List ℕ) (old new : Option ImageContent) (more : List Entry) (from : Position) → Adds more old new → stands rom old ≡ Some from

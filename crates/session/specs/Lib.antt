@@ -2,7 +2,7 @@ pub mod Inputs
 pub mod Stands
 pub mod Found
 pub mod Calls
-pub mod Words
+pub mod Accessors
 pub mod Laws
 -- what only the code needs
 pub mod Beginning

@@ -6,17 +6,17 @@ use Rattle.snapshot.specs.Encoding.{encoded}
 use Rattle.snapshot.specs.Legal.{IsMachineOf, IsLegalSnapshot, IsRefusal}
 use Rattle.snapshot.specs.declared.error.SnapError.TheVariants.{SnapLength, Memory as NoMemory}
 use Rattle.input_entries.specs.Inputs.{inputs}
-use Rattle.sector_log.specs.Inputs.{first_wrong}
-use Rattle.sector_log.specs.Found.{Seen}
+use Rattle.log_format.specs.Inputs.{first_wrong}
+use Rattle.log_format.specs.Found.{Seen}
 use Rattle.input_entries.specs.declared.StoredEntry.{StoredEntry}
-use Rattle.sector_log.specs.declared.found.Header.{Header}
-use Rattle.sector_log.specs.declared.found.Found.{Found}
-use Rattle.sector_log.specs.declared.found.Found.TheVariants.{Nothing, Intact, Damaged as DamagedLog}
-use Rattle.sector_log.specs.declared.found.Part.TheVariants.{Length, Count as TooMany}
+use Rattle.log_format.specs.declared.content.Header.{Header}
+use Rattle.log_format.specs.declared.content.Found.{Found}
+use Rattle.log_format.specs.declared.content.Found.TheVariants.{Nothing, Intact, Damaged as DamagedLog}
+use Rattle.log_format.specs.declared.content.Part.TheVariants.{Length, Count as TooMany}
 use Rattle.session.specs.Inputs.{logged}
 use Rattle.session.specs.declared.error.Damage.TheVariants.{Count, Snapshot, Entry}
 use Rattle.session.specs.declared.error.SessionError.{SessionError}
-use Rattle.session.specs.declared.error.SessionError.TheVariants.{Memory, NoSession, TooSmall, OtherCartridge, Damaged, Worn}
+use Rattle.session.specs.declared.error.SessionError.TheVariants.{Memory, NoSession, TooSmall, OtherCartridge, Damaged, GenerationsUsedUp}
 
 -- what was found is whole, of this digest, and can be counted
 pub record IsHeader (found : Found) (digest : List ℕ) (header : Header) : Type 0 where
@@ -32,10 +32,10 @@ IsHeaderCause found digest why = ⊥
 
 abbrev pub IsLogCause : List StoredEntry → (generation : ℕ) → SessionError → Type 0
 IsLogCause log generation (Damaged (Entry index)) = first_wrong log ≡ Some index
-IsLogCause log generation Worn = (first_wrong log ≡ None) × (generation ≡ 2 ^ 64 - 1)
+IsLogCause log generation GenerationsUsedUp = (first_wrong log ≡ None) × (generation ≡ 2 ^ 64 - 1)
 IsLogCause log generation why = ⊥
 
--- the machine of a snapshot after the inputs of the log behind it
+-- the machine of a snapshot after the inputs of the log after it
 pub record IsRebuilt (rom : List ℕ) (header : Header) (bytes : List ℕ) (log : List StoredEntry) (generation count : ℕ) (machine : MachineState) : Type 0 where
   pub snapshot : MachineState
   pub of : IsMachineOf rom snapshot
@@ -49,7 +49,7 @@ abbrev pub IsRebuildCause : (rom bytes : List ℕ) → List StoredEntry → (gen
 IsRebuildCause rom bytes log generation Memory = IsLegalSnapshot rom bytes × (first_wrong log ≡ None) × (generation < 2 ^ 64 - 1)
 IsRebuildCause rom bytes log generation (Damaged (Snapshot error)) = IsRefusal rom bytes error × (error ≢ NoMemory)
 IsRebuildCause rom bytes log generation (Damaged (Entry index)) = IsLegalSnapshot rom bytes × (first_wrong log ≡ Some index)
-IsRebuildCause rom bytes log generation Worn = IsLegalSnapshot rom bytes × (first_wrong log ≡ None) × (generation ≡ 2 ^ 64 - 1)
+IsRebuildCause rom bytes log generation GenerationsUsedUp = IsLegalSnapshot rom bytes × (first_wrong log ≡ None) × (generation ≡ 2 ^ 64 - 1)
 IsRebuildCause rom bytes log generation why = ⊥
 
 -- the same of what was found of a device
@@ -61,7 +61,7 @@ pub record IsRecovered (rom : List ℕ) (seen : Seen) (generation count : ℕ) (
   pub blob_is : seen.blob ≡ Some bytes
   pub rebuilt : IsRebuilt rom header bytes seen.log generation count machine
 
--- a refusal of the snapshot or of the log behind it
+-- a refusal of the snapshot or of the log after it
 pub record IsRebuildRefusal (rom : List ℕ) (seen : Seen) (generation : ℕ) (why : SessionError) : Type 0 where
   pub header : Header
   pub found_is : seen.found ≡ Intact header

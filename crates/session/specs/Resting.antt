@@ -6,8 +6,8 @@ use Rattle.machine.specs.Machine.{MachineState}
 use Rattle.snapshot.specs.Encoding.{snapshot_length}
 use Rattle.snapshot.specs.Table.{kind_of_image}
 use Rattle.sector_device.specs.DiskState.{DiskState}
-use Rattle.sector_log.specs.Content.{content, generation_in, need}
-use Rattle.sector_log.specs.Found.{log_of}
+use Rattle.log_format.specs.Content.{content, generation_in, need}
+use Rattle.log_format.specs.Found.{log_of}
 use Rattle.input_entries.specs.Inputs.{inputs}
 use Rattle.input_entries.specs.declared.Entry.{Entry}
 use Rattle.input_entries.specs.declared.StoredEntry.{StoredEntry}

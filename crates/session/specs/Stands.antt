@@ -9,10 +9,10 @@ use Rattle.machine.specs.Machine.{MachineState, after}
 use Rattle.snapshot.specs.Encoding.{snapshot_length}
 use Rattle.snapshot.specs.Table.{is_legal, table_of}
 use Rattle.snapshot.specs.Reading.{machine_in}
-use Rattle.sector_log.specs.Content.{ImageContent, Body, content}
+use Rattle.log_format.specs.Content.{ImageContent, Body, content}
 use Rattle.input_entries.specs.Inputs.{inputs}
-use Rattle.sector_log.specs.Inputs.{counted, first_wrong}
-use Rattle.sector_log.specs.declared.found.Header.{Header}
+use Rattle.log_format.specs.Inputs.{counted, first_wrong}
+use Rattle.log_format.specs.declared.content.Header.{Header}
 use Rattle.session.specs.Inputs.{logged}
 
 -- a machine, and how many inputs brought it there

@@ -1,14 +1,15 @@
 -- What a save writes to a store; a reader needs none of this.
 use Rattle.std.specs.Prelude.{◌≡◌, ◌⊎◌, ℕ, List, [], Bool, true, false, Some}
 use Rattle.sector_device.specs.DiskState.{DiskState}
-use Rattle.sector_log.specs.Calls.{HoldsPrefix, HasBegun, IsAppended}
-use Rattle.sector_log.specs.Content.{content, new_generation}
-use Rattle.sector_log.specs.Found.{log_of}
-use Rattle.sector_log.specs.Inputs.{grown}
+use Rattle.log_format.specs.Appends.{HoldsPrefix}
+use Rattle.sector_log.specs.Calls.{HasBegun, IsAppended}
+use Rattle.log_format.specs.Content.{content, new_generation}
+use Rattle.log_format.specs.Found.{log_of}
+use Rattle.log_format.specs.Inputs.{grown}
 use Rattle.input_entries.specs.declared.Entry.{Entry}
 use Rattle.input_entries.specs.declared.StoredEntry.{StoredEntry}
 
--- where they fit, the old content with a prefix of the entries behind its log; else the old content or the new one
+-- where they fit, the old content with a prefix of the entries after its log; else the old content or the new one
 abbrev pub HoldsWritten : (fits : Bool) → (old : List (List ℕ)) → List Entry → (id : List ℕ) → (all : ℕ) → (blob : List ℕ) → List (List ℕ) → Type 0
 HoldsWritten true old entries id all blob image = HoldsPrefix old entries image
 HoldsWritten false old entries id all blob image = (content image ≡ content old) ⊎ (content image ≡ Some (new_generation id all blob))

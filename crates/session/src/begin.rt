@@ -9,14 +9,14 @@ ghost use Rattle.sector_device.specs.DiskState.{HasAnswered};
 ghost use Rattle.sector_device.specs.Looking.{HasLooked};
 ghost use Rattle.sector_device.specs.Runs.{HoldsSince};
 ghost use Rattle.sector_log.specs.Calls.{HasOldOrNewContent, HasBegun, CanBegin};
-ghost use Rattle.sector_log.specs.Content.{need, generation_in};
-ghost use Rattle.sector_log.specs.Words.{device_under, found_generation};
+ghost use Rattle.log_format.specs.Content.{need, generation_in};
+ghost use Rattle.sector_log.specs.Accessors.{device_under, found_generation};
 ghost use Rattle.session.specs.Calls.{IsAtRest, CanBeginGame, HasOldContentOrGame, HasOldContentOrNewGame, most_unsaved, faults_after};
 ghost use Rattle.session.specs.Beginning.{session_fault, IsBeginRefusal};
 ghost use Rattle.session.specs.Found.{IsNewGameCause};
 ghost use Rattle.session.specs.Resting.{IsOfItsRom};
-ghost use Rattle.session.specs.Words.{device_of, machine_of, rom_of, pending_of, acknowledged_of, is_broken, left_by};
-ghost use Rattle.session.specs.declared.error.SessionError.TheVariants.{Memory, Device, Worn};
+ghost use Rattle.session.specs.Accessors.{device_of, machine_of, rom_of, pending_of, acknowledged_of, is_broken, left_by};
+ghost use Rattle.session.specs.declared.error.SessionError.TheVariants.{Memory, Device, GenerationsUsedUp};
 
 use crate::error::{Refused, SessionError};
 use crate::session::{MOST_UNSAVED, Session};
@@ -51,7 +51,7 @@ pub(crate) fn fault_of(why: LogFault) -> SessionError
         LogFault::Memory => SessionError::Memory,
         LogFault::Device => SessionError::Device,
         LogFault::TooSmall { need } => SessionError::TooSmall { need },
-        LogFault::Worn => SessionError::Worn,
+        LogFault::GenerationsUsedUp => SessionError::GenerationsUsedUp,
         LogFault::LogFull | LogFault::Broken => SessionError::Broken,
     }
 }
@@ -105,7 +105,7 @@ pub fn machine_at_power_on(alloc: Global, cartridge: &Cartridge) -> Result<Machi
 /// device held or the new game.
 ///
 /// Refusals, in this order: `Memory`, `Device` while reading what the device holds, `TooSmall`,
-/// `Worn`, all with what a power cut may leave as it was; `Device` while writing.
+/// `GenerationsUsedUp`, all with what a power cut may leave as it was; `Device` while writing.
 pub fn new_game<D: SectorDevice>(
     alloc: Global,
     device: D,
@@ -127,7 +127,7 @@ pub fn new_game<D: SectorDevice>(
         ((D.disk device).honest → generation_in (D.disk device).sectors < 2 ^ 64 - 1)) }
     ensures cause { IfErr result (λ refused.
         IsNewGameCause (snapshot_length (ram_length_of cartridge.now)) (length (D.disk device).sectors) refused.why) }
-    ensures worn { IfErr result (λ refused. refused.why ≡ Worn → (D.disk device).honest → generation_in (D.disk device).sectors ≡ 2 ^ 64 - 1) }
+    ensures worn { IfErr result (λ refused. refused.why ≡ GenerationsUsedUp → (D.disk device).honest → generation_in (D.disk device).sectors ≡ 2 ^ 64 - 1) }
 
     // before all other causes, or once none of them holds
     ensures memory { IfErr result (λ refused. refused.why ≡ Memory → refused.device ≡ device) }
@@ -176,7 +176,7 @@ pub fn new_game_from<D: SectorDevice>(
         ((D.disk device).honest → generation_in (D.disk device).sectors < 2 ^ 64 - 1)) }
     ensures cause { IfErr result (λ refused.
         IsNewGameCause (snapshot_length (ram_length_of cartridge.now)) (length (D.disk device).sectors) refused.why) }
-    ensures worn { IfErr result (λ refused. refused.why ≡ Worn → (D.disk device).honest → generation_in (D.disk device).sectors ≡ 2 ^ 64 - 1) }
+    ensures worn { IfErr result (λ refused. refused.why ≡ GenerationsUsedUp → (D.disk device).honest → generation_in (D.disk device).sectors ≡ 2 ^ 64 - 1) }
 
     // before all other causes, or once none of them holds
     ensures memory { IfErr result (λ refused. refused.why ≡ Memory → refused.device ≡ device) }

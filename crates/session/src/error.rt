@@ -42,7 +42,7 @@ pub enum SessionError {
     Damaged(Damage),
     /// The last generation is the greatest `u64`.
     #[error("generations used up")]
-    Worn,
+    GenerationsUsedUp,
     /// An earlier call of the device failed: only resuming helps.
     #[error("broken, open it again")]
     Broken,

@@ -6,7 +6,7 @@ ghost use Rattle.snapshot.specs.Legal.{IsMachineOf};
 ghost use Rattle.sector_device.specs.DiskState.{HasAnswered};
 ghost use Rattle.sector_device.specs.Runs.{HoldsSince};
 ghost use Rattle.input_entries.specs.Inputs.{inputs};
-ghost use Rattle.sector_log.specs.Words.{device_under, found_generation, seen};
+ghost use Rattle.sector_log.specs.Accessors.{device_under, found_generation, seen};
 ghost use Rattle.session.specs.Calls.{IsAtRest, StandsAsBefore, faults_after};
 ghost use Rattle.session.specs.Found.{IsTakeUpCause};
 ghost use Rattle.session.specs.Recovery.{IsRecovered};
@@ -51,7 +51,7 @@ fn logged_of<D: SectorDevice>(opened: &Opened<D>, count: u64, machine: &Machine)
 }
 
 impl<D: SectorDevice> Look<D> {
-    ghost use Rattle.session.specs.Words.{device_of, machine_of, rom_of, pending_of, acknowledged_of, is_broken, left_by, device_of_look, machine_of_look, rom_of_look, count_of_look, logged_of_look, generation_of_look};
+    ghost use Rattle.session.specs.Accessors.{device_of, machine_of, rom_of, pending_of, acknowledged_of, is_broken, left_by, device_of_look, machine_of_look, rom_of_look, count_of_look, logged_of_look, generation_of_look};
 
     /// A look at what was opened, with the machine that was rebuilt, and room for its snapshot.
     pub(crate) fn at(opened: Opened<D>, count: u64, machine: Machine, mut room: Vec<u8>) -> Self
@@ -131,7 +131,7 @@ impl<D: SectorDevice> Look<D> {
     /// Resumes the game, and begins a new generation with it. A power cut at any moment leaves an
     /// image that stands for what was seen. Condition: the look was at a game of this cartridge.
     ///
-    /// Refusals, in this order: `Memory` and `Worn`, which change nothing; `Device`.
+    /// Refusals, in this order: `Memory` and `GenerationsUsedUp`, which change nothing; `Device`.
     pub fn resume(self, alloc: Global, cartridge: &Cartridge) -> Result<Session<D>, Refused<D>>
         requires { rom_of_look self ≡ cartridge.now }
 

@@ -5,10 +5,10 @@ ghost use Rattle.machine.specs.declared.input.Input.TheVariants.{Frame};
 ghost use Rattle.snapshot.specs.Encoding.{snapshot_length};
 ghost use Rattle.cartridge.specs.Header.{ram_length_of};
 ghost use Rattle.input_entries.specs.Inputs.{inputs, inputs_in, is_entry};
-ghost use Rattle.sector_log.specs.Inputs.{first_wrong, counted};
-ghost use Rattle.sector_log.specs.Found.{IsSound};
-ghost use Rattle.sector_log.specs.Sizes.{most_entries_read};
-ghost use Rattle.sector_log.specs.Words.{seen, longest_blob};
+ghost use Rattle.log_format.specs.Inputs.{first_wrong, counted};
+ghost use Rattle.log_format.specs.Found.{IsSound};
+ghost use Rattle.log_format.specs.Sizes.{most_entries_read};
+ghost use Rattle.sector_log.specs.Accessors.{seen, longest_blob};
 ghost use Rattle.session.specs.Inputs.{logged, inputs_of};
 ghost use Rattle.session.specs.Recovery.{IsHeader, IsHeaderCause, IsRebuilt, IsRebuildCause, IsLogCause, IsRecovered, IsRecoveryCause};
 
@@ -96,7 +96,7 @@ fn log_refusal(log: &[StoredEntry], generation: u64) -> Result<(), SessionError>
         return Err(SessionError::Damaged(Damage::Entry(index)));
     }
     if generation == u64::MAX {
-        return Err(SessionError::Worn);
+        return Err(SessionError::GenerationsUsedUp);
     }
     Ok(())
 }

@@ -4,11 +4,11 @@ ghost use Rattle.snapshot.specs.Legal.{IsMachineOf};
 ghost use Rattle.sector_device.specs.DiskState.{HasAnswered};
 ghost use Rattle.sector_device.specs.Looking.{HasLooked};
 ghost use Rattle.sector_device.specs.Runs.{HoldsSince};
-ghost use Rattle.sector_log.specs.Content.{content, generation_in};
+ghost use Rattle.log_format.specs.Content.{content, generation_in};
 ghost use Rattle.session.specs.Calls.{IsAtRest, CanBeTakenUp, StandsAsBefore, faults_after};
 ghost use Rattle.session.specs.Found.{IsResumeCause};
 ghost use Rattle.session.specs.Stands.{stands};
-ghost use Rattle.session.specs.Words.{device_of, machine_of, rom_of, pending_of, acknowledged_of, is_broken, left_by};
+ghost use Rattle.session.specs.Accessors.{device_of, machine_of, rom_of, pending_of, acknowledged_of, is_broken, left_by};
 ghost use Rattle.session.specs.declared.error.SessionError.TheVariants.{Memory, Device};
 
 use crate::begin::{begin_with, fault_of, make_room, snapshot_length};
@@ -24,7 +24,7 @@ use std::alloc::Global;
 /// any moment leaves an image that stands for what one stood for before.
 ///
 /// Refusals, in this order: `Memory` for the buffers, `Device`, `NoSession`, `TooSmall`,
-/// `OtherCartridge`, `Damaged` (`Count`, `Snapshot`, `Entry`), `Worn`, `Memory` for the machine,
+/// `OtherCartridge`, `Damaged` (`Count`, `Snapshot`, `Entry`), `GenerationsUsedUp`, `Memory` for the machine,
 /// all with nothing written; `Device` while writing.
 pub fn resume<D: SectorDevice>(
     alloc: Global,

@@ -6,10 +6,10 @@ ghost use Rattle.snapshot.specs.Encoding.{encoded, snapshot_length};
 ghost use Rattle.machine.specs.Legal.{IsLegalMachine};
 ghost use Rattle.sector_device.specs.DiskState.{HasAnswered};
 ghost use Rattle.sector_device.specs.Runs.{HoldsSince};
-ghost use Rattle.sector_log.specs.Content.{need};
+ghost use Rattle.log_format.specs.Content.{need};
 ghost use Rattle.input_entries.specs.Inputs.{is_input};
-ghost use Rattle.sector_log.specs.Inputs.{fits};
-ghost use Rattle.sector_log.specs.Words.{device_of, is_broken, entries_of, generation_of, id_of};
+ghost use Rattle.log_format.specs.Inputs.{fits};
+ghost use Rattle.sector_log.specs.Accessors.{device_of, is_broken, entries_of, generation_of, id_of};
 ghost use Rattle.session.specs.Calls.{IsSaveCause, faults_after};
 ghost use Rattle.session.specs.Writing.{HoldsWritten, IsWritten};
 

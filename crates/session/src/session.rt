@@ -7,10 +7,10 @@ ghost use Rattle.snapshot.specs.Encoding.{snapshot_length};
 ghost use Rattle.snapshot.specs.Legal.{IsMachineOf};
 ghost use Rattle.sector_device.specs.DiskState.{HasAnswered};
 ghost use Rattle.sector_device.specs.Runs.{HoldsSince};
-ghost use Rattle.sector_log.specs.Content.{need, content, generation_in};
+ghost use Rattle.log_format.specs.Content.{need, content, generation_in};
 ghost use Rattle.input_entries.specs.Inputs.{is_input};
-ghost use Rattle.sector_log.specs.Inputs.{fits};
-ghost use Rattle.sector_log.specs.Words.{device_of as device_of_store, is_broken as is_broken_store, id_of, entries_of};
+ghost use Rattle.log_format.specs.Inputs.{fits};
+ghost use Rattle.sector_log.specs.Accessors.{device_of as device_of_store, is_broken as is_broken_store, id_of, entries_of};
 ghost use Rattle.session.specs.Calls.{IsAtRest, IsSaved, IsSaveCause, most_unsaved, input_answer, faults_after};
 ghost use Rattle.session.specs.Inputs.{entry_of, inputs_of};
 ghost use Rattle.session.specs.Resting.{IsOfItsRom, own_prop, RestsUnlessBroken, rests_prop};
@@ -61,7 +61,7 @@ pub struct Session<D: SectorDevice> {
 }
 
 impl<D: SectorDevice> Session<D> {
-    ghost use Rattle.session.specs.Words.{device_of, machine_of, rom_of, pending_of, acknowledged_of, is_broken, log_in, generation_in_use, IsUnchanged};
+    ghost use Rattle.session.specs.Accessors.{device_of, machine_of, rom_of, pending_of, acknowledged_of, is_broken, log_in, generation_in_use, IsUnchanged};
 
     // A session with nothing pending over the store of a new generation.
     pub(crate) fn at(
@@ -174,11 +174,11 @@ impl<D: SectorDevice> Session<D> {
         Ok(())
     }
 
-    /// Saves what is pending: behind the log if it fits, otherwise as a new generation with a
+    /// Saves what is pending: after the log if it fits, otherwise as a new generation with a
     /// snapshot of the machine. On Ok no power cut loses any of the inputs, and the answer is the
     /// count of all inputs. With nothing pending it makes no device call.
     ///
-    /// Refusals, in this order: `Broken`; `Worn`, if a new generation is needed and there is none
+    /// Refusals, in this order: `Broken`; `GenerationsUsedUp`, if a new generation is needed and there is none
     /// left, which changes nothing; `Device`, after which the session is broken.
     pub fn save(&mut self) -> Result<u64, SessionError>
         // what it answers
@@ -186,7 +186,7 @@ impl<D: SectorDevice> Session<D> {
             (acknowledged_of self.new ≡ all) × (pending_of self.new ≡ []) × (is_broken self.old ≡ false) × (is_broken self.new ≡ false)) }
         ensures cause { IfErr result (λ why.
             IsSaveCause why (is_broken self.old) (fits (log_in self.old) (pending_of self.old)) (generation_in_use self.old)) }
-        ensures worn { IfErr result (λ why. why ≡ SessionError.Worn → (D.disk (device_of self.new)).honest →
+        ensures worn { IfErr result (λ why. why ≡ SessionError.GenerationsUsedUp → (D.disk (device_of self.new)).honest →
             generation_in (D.disk (device_of self.new)).sectors ≡ 2 ^ 64 - 1) }
         ensures unchanged { IfErr result (λ why. (why ≡ SessionError.Device) ⊎ IsUnchanged self.old self.new) }
         ensures refused { OnErr result ((pending_of self.new ≡ pending_of self.old) × (acknowledged_of self.new ≡ acknowledged_of self.old)) }
@@ -241,7 +241,7 @@ impl<D: SectorDevice> Session<D> {
 }
 
 impl<D: SectorDevice + Drop> Session<D> {
-    ghost use Rattle.session.specs.Words.{machine_of};
+    ghost use Rattle.session.specs.Accessors.{machine_of};
 
     /// The machine after all inputs. The device is dropped: what is not saved is lost.
     pub fn into_machine(self) -> Machine

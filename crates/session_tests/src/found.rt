@@ -185,7 +185,13 @@ fn the_last_generation_is_used_up(rt: HostRuntime) {
         bytes: u64::MAX.to_le_bytes(),
     };
     let device = changed(&rt, alloc, &cartridge, 188, &[last]);
-    is_refused(&rt, alloc, device, &cartridge, SessionError::Worn);
+    is_refused(
+        &rt,
+        alloc,
+        device,
+        &cartridge,
+        SessionError::GenerationsUsedUp,
+    );
     let device = changed(&rt, alloc, &cartridge, 188, &[last, third_entry()]);
     let wrong = SessionError::Damaged(Damage::Entry(2));
     is_refused(&rt, alloc, device, &cartridge, wrong);

@@ -231,7 +231,7 @@ fn the_last_generation(rt: HostRuntime) {
     let mut session = in_the_last_generation(&rt, alloc, &cartridge);
     give(&rt, &mut session, 0, 2689);
     let made = calls(&session);
-    same!(rt; refused_save(&rt, &mut session), SessionError::Worn);
+    same!(rt; refused_save(&rt, &mut session), SessionError::GenerationsUsedUp);
     same!(rt; counts(&session), [2689, 0, 2689]);
     same!(rt; calls(&session), made);
     give_input(&rt, &mut session, Input::Seconds(1));

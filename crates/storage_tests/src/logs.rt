@@ -581,7 +581,7 @@ fn generations_are_used_up(rt: HostRuntime) {
     let opened = opened(&rt, rt.alloc(), device);
     same!(rt; opened.generation(), u64::MAX);
     // One sync was made, and nothing was written.
-    same!(rt; refusal(&rt, opened, 5, b"blob"), (LogFault::Worn, 7));
+    same!(rt; refusal(&rt, opened, 5, b"blob"), (LogFault::GenerationsUsedUp, 7));
 }
 
 #[test]
@@ -633,7 +633,7 @@ fn faults_have_texts(rt: HostRuntime) {
             LogFault::TooSmall { need: 188 },
             "too small, 188 sectors needed",
         ),
-        (LogFault::Worn, "generations used up"),
+        (LogFault::GenerationsUsedUp, "generations used up"),
         (LogFault::LogFull, "log full"),
         (LogFault::Broken, "broken, open it again"),
     ] {

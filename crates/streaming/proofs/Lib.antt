@@ -1,4 +1,3 @@
 pub mod OrderLines
 pub mod Compositions
-pub mod Steps
 pub mod Wholes

@@ -17,7 +17,7 @@ abbrev pub inputs_of_orders : List Order → List Input
 inputs_of_orders [] = []
 inputs_of_orders (order ∷ orders) = inputs_of_order order ++ inputs_of_orders orders
 
--- how many inputs are unsaved behind an order, and behind several
+-- how many inputs are unsaved after an order, and after several
 abbrev pub unsaved_behind_order : ℕ → Order → ℕ
 unsaved_behind_order unsaved (Make move) = unsaved_behind_move unsaved move
 unsaved_behind_order unsaved Picture = unsaved

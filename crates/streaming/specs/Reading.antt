@@ -27,7 +27,7 @@ IsNext Failed old new since = (rest : List ℕ) × HasNoNewline rest × Consumes
 
 -- ---- lines
 
--- a wrong line was read behind these lines: whole, or more of it than a line may have
+-- a wrong line was read after these lines: whole, or more of it than a line may have
 pub record ReadsWrong (lines : List (List ℕ)) (before since : Option (List ℕ)) : Type 0 where
   pub line : List ℕ
   pub more : List ℕ
@@ -35,7 +35,7 @@ pub record ReadsWrong (lines : List (List ℕ)) (before since : Option (List ℕ
   pub ends : (64 < length line) ⊎ ((rest : List ℕ) × (more ≡ 10 ∷ rest)) ⊎ ((more ≡ []) × IsAtEnd since)
   pub read : Consumes before since (joined lines ++ (line ++ more))
 
--- Where a stream ends behind these lines: at the end of its input; at a wrong line, or at that of the greatest number; at a read that
+-- Where a stream ends after these lines: at the end of its input; at a wrong line, or at that of the greatest number; at a read that
 -- failed, in the middle of a line.
 abbrev pub ReadsTo : Ending → List (List ℕ) → (before since : Option (List ℕ)) → Type 0
 ReadsTo Whole lines before since = ReadsLines lines [] before since × IsAtEnd since

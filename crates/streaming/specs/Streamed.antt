@@ -5,7 +5,7 @@ use Rattle.machine.specs.Machine.{MachineState, after}
 use Rattle.snapshot.specs.Legal.{IsMachineOf}
 use Rattle.sector_device.specs.DiskState.{DiskState}
 use Rattle.sector_device.specs.Runs.{HoldsSince}
-use Rattle.sector_log.specs.Content.{content}
+use Rattle.log_format.specs.Content.{content}
 use Rattle.session.specs.Calls.{IsAtRest, faults_after}
 use Rattle.session.specs.Stands.{Position, stands}
 use Rattle.session.specs.declared.error.SessionError.{SessionError}
@@ -18,7 +18,7 @@ use Rattle.streaming.specs.Answers.{inputs_of_orders, stream_lines}
 use Rattle.streaming.specs.declared.obeying.End.{End}
 use Rattle.streaming.specs.declared.obeying.End.TheVariants.{Whole, Wrong, Failed}
 use Rattle.sector_device.specs.declared.device.SectorDevice.{Ghosts}
-use Rattle.session.specs.Words.{device_of}
+use Rattle.session.specs.Accessors.{device_of}
 use Rattle.session.specs.declared.session.Session.{Session as PlaySession}
 use Rattle.streaming.specs.declared.error.StreamError.{StreamError}
 use Rattle.streaming.specs.declared.error.StreamRefused.{StreamRefused}
@@ -37,7 +37,7 @@ pub record HasStreamed (rom : List ℕ) (old now : DiskState) (end : End) (befor
   pub rests : old.honest → IsAtRest rom now (from.count + length (inputs_of_orders (orders_of lines))) [] (after from.machine (inputs_of_orders (orders_of lines)))
   pub images : old.honest → HoldsSince old now (PlayImage rom old (inputs_of_orders (orders_of lines)))
 
--- and this count and this machine are those behind all inputs
+-- and this count and this machine are those after all inputs
 pub record HasStreamedAll (rom : List ℕ) (old now : DiskState) (count : ℕ) (machine : MachineState) (before_in since_in before since : Option (List ℕ)) : Type 0 where
   pub streamed : HasStreamed rom old now Whole before_in since_in before since
   pub count_is : count ≡ streamed.from.count + length (inputs_of_orders (orders_of streamed.lines))

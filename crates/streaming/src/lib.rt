@@ -5,9 +5,9 @@ pub mod error;
 pub mod next_order;
 mod obeying;
 pub mod order;
-mod whole;
+mod streamed;
 
 pub use error::{StreamError, StreamRefused};
 pub use obeying::End;
 pub use order::{Order, read_order};
-pub use whole::stream;
+pub use streamed::stream;

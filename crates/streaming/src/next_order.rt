@@ -4,12 +4,9 @@ ghost use Rattle.input_lines.specs.Newlines.{first_line, behind_first_line};
 ghost use Rattle.input_lines.specs.Reading.{left_of};
 ghost use Rattle.streaming.specs.Reading.{IsAsked, IsNext};
 
-use crate::order::{Order, read_order};
+use crate::order::{MOST_BYTES, Order, read_order};
 use input_lines::{Filled, Unread, drop_first, fill, line_length};
 use std::io::Read;
-
-/// A line of more bytes than this is wrong.
-const MOST: usize = 64;
 
 /// What comes next.
 #[derive(Clone, Copy, Debug, PartialEq, Eq)]
@@ -25,7 +22,7 @@ pub enum Next {
 }
 
 /// What a line asks for.
-fn asked_by(line: &[u8]) -> Next
+fn next_of_line(line: &[u8]) -> Next
     ensures { IsAsked result line.now }
 {
     if line.is_empty() {
@@ -43,7 +40,7 @@ fn take_line(unread: &mut Unread) -> Next
     ensures rest { unread.new.items ≡ behind_first_line unread.old.items }
 {
     let size = line_length(unread.as_slice());
-    let next = asked_by(&unread.as_slice()[..size]);
+    let next = next_of_line(&unread.as_slice()[..size]);
     drop_first(unread, size + 1);
     next
 }
@@ -54,7 +51,7 @@ pub fn read_next<R: Read>(unread: &mut Unread, input: &mut R) -> Next
     ensures { IsNext result (left_of unread.old.items (R.remaining input.old)) (left_of unread.new.items (R.remaining input.new))
         (R.remaining input.new) }
 {
-    match fill(unread, input, MOST) {
+    match fill(unread, input, MOST_BYTES) {
         Filled::Line => take_line(unread),
         Filled::End => {
             if unread.is_empty() {

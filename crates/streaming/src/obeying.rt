@@ -5,10 +5,11 @@ ghost use Rattle.std.specs.Io.KnownBytes.{Appends};
 ghost use Rattle.exact_text.specs.Written.{AppendsProperPrefix};
 ghost use Rattle.picture_unit.specs.Pgm.{picture_text};
 ghost use Rattle.session.specs.Calls.{most_unsaved};
-ghost use Rattle.session.specs.Words.{device_of, machine_of, rom_of, pending_of, acknowledged_of, is_broken};
+ghost use Rattle.session.specs.Accessors.{device_of, machine_of, rom_of, pending_of, acknowledged_of, is_broken};
+ghost use Rattle.playing.specs.Making.{place};
 ghost use Rattle.streaming.specs.Orders.{order_list};
 ghost use Rattle.streaming.specs.Answers.{last_orders};
-ghost use Rattle.streaming.specs.Obeying.{place, Obeys, StopsAmong, ObeysLines, StopsAmongLines, Streams, StopsStream};
+ghost use Rattle.streaming.specs.Obeying.{Obeys, StopsAmong, ObeysLines, StopsAmongLines, Streams, StopsStream};
 
 use crate::next_order::{Next, read_next};
 use crate::order::Order;
@@ -44,22 +45,19 @@ fn draw<D: SectorDevice, W: Write>(session: &Session<D>, out: &mut W) -> Result<
 /// Makes a move.
 fn obey_move<D: SectorDevice, W: Write>(
     session: &mut Session<D>,
-    one: Move,
+    a_move: Move,
     out: &mut W,
 ) -> Result<(), SessionError>
     requires whole { is_broken session.old ≡ false }
     requires few { length (pending_of session.old) < most_unsaved }
     ensures obeyed { OnOk result (Obeys (place (D.disk (device_of session.old)) session.old)
-        (place (D.disk (device_of session.new)) session.new) (W.contents out.old) (W.contents out.new) (Order.Make one ∷ [])) }
+        (place (D.disk (device_of session.new)) session.new) (W.contents out.old) (W.contents out.new) (Order.Make a_move ∷ [])) }
     ensures stopped { IfErr result (λ why.
         StopsAmong (place (D.disk (device_of session.old)) session.old) (place (D.disk (device_of session.new)) session.new)
-        (W.contents out.old) (W.contents out.new) (Order.Make one ∷ []) why) }
+        (W.contents out.old) (W.contents out.new) (Order.Make a_move ∷ []) why) }
     ensures whole { OnOk result ((is_broken session.new ≡ false) × (length (pending_of session.new) < most_unsaved)) }
 {
-    match make_move(session, one, out) {
-        Ok(()) => Ok(()),
-        Err(why) => Err(why),
-    }
+    make_move(session, a_move, out)
 }
 
 /// Writes a picture.
@@ -98,7 +96,7 @@ fn obey<D: SectorDevice, W: Write>(
 {
     match order {
         None => Ok(()),
-        Some(Order::Make(one)) => obey_move(session, one, out),
+        Some(Order::Make(a_move)) => obey_move(session, a_move, out),
         Some(Order::Picture) => obey_picture(session, out),
     }
 }
@@ -122,11 +120,7 @@ fn obey_lines<D: SectorDevice, R: Read, W: Write>(
     let mut unread = ArrayVec::new();
     for number in 1..u64::MAX {
         match read_next(&mut unread, input) {
-            Next::Line(order) => {
-                if let Err(why) = obey(session, order, out) {
-                    return Err(why);
-                }
-            }
+            Next::Line(order) => obey(session, order, out)?,
             Next::Wrong => return Ok(End::Wrong(number)),
             Next::End => return Ok(End::Whole),
             Next::Failed => return Ok(End::Failed),
@@ -175,12 +169,7 @@ pub(crate) fn stream_on<D: SectorDevice, R: Read, W: Write>(
     if let Err(_) = write_resumed(out, session.counts().all) {
         return Err(SessionError::Output);
     }
-    let end = match obey_lines(session, input, out) {
-        Ok(end) => end,
-        Err(why) => return Err(why),
-    };
-    match save_rest(session, out) {
-        Ok(()) => Ok(end),
-        Err(why) => Err(why),
-    }
+    let end = obey_lines(session, input, out)?;
+    save_rest(session, out)?;
+    Ok(end)
 }

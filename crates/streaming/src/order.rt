@@ -4,8 +4,8 @@ ghost use Rattle.streaming.specs.Orders.{order_of};
 
 use script::{Move, read_line};
 
-/// The most bytes of a line.
-const MOST: usize = 64;
+/// The most bytes of a line: one of more is wrong.
+pub(crate) const MOST_BYTES: usize = 64;
 
 /// What a line asks for.
 #[derive(Clone, Copy, Debug, PartialEq, Eq)]
@@ -21,7 +21,7 @@ pub enum Order {
 pub fn read_order(line: &[u8]) -> Option<Order>
     ensures { result ≡ order_of line.now }
 {
-    if line.len() > MOST {
+    if line.len() > MOST_BYTES {
         return None;
     }
     if line == b"picture".as_slice() {

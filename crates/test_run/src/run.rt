@@ -131,16 +131,16 @@ fn test_frames<W: Write>(
 /// Makes a move of a test.
 fn test_move<W: Write>(
     machine: Machine,
-    one: Move,
+    a_move: Move,
     limit: u32,
     progress: &mut Progress,
     out: &mut W,
 ) -> Result<Went, OutputFailed>
     requires { progress.old.done ≤ limit }
-    ensures ok { IfOk result (HasReached limit (inputs_of_move one) [] machine progress.old progress.new (W.contents out.old) (W.contents out.new)) }
-    ensures err { OnErr result (StopsIn limit (inputs_of_move one) machine progress.old (W.contents out.old) (W.contents out.new)) }
+    ensures ok { IfOk result (HasReached limit (inputs_of_move a_move) [] machine progress.old progress.new (W.contents out.old) (W.contents out.new)) }
+    ensures err { OnErr result (StopsIn limit (inputs_of_move a_move) machine progress.old (W.contents out.old) (W.contents out.new)) }
 {
-    match one {
+    match a_move {
         Move::Frames { buttons, times } => test_frames(
             machine, buttons, times, limit, progress, out,
         ),
@@ -166,8 +166,8 @@ fn test_moves<W: Write>(
     ensures err { OnErr result (StopsIn limit (inputs_of_moves moves.now) machine progress.old (W.contents out.old) (W.contents out.new)) }
 {
     let mut machine = machine;
-    for one in moves {
-        match test_move(machine, *one, limit, progress, out) {
+    for a_move in moves {
+        match test_move(machine, *a_move, limit, progress, out) {
             Ok(Went::On(after)) => machine = after,
             Ok(Went::Over(ended)) => return Ok(Went::Over(ended)),
             Err(fault) => return Err(fault),

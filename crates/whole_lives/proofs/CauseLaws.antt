@@ -12,14 +12,14 @@ use Rattle.snapshot.specs.Encoding.{snapshot_length}
 use Rattle.snapshot.specs.declared.error.SnapError.{SnapError}
 use Rattle.snapshot.specs.declared.error.SnapError.TheVariants.{SnapLength, Field, Memory as NoMemory}
 use Rattle.snapshot.specs.declared.field.SnapshotField.{SnapshotField}
-use Rattle.sector_log.specs.Content.{ImageContent, Body}
-use Rattle.sector_log.specs.declared.found.Header.{Header}
+use Rattle.log_format.specs.Content.{ImageContent, Body}
+use Rattle.log_format.specs.declared.content.Header.{Header}
 use Rattle.session.specs.Found.{IsWhole, IsResumeCause, IsDamaged}
 use Rattle.session.specs.Stands.{Position, is_snapshot, stands}
 use Rattle.session.specs.declared.error.Damage.{Damage}
 use Rattle.session.specs.declared.error.Damage.TheVariants.{Count, Snapshot, Entry}
 use Rattle.session.specs.declared.error.SessionError.{SessionError}
-use Rattle.session.specs.declared.error.SessionError.TheVariants.{Memory, Device, NoSession, TooSmall, OtherCartridge, Damaged, Worn, Broken, SaveFirst, CountFull, Output}
+use Rattle.session.specs.declared.error.SessionError.TheVariants.{Memory, Device, NoSession, TooSmall, OtherCartridge, Damaged, GenerationsUsedUp, Broken, SaveFirst, CountFull, Output}
 use Rattle.session.proofs.StandsLaws.{Soundness, soundness, standing}
 use Rattle.whole_lives.specs.Refusals.{IsSoundStop}
 
@@ -66,7 +66,7 @@ sound_stop rom generation held position OtherCartridge is cause =
     let sound = sound_whole is cause in
     cause.holds ((bytes_eq-Decides cause.header.id (sha256 rom)).0 sound.id)
 sound_stop rom generation held position (Damaged damage) is cause = damaged_stands rom held position damage is cause
-sound_stop rom generation held position Worn is cause = tt
+sound_stop rom generation held position GenerationsUsedUp is cause = tt
 sound_stop rom generation held position Broken is cause = cause
 sound_stop rom generation held position SaveFirst is cause = cause
 sound_stop rom generation held position CountFull is cause = absurd cause

@@ -9,12 +9,12 @@ use Rattle.machine.specs.declared.input.Input.{Input}
 use Rattle.sector_device.specs.DiskState.{DiskState}
 use Rattle.sector_device.specs.Memory.{MemoryState, memory_disk}
 use Rattle.sector_device.specs.Runs.{HoldsSince}
-use Rattle.sector_log.specs.Content.{content, generation_in}
+use Rattle.log_format.specs.Content.{content, generation_in}
 use Rattle.session.specs.Calls.{StandsAsBefore}
 use Rattle.session.specs.Found.{IsResumeCause}
 use Rattle.session.specs.Stands.{Position, stands}
 use Rattle.session.specs.declared.error.SessionError.{SessionError}
-use Rattle.session.specs.declared.error.SessionError.TheVariants.{Memory, Device, NoSession, TooSmall, OtherCartridge, Damaged, Worn, Broken, SaveFirst, CountFull, Output}
+use Rattle.session.specs.declared.error.SessionError.TheVariants.{Memory, Device, NoSession, TooSmall, OtherCartridge, Damaged, GenerationsUsedUp, Broken, SaveFirst, CountFull, Output}
 use Rattle.session.proofs.StandsLaws.{after_append, after_none}
 use Rattle.whole_lives.proofs.RoundLaws.{stood_before, stands_here}
 use Rattle.whole_lives.specs.Lives.{inputs_of_round, IsRoundBy, IsRound, IsLife, HasLived, LeavesLife, LeavesSomeLife}
@@ -100,7 +100,7 @@ life_refused rom old mid rounds i round ends left NoSession next lived refusal =
 life_refused rom old mid rounds i round ends left (TooSmall n) next lived refusal = refusal
 life_refused rom old mid rounds i round ends left OtherCartridge next lived refusal = refusal
 life_refused rom old mid rounds i round ends left (Damaged d) next lived refusal = refusal
-life_refused rom old mid rounds i round ends left Worn next lived refusal = refusal
+life_refused rom old mid rounds i round ends left GenerationsUsedUp next lived refusal = refusal
 life_refused rom old mid rounds i round ends left CountFull next lived refusal = record { done = i; ends = ends; from = refusal.first; lived = lived refusal.first refusal.stood; round = round; next = next; past = refusal.past }
 life_refused rom old mid rounds i round ends left Broken next lived refusal = refusal
 life_refused rom old mid rounds i round ends left SaveFirst next lived refusal = refusal
@@ -114,7 +114,7 @@ life_untaken rom old now rounds left NoSession refusal not = refusal
 life_untaken rom old now rounds left (TooSmall n) refusal not = refusal
 life_untaken rom old now rounds left OtherCartridge refusal not = refusal
 life_untaken rom old now rounds left (Damaged d) refusal not = refusal
-life_untaken rom old now rounds left Worn refusal not = refusal
+life_untaken rom old now rounds left GenerationsUsedUp refusal not = refusal
 life_untaken rom old now rounds left CountFull refusal not = absurd (not refl)
 life_untaken rom old now rounds left Broken refusal not = refusal
 life_untaken rom old now rounds left SaveFirst refusal not = refusal

@@ -1,7 +1,7 @@
 -- What a round leaves: missed, played and cut.
-use Rattle.std.proofs.Common.{◌≡◌, ◌⊎◌, inl, inr, ⊎_elim, ℕ, ◌+◌, ◌-◌, ◌^◌, ◌≤◌, ◌<◌, List, [], ◌∷◌, ◌++◌, length, take, Bool, false, Some, None, refl, sym, ap, ◌∙◌, subst, arith}
+use Rattle.std.proofs.Common.{◌≡◌, ◌⊎◌, inl, inr, ⊎_elim, ℕ, ◌+◌, ◌-◌, ◌^◌, ◌≤◌, ◌<◌, List, [], length, take, Bool, false, Some, None, refl, sym, ap, ◌∙◌, subst, arith}
 use Rattle.std.proofs.lemmas.Bool.{cases_lt}
-use Rattle.machine.specs.Machine.{MachineState, after, applied}
+use Rattle.machine.specs.Machine.{MachineState, after}
 use Rattle.machine.specs.declared.input.Input.{Input}
 use Rattle.sector_device.specs.DiskState.{DiskState, next_count}
 use Rattle.sector_device.specs.Memory.{MemoryState, memory_disk, image_of}
@@ -9,19 +9,18 @@ use Rattle.sector_device.specs.MemoryDevice.{memory}
 use Rattle.sector_device.specs.RecordLaws.{counts_last, only_last, reads_image}
 use Rattle.sector_device.specs.Runs.{HoldsSince}
 use Rattle.sector_device.specs.declared.memory.MemoryDevice.{MemoryDevice}
-use Rattle.sector_log.specs.Content.{content, generation_in}
+use Rattle.log_format.specs.Content.{content, generation_in}
 use Rattle.input_entries.specs.declared.Entry.{Entry}
 use Rattle.session.specs.Calls.{StandsAsBefore, faults_after}
-use Rattle.session.specs.Inputs.{inputs_of}
 use Rattle.session.specs.Stands.{Position, stands}
 use Rattle.session.specs.declared.error.SessionError.{SessionError}
-use Rattle.session.specs.declared.error.SessionError.TheVariants.{Memory, Device, NoSession, TooSmall, OtherCartridge, Damaged, Worn, Broken, SaveFirst, CountFull, Output}
+use Rattle.session.specs.declared.error.SessionError.TheVariants.{Memory, Device, NoSession, TooSmall, OtherCartridge, Damaged, GenerationsUsedUp, Broken, SaveFirst, CountFull, Output}
 use Rattle.session.specs.Found.{IsResumeCause}
 use Rattle.playing.specs.Played.{IsPlayed, Stopped, IsStop}
-use Rattle.playing.proofs.PlayLaws.{reaches_here, reaches_more, played_more}
+use Rattle.playing.proofs.PlayLaws.{reaches_here}
 use Rattle.whole_lives.specs.Lives.{StandsFor, EachStands}
 use Rattle.whole_lives.specs.Refusals.{IsSoundStop, CountsLifeFaults}
-use Rattle.whole_lives.specs.Rounds.{Leaves, LeavesRound, IsRoundStop, IsRoundRefusal}
+use Rattle.whole_lives.specs.Rounds.{Leaves, LeavesRound, IsRoundRefusal}
 use Rattle.whole_lives.specs.declared.rounds.RoundEnd.{RoundEnd}
 
 -- ---- moves
@@ -29,43 +28,12 @@ use Rattle.whole_lives.specs.declared.rounds.RoundEnd.{RoundEnd}
 pub leaves_stopped : (rom : List ℕ) (old now : DiskState) (acknowledged : ℕ) (from : Position) (given : List Input) → Stopped rom old now acknowledged from given → Leaves rom now acknowledged from given
 leaves_stopped rom old now acknowledged from given stopped = record { least = stopped.least; acknowledged_is = stopped.acknowledged_is; images = stopped.images }
 
-pub leaves_more : (rom : List ℕ) (now : DiskState) (acknowledged : ℕ) (from : Position) (given more : List Input) → Leaves rom now acknowledged from given → Leaves rom now acknowledged from (given ++ more)
-leaves_more rom now acknowledged from given more left = record {
-  least = left.least;
-  acknowledged_is = left.acknowledged_is;
-  images = λ image here. reaches_more rom from left.least given more image (left.images image here);
-}
-
 pub leaves_played : (rom : List ℕ) (now : DiskState) (acknowledged : ℕ) (pending : List Entry) (machine : MachineState) (from : Position) (given : List Input) → IsPlayed rom now acknowledged pending machine from given → Leaves rom now acknowledged from given
 leaves_played rom now acknowledged pending machine from given played = record {
   least = played.saved;
   acknowledged_is = played.acknowledged_is;
   images = reaches_here rom now acknowledged pending machine from given played;
 }
-
-pub leaves_by : {rom : List ℕ} {now : DiskState} {acknowledged : ℕ} {from : Position} {given given' : List Input} → given ≡ given' → Leaves rom now acknowledged from given → Leaves rom now acknowledged from given'
-leaves_by {rom} {now} {acknowledged} {from} {given} {given'} same left = subst (Leaves rom now acknowledged from) same left
-
-pub played_by : {rom : List ℕ} {now : DiskState} {acknowledged : ℕ} {pending : List Entry} {machine : MachineState} {from : Position} {given given' : List Input}
-    → given ≡ given' → IsPlayed rom now acknowledged pending machine from given → IsPlayed rom now acknowledged pending machine from given'
-played_by {rom} {now} {acknowledged} {pending} {machine} {from} {given} {given'} same played = subst (IsPlayed rom now acknowledged pending machine from) same played
-
--- one more input
-module _ {D : Type 0} (disk : D → DiskState) (rom : List ℕ) (was now : D) (acknowledged then : ℕ) where
-  pub played_input : (pending more : List Entry) (machine after_it : MachineState) (from : Position) (given : List Input) (input : Input) → now ≡ was → then ≡ acknowledged
-      → inputs_of more ≡ inputs_of pending ++ input ∷ [] → after_it ≡ applied input machine → IsPlayed rom (disk was) acknowledged pending machine from given → IsPlayed rom (disk now) then more after_it from (given ++ input ∷ [])
-  played_input pending more machine after_it from given input same count_is more_is is played =
-      subst (λ (d : D). IsPlayed rom (disk d) then more after_it from (given ++ input ∷ [])) (sym same)
-      (subst (λ (n : ℕ). IsPlayed rom (disk was) n more after_it from (given ++ input ∷ [])) (sym count_is)
-      (played_more rom (disk was) acknowledged pending machine from given played more after_it input more_is is))
-
-  -- that was refused
-  pub leaves_input : (pending : List Entry) (machine : MachineState) (from : Position) (given more : List Input) → now ≡ was → then ≡ acknowledged
-      → IsPlayed rom (disk was) acknowledged pending machine from given → Leaves rom (disk now) then from (given ++ more)
-  leaves_input pending machine from given more same count_is played =
-      subst (λ (d : D). Leaves rom (disk d) then from (given ++ more)) (sym same)
-      (subst (λ (n : ℕ). Leaves rom (disk was) n from (given ++ more)) (sym count_is)
-      (leaves_more rom (disk was) acknowledged from given more (leaves_played rom (disk was) acknowledged pending machine from given played)))
 
 -- ---- one round
 
@@ -183,7 +151,7 @@ least_after NoSession old new fits is = omega (arith, is)
 least_after (TooSmall n) old new fits is = omega (arith, is)
 least_after OtherCartridge old new fits is = omega (arith, is)
 least_after (Damaged d) old new fits is = omega (arith, is)
-least_after Worn old new fits is = omega (arith, is)
+least_after GenerationsUsedUp old new fits is = omega (arith, is)
 least_after Broken old new fits is = omega (arith, is)
 least_after SaveFirst old new fits is = omega (arith, is)
 least_after CountFull old new fits is = omega (arith, is)
@@ -206,48 +174,20 @@ counts_later why first old new less counts = record {
 
 -- ---- causes
 
--- what stops moves whose report can't fail
-pub round_stop : (why : SessionError) (all : ℕ) (now : DiskState) → (why ≡ Output → ⊥) → IsStop why all now → IsRoundStop why all now
-round_stop Memory all now not stop = stop
-round_stop Device all now not stop = stop
-round_stop NoSession all now not stop = stop
-round_stop (TooSmall n) all now not stop = stop
-round_stop OtherCartridge all now not stop = stop
-round_stop (Damaged d) all now not stop = stop
-round_stop Worn all now not stop = stop
-round_stop CountFull all now not stop = stop
-round_stop Broken all now not stop = stop
-round_stop SaveFirst all now not stop = stop
-round_stop Output all now not stop = not refl
-
--- among more inputs
-pub round_stops_among : (why : SessionError) (less all : ℕ) (now : DiskState) → less ≤ all → IsRoundStop why less now → IsRoundStop why all now
-round_stops_among Memory less all now more stop = stop
-round_stops_among Device less all now more stop = stop
-round_stops_among NoSession less all now more stop = stop
-round_stops_among (TooSmall n) less all now more stop = stop
-round_stops_among OtherCartridge less all now more stop = stop
-round_stops_among (Damaged d) less all now more stop = stop
-round_stops_among Worn less all now more stop = stop
-round_stops_among CountFull less all now more stop = omega arith
-round_stops_among Broken less all now more stop = stop
-round_stops_among SaveFirst less all now more stop = stop
-round_stops_among Output less all now more stop = stop
-
--- moves that were stopped refuse the round
-pub moves_refuse : (rom : List ℕ) (old now : MemoryState) (inputs : List Input) (from : Position) (all : ℕ) (why : SessionError) → StandsFor rom (memory_disk old) from → all ≡ from.count + length inputs → IsRoundStop why all (memory_disk now)
+-- moves that were stopped refuse the round, where their report can't fail
+pub moves_refuse : (rom : List ℕ) (old now : MemoryState) (inputs : List Input) (from : Position) (all : ℕ) (why : SessionError) → StandsFor rom (memory_disk old) from → all ≡ from.count + length inputs → (why ≡ Output → ⊥) → IsStop why all (memory_disk now)
     → IsRoundRefusal rom (memory_disk old) inputs (memory_disk now).sectors why
-moves_refuse rom old now inputs from all Memory stood is stop = tt
-moves_refuse rom old now inputs from all Device stood is stop = tt
-moves_refuse rom old now inputs from all NoSession stood is stop = absurd stop
-moves_refuse rom old now inputs from all (TooSmall n) stood is stop = absurd stop
-moves_refuse rom old now inputs from all OtherCartridge stood is stop = absurd stop
-moves_refuse rom old now inputs from all (Damaged d) stood is stop = absurd stop
-moves_refuse rom old now inputs from all Worn stood is stop = stop tt
-moves_refuse rom old now inputs from all CountFull stood is stop = record { first = from; stood = stood; past = omega (arith, is, stop) }
-moves_refuse rom old now inputs from all Broken stood is stop = stop
-moves_refuse rom old now inputs from all SaveFirst stood is stop = stop
-moves_refuse rom old now inputs from all Output stood is stop = stop
+moves_refuse rom old now inputs from all Memory stood is other stop = tt
+moves_refuse rom old now inputs from all Device stood is other stop = tt
+moves_refuse rom old now inputs from all NoSession stood is other stop = absurd stop
+moves_refuse rom old now inputs from all (TooSmall n) stood is other stop = absurd stop
+moves_refuse rom old now inputs from all OtherCartridge stood is other stop = absurd stop
+moves_refuse rom old now inputs from all (Damaged d) stood is other stop = absurd stop
+moves_refuse rom old now inputs from all GenerationsUsedUp stood is other stop = stop tt
+moves_refuse rom old now inputs from all CountFull stood is other stop = record { first = from; stood = stood; past = omega (arith, is, stop) }
+moves_refuse rom old now inputs from all Broken stood is other stop = stop
+moves_refuse rom old now inputs from all SaveFirst stood is other stop = stop
+moves_refuse rom old now inputs from all Output stood is other stop = other refl
 
 refused_by : (rom : List ℕ) (old : DiskState) (inputs : List Input) (left : List (List ℕ)) (why : SessionError) → IsResumeCause rom (generation_in left) (content left) why → IsRoundRefusal rom old inputs left why
 refused_by rom old inputs left Memory cause = tt
@@ -256,7 +196,7 @@ refused_by rom old inputs left NoSession cause = cause
 refused_by rom old inputs left (TooSmall n) cause = cause
 refused_by rom old inputs left OtherCartridge cause = cause
 refused_by rom old inputs left (Damaged d) cause = cause
-refused_by rom old inputs left Worn cause = cause.holds.2
+refused_by rom old inputs left GenerationsUsedUp cause = cause.holds.2
 refused_by rom old inputs left CountFull cause = absurd cause
 refused_by rom old inputs left Broken cause = cause
 refused_by rom old inputs left SaveFirst cause = cause
@@ -276,15 +216,15 @@ pub refusal_fused : (rom : List ℕ) (old fused : MemoryState) (inputs : List In
     → IsRoundRefusal rom (memory_disk fused) inputs left why → IsRoundRefusal rom (memory_disk old) inputs left why
 refusal_fused rom old fused inputs left why same refusal = subst (λ (d : DiskState). IsRoundRefusal rom d inputs left why) same refusal
 
-pub moves_sound_stop : (why : SessionError) (all : ℕ) (now : DiskState) → IsRoundStop why all now → IsSoundStop why
-moves_sound_stop Memory all now cause = tt
-moves_sound_stop Device all now cause = tt
-moves_sound_stop Worn all now cause = tt
-moves_sound_stop CountFull all now cause = tt
-moves_sound_stop NoSession all now cause = cause
-moves_sound_stop (TooSmall n) all now cause = cause
-moves_sound_stop OtherCartridge all now cause = cause
-moves_sound_stop (Damaged d) all now cause = cause
-moves_sound_stop Broken all now cause = cause
-moves_sound_stop SaveFirst all now cause = cause
-moves_sound_stop Output all now cause = cause
+pub moves_sound_stop : (why : SessionError) (all : ℕ) (now : DiskState) → (why ≡ Output → ⊥) → IsStop why all now → IsSoundStop why
+moves_sound_stop Memory all now other stop = tt
+moves_sound_stop Device all now other stop = tt
+moves_sound_stop GenerationsUsedUp all now other stop = tt
+moves_sound_stop CountFull all now other stop = tt
+moves_sound_stop NoSession all now other stop = stop
+moves_sound_stop (TooSmall n) all now other stop = stop
+moves_sound_stop OtherCartridge all now other stop = stop
+moves_sound_stop (Damaged d) all now other stop = stop
+moves_sound_stop Broken all now other stop = stop
+moves_sound_stop SaveFirst all now other stop = stop
+moves_sound_stop Output all now other stop = other refl

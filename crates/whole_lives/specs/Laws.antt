@@ -13,7 +13,7 @@ abbrev pub survivors_of : Round → (resumed : Option ℕ) → (survived : ℕ) 
 survivors_of round None survived = []
 survivors_of round (Some count) survived = take survived (inputs_of_round round)
 
--- those of each round, one round behind the other
+-- those of each round, one round after the other
 abbrev pub survivors : List Round → List RoundEnd → (survived : List ℕ) → List Input
 survivors [] ends survived = []
 survivors (round ∷ rounds) [] survived = []
@@ -30,7 +30,7 @@ abbrev pub NeverFalls : (known : ℕ) → List RoundEnd → Type 0
 NeverFalls known [] = ⊤
 NeverFalls known (end ∷ ends) = IsTakenUpFrom known end.resumed × (known ≤ end.saved) × NeverFalls end.saved ends
 
--- the life ends behind exactly the inputs that survived, and none that was saved is missing, at its end or on the way
+-- the life ends after exactly the inputs that survived, and none that was saved is missing, at its end or on the way
 pub record KeepsWhatWasSaved (rounds : List Round) (ends : List RoundEnd) (first last : Position) : Type 0 where
   -- how many of each round's inputs survived
   pub survived : List ℕ

@@ -3,7 +3,7 @@ use Rattle.std.specs.Prelude.{◌≡◌, ◌≤◌, ◌+◌, ℕ, List, [], ◌�
 use Rattle.machine.specs.Machine.{after}
 use Rattle.machine.specs.declared.input.Input.{Input}
 use Rattle.sector_device.specs.DiskState.{DiskState}
-use Rattle.sector_log.specs.Content.{content}
+use Rattle.log_format.specs.Content.{content}
 use Rattle.session.specs.Stands.{Position, stands}
 use Rattle.playing.specs.Report.{inputs_of_moves}
 use Rattle.whole_lives.specs.declared.rounds.Round.{Round}

@@ -4,12 +4,12 @@ use Rattle.sector_device.specs.DiskState.{DiskState, next_count}
 use Rattle.sector_device.specs.Looking.{HasLooked}
 use Rattle.sector_device.specs.Memory.{MemoryState, memory_disk}
 use Rattle.sector_device.specs.Runs.{HoldsSince}
-use Rattle.sector_log.specs.Content.{content, generation_in}
+use Rattle.log_format.specs.Content.{content, generation_in}
 use Rattle.session.specs.Calls.{CanBeTakenUp, StandsAsBefore}
 use Rattle.session.specs.Found.{IsResumeCause}
 use Rattle.session.specs.Stands.{Position}
 use Rattle.session.specs.declared.error.SessionError.{SessionError}
-use Rattle.session.specs.declared.error.SessionError.TheVariants.{Memory, Device, NoSession, TooSmall, OtherCartridge, Damaged, Worn, Broken, SaveFirst, CountFull, Output}
+use Rattle.session.specs.declared.error.SessionError.TheVariants.{Memory, Device, NoSession, TooSmall, OtherCartridge, Damaged, GenerationsUsedUp, CountFull}
 use Rattle.whole_lives.specs.Lives.{HasLived, LeavesLife, inputs_of_round}
 use Rattle.whole_lives.specs.declared.rounds.Round.{Round}
 use Rattle.whole_lives.specs.declared.rounds.RoundEnd.{RoundEnd}
@@ -34,25 +34,17 @@ IsLifeStop rom old rounds left NoSession = IsResumeCause rom (generation_in left
 IsLifeStop rom old rounds left (TooSmall needed) = IsResumeCause rom (generation_in left) (content left) (TooSmall needed)
 IsLifeStop rom old rounds left OtherCartridge = IsResumeCause rom (generation_in left) (content left) OtherCartridge
 IsLifeStop rom old rounds left (Damaged damage) = IsResumeCause rom (generation_in left) (content left) (Damaged damage)
-IsLifeStop rom old rounds left Worn = generation_in left ≡ 2 ^ 64 - 1
+IsLifeStop rom old rounds left GenerationsUsedUp = generation_in left ≡ 2 ^ 64 - 1
 IsLifeStop rom old rounds left CountFull = IsUncountable rom old rounds
-IsLifeStop rom old rounds left Broken = ⊥
-IsLifeStop rom old rounds left SaveFirst = ⊥
-IsLifeStop rom old rounds left Output = ⊥
+IsLifeStop rom old rounds left why = ⊥
 
 -- where each image stands for a position, nothing that is found refuses it
 abbrev pub IsSoundStop : SessionError → Type 0
 IsSoundStop Memory = ⊤
 IsSoundStop Device = ⊤
-IsSoundStop Worn = ⊤
+IsSoundStop GenerationsUsedUp = ⊤
 IsSoundStop CountFull = ⊤
-IsSoundStop NoSession = ⊥
-IsSoundStop (TooSmall needed) = ⊥
-IsSoundStop OtherCartridge = ⊥
-IsSoundStop (Damaged damage) = ⊥
-IsSoundStop Broken = ⊥
-IsSoundStop SaveFirst = ⊥
-IsSoundStop Output = ⊥
+IsSoundStop why = ⊥
 
 -- no failed call is forgotten, and one that ends the life is counted, unless the count stands at its greatest
 pub record CountsLifeFaults (old new : ℕ) (why : SessionError) : Type 0 where

@@ -3,11 +3,11 @@ use Rattle.std.specs.Prelude.{◌≡◌, ◌≤◌, ◌+◌, ◌-◌, ◌^◌, �
 use Rattle.machine.specs.declared.input.Input.{Input}
 use Rattle.sector_device.specs.DiskState.{DiskState}
 use Rattle.sector_device.specs.Memory.{MemoryState, memory_disk, image_of}
-use Rattle.sector_log.specs.Content.{content, generation_in}
+use Rattle.log_format.specs.Content.{content, generation_in}
 use Rattle.session.specs.Found.{IsResumeCause}
 use Rattle.session.specs.Stands.{Position}
 use Rattle.session.specs.declared.error.SessionError.{SessionError}
-use Rattle.session.specs.declared.error.SessionError.TheVariants.{Memory, Device, NoSession, TooSmall, OtherCartridge, Damaged, Worn, Broken, SaveFirst, CountFull, Output}
+use Rattle.session.specs.declared.error.SessionError.TheVariants.{Memory, Device, NoSession, TooSmall, OtherCartridge, Damaged, GenerationsUsedUp, CountFull}
 use Rattle.playing.specs.Played.{Reaches}
 use Rattle.whole_lives.specs.Lives.{StandsFor, IsRound}
 use Rattle.whole_lives.specs.declared.rounds.RoundEnd.{RoundEnd}
@@ -34,20 +34,6 @@ pub record IsCutRound (rom : List ℕ) (old : DiskState) (kept : List Bool) (now
   pub cut : now.at_start ≡ image_of played kept
   pub fresh : now.recorded ≡ []
 
--- why moves that were begun stop: the generations used up, a failed call, or more inputs in all than can be counted
-abbrev pub IsRoundStop : SessionError → (all : ℕ) → (now : DiskState) → Type 0
-IsRoundStop Worn all now = now.honest → generation_in now.sectors ≡ 2 ^ 64 - 1
-IsRoundStop Device all now = ⊤
-IsRoundStop CountFull all now = 2 ^ 64 ≤ all
-IsRoundStop Memory all now = ⊥
-IsRoundStop NoSession all now = ⊥
-IsRoundStop (TooSmall needed) all now = ⊥
-IsRoundStop OtherCartridge all now = ⊥
-IsRoundStop (Damaged damage) all now = ⊥
-IsRoundStop Broken all now = ⊥
-IsRoundStop SaveFirst all now = ⊥
-IsRoundStop Output all now = ⊥
-
 -- these inputs are more than can be counted from a position that some image of the device stands for
 pub record IsPastCounting (rom : List ℕ) (old : DiskState) (inputs : List Input) : Type 0 where
   pub first : Position
@@ -62,8 +48,6 @@ IsRoundRefusal rom old inputs left NoSession = IsResumeCause rom (generation_in 
 IsRoundRefusal rom old inputs left (TooSmall needed) = IsResumeCause rom (generation_in left) (content left) (TooSmall needed)
 IsRoundRefusal rom old inputs left OtherCartridge = IsResumeCause rom (generation_in left) (content left) OtherCartridge
 IsRoundRefusal rom old inputs left (Damaged damage) = IsResumeCause rom (generation_in left) (content left) (Damaged damage)
-IsRoundRefusal rom old inputs left Worn = generation_in left ≡ 2 ^ 64 - 1
+IsRoundRefusal rom old inputs left GenerationsUsedUp = generation_in left ≡ 2 ^ 64 - 1
 IsRoundRefusal rom old inputs left CountFull = IsPastCounting rom old inputs
-IsRoundRefusal rom old inputs left Broken = ⊥
-IsRoundRefusal rom old inputs left SaveFirst = ⊥
-IsRoundRefusal rom old inputs left Output = ⊥
+IsRoundRefusal rom old inputs left why = ⊥

@@ -6,7 +6,6 @@
 
 pub mod laws;
 mod lives;
-mod moves;
 mod rounds;
 
 pub use lives::live;

@@ -3,7 +3,7 @@ ghost use Rattle.std.specs.Prelude.{◌≡◌, ◌≤◌, [], false, IfOk, IfErr
 ghost use Rattle.sector_device.specs.Memory.{memory_disk};
 ghost use Rattle.sector_device.specs.MemoryDevice.{memory};
 ghost use Rattle.session.specs.Calls.{IsAtRest};
-ghost use Rattle.session.specs.Words.{device_of, machine_of, rom_of, pending_of, acknowledged_of, is_broken};
+ghost use Rattle.session.specs.Accessors.{device_of, machine_of, rom_of, pending_of, acknowledged_of, is_broken};
 ghost use Rattle.whole_lives.specs.Lives.{HasLived, LeavesLife, LeavesSomeLife, EachStands};
 ghost use Rattle.whole_lives.specs.Refusals.{IsByNoFuse, IsLast, IsLifeStop, IsSoundStop, CountsLifeFaults};
 
@@ -62,7 +62,7 @@ fn live_rounds(
 /// becomes the image that keeps the chosen writes. After the last round the game is resumed once
 /// more, with no fuse.
 ///
-/// Refusals: those of `resume`; `Worn`, `Device` and `CountFull` of the moves; `Memory` for the
+/// Refusals: those of `resume`; `GenerationsUsedUp`, `Device` and `CountFull` of the moves; `Memory` for the
 /// ends and for an image. A `Device` by a round's fuse ends the round; any other refusal ends the
 /// life, as do a full record and a call that `fail_at` made fail.
 pub fn live(

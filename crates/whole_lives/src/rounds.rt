@@ -8,8 +8,8 @@ ghost use Rattle.whole_lives.specs.Refusals.{IsFresh, IsSoundStop, CountsLifeFau
 ghost use Rattle.whole_lives.specs.Rounds.{LeavesRound, IsCutRound, IsRoundRefusal};
 ghost use Rattle.whole_lives.specs.declared.rounds.RoundEnd.{RoundEnd};
 
-use crate::moves::make_moves;
 use cartridge::Cartridge;
+use playing::{Silent, make_moves};
 use script::Move;
 use sector_device::MemoryDevice;
 use session::{Refused, Session, SessionError, resume};
@@ -104,7 +104,7 @@ fn play_until_blown(
         }
     };
     let resumed = session.counts().all;
-    let made = make_moves(&mut session, moves);
+    let made = make_moves(&mut session, moves, &mut Silent);
     let end = RoundEnd {
         resumed: Some(resumed),
         saved: session.counts().acknowledged,

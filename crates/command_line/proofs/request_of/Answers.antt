@@ -1,5 +1,5 @@
 use Rattle.std.proofs.Common.{map}
-use Rattle.command_line.proofs.Tops.{error_answers, error_has_kind, matches_read, none_fails}
+use Rattle.command_line.proofs.AllWords.{error_answers, error_has_kind, matches_read, none_fails}
 use Rattle.command_line.proofs.request_of.Goals as goal
 
 pub returns-in_err-matches : goal.returns-in_err-matches

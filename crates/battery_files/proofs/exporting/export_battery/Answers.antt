@@ -1,9 +1,9 @@
 use Rattle.std.proofs.Common.{◌≡◌, ◌⊎◌, ◌∙◌, inr, ℕ, List, Some, sym, ap, subst}
 use Rattle.sector_device.specs.Looking.{HasLooked}
-use Rattle.sector_log.specs.Content.{content}
+use Rattle.log_format.specs.Content.{content}
 use Rattle.session.specs.Calls.{CanBeLookedAt}
 use Rattle.session.specs.Stands.{Position, stands}
-use Rattle.session.specs.Words.{machine_of_look, count_of_look}
+use Rattle.session.specs.Accessors.{machine_of_look, count_of_look}
 use Rattle.session.specs.declared.error.SessionError.TheVariants.{Memory}
 use Rattle.battery_files.specs.Battery.{battery_of}
 use Rattle.battery_files.proofs.exporting.export_battery.Goals as goal

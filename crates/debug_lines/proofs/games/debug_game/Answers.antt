@@ -3,7 +3,7 @@ use Rattle.machine.specs.Machine.{MachineState}
 use Rattle.snapshot.specs.Legal.{IsMachineOf}
 use Rattle.sector_device.specs.DiskState.{HasAnswered}
 use Rattle.session.specs.Stands.{Position}
-use Rattle.session.specs.Words.{acknowledged_of, device_of, machine_of}
+use Rattle.session.specs.Accessors.{acknowledged_of, device_of, machine_of}
 use Rattle.session.specs.declared.session.Counts.{Counts}
 use Rattle.session.proofs.Answering.{answered_otherwise}
 use Rattle.playing.proofs.Telling.{keeps_same}

@@ -2,7 +2,7 @@ use Rattle.std.proofs.Common.{subst, sym, Result, Ok, Err}
 use Rattle.std.specs.Prelude.{OnOk}
 use Rattle.playing.specs.Played.{HasPlayed}
 use Rattle.gbkeep.specs.Playing.{inputs_of_script}
-use Rattle.session.specs.Words.{device_of}
+use Rattle.session.specs.Accessors.{device_of}
 use Rattle.gbkeep.proofs.Plays.{drawn_answered, undrawn_cause}
 use Rattle.gbkeep.proofs.drawing.play_and_draw.Goals as goal
 

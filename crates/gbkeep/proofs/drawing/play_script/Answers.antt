@@ -1,6 +1,6 @@
 use Rattle.gbkeep.specs.Playing.{inputs_of_script}
 use Rattle.std.proofs.Common.{◌∙◌, ap, refl, sym, Ok}
-use Rattle.session.specs.Words.{acknowledged_of, device_of, machine_of}
+use Rattle.session.specs.Accessors.{acknowledged_of, device_of, machine_of}
 use Rattle.gbkeep.proofs.Plays.{nothing_played, played_of_script, reported, last_machine}
 use Rattle.session.proofs.Answering.{answered_error, answered_refusal, answered_value}
 use Rattle.gbkeep.proofs.drawing.play_script.Goals as goal

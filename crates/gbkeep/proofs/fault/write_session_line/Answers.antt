@@ -12,8 +12,8 @@ returns-in-NoSession g c = rw c.in-NoSession.is c.write_line-in-NoSession.ensure
 pub returns-in-OtherCartridge : goal.returns-in-OtherCartridge
 returns-in-OtherCartridge g c = rw c.in-OtherCartridge.is c.write_line-in-OtherCartridge.ensures
 
-pub returns-in-Worn : goal.returns-in-Worn
-returns-in-Worn g c = rw c.in-Worn.is c.write_line-in-Worn.ensures
+pub returns-in-GenerationsUsedUp : goal.returns-in-GenerationsUsedUp
+returns-in-GenerationsUsedUp g c = rw c.in-GenerationsUsedUp.is c.write_line-in-GenerationsUsedUp.ensures
 
 pub returns-in-Broken : goal.returns-in-Broken
 returns-in-Broken g c = rw c.in-Broken.is c.write_line-in-Broken.ensures

@@ -3,7 +3,7 @@ use Rattle.std.specs.Io.KnownBytes.{Appends}
 use Rattle.machine.specs.Machine.{MachineState}
 use Rattle.snapshot.specs.Legal.{IsMachineOf}
 use Rattle.session.specs.Stands.{Position}
-use Rattle.session.specs.Words.{acknowledged_of, device_of, machine_of}
+use Rattle.session.specs.Accessors.{acknowledged_of, device_of, machine_of}
 use Rattle.session.specs.declared.session.Counts.{Counts}
 use Rattle.gbkeep.specs.Tracing.{HasTraced, IsTraceCause, IsUntraced, trace_text}
 use Rattle.debug_lines.proofs.Begun.{taken_up}

@@ -3,8 +3,8 @@ use Rattle.std.proofs.lemmas.Result.{IfOk-weaker, IfErr-weaker}
 use Rattle.sector_device.specs.Memory.{memory_disk}
 use Rattle.sector_device.specs.MemoryDevice.{memory}
 use Rattle.sector_device.specs.declared.memory.MemoryDevice.{MemoryDevice}
-use Rattle.recording.specs.Words.{device_of as device_of_recording}
-use Rattle.session.specs.Words.{device_of}
+use Rattle.recording.specs.Accessors.{device_of as device_of_recording}
+use Rattle.session.specs.Accessors.{device_of}
 use Rattle.session.specs.declared.error.SessionError.TheVariants.{Device}
 use Rattle.streaming.specs.declared.obeying.End.TheVariants.{Whole}
 use Rattle.recorded_play.specs.Obeying.{told_as}

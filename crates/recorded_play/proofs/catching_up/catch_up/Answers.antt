@@ -1,12 +1,12 @@
 use Rattle.std.proofs.Common.{◌≡◌, ◌+◌, ◌∙◌, [], ℕ, length, refl, sym, ap, subst, arith, append-nil}
-use Rattle.sector_log.specs.Inputs.{fits}
-use Rattle.recording.specs.Words.{device_of as device_of_recording}
-use Rattle.session.specs.Words.{device_of, machine_of, rom_of, pending_of, acknowledged_of, is_broken, log_in, generation_in_use}
+use Rattle.log_format.specs.Inputs.{fits}
+use Rattle.recording.specs.Accessors.{device_of as device_of_recording}
+use Rattle.session.specs.Accessors.{device_of, machine_of, rom_of, pending_of, acknowledged_of, is_broken, log_in, generation_in_use}
 use Rattle.session.proofs.Answering.{answered_value, answered_error}
 use Rattle.session.proofs.StandsLaws.{after_none}
 use Rattle.playing.proofs.PlayLaws.{going_saved, going_by, stopped_failed, stopped_by}
 use Rattle.playing.proofs.Stops.{save_stops, save_not_output}
-use Rattle.streaming.specs.Obeying.{place}
+use Rattle.playing.specs.Making.{place}
 use Rattle.recorded_play.specs.CatchingUp.{Goes, Fails, FailsRecorded, recorded_in}
 use Rattle.recorded_play.proofs.Passing.{caught_up, fails_to_catch_up}
 use Rattle.recorded_play.proofs.catching_up.catch_up.Goals as goal

@@ -1,8 +1,8 @@
 use Rattle.std.proofs.Common.{◌≡◌, ◌+◌, ◌∷◌, [], ℕ, length, drop, refl, sym, ap, subst, arith, length-append}
 use Rattle.session.specs.Inputs.{entry_of}
-use Rattle.session.specs.Words.{device_of, machine_of, pending_of, acknowledged_of, is_broken}
+use Rattle.session.specs.Accessors.{device_of, machine_of, pending_of, acknowledged_of, is_broken}
 use Rattle.playing.proofs.Stops.{input_refused}
-use Rattle.streaming.specs.Obeying.{Place, place}
+use Rattle.playing.specs.Making.{Place, place}
 use Rattle.recorded_play.specs.CatchingUp.{Goes, Fails}
 use Rattle.recorded_play.proofs.Passing.{input_goes, input_fails, first_given, fails_by, passes_skipped, passes_given, fails_given}
 use Rattle.recorded_play.proofs.catching_up.pass.Goals as goal

@@ -2,9 +2,9 @@ use Rattle.std.proofs.Common.{◌≡◌, ◌+◌, ◌-◌, ◌++◌, ◌∙◌, 
 use Rattle.machine.specs.declared.input.Input.{Input}
 use Rattle.sector_device.specs.DiskState.{sector_at}
 use Rattle.recording.specs.Format.{entries_at}
-use Rattle.recording.specs.Words.{device_of as device_of_recording}
-use Rattle.session.specs.Words.{device_of}
-use Rattle.streaming.specs.Obeying.{place}
+use Rattle.recording.specs.Accessors.{device_of as device_of_recording}
+use Rattle.session.specs.Accessors.{device_of}
+use Rattle.playing.specs.Making.{place}
 use Rattle.recorded_play.specs.CatchingUp.{given_by_all, recorded_in}
 use Rattle.recorded_play.proofs.Passing.{given_up_to, up_to_next, up_to_all, up_to_rest, recorded_begins, recorded_at, recorded_then, recorded_fails, recorded_is, fails_at, fails_is}
 use Rattle.recorded_play.proofs.catching_up.pass_all.Goals as goal

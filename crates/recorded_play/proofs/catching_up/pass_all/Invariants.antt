@@ -1,7 +1,7 @@
 use Rattle.std.proofs.Common.{◌≡◌, ◌<◌, length, false}
-use Rattle.recording.specs.Words.{device_of as device_of_recording, is_broken as is_broken_recording, used_of}
-use Rattle.session.specs.Words.{device_of, pending_of, is_broken}
-use Rattle.streaming.specs.Obeying.{place}
+use Rattle.recording.specs.Accessors.{device_of as device_of_recording, is_broken as is_broken_recording, used_of}
+use Rattle.session.specs.Accessors.{device_of, pending_of, is_broken}
+use Rattle.playing.specs.Making.{place}
 use Rattle.recorded_play.specs.CatchingUp.{PassesRecorded}
 use Rattle.recorded_play.proofs.Passing.{given_up_to}
 use Rattle.recorded_play.proofs.catching_up.pass_all.Given as goal

@@ -1,7 +1,7 @@
 use Rattle.std.proofs.Common.{[], ap}
 use Rattle.std.proofs.lemmas.List.{take_all}
-use Rattle.session.specs.Words.{device_of}
-use Rattle.streaming.specs.Obeying.{place}
+use Rattle.session.specs.Accessors.{device_of}
+use Rattle.playing.specs.Making.{place}
 use Rattle.recorded_play.specs.CatchingUp.{given_by_all}
 use Rattle.recorded_play.proofs.Passing.{passes_nothing, passes_by, passes_entry, fails_entry}
 use Rattle.recorded_play.proofs.catching_up.pass_entries.Goals as goal

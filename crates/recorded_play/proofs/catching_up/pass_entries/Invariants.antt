@@ -1,6 +1,6 @@
 use Rattle.std.proofs.Common.{◌≡◌, ◌<◌, length, take, false}
-use Rattle.session.specs.Words.{device_of, pending_of, is_broken}
-use Rattle.streaming.specs.Obeying.{place}
+use Rattle.session.specs.Accessors.{device_of, pending_of, is_broken}
+use Rattle.playing.specs.Making.{place}
 use Rattle.recorded_play.specs.CatchingUp.{given_by_all, Passes}
 use Rattle.recorded_play.proofs.catching_up.pass_entries.Given as goal
 

@@ -1,7 +1,7 @@
 use Rattle.std.proofs.Common.{refl}
-use Rattle.session.specs.Words.{device_of}
+use Rattle.session.specs.Accessors.{device_of}
 use Rattle.playing.proofs.Stops.{if_err}
-use Rattle.streaming.specs.Obeying.{place}
+use Rattle.playing.specs.Making.{place}
 use Rattle.recorded_play.proofs.Passing.{if_ok, passes_by, passes_nothing, given_frames, given_seconds, given_none, fails_in}
 use Rattle.recorded_play.proofs.catching_up.pass_entry.Goals as goal
 

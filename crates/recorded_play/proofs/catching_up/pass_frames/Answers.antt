@@ -2,8 +2,8 @@ use Rattle.std.proofs.Common.{◌≡◌, ◌∷◌, [], ℕ, replicate, subst, a
 use Rattle.std.proofs.lemmas.List.{replicate-append-replicate}
 use Rattle.machine.specs.declared.input.Input.{Input}
 use Rattle.machine.specs.declared.input.Input.TheVariants.{Frame}
-use Rattle.session.specs.Words.{device_of}
-use Rattle.streaming.specs.Obeying.{place}
+use Rattle.session.specs.Accessors.{device_of}
+use Rattle.playing.specs.Making.{place}
 use Rattle.recorded_play.specs.CatchingUp.{Passes}
 use Rattle.recorded_play.proofs.Passing.{passes_nothing, passes_then, passes_by, fails_frames}
 use Rattle.recorded_play.proofs.catching_up.pass_frames.Goals as goal

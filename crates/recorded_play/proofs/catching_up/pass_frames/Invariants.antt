@@ -1,7 +1,7 @@
 use Rattle.std.proofs.Common.{◌≡◌, ◌<◌, length, replicate, false}
 use Rattle.machine.specs.declared.input.Input.TheVariants.{Frame}
-use Rattle.session.specs.Words.{device_of, pending_of, is_broken}
-use Rattle.streaming.specs.Obeying.{place}
+use Rattle.session.specs.Accessors.{device_of, pending_of, is_broken}
+use Rattle.playing.specs.Making.{place}
 use Rattle.recorded_play.specs.CatchingUp.{Passes}
 use Rattle.recorded_play.proofs.catching_up.pass_frames.Given as goal
 

@@ -1,9 +1,9 @@
 use Rattle.std.proofs.Common.{ap, ◌∙◌}
 use Rattle.sector_device.specs.DiskState.{sector_at}
 use Rattle.recording.specs.Format.{entries_at}
-use Rattle.recording.specs.Words.{device_of as device_of_recording, is_broken as is_broken_recording}
-use Rattle.session.specs.Words.{device_of}
-use Rattle.streaming.specs.Obeying.{place}
+use Rattle.recording.specs.Accessors.{device_of as device_of_recording, is_broken as is_broken_recording}
+use Rattle.session.specs.Accessors.{device_of}
+use Rattle.playing.specs.Making.{place}
 use Rattle.recorded_play.specs.CatchingUp.{given_by_all}
 use Rattle.recorded_play.proofs.Passing.{fails_reading, passes_reading, fails_giving, read_fails}
 use Rattle.recorded_play.proofs.catching_up.pass_sector.Goals as goal

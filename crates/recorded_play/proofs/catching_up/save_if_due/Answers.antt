@@ -1,11 +1,11 @@
 use Rattle.std.proofs.Common.{◌≡◌, ◌+◌, ◌∙◌, length, refl, sym, ap, arith, append-nil}
-use Rattle.sector_log.specs.Inputs.{fits}
-use Rattle.session.specs.Words.{device_of, machine_of, rom_of, pending_of, acknowledged_of, is_broken, log_in, generation_in_use}
+use Rattle.log_format.specs.Inputs.{fits}
+use Rattle.session.specs.Accessors.{device_of, machine_of, rom_of, pending_of, acknowledged_of, is_broken, log_in, generation_in_use}
 use Rattle.session.proofs.Answering.{answered_value, answered_error}
 use Rattle.session.proofs.StandsLaws.{after_none}
 use Rattle.playing.proofs.PlayLaws.{going_saved, going_by, stopped_failed, stopped_by}
 use Rattle.playing.proofs.Stops.{save_stops, save_not_output}
-use Rattle.streaming.specs.Obeying.{place}
+use Rattle.playing.specs.Making.{place}
 use Rattle.recorded_play.proofs.Passing.{goes_nothing}
 use Rattle.recorded_play.proofs.catching_up.save_if_due.Goals as goal
 

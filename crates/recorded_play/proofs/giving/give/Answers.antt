@@ -1,7 +1,7 @@
 use Rattle.std.proofs.Common.{◌≡◌, ◌+◌, ◌∷◌, ◌∙◌, [], ℕ, length, sym, ap, subst, arith, length-append}
-use Rattle.recording.specs.Words.{device_of as device_of_recording}
+use Rattle.recording.specs.Accessors.{device_of as device_of_recording}
 use Rattle.session.specs.Inputs.{entry_of}
-use Rattle.session.specs.Words.{device_of, machine_of, pending_of, acknowledged_of, is_broken}
+use Rattle.session.specs.Accessors.{device_of, machine_of, pending_of, acknowledged_of, is_broken}
 use Rattle.playing.proofs.PlayLaws.{on_ok}
 use Rattle.playing.proofs.Stops.{if_err, input_refused}
 use Rattle.recorded_play.specs.Steps.{Game, game, Comes}

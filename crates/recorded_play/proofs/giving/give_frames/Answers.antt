@@ -1,6 +1,6 @@
 use Rattle.std.proofs.Common.{◌≡◌, ◌+◌, ◌≤◌, ℕ, subst, arith}
-use Rattle.recording.specs.Words.{device_of as device_of_recording}
-use Rattle.session.specs.Words.{device_of}
+use Rattle.recording.specs.Accessors.{device_of as device_of_recording}
+use Rattle.session.specs.Accessors.{device_of}
 use Rattle.recorded_play.specs.Steps.{game}
 use Rattle.recorded_play.specs.Obeying.{Obeys}
 use Rattle.recorded_play.proofs.Doing.{obeys_then, stops_behind_orders}

@@ -1,6 +1,6 @@
 use Rattle.std.proofs.Common.{◌≡◌, ◌<◌, length, false}
-use Rattle.recording.specs.Words.{device_of as device_of_recording, is_broken as is_broken_recording}
-use Rattle.session.specs.Words.{device_of, pending_of, is_broken}
+use Rattle.recording.specs.Accessors.{device_of as device_of_recording, is_broken as is_broken_recording}
+use Rattle.session.specs.Accessors.{device_of, pending_of, is_broken}
 use Rattle.recorded_play.specs.Steps.{game}
 use Rattle.recorded_play.specs.Obeying.{Obeys}
 use Rattle.recorded_play.proofs.OneInput.{frames}

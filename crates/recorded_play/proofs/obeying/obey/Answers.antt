@@ -1,6 +1,6 @@
 use Rattle.std.proofs.Common.{sym, subst, Option}
-use Rattle.recording.specs.Words.{device_of as device_of_recording}
-use Rattle.session.specs.Words.{device_of}
+use Rattle.recording.specs.Accessors.{device_of as device_of_recording}
+use Rattle.session.specs.Accessors.{device_of}
 use Rattle.streaming.specs.Orders.{order_list}
 use Rattle.streaming.specs.declared.order.Order.{Order}
 use Rattle.recorded_play.specs.Steps.{game}

@@ -1,9 +1,9 @@
 use Rattle.std.proofs.Common.{◌≡◌, ◌∷◌, ◌++◌, ◌+◌, [], length, inl, inr, refl, arith, length-append}
 use Rattle.std.proofs.lemmas.List.Elements.{All-nil}
-use Rattle.session.specs.Words.{device_of}
+use Rattle.session.specs.Accessors.{device_of}
 use Rattle.streaming.specs.Orders.{IsRight, order_list}
 use Rattle.input_lines.specs.Reading.{left_of}
-use Rattle.recording.specs.Words.{device_of as device_of_recording}
+use Rattle.recording.specs.Accessors.{device_of as device_of_recording}
 use Rattle.recorded_play.specs.Steps.{game}
 use Rattle.input_lines.proofs.Takings.{takes_none, takes_more, reads_left, reads_rest}
 use Rattle.streaming.proofs.OrderLines.{right_more, reads_wrong}

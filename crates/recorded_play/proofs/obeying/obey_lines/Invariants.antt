@@ -1,7 +1,7 @@
 use Rattle.std.proofs.Common.{◌≡◌, ◌<◌, ◌+◌, List, ℕ, length, false}
 use Rattle.std.specs.List.{All}
-use Rattle.recording.specs.Words.{device_of as device_of_recording, is_broken as is_broken_recording}
-use Rattle.session.specs.Words.{device_of, pending_of, is_broken}
+use Rattle.recording.specs.Accessors.{device_of as device_of_recording, is_broken as is_broken_recording}
+use Rattle.session.specs.Accessors.{device_of, pending_of, is_broken}
 use Rattle.streaming.specs.Orders.{orders_of, IsRight}
 use Rattle.input_lines.specs.Reading.{left_of, TakesLines}
 use Rattle.recorded_play.specs.Steps.{game}

@@ -1,8 +1,10 @@
-use Rattle.std.proofs.Common.{ap}
-use Rattle.session.specs.Words.{device_of}
+use Rattle.std.proofs.Common.{ℕ, ap, subst}
+use Rattle.std.specs.Io.KnownBytes.{Appends}
+use Rattle.session.specs.Accessors.{device_of}
 use Rattle.streaming.specs.Orders.{orders_of}
-use Rattle.recording.specs.Words.{device_of as device_of_recording}
-use Rattle.streaming.proofs.Wholes.{begins_at, reads_some, last_behind}
+use Rattle.recording.specs.Accessors.{device_of as device_of_recording}
+use Rattle.playing.specs.Report.{resumed_line}
+use Rattle.streaming.proofs.Wholes.{reads_some, last_behind}
 use Rattle.recorded_play.specs.Steps.{game}
 use Rattle.recorded_play.proofs.Doing.{stops_before_orders}
 use Rattle.recorded_play.proofs.Wholes.{ended_obeyed, ended_stopped, stops_at_resumed, stops_behind}
@@ -39,7 +41,7 @@ returns-in-Ok-save_rest-clause-streamed g c =
       right = made.right;
       read = made.read;
       resumed = g.W.Write.contents c.write_resumed.new.out;
-      begins = begins_at (game (g.D.SectorDevice.disk (device_of was)) (g.E.SectorDevice.disk (device_of_recording c.args.recording.now)) was).save (g.W.Write.contents c.args.out.now) (g.W.Write.contents c.write_resumed.new.out) c.counts.result.all (ap (λ r. r.all) c.counts.ensures) c.in_default.ensures.ok;
+      begins = subst (λ (n : ℕ). Appends (g.W.Write.contents c.args.out.now) (g.W.Write.contents c.write_resumed.new.out) (resumed_line n).text) (ap (λ r. r.all) c.counts.ensures) c.in_default.ensures.ok;
       obeys =
           ended_obeyed (game (g.D.SectorDevice.disk (device_of was)) (g.E.SectorDevice.disk (device_of_recording c.args.recording.now)) was) (game (g.D.SectorDevice.disk (device_of there)) (g.E.SectorDevice.disk (device_of_recording c.obey_lines.new.recording)) there) (game (g.D.SectorDevice.disk (device_of now)) (g.E.SectorDevice.disk (device_of_recording c.save_rest.new.recording)) now)
           (g.W.Write.contents c.write_resumed.new.out) (g.W.Write.contents c.obey_lines.new.out) (g.W.Write.contents c.save_rest.new.out) (orders_of made.lines) made.obeys c.in-Ok-save_rest.ensures.obeyed;

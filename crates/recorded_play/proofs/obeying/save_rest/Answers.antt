@@ -1,6 +1,6 @@
 use Rattle.std.proofs.Common.{◌∙◌, refl, sym, ap}
-use Rattle.recording.specs.Words.{device_of as device_of_recording}
-use Rattle.session.specs.Words.{device_of}
+use Rattle.recording.specs.Accessors.{device_of as device_of_recording}
+use Rattle.session.specs.Accessors.{device_of}
 use Rattle.recorded_play.specs.Steps.{game}
 use Rattle.recorded_play.proofs.Doing.{does_by, obeys_nothing}
 use Rattle.recorded_play.proofs.obeying.save_rest.Goals as goal

@@ -1,16 +1,16 @@
 use Rattle.std.proofs.Common.{◌≡◌, ⊎_elim, ◌+◌, ◌-◌, ◌∙◌, ◌++◌, [], length, refl, sym, ap, arith, append-nil}
 use Rattle.recording.specs.Growing.{fits as fits_recording}
 use Rattle.recording.specs.Sizes.{list_sectors_in}
-use Rattle.recording.specs.Words.{device_of as device_of_recording, is_broken as is_broken_recording, tail_of, full_of}
+use Rattle.recording.specs.Accessors.{device_of as device_of_recording, is_broken as is_broken_recording, tail_of, full_of}
 use Rattle.recording.specs.declared.fault.RecordingFault.TheVariants.{Device, Full}
-use Rattle.sector_log.specs.Inputs.{fits}
-use Rattle.session.specs.Words.{device_of, machine_of, rom_of, pending_of, acknowledged_of, is_broken, log_in, generation_in_use}
+use Rattle.log_format.specs.Inputs.{fits}
+use Rattle.session.specs.Accessors.{device_of, machine_of, rom_of, pending_of, acknowledged_of, is_broken, log_in, generation_in_use}
 use Rattle.session.specs.declared.error.SessionError.TheVariants.{Output}
 use Rattle.session.proofs.Answering.{answered_value, answered_error, answered_otherwise, answered_refusal}
 use Rattle.session.proofs.StandsLaws.{after_none}
 use Rattle.playing.proofs.PlayLaws.{going_saved, going_by, stopped_failed, stopped_here, stopped_by}
 use Rattle.playing.proofs.Stops.{save_stops, save_not_output}
-use Rattle.streaming.specs.Obeying.{place}
+use Rattle.playing.specs.Making.{place}
 use Rattle.recorded_play.specs.Steps.{game, power_on}
 use Rattle.recorded_play.proofs.Recordings.{are_all_inputs}
 use Rattle.recorded_play.proofs.Stepping.{behind_agree, behind_after}

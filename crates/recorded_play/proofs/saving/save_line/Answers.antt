@@ -1,5 +1,5 @@
-use Rattle.recording.specs.Words.{device_of as device_of_recording}
-use Rattle.session.specs.Words.{device_of}
+use Rattle.recording.specs.Accessors.{device_of as device_of_recording}
+use Rattle.session.specs.Accessors.{device_of}
 use Rattle.recorded_play.specs.Steps.{game}
 use Rattle.recorded_play.proofs.Doing.{save_told, save_cut, save_refused}
 use Rattle.recorded_play.proofs.saving.save_line.Goals as goal

@@ -4,13 +4,13 @@ use Rattle.sector_device.specs.DiskState.{HasAnswered}
 use Rattle.input_entries.specs.Inputs.{inputs}
 use Rattle.recording.specs.Calls.{IsOpenCause}
 use Rattle.recording.specs.Recorded.{recorded, entries}
-use Rattle.recording.specs.Words.{device_of as device_of_recording}
+use Rattle.recording.specs.Accessors.{device_of as device_of_recording}
 use Rattle.session.specs.Stands.{Position}
-use Rattle.session.specs.Words.{device_of, machine_of, acknowledged_of, device_of_look, machine_of_look, count_of_look}
+use Rattle.session.specs.Accessors.{device_of, machine_of, acknowledged_of, device_of_look, machine_of_look, count_of_look}
 use Rattle.session.proofs.Answering.{answered_error, answered_refusal, answered_then, answered_otherwise}
 use Rattle.playing.proofs.Stops.{if_err}
 use Rattle.recorded_play.specs.Agreeing.{AllAgree}
-use Rattle.sector_log.specs.Content.{generation_in}
+use Rattle.log_format.specs.Content.{generation_in}
 use Rattle.recorded_play.specs.CatchingUp.{recorded_in}
 use Rattle.recorded_play.specs.Steps.{save_faults_after, recording_faults_after}
 use Rattle.recorded_play.specs.Whole.{IsNotTakenUp, save_left, recording_left}
@@ -183,8 +183,8 @@ returns-then-count-clause-recording_answered g c =
     λ honest. c.input_count-count.ensures ∙ c.in-Ok-open_recording.ensures.opened.count_is honest in
     subst (λ e. HasAnswered (λ refused. recording_faults_after refused.why) recording (other e) (Err (record { why = Behind c.input_count-count.result; save = c.into_device-then-count.result; recording = e }))) (sym c.into_device-then-count-2.ensures) (answered_otherwise c.in-Ok-open_recording.ensures.answered (λ n. refl))
 
-pub go_on-requires-clause-rom : goal.go_on-requires-clause-rom
-go_on-requires-clause-rom g c =
+pub resume_and_catch_up-requires-clause-rom : goal.resume_and_catch_up-requires-clause-rom
+resume_and_catch_up-requires-clause-rom g c =
     let rom = c.args.cartridge.now in
     let disk = g.D.SectorDevice.disk in
     let other = g.E.SectorDevice.disk in
@@ -195,8 +195,8 @@ go_on-requires-clause-rom g c =
     let at : Position = record { count = count_of_look look; machine = machine_of_look look } in
     ap (λ r. r) c.in-Ok.ensures.of.rom
 
-pub go_on-requires-clause-generation : goal.go_on-requires-clause-generation
-go_on-requires-clause-generation g c =
+pub resume_and_catch_up-requires-clause-generation : goal.resume_and_catch_up-requires-clause-generation
+resume_and_catch_up-requires-clause-generation g c =
     let rom = c.args.cartridge.now in
     let disk = g.D.SectorDevice.disk in
     let other = g.E.SectorDevice.disk in
@@ -225,7 +225,7 @@ returns-clause-taken_up g c =
     λ honest. c.input_count-count.ensures ∙ c.in-Ok-open_recording.ensures.opened.count_is honest in
     let enough : recording.honest → count_of_look look ≤ length (inputs (entries recording.sectors)) =
     λ honest. omega (arith, counted honest, c.count.ensures, c.if-count.false) in
-    if_ok c.go_on.result c.go_on.ensures.goes (λ game goes. taken_up rom save looked (disk (device_of game.session)) recording opened (other (device_of_recording game.recording)) at c.in-Ok.ensures.looked c.in-Ok.ensures.stands c.in-Ok-open_recording.ensures.looked c.in-Ok-open_recording.ensures.opened.settled held enough (acknowledged_of game.session) (machine_of game.session) c.in-Ok.ensures.of (g.met.E.SectorDevice.only_now c.args.recording) goes)
+    if_ok c.resume_and_catch_up.result c.resume_and_catch_up.ensures.goes (λ game goes. taken_up rom save looked (disk (device_of game.session)) recording opened (other (device_of_recording game.recording)) at c.in-Ok.ensures.looked c.in-Ok.ensures.stands c.in-Ok-open_recording.ensures.looked c.in-Ok-open_recording.ensures.opened.settled held enough (acknowledged_of game.session) (machine_of game.session) c.in-Ok.ensures.of (g.met.E.SectorDevice.only_now c.args.recording) goes)
 
 pub returns-clause-refused : goal.returns-clause-refused
 returns-clause-refused g c =
@@ -245,7 +245,7 @@ returns-clause-refused g c =
     λ honest. c.input_count-count.ensures ∙ c.in-Ok-open_recording.ensures.opened.count_is honest in
     let enough : recording.honest → count_of_look look ≤ length (inputs (entries recording.sectors)) =
     λ honest. omega (arith, counted honest, c.count.ensures, c.if-count.false) in
-    if_err c.go_on.result c.go_on.ensures.stops (λ refused stops. not_taken_up rom save looked (disk refused.save) recording opened (other refused.recording) at c.in-Ok.ensures.looked c.in-Ok.ensures.stands c.in-Ok-open_recording.ensures.looked c.in-Ok-open_recording.ensures.opened.settled held enough refused.why (g.met.E.SectorDevice.only_now c.args.recording) stops)
+    if_err c.resume_and_catch_up.result c.resume_and_catch_up.ensures.stops (λ refused stops. not_taken_up rom save looked (disk refused.save) recording opened (other refused.recording) at c.in-Ok.ensures.looked c.in-Ok.ensures.stands c.in-Ok-open_recording.ensures.looked c.in-Ok-open_recording.ensures.opened.settled held enough refused.why (g.met.E.SectorDevice.only_now c.args.recording) stops)
 
 pub returns-clause-agree : goal.returns-clause-agree
 returns-clause-agree g c =
@@ -265,7 +265,7 @@ returns-clause-agree g c =
     λ honest. c.input_count-count.ensures ∙ c.in-Ok-open_recording.ensures.opened.count_is honest in
     let enough : recording.honest → count_of_look look ≤ length (inputs (entries recording.sectors)) =
     λ honest. omega (arith, counted honest, c.count.ensures, c.if-count.false) in
-    λ honest other_honest agree. by_result c.go_on.result (λ r. AllAgree rom (disk (save_left r)) (other (recording_left r))) c.go_on.ensures.goes c.go_on.ensures.stops
+    λ honest other_honest agree. by_result c.resume_and_catch_up.result (λ r. AllAgree rom (disk (save_left r)) (other (recording_left r))) c.resume_and_catch_up.ensures.goes c.resume_and_catch_up.ensures.stops
     (λ game goes. agree_on rom save looked (disk (device_of game.session)) recording opened (other (device_of_recording game.recording)) at c.in-Ok.ensures.looked c.in-Ok.ensures.stands c.in-Ok-open_recording.ensures.looked c.in-Ok-open_recording.ensures.opened.settled held enough goes.more (g.met.D.SectorDevice.reads_are_an_image c.args.save honest) (g.met.E.SectorDevice.reads_are_an_image c.args.recording other_honest) (g.met.D.SectorDevice.counts_now (device_of game.session)) honest other_honest agree (goes.more_is (c.in-Ok-open_recording.ensures.looked other_honest).honest) (goes.images (c.in-Ok.ensures.looked honest).honest) goes.looks)
     (λ refused stops. agree_on rom save looked (disk refused.save) recording opened (other refused.recording) at c.in-Ok.ensures.looked c.in-Ok.ensures.stands c.in-Ok-open_recording.ensures.looked c.in-Ok-open_recording.ensures.opened.settled held enough (drop at.count (recorded_in opened)) (g.met.D.SectorDevice.reads_are_an_image c.args.save honest) (g.met.E.SectorDevice.reads_are_an_image c.args.recording other_honest) (g.met.D.SectorDevice.counts_now refused.save) honest other_honest agree refl (stops.images (c.in-Ok.ensures.looked honest).honest (c.in-Ok-open_recording.ensures.looked other_honest).honest) stops.looks)
 
@@ -287,7 +287,7 @@ returns-clause-save_answered g c =
     λ honest. c.input_count-count.ensures ∙ c.in-Ok-open_recording.ensures.opened.count_is honest in
     let enough : recording.honest → count_of_look look ≤ length (inputs (entries recording.sectors)) =
     λ honest. omega (arith, counted honest, c.count.ensures, c.if-count.false) in
-    answered_then c.go_on.result c.in-Ok.ensures.answered c.go_on.ensures.save_answered
+    answered_then c.resume_and_catch_up.result c.in-Ok.ensures.answered c.resume_and_catch_up.ensures.save_answered
 
 pub returns-clause-recording_answered : goal.returns-clause-recording_answered
 returns-clause-recording_answered g c =
@@ -307,4 +307,4 @@ returns-clause-recording_answered g c =
     λ honest. c.input_count-count.ensures ∙ c.in-Ok-open_recording.ensures.opened.count_is honest in
     let enough : recording.honest → count_of_look look ≤ length (inputs (entries recording.sectors)) =
     λ honest. omega (arith, counted honest, c.count.ensures, c.if-count.false) in
-    answered_then c.go_on.result c.in-Ok-open_recording.ensures.answered c.go_on.ensures.recording_answered
+    answered_then c.resume_and_catch_up.result c.in-Ok-open_recording.ensures.answered c.resume_and_catch_up.ensures.recording_answered

@@ -7,7 +7,7 @@ use Rattle.input_entries.specs.declared.Entry.{Entry}
 use Rattle.input_entries.specs.declared.StoredEntry.{StoredEntry}
 use Rattle.recording.specs.Format.{entries_at}
 use Rattle.recording.specs.Recorded.{entries_up_to}
-use Rattle.recording.specs.Words.{device_of, is_broken}
+use Rattle.recording.specs.Accessors.{device_of, is_broken}
 use Rattle.session.proofs.Answering.{answered_nothing, answered_both}
 use Rattle.replaying.specs.Replayed.{HasReplayed}
 use Rattle.replaying.proofs.Looking.{looks_only, false_by}

@@ -4,7 +4,7 @@ use Rattle.sector_device.specs.Looking.{LooksOnly}
 use Rattle.input_entries.specs.Inputs.{inputs}
 use Rattle.recording.specs.Calls.{faults_after}
 use Rattle.recording.specs.Recorded.{entries_up_to}
-use Rattle.recording.specs.Words.{device_of, is_broken, full_of, tail_of}
+use Rattle.recording.specs.Accessors.{device_of, is_broken, full_of, tail_of}
 use Rattle.replaying.specs.Replayed.{HasPlayed, HasReplayed}
 use Rattle.replaying.proofs.replay.replay.Given as goal
 

@@ -4,9 +4,9 @@ use Rattle.snapshot.specs.Encoding.{encoded}
 use Rattle.snapshot.proofs.Machines.{one_machine}
 use Rattle.input_entries.specs.Inputs.{inputs}
 use Rattle.recording.specs.Recorded.{entries}
-use Rattle.recording.specs.Words.{device_of}
+use Rattle.recording.specs.Accessors.{device_of}
 use Rattle.session.specs.Inputs.{inputs_of}
-use Rattle.session.specs.Words.{machine_of_look, count_of_look}
+use Rattle.session.specs.Accessors.{machine_of_look, count_of_look}
 use Rattle.session.proofs.Beginnings.{machine_of_rom}
 use Rattle.replaying.proofs.verifying.compare.Goals as goal
 

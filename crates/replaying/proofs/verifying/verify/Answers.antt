@@ -6,9 +6,9 @@ use Rattle.sector_device.proofs.Looking.{has_looked, looked_then}
 use Rattle.input_entries.specs.Inputs.{inputs}
 use Rattle.recording.specs.Calls.{IsOpenCause}
 use Rattle.recording.specs.Recorded.{entries, recorded}
-use Rattle.recording.specs.Words.{device_of}
+use Rattle.recording.specs.Accessors.{device_of}
 use Rattle.session.specs.Stands.{Position}
-use Rattle.session.specs.Words.{device_of_look, machine_of_look, count_of_look}
+use Rattle.session.specs.Accessors.{device_of_look, machine_of_look, count_of_look}
 use Rattle.session.proofs.Answering.{answered_then}
 use Rattle.session.proofs.Beginnings.{if_ok_both, if_err}
 use Rattle.replaying.specs.Replayed.{LeadsTo, IsCompareCause}

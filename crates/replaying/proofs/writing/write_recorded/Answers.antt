@@ -3,7 +3,7 @@ use Rattle.std.specs.Io.KnownBytes.{Appends}
 use Rattle.exact_text.specs.Written.{AppendsProperPrefix}
 use Rattle.machine.specs.declared.input.Input.{Input}
 use Rattle.sector_device.proofs.Looking.{looked_self, looked_then, has_looked}
-use Rattle.recording.specs.Words.{device_of, is_broken}
+use Rattle.recording.specs.Accessors.{device_of, is_broken}
 use Rattle.session.proofs.Answering.{answered_nothing, answered_both, answered_then}
 use Rattle.replaying.specs.Lines.{HasWritten, HasStopped}
 use Rattle.replaying.specs.Script.{lines_after}

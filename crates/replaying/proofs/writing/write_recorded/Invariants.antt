@@ -1,7 +1,7 @@
 use Rattle.std.proofs.Common.{◌≡◌, false, Ok}
 use Rattle.sector_device.specs.DiskState.{HasAnswered}
 use Rattle.sector_device.specs.Looking.{LooksOnly}
-use Rattle.recording.specs.Words.{device_of, is_broken, full_of, tail_of, count_of}
+use Rattle.recording.specs.Accessors.{device_of, is_broken, full_of, tail_of, count_of}
 use Rattle.replaying.specs.Lines.{HasWritten}
 use Rattle.replaying.specs.Writing.{faults_after}
 use Rattle.replaying.proofs.Sectors.{inputs_up_to}

@@ -2,7 +2,7 @@ use Rattle.std.proofs.Common.{◌≡◌, ◌∙◌, sym, subst, List}
 use Rattle.sector_device.specs.DiskState.{sector_at}
 use Rattle.input_entries.specs.Inputs.{inputs, all_entries}
 use Rattle.input_entries.specs.declared.StoredEntry.{StoredEntry}
-use Rattle.recording.specs.Words.{device_of}
+use Rattle.recording.specs.Accessors.{device_of}
 use Rattle.session.specs.Inputs.{inputs_of}
 use Rattle.replaying.specs.Lines.{HasWritten, HasStopped}
 use Rattle.replaying.proofs.Sectors.{sector_entries}

@@ -1,7 +1,8 @@
 use Rattle.std.proofs.Common.{◌≡◌, ◌+◌, ◌-◌, ◌/◌, ◌%◌, ◌⊎◌, inl, inr, length, refl, ap, ◌∙◌, arith, rules}
-use Rattle.sector_log.specs.declared.root.Root.{Root}
-use Rattle.sector_log.specs.Content.{area_length}
-use Rattle.sector_log.specs.Store.{IsNextGeneration, Fits, root_after}
+use Rattle.log_format.specs.declared.root.Root.{Root}
+use Rattle.log_format.specs.Content.{area_length}
+use Rattle.sector_log.specs.Store.{IsNextGeneration, root_after}
+use Rattle.log_format.specs.Widths.{Fits}
 use Rattle.sector_log.proofs.NewGeneration.{is_next}
 use Rattle.sector_log.proofs.generation.begin_generation.Goals as goal
 use Rattle.sector_log.proofs.generation.begin_generation.Goals.{then-root-eq0, else-root-eq0}

@@ -1,5 +1,5 @@
 use Rattle.std.proofs.Common.{ap, ◌∙◌}
-use Rattle.sector_log.specs.Content.{root_at, newer}
+use Rattle.log_format.specs.Content.{root_at, newer}
 use Rattle.sector_log.proofs.reading.read_chosen.Goals as goal
 
 pub returns-clause-root : goal.returns-clause-root

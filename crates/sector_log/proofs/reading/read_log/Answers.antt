@@ -1,7 +1,7 @@
 use Rattle.std.proofs.Common.{◌≡◌, ◌+◌, take, drop, sym, ap, ◌∙◌, arith}
 use Rattle.sector_device.proofs.Runs.{both_then}
 use Rattle.sector_device.specs.DiskState.{sector_at}
-use Rattle.sector_log.specs.Log.{log_from}
+use Rattle.log_format.specs.Log.{log_from}
 use Rattle.sector_device.proofs.Looking.{looked_read, looked_then}
 use Rattle.sector_log.proofs.Looking.{log_stops, log_goes, log_ends}
 use Rattle.sector_log.proofs.reading.read_log.Goals as goal

@@ -1,5 +1,5 @@
 use Rattle.std.proofs.Common.{◌≡◌, ◌↔◌, ◌≤◌, ◌*◌, ◌++◌, length, take, drop, vec_capacity}
-use Rattle.sector_log.specs.Log.{log_from}
+use Rattle.log_format.specs.Log.{log_from}
 use Rattle.sector_device.specs.Looking.{LooksOnly}
 use Rattle.sector_log.proofs.reading.read_log.Given as goal
 

@@ -1,5 +1,5 @@
 use Rattle.std.proofs.Common.{◌*◌}
-use Rattle.sector_log.proofs.Places.{chunk_is}
+use Rattle.log_format.proofs.Areas.{chunk_is}
 use Rattle.sector_log.proofs.writes.chunk.Goals as goal
 
 pub returns : goal.returns

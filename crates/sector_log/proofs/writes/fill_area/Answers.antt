@@ -3,9 +3,10 @@ use Rattle.sector_device.proofs.Runs.{both_then}
 use Rattle.sector_device.specs.DiskState.{sector_at}
 use Rattle.sector_device.specs.Runs.{WrittenUpTo}
 use Rattle.sector_device.proofs.Runs.{has_written, mixed_set, written_more, written_all}
-use Rattle.sector_log.specs.Log.{fresh_area}
+use Rattle.log_format.specs.Log.{fresh_area}
 use Rattle.sector_log.specs.Layout.{replaced}
-use Rattle.sector_log.proofs.Places.{replaced_at, replaced_after, length-replaced, length-fresh_area}
+use Rattle.sector_log.proofs.Places.{replaced_at, replaced_after, length-replaced}
+use Rattle.log_format.proofs.Areas.{length-fresh_area}
 use Rattle.sector_log.proofs.writes.fill_area.Goals as goal
 
 pub returns-in_err-write-clause-moments : goal.returns-in_err-write-clause-moments

@@ -1,7 +1,7 @@
 use Rattle.std.proofs.Common.{◌≡◌, ◌↔◌, ◌+◌, length}
 use Rattle.sector_device.specs.DiskState.{Settled}
 use Rattle.sector_device.specs.Runs.{HoldsThroughout, Mixed, WrittenUpTo}
-use Rattle.sector_log.specs.Log.{fresh_area}
+use Rattle.log_format.specs.Log.{fresh_area}
 use Rattle.sector_log.specs.Layout.{replaced}
 use Rattle.sector_log.proofs.writes.fill_area.Given as goal
 

@@ -3,7 +3,7 @@ use Rattle.sector_device.proofs.Runs.{both_then}
 use Rattle.sector_device.specs.DiskState.{sector_at}
 use Rattle.sector_device.specs.Runs.{WrittenUpTo}
 use Rattle.sector_device.proofs.Runs.{has_written, mixed_set, written_more}
-use Rattle.sector_log.specs.Log.{log_area, log_sector}
+use Rattle.log_format.specs.Log.{log_area, log_sector}
 use Rattle.sector_log.specs.Layout.{replaced}
 use Rattle.sector_log.proofs.Places.{new_log_at}
 use Rattle.sector_log.proofs.writes.write_log.Goals as goal

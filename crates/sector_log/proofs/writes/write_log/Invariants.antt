@@ -1,7 +1,7 @@
 use Rattle.std.proofs.Common.{◌≡◌, ◌↔◌, ◌≤◌, ◌<◌, ◌+◌, ℕ, length}
 use Rattle.sector_device.specs.DiskState.{Settled, sector_at}
 use Rattle.sector_device.specs.Runs.{HoldsThroughout, Mixed, WrittenUpTo}
-use Rattle.sector_log.specs.Log.{log_area}
+use Rattle.log_format.specs.Log.{log_area}
 use Rattle.sector_log.specs.Layout.{replaced}
 use Rattle.sector_log.proofs.writes.write_log.Given as goal
 

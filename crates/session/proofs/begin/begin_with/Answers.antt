@@ -4,9 +4,9 @@ use Rattle.cartridge.specs.Header.{ram_length_of}
 use Rattle.snapshot.specs.Encoding.{encoded, snapshot_length}
 use Rattle.sector_device.specs.Runs.{HoldsSince}
 use Rattle.sector_log.specs.Calls.{HasOldOrNewContent, HasBegun, IsBeginCause}
-use Rattle.sector_log.specs.Words.{device_under, device_of as device_of_store, entries_of, found_generation}
+use Rattle.sector_log.specs.Accessors.{device_under, device_of as device_of_store, entries_of, found_generation}
 use Rattle.sector_log.specs.declared.fault.LogFault.{LogFault}
-use Rattle.sector_log.specs.declared.fault.LogFault.TheVariants.{Memory as LogMemory, Device as LogDevice, TooSmall as LogTooSmall, Worn as LogWorn, LogFull, Broken as LogBroken}
+use Rattle.sector_log.specs.declared.fault.LogFault.TheVariants.{Memory as LogMemory, Device as LogDevice, TooSmall as LogTooSmall, GenerationsUsedUp as LogGenerationsUsedUp, LogFull, Broken as LogBroken}
 use Rattle.session.specs.Beginning.{session_fault, IsBeginRefusal}
 use Rattle.session.specs.Calls.{faults_after}
 use Rattle.session.proofs.Beginnings.{machine_of_rom, begun_rests, begun_of, images_of, same_faults}
@@ -42,7 +42,7 @@ returns-in-Err-clause-images g c = λ honest.
 -- what a refusal of the log says, said of a session
 refusal : (why : LogFault) (blob_length count last : ℕ) → IsBeginCause why blob_length count last → IsBeginRefusal (session_fault why) blob_length count last
 refusal (LogTooSmall needed) blob_length count last cause = cause
-refusal LogWorn blob_length count last cause = cause
+refusal LogGenerationsUsedUp blob_length count last cause = cause
 refusal LogDevice blob_length count last cause = cause
 refusal LogMemory blob_length count last cause = cause
 refusal LogFull blob_length count last cause = cause

@@ -3,11 +3,11 @@ use Rattle.sha2.specs.Sha256.{sha256}
 use Rattle.snapshot.specs.Encoding.{encoded, snapshot_length}
 use Rattle.cartridge.specs.Header.{ram_length_of}
 use Rattle.sector_device.specs.Runs.{HoldsSince}
-use Rattle.sector_log.specs.Content.{need}
-use Rattle.sector_log.specs.Words.{device_under, found_generation}
+use Rattle.log_format.specs.Content.{need}
+use Rattle.sector_log.specs.Accessors.{device_under, found_generation}
 use Rattle.session.specs.Beginning.{IsBeginRefusal}
 use Rattle.session.specs.Calls.{faults_after}
-use Rattle.session.specs.Words.{device_of, left_by}
+use Rattle.session.specs.Accessors.{device_of, left_by}
 use Rattle.session.proofs.Beginnings.{if_ok, if_err, since_now, own_of_machine, begun_at_rest, game_images, looked_game, looking_is_a_cause, looking_is_not_worn, looking_wants_memory, same_faults}
 use Rattle.session.proofs.Answering.{answered_error, answered_then}
 use Rattle.session.proofs.Writes.{since_weaker}

@@ -2,7 +2,7 @@ use Rattle.std.proofs.Common.{◌≡◌, ◌+◌, ℕ, List, [], drop, length, g
 use Rattle.std.proofs.lemmas.List.{drop_all}
 use Rattle.machine.specs.Machine.{MachineState, after}
 use Rattle.input_entries.specs.Inputs.{inputs, inputs_in}
-use Rattle.sector_log.specs.Inputs.{wrong_from}
+use Rattle.log_format.specs.Inputs.{wrong_from}
 use Rattle.input_entries.specs.declared.StoredEntry.{StoredEntry}
 use Rattle.session.specs.Inputs.{logged, inputs_of}
 use Rattle.session.proofs.StandsLaws.{after_append, after_none}

@@ -1,7 +1,7 @@
 use Rattle.std.proofs.Common.{◌≡◌, ◌+◌, ◌≤◌, length, drop, None}
 use Rattle.machine.specs.Machine.{after}
 use Rattle.input_entries.specs.Inputs.{inputs}
-use Rattle.sector_log.specs.Inputs.{wrong_from}
+use Rattle.log_format.specs.Inputs.{wrong_from}
 use Rattle.session.specs.Inputs.{logged}
 use Rattle.session.proofs.recovery.replay.Given as goal
 

@@ -4,15 +4,15 @@ use Rattle.machine.specs.Machine.{MachineState}
 use Rattle.snapshot.specs.Encoding.{encoded, snapshot_length}
 use Rattle.cartridge.specs.Header.{ram_length_of}
 use Rattle.sector_device.specs.Runs.{HoldsSince}
-use Rattle.sector_log.specs.Content.{content, generation_in, need}
-use Rattle.sector_log.specs.Words.{device_under, found_generation, seen}
+use Rattle.log_format.specs.Content.{content, generation_in, need}
+use Rattle.sector_log.specs.Accessors.{device_under, found_generation, seen}
 use Rattle.snapshot.specs.Legal.{IsMachineOf}
 use Rattle.sector_device.specs.Looking.{HasLooked}
 use Rattle.session.specs.Calls.{IsAtRest, StandsAsBefore}
 use Rattle.session.specs.Found.{IsResumeCause}
 use Rattle.session.specs.Beginning.{IsBeginRefusal}
 use Rattle.session.specs.Recovery.{IsRecoveryCause}
-use Rattle.session.specs.Words.{device_of, machine_of, left_by}
+use Rattle.session.specs.Accessors.{device_of, machine_of, left_by}
 use Rattle.session.proofs.Beginnings.{if_ok, if_ok_both, if_err, begun_at_rest, resume_images, looked_resume, looking_wants_memory}
 use Rattle.session.proofs.Answering.{answered_then}
 use Rattle.session.proofs.Finding.{cause_found, recovered_stands, recovered_machine, recovered_fits, memory_found, begin_cause}

@@ -1,6 +1,6 @@
 use Rattle.std.proofs.Common.{sym, ◌∙◌}
-use Rattle.sector_log.specs.Inputs.{fits}
-use Rattle.sector_log.specs.Words.{id_of, entries_of}
+use Rattle.log_format.specs.Inputs.{fits}
+use Rattle.sector_log.specs.Accessors.{id_of, entries_of}
 use Rattle.snapshot.specs.Encoding.{encoded}
 use Rattle.session.proofs.Writes.{inputs_listed, since_appended, since_replaced, written_behind}
 use Rattle.session.proofs.save.write_pending.Goals as goal

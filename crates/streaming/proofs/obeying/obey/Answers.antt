@@ -1,9 +1,10 @@
 use Rattle.std.proofs.Common.{sym, subst, Option}
-use Rattle.session.specs.Words.{device_of}
+use Rattle.session.specs.Accessors.{device_of}
 use Rattle.streaming.specs.Orders.{order_list}
-use Rattle.streaming.specs.Obeying.{place, Obeys}
+use Rattle.playing.specs.Making.{place}
+use Rattle.streaming.specs.Obeying.{Obeys}
 use Rattle.streaming.specs.declared.order.Order.{Order}
-use Rattle.streaming.proofs.Compositions.{obeys_nothing}
+use Rattle.playing.proofs.Making.{makes_nothing}
 use Rattle.streaming.proofs.obeying.obey.Goals as goal
 
 pub returns-in-None-clause-obeyed : goal.returns-in-None-clause-obeyed
@@ -12,4 +13,4 @@ returns-in-None-clause-obeyed g c =
     let here = place (g.D.SectorDevice.disk (device_of was)) was in
     let out = g.W.Write.contents c.args.out.now in
     subst (λ (o : Option Order). Obeys here here out out (order_list o)) (sym c.in-None.is)
-    (obeys_nothing here out (g.met.D.SectorDevice.only_now (device_of was)))
+    (makes_nothing here out (g.met.D.SectorDevice.only_now (device_of was)))

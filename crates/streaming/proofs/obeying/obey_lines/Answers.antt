@@ -1,12 +1,14 @@
 use Rattle.std.proofs.Common.{◌≡◌, ◌∷◌, ◌++◌, ◌+◌, [], length, inl, inr, refl, arith, length-append}
 use Rattle.std.proofs.lemmas.List.Elements.{All-nil}
-use Rattle.session.specs.Words.{device_of}
+use Rattle.session.specs.Accessors.{device_of}
 use Rattle.streaming.specs.Orders.{IsRight, order_list}
 use Rattle.input_lines.specs.Reading.{left_of}
-use Rattle.streaming.specs.Obeying.{place}
+use Rattle.playing.specs.Making.{place}
 use Rattle.input_lines.proofs.Takings.{takes_none, takes_more, reads_left, reads_rest}
+use Rattle.playing.proofs.Stops.{handed_on}
 use Rattle.streaming.proofs.OrderLines.{right_more, reads_wrong}
-use Rattle.streaming.proofs.Compositions.{obeys_nothing, line_obeyed, line_stopped}
+use Rattle.playing.proofs.Making.{makes_nothing}
+use Rattle.streaming.proofs.Compositions.{line_obeyed, line_stopped}
 use Rattle.streaming.proofs.obeying.obey_lines.Goals as goal
 
 pub loop-number-init : goal.loop-number-init
@@ -17,7 +19,7 @@ loop-number-init g c =
       right = All-nil IsRight;
       number = refl;
       taken = takes_none (g.R.Read.remaining c.args.input.now) c.new-unread.result.items c.new-unread.ensures;
-      obeys = obeys_nothing (place (g.D.SectorDevice.disk (device_of first)) first) (g.W.Write.contents c.args.out.now) (g.met.D.SectorDevice.only_now (device_of first));
+      obeys = makes_nothing (place (g.D.SectorDevice.disk (device_of first)) first) (g.W.Write.contents c.args.out.now) (g.met.D.SectorDevice.only_now (device_of first));
       whole = c.requires.whole;
       few = c.requires.few;
     }
@@ -38,13 +40,13 @@ loop-number-preserved g c =
           (left_of c.read_next.new.unread.items (g.R.Read.remaining c.read_next.new.input)) so_far.taken next.3;
       obeys =
           line_obeyed (place (g.D.SectorDevice.disk (device_of first)) first) (place (g.D.SectorDevice.disk (device_of there)) there) (place (g.D.SectorDevice.disk (device_of now)) now)
-          (g.W.Write.contents c.args.out.now) (g.W.Write.contents c.loop-number.out) (g.W.Write.contents c.obey.new.out) so_far.lines next.0 (order_list c.in-Line.order) next.2 so_far.obeys c.in_default.ensures.obeyed;
-      whole = c.in_default.ensures.whole.0;
-      few = c.in_default.ensures.whole.1;
+          (g.W.Write.contents c.args.out.now) (g.W.Write.contents c.loop-number.out) (g.W.Write.contents c.obey.new.out) so_far.lines next.0 (order_list c.in-Line.order) next.2 so_far.obeys c.in_ok-obey-in-Line.ensures.obeyed;
+      whole = c.in_ok-obey-in-Line.ensures.whole.0;
+      few = c.in_ok-obey-in-Line.ensures.whole.1;
     }
 
-pub returns-in-Err-clause-stopped : goal.returns-in-Err-clause-stopped
-returns-in-Err-clause-stopped g c =
+pub returns-in_err-obey-in-Line-clause-stopped : goal.returns-in_err-obey-in-Line-clause-stopped
+returns-in_err-obey-in-Line-clause-stopped g c =
     let first = c.args.session.now in
     let there = c.loop-number.session in
     let now = c.obey.new.session in
@@ -52,7 +54,8 @@ returns-in-Err-clause-stopped g c =
     let next = c.in-Line.ensures in
     let unread = c.read_next.new.unread.items in
     let since = g.R.Read.remaining c.read_next.new.input in
-    record {
+    rw (handed_on c.from_residual.result c.from_residual.ensures.1)
+    (record {
       lines = so_far.lines ++ next.0 ∷ [];
       right = right_more so_far.lines next.0 so_far.right next.1;
       more = unread;
@@ -61,8 +64,8 @@ returns-in-Err-clause-stopped g c =
           (takes_more so_far.lines next.0 (g.R.Read.remaining c.args.input.now) (left_of c.loop-number.unread.items (g.R.Read.remaining c.loop-number.input)) (left_of unread since) so_far.taken next.3);
       stops =
           line_stopped (place (g.D.SectorDevice.disk (device_of first)) first) (place (g.D.SectorDevice.disk (device_of there)) there) (place (g.D.SectorDevice.disk (device_of now)) now)
-          (g.W.Write.contents c.args.out.now) (g.W.Write.contents c.loop-number.out) (g.W.Write.contents c.obey.new.out) so_far.lines next.0 (order_list c.in-Line.order) c.in-Err.why next.2 so_far.obeys c.in-Err.ensures.stopped;
-    }
+          (g.W.Write.contents c.args.out.now) (g.W.Write.contents c.loop-number.out) (g.W.Write.contents c.obey.new.out) so_far.lines next.0 (order_list c.in-Line.order) c.in_err-obey-in-Line.field-0.0 next.2 so_far.obeys c.in_err-obey-in-Line.ensures.stopped;
+    })
 
 pub returns-in-Wrong-clause-obeyed : goal.returns-in-Wrong-clause-obeyed
 returns-in-Wrong-clause-obeyed g c =

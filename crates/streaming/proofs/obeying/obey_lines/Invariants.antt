@@ -1,9 +1,10 @@
 use Rattle.std.proofs.Common.{◌≡◌, ◌<◌, ◌+◌, List, ℕ, length, false}
 use Rattle.std.specs.List.{All}
-use Rattle.session.specs.Words.{device_of, pending_of, is_broken}
+use Rattle.session.specs.Accessors.{device_of, pending_of, is_broken}
 use Rattle.streaming.specs.Orders.{orders_of, IsRight}
 use Rattle.input_lines.specs.Reading.{left_of, TakesLines}
-use Rattle.streaming.specs.Obeying.{place, Obeys}
+use Rattle.playing.specs.Making.{place}
+use Rattle.streaming.specs.Obeying.{Obeys}
 use Rattle.streaming.proofs.obeying.obey_lines.Given as goal
 
 -- the lines so far were right, and were obeyed

@@ -1,62 +1,99 @@
-use Rattle.std.proofs.Common.{ap}
-use Rattle.session.specs.Words.{device_of}
-use Rattle.streaming.specs.Orders.{orders_of}
-use Rattle.streaming.specs.Obeying.{place}
+use Rattle.std.proofs.Common.{inl, [], length, ap}
+use Rattle.std.proofs.KnownBytes.{Consumes-nil}
+use Rattle.std.proofs.lemmas.List.Elements.{All-nil}
+use Rattle.session.specs.Accessors.{device_of, pending_of}
+use Rattle.playing.specs.Making.{place}
+use Rattle.playing.proofs.Stops.{handed_on}
+use Rattle.playing.proofs.Wholes.{resumed_made, resumed_failed}
+use Rattle.streaming.specs.Answers.{ended}
+use Rattle.streaming.specs.Obeying.{answers_from}
+use Rattle.streaming.specs.Orders.{orders_of, IsRight}
 use Rattle.streaming.proofs.Compositions.{stops_before}
-use Rattle.streaming.proofs.Wholes.{ended_obeyed, ended_stopped, begins_at, last_behind, reads_some, stops_at_resumed, stops_behind}
+use Rattle.streaming.proofs.Wholes.{ended_obeyed, ended_stopped, last_behind, reads_some, streams_behind, stops_behind}
 use Rattle.streaming.proofs.obeying.stream_on.Goals as goal
 
 pub returns-in-Err-clause-stopped : goal.returns-in-Err-clause-stopped
 returns-in-Err-clause-stopped g c =
     let was = c.args.session.now in
-    stops_at_resumed (place (g.D.SectorDevice.disk (device_of was)) was) (g.R.Read.remaining c.args.input.now) (g.W.Write.contents c.args.out.now) (g.W.Write.contents c.write_resumed.new.out)
-    c.counts.result.all (ap (λ r. r.all) c.counts.ensures) (g.met.D.SectorDevice.only_now (device_of was)) c.in-Err.ensures.err
+    let a = place (g.D.SectorDevice.disk (device_of was)) was in
+    record {
+      lines = [];
+      right = All-nil IsRight;
+      more = [];
+      read = inl (Consumes-nil (g.R.Read.remaining c.args.input.now));
+      stops =
+          resumed_failed a (g.W.Write.contents c.args.out.now) (g.W.Write.contents c.write_resumed.new.out) c.counts.result.all (ap (λ r. r.all) c.counts.ensures) c.requires.none (g.met.D.SectorDevice.only_now (device_of was))
+          [] (answers_from a (ended (length (pending_of was)) [])) tt c.in-Err.ensures.err;
+    }
 
-pub returns-in-Err-obey_lines-clause-stopped : goal.returns-in-Err-obey_lines-clause-stopped
-returns-in-Err-obey_lines-clause-stopped g c =
+pub returns-in_err-end-clause-stopped : goal.returns-in_err-end-clause-stopped
+returns-in_err-end-clause-stopped g c =
+    let disk = g.D.SectorDevice.disk in
     let was = c.args.session.now in
     let now = c.obey_lines.new.session in
-    let first = place (g.D.SectorDevice.disk (device_of was)) was in
-    let last = place (g.D.SectorDevice.disk (device_of now)) now in
-    let mid = g.W.Write.contents c.write_resumed.new.out in
-    let since = g.W.Write.contents c.obey_lines.new.out in
-    let stop = c.in-Err-obey_lines.ensures.stopped in
-    let why = c.in-Err-obey_lines.why in
-    stops_behind first last (g.R.Read.remaining c.args.input.now) (g.R.Read.remaining c.obey_lines.new.input) (g.W.Write.contents c.args.out.now) since c.requires.none
-    mid c.counts.result.all why stop.lines stop.more (ap (λ r. r.all) c.counts.ensures) c.in_default.ensures.ok stop.right stop.read
-    (stops_before first last mid since (orders_of stop.lines) (last_behind first (orders_of stop.lines)) why stop.stops)
+    let a = place (disk (device_of was)) was in
+    let b = place (disk (device_of now)) now in
+    let x = g.W.Write.contents c.args.out.now in
+    let y = g.W.Write.contents c.write_resumed.new.out in
+    let z = g.W.Write.contents c.obey_lines.new.out in
+    let stop = c.in_err-end.ensures.stopped in
+    let why = c.in_err-end.field-0.0 in
+    let orders = orders_of stop.lines in
+    rw (handed_on c.from_residual.result c.from_residual.ensures.1)
+    (record {
+      lines = stop.lines;
+      right = stop.right;
+      more = stop.more;
+      read = stop.read;
+      stops =
+          stops_behind a x y (resumed_made a x y c.counts.result.all (ap (λ r. r.all) c.counts.ensures) c.requires.none (g.met.D.SectorDevice.only_now (device_of was)) c.in_default.ensures.ok)
+          b z stop.lines why (stops_before a b y z orders (last_behind a orders) why stop.stops);
+    })
 
-pub returns-in-Ok-save_rest-clause-streamed : goal.returns-in-Ok-save_rest-clause-streamed
-returns-in-Ok-save_rest-clause-streamed g c =
+pub returns-clause-streamed : goal.returns-clause-streamed
+returns-clause-streamed g c =
+    let disk = g.D.SectorDevice.disk in
     let was = c.args.session.now in
     let there = c.obey_lines.new.session in
     let now = c.save_rest.new.session in
-    let made = c.in-Ok.ensures.obeyed in
+    let a = place (disk (device_of was)) was in
+    let b = place (disk (device_of now)) now in
+    let x = g.W.Write.contents c.args.out.now in
+    let y = g.W.Write.contents c.write_resumed.new.out in
+    let w = g.W.Write.contents c.save_rest.new.out in
+    let made = c.in_ok-end.ensures.obeyed in
     record {
       lines = made.lines;
       right = made.right;
       read = made.read;
-      resumed = g.W.Write.contents c.write_resumed.new.out;
-      begins = begins_at (place (g.D.SectorDevice.disk (device_of was)) was) (g.W.Write.contents c.args.out.now) (g.W.Write.contents c.write_resumed.new.out) c.counts.result.all (ap (λ r. r.all) c.counts.ensures) c.in_default.ensures.ok;
-      obeys =
-          ended_obeyed (place (g.D.SectorDevice.disk (device_of was)) was) (place (g.D.SectorDevice.disk (device_of there)) there) (place (g.D.SectorDevice.disk (device_of now)) now)
-          (g.W.Write.contents c.write_resumed.new.out) (g.W.Write.contents c.obey_lines.new.out) (g.W.Write.contents c.save_rest.new.out) (orders_of made.lines) made.obeys c.in-Ok-save_rest.ensures.obeyed;
+      makes =
+          streams_behind a x y (resumed_made a x y c.counts.result.all (ap (λ r. r.all) c.counts.ensures) c.requires.none (g.met.D.SectorDevice.only_now (device_of was)) c.in_default.ensures.ok)
+          b w made.lines c.in_ok-save_rest.ensures.saved.1
+          (ended_obeyed a (place (disk (device_of there)) there) b y (g.W.Write.contents c.obey_lines.new.out) w (orders_of made.lines) made.obeys c.in_ok-save_rest.ensures.obeyed);
     }
 
-pub returns-in-Err-save_rest-clause-stopped : goal.returns-in-Err-save_rest-clause-stopped
-returns-in-Err-save_rest-clause-stopped g c =
+pub returns-in_err-save_rest-clause-stopped : goal.returns-in_err-save_rest-clause-stopped
+returns-in_err-save_rest-clause-stopped g c =
+    let disk = g.D.SectorDevice.disk in
     let was = c.args.session.now in
     let there = c.obey_lines.new.session in
     let now = c.save_rest.new.session in
-    let first = place (g.D.SectorDevice.disk (device_of was)) was in
-    let last = place (g.D.SectorDevice.disk (device_of now)) now in
-    let mid = g.W.Write.contents c.write_resumed.new.out in
-    let since = g.W.Write.contents c.save_rest.new.out in
-    let made = c.in-Ok.ensures.obeyed in
-    let before_in = g.R.Read.remaining c.args.input.now in
-    let since_in = g.R.Read.remaining c.obey_lines.new.input in
-    let read = reads_some c.in-Ok.end made.lines before_in since_in made.read in
-    let why = c.in-Err-save_rest.why in
-    stops_behind first last before_in since_in (g.W.Write.contents c.args.out.now) since c.requires.none
-    mid c.counts.result.all why made.lines read.0 (ap (λ r. r.all) c.counts.ensures) c.in_default.ensures.ok made.right read.1
-    (ended_stopped first (place (g.D.SectorDevice.disk (device_of there)) there) last mid (g.W.Write.contents c.obey_lines.new.out) since (orders_of made.lines) why made.obeys c.in-Err-save_rest.ensures.stopped)
+    let a = place (disk (device_of was)) was in
+    let b = place (disk (device_of now)) now in
+    let x = g.W.Write.contents c.args.out.now in
+    let y = g.W.Write.contents c.write_resumed.new.out in
+    let w = g.W.Write.contents c.save_rest.new.out in
+    let made = c.in_ok-end.ensures.obeyed in
+    let read = reads_some c.in_ok-end.end made.lines (g.R.Read.remaining c.args.input.now) (g.R.Read.remaining c.obey_lines.new.input) made.read in
+    let why = c.in_err-save_rest.field-0.0 in
+    rw (handed_on c.from_residual-in_err-save_rest.result c.from_residual-in_err-save_rest.ensures.1)
+    (record {
+      lines = made.lines;
+      right = made.right;
+      more = read.0;
+      read = read.1;
+      stops =
+          stops_behind a x y (resumed_made a x y c.counts.result.all (ap (λ r. r.all) c.counts.ensures) c.requires.none (g.met.D.SectorDevice.only_now (device_of was)) c.in_default.ensures.ok)
+          b w made.lines why
+          (ended_stopped a (place (disk (device_of there)) there) b y (g.W.Write.contents c.obey_lines.new.out) w (orders_of made.lines) why made.obeys c.in_err-save_rest.ensures.stopped);
+    })

@@ -5,7 +5,7 @@ use Rattle.test_run.specs.Playing.{HasReached}
 use Rattle.test_run.proofs.run.test_moves.Given as goal
 
 -- the moves so far were made
-abbrev pub invariant-loop-one : goal.invariant-loop-one
-invariant-loop-one g l =
-    HasReached l.limit (inputs_of_moves l.moves) (inputs_of_moves (drop l.one-index l.moves)) l.fn.machine l.fn.progress l.progress
+abbrev pub invariant-loop-a_move : goal.invariant-loop-a_move
+invariant-loop-a_move g l =
+    HasReached l.limit (inputs_of_moves l.moves) (inputs_of_moves (drop l.a_move-index l.moves)) l.fn.machine l.fn.progress l.progress
     (g.W.Write.contents l.fn.out) (g.W.Write.contents l.out) (On l.machine)

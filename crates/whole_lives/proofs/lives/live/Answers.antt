@@ -2,8 +2,8 @@ use Rattle.std.proofs.Common.{◌≡◌, ◌⊎◌, ◌∙◌, ap, inl, inr, ⊎
 use Rattle.session.specs.declared.error.SessionError.TheVariants.{Device}
 use Rattle.sector_device.specs.Memory.{memory_disk}
 use Rattle.sector_device.specs.MemoryDevice.{memory}
-use Rattle.sector_log.specs.Content.{content, generation_in}
-use Rattle.session.specs.Words.{machine_of, acknowledged_of}
+use Rattle.log_format.specs.Content.{content, generation_in}
+use Rattle.session.specs.Accessors.{machine_of, acknowledged_of}
 use Rattle.session.specs.Calls.{faults_after}
 use Rattle.session.specs.declared.error.SessionError.{SessionError}
 use Rattle.whole_lives.proofs.CauseLaws.{sound_stop}

@@ -2,9 +2,9 @@ use Rattle.std.proofs.Common.{◌≡◌, ◌⊎◌, inl, inr, ⊎_elim, ◌≤�
 use Rattle.sector_device.specs.Memory.{memory_disk}
 use Rattle.sector_device.specs.MemoryDevice.{memory}
 use Rattle.sector_device.specs.declared.memory.MemoryDevice.{MemoryDevice}
-use Rattle.sector_log.specs.Content.{content, generation_in}
+use Rattle.log_format.specs.Content.{content, generation_in}
 use Rattle.session.specs.Stands.{Position}
-use Rattle.session.specs.Words.{device_of, machine_of, pending_of, acknowledged_of}
+use Rattle.session.specs.Accessors.{device_of, machine_of, pending_of, acknowledged_of}
 use Rattle.session.specs.declared.error.SessionError.{SessionError}
 use Rattle.session.specs.declared.error.SessionError.TheVariants.{Device}
 use Rattle.session.proofs.Beginnings.{if_ok, if_err}
@@ -15,7 +15,7 @@ use Rattle.whole_lives.specs.Refusals.{IsSoundStop, CountsLifeFaults}
 use Rattle.whole_lives.specs.Rounds.{Leaves, LeavesRound, IsRoundRefusal}
 use Rattle.whole_lives.specs.declared.rounds.RoundEnd.{RoundEnd}
 use Rattle.whole_lives.proofs.CauseLaws.{sound_stop}
-use Rattle.whole_lives.proofs.RoundLaws.{round_missed, round_moved, round_ended, each_before, each_left, each_moved, leaves_played, least_after, counts_refusal, moves_refuse, resume_refuses, moves_sound_stop, stands_here, reads}
+use Rattle.whole_lives.proofs.RoundLaws.{round_missed, round_moved, round_ended, each_before, each_left, each_moved, leaves_played, leaves_stopped, least_after, counts_refusal, moves_refuse, resume_refuses, moves_sound_stop, stands_here, reads}
 use Rattle.whole_lives.proofs.rounds.play_until_blown.Goals as goal
 
 -- ---- not taken up
@@ -68,7 +68,7 @@ returns-in-Ok-made-clause-leaves c =
     let begun : IsPlayed rom (memory_disk (memory (device_of s))) (acknowledged_of s) (pending_of s) (machine_of s) from [] =
     begun_played rom (memory_disk (memory (device_of s))) (acknowledged_of s) (pending_of s) (machine_of s) tt c.in-Ok.ensures.begun.2 c.in-Ok.ensures.begun.0 (c.in-Ok.ensures.rests tt) in
     let left : Leaves rom (memory_disk (memory (device_of now))) (acknowledged_of now) from inputs =
-    leaves_played rom (memory_disk (memory (device_of now))) (acknowledged_of now) (pending_of now) (machine_of now) from inputs (c.in-Ok-made.ensures.played rom from [] begun) in
+    leaves_played rom (memory_disk (memory (device_of now))) (acknowledged_of now) (pending_of now) (machine_of now) from inputs (c.in-Ok-made.ensures.made.going rom from [] begun).played in
     let all = ap (λ r. r.all) c.counts-resumed.ensures in
     let none = ap length c.in-Ok.ensures.begun.0 in
     round_ended rom (memory c.args.device) (memory c.into_device-device.result) (machine_of s) (acknowledged_of s) c.counts-resumed.result.all c.counts.result.acknowledged (acknowledged_of now) c.args.known inputs
@@ -85,7 +85,7 @@ returns-in-Ok-made-clause-stand c = λ each.
     let begun : IsPlayed rom (memory_disk (memory (device_of s))) (acknowledged_of s) (pending_of s) (machine_of s) from [] =
     begun_played rom (memory_disk (memory (device_of s))) (acknowledged_of s) (pending_of s) (machine_of s) tt c.in-Ok.ensures.begun.2 c.in-Ok.ensures.begun.0 (c.in-Ok.ensures.rests tt) in
     let left : Leaves rom (memory_disk (memory (device_of now))) (acknowledged_of now) from inputs =
-    leaves_played rom (memory_disk (memory (device_of now))) (acknowledged_of now) (pending_of now) (machine_of now) from inputs (c.in-Ok-made.ensures.played rom from [] begun) in
+    leaves_played rom (memory_disk (memory (device_of now))) (acknowledged_of now) (pending_of now) (machine_of now) from inputs (c.in-Ok-made.ensures.made.going rom from [] begun).played in
     each_moved rom (device_of now) c.into_device-device.result c.into_device-device.ensures.device (each_left rom (memory_disk (memory (device_of now))) (acknowledged_of now) from inputs left)
 
 -- ---- stopped
@@ -99,7 +99,8 @@ returns-in-Err-made-clause-leaves c =
     let from : Position = record { count = acknowledged_of s; machine = machine_of s } in
     let begun : IsPlayed rom (memory_disk (memory (device_of s))) (acknowledged_of s) (pending_of s) (machine_of s) from [] =
     begun_played rom (memory_disk (memory (device_of s))) (acknowledged_of s) (pending_of s) (machine_of s) tt c.in-Ok.ensures.begun.2 c.in-Ok.ensures.begun.0 (c.in-Ok.ensures.rests tt) in
-    let left : Leaves rom (memory_disk (memory (device_of now))) (acknowledged_of now) from inputs = c.in-Err-made.ensures.stopped rom from [] begun in
+    let left : Leaves rom (memory_disk (memory (device_of now))) (acknowledged_of now) from inputs =
+    leaves_stopped rom (memory_disk (memory (device_of s))) (memory_disk (memory (device_of now))) (acknowledged_of now) from inputs (c.in-Err-made.ensures.stopped.stopped rom from [] begun) in
     let all = ap (λ r. r.all) c.counts-resumed.ensures in
     let none = ap length c.in-Ok.ensures.begun.0 in
     let end : RoundEnd = record { resumed = Some c.counts-resumed.result.all; saved = c.counts.result.acknowledged } in
@@ -119,7 +120,8 @@ returns-in-Err-made-clause-refused c =
     let from : Position = record { count = acknowledged_of s; machine = machine_of s } in
     let begun : IsPlayed rom (memory_disk (memory (device_of s))) (acknowledged_of s) (pending_of s) (machine_of s) from [] =
     begun_played rom (memory_disk (memory (device_of s))) (acknowledged_of s) (pending_of s) (machine_of s) tt c.in-Ok.ensures.begun.2 c.in-Ok.ensures.begun.0 (c.in-Ok.ensures.rests tt) in
-    let left : Leaves rom (memory_disk (memory (device_of now))) (acknowledged_of now) from inputs = c.in-Err-made.ensures.stopped rom from [] begun in
+    let left : Leaves rom (memory_disk (memory (device_of now))) (acknowledged_of now) from inputs =
+    leaves_stopped rom (memory_disk (memory (device_of s))) (memory_disk (memory (device_of now))) (acknowledged_of now) from inputs (c.in-Err-made.ensures.stopped.stopped rom from [] begun) in
     let all = ap (λ r. r.all) c.counts-resumed.ensures in
     let none = ap length c.in-Ok.ensures.begun.0 in
     let end : RoundEnd = record { resumed = Some c.counts-resumed.result.all; saved = c.counts.result.acknowledged } in
@@ -139,7 +141,7 @@ returns-in-Err-made-clause-cause c =
     let from : Position = record { count = acknowledged_of s; machine = machine_of s } in
     let none = ap length c.in-Ok.ensures.begun.0 in
     let all : acknowledged_of s + length (pending_of s) + length inputs ≡ from.count + length inputs = omega (arith, none) in
-    let refused = moves_refuse rom (memory c.args.device) (memory (device_of now)) inputs from (acknowledged_of s + length (pending_of s) + length inputs) c.in-Err-made.why (stands_here rom (memory c.args.device) from (c.in-Ok.ensures.stands tt)) all c.in-Err-made.ensures.cause in
+    let refused = moves_refuse rom (memory c.args.device) (memory (device_of now)) inputs from (acknowledged_of s + length (pending_of s) + length inputs) c.in-Err-made.why (stands_here rom (memory c.args.device) from (c.in-Ok.ensures.stands tt)) all c.in-Err-made.ensures.stopped.output c.in-Err-made.ensures.stopped.cause in
     if_err c.ended_by-in-Err-made.result c.ended_by-in-Err-made.ensures.refused
     (λ r is.
     subst (λ (d : MemoryDevice). IsRoundRefusal rom (memory_disk (memory c.args.device)) inputs (memory_disk (memory d)).sectors r.why) (sym (is.0 ∙ c.into_device-device.ensures.device))
@@ -167,20 +169,21 @@ returns-in-Err-made-clause-stand c =
     let from : Position = record { count = acknowledged_of s; machine = machine_of s } in
     let begun : IsPlayed rom (memory_disk (memory (device_of s))) (acknowledged_of s) (pending_of s) (machine_of s) from [] =
     begun_played rom (memory_disk (memory (device_of s))) (acknowledged_of s) (pending_of s) (machine_of s) tt c.in-Ok.ensures.begun.2 c.in-Ok.ensures.begun.0 (c.in-Ok.ensures.rests tt) in
-    let left : Leaves rom (memory_disk (memory (device_of now))) (acknowledged_of now) from inputs = c.in-Err-made.ensures.stopped rom from [] begun in
+    let left : Leaves rom (memory_disk (memory (device_of now))) (acknowledged_of now) from inputs =
+    leaves_stopped rom (memory_disk (memory (device_of s))) (memory_disk (memory (device_of now))) (acknowledged_of now) from inputs (c.in-Err-made.ensures.stopped.stopped rom from [] begun) in
     if_ok c.ended_by-in-Err-made.result c.ended_by-in-Err-made.ensures.ended
     (λ r is each. each_moved rom (device_of now) r.0 (is.0 ∙ c.into_device-device.ensures.device) (each_left rom (memory_disk (memory (device_of now))) (acknowledged_of now) from inputs left))
 
 pub returns-in-Err-made-clause-sound : goal.returns-in-Err-made-clause-sound
 returns-in-Err-made-clause-sound c =
     if_err c.ended_by-in-Err-made.result c.ended_by-in-Err-made.ensures.refused
-    (λ r is each. subst (λ (why : SessionError). IsSoundStop why) (sym is.1) (moves_sound_stop c.in-Err-made.why (acknowledged_of c.in-Ok.session + length (pending_of c.in-Ok.session) + length (inputs_of_moves c.args.moves.now)) (memory_disk (memory (device_of c.make_moves-made.new.session))) c.in-Err-made.ensures.cause))
+    (λ r is each. subst (λ (why : SessionError). IsSoundStop why) (sym is.1) (moves_sound_stop c.in-Err-made.why (acknowledged_of c.in-Ok.session + length (pending_of c.in-Ok.session) + length (inputs_of_moves c.args.moves.now)) (memory_disk (memory (device_of c.make_moves-made.new.session))) c.in-Err-made.ensures.stopped.output c.in-Err-made.ensures.stopped.cause))
 
 pub returns-in-Err-made-clause-faults_ok : goal.returns-in-Err-made-clause-faults_ok
 returns-in-Err-made-clause-faults_ok c =
     let s = c.in-Ok.session in
     let now = c.make_moves-made.new.session in
-    let grown : (device_of s).faults ≤ (device_of now).faults = least_after c.in-Err-made.why (device_of s).faults (device_of now).faults (device_of s).faults_fit c.in-Err-made.ensures.faults in
+    let grown : (device_of s).faults ≤ (device_of now).faults = least_after c.in-Err-made.why (device_of s).faults (device_of now).faults (device_of s).faults_fit c.in-Err-made.ensures.stopped.calls.faults in
     if_ok c.ended_by-in-Err-made.result c.ended_by-in-Err-made.ensures.ended
     (λ r is.
     let moved : r.0.faults ≡ (device_of now).faults = ap (λ (d : MemoryDevice). d.faults) (is.0 ∙ c.into_device-device.ensures.device) in
@@ -192,7 +195,7 @@ returns-in-Err-made-clause-faults c =
     let now = c.make_moves-made.new.session in
     let first = c.args.device.faults in
     let counted : CountsLifeFaults first (device_of now).faults c.in-Err-made.why =
-    counts_refusal c.in-Err-made.why first (device_of s).faults (device_of now).faults (omega (arith, c.in-Ok.ensures.answered.faults_ok)) (device_of s).faults_fit c.in-Err-made.ensures.faults in
+    counts_refusal c.in-Err-made.why first (device_of s).faults (device_of now).faults (omega (arith, c.in-Ok.ensures.answered.faults_ok)) (device_of s).faults_fit c.in-Err-made.ensures.stopped.calls.faults in
     if_err c.ended_by-in-Err-made.result c.ended_by-in-Err-made.ensures.refused
     (λ r is.
     let moved : r.device.faults ≡ (device_of now).faults = ap (λ (d : MemoryDevice). d.faults) (is.0 ∙ c.into_device-device.ensures.device) in
@@ -213,6 +216,7 @@ returns-in-Err-made-clause-kept c =
     let from : Position = record { count = acknowledged_of s; machine = machine_of s } in
     let begun : IsPlayed rom (memory_disk (memory (device_of s))) (acknowledged_of s) (pending_of s) (machine_of s) from [] =
     begun_played rom (memory_disk (memory (device_of s))) (acknowledged_of s) (pending_of s) (machine_of s) tt c.in-Ok.ensures.begun.2 c.in-Ok.ensures.begun.0 (c.in-Ok.ensures.rests tt) in
-    let left : Leaves rom (memory_disk (memory (device_of now))) (acknowledged_of now) from inputs = c.in-Err-made.ensures.stopped rom from [] begun in
+    let left : Leaves rom (memory_disk (memory (device_of now))) (acknowledged_of now) from inputs =
+    leaves_stopped rom (memory_disk (memory (device_of s))) (memory_disk (memory (device_of now))) (acknowledged_of now) from inputs (c.in-Err-made.ensures.stopped.stopped rom from [] begun) in
     if_err c.ended_by-in-Err-made.result c.ended_by-in-Err-made.ensures.refused
     (λ r is each. each_moved rom (device_of now) r.device (is.0 ∙ c.into_device-device.ensures.device) (each_left rom (memory_disk (memory (device_of now))) (acknowledged_of now) from inputs left))

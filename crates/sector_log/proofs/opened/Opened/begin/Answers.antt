@@ -1,8 +1,8 @@
 use Rattle.std.proofs.Common.{rules, ◌≡◌, Some, sym, ap, ◌∙◌, subst}
 use Rattle.sector_device.specs.Runs.{HoldsSince}
-use Rattle.sector_log.specs.Content.{last_generation, chosen, version_of}
+use Rattle.log_format.specs.Content.{last_generation, chosen, version_of}
 use Rattle.sector_log.specs.Calls.{HasOldOrNewContent, HasBegun}
-use Rattle.sector_log.specs.declared.root.Version.TheVariants.{Two}
+use Rattle.log_format.specs.declared.root.Version.TheVariants.{Two}
 use Rattle.sector_log.proofs.NewGeneration.{since_old_or_new, since_nothing}
 use Rattle.sector_log.proofs.opened.Opened.begin.Goals as goal
 

@@ -1,12 +1,12 @@
 use Rattle.std.proofs.Common.{rules, ◌≡◌, ◌+◌, ◌-◌, ◌^◌, ◌≤◌, ◌<◌, ℕ, true, false, Bool, if◌then◌else◌, nat_lt, Option, ap, sym, ◌∙◌, arith}
 use Rattle.std.proofs.lemmas.Bool.Decides.{nat_tests}
-use Rattle.sector_log.specs.Content.{header_of}
-use Rattle.sector_log.specs.Found.{found_with}
-use Rattle.sector_log.specs.Inputs.{counted}
-use Rattle.sector_log.specs.Words.{seen}
-use Rattle.sector_log.specs.declared.found.Found.TheVariants.{Intact, Damaged}
-use Rattle.sector_log.specs.declared.found.Part.TheVariants.{Length, Count}
-use Rattle.sector_log.specs.declared.root.Root.{Root}
+use Rattle.log_format.specs.Content.{header_of}
+use Rattle.log_format.specs.Found.{found_with}
+use Rattle.log_format.specs.Inputs.{counted}
+use Rattle.sector_log.specs.Accessors.{seen}
+use Rattle.log_format.specs.declared.content.Found.TheVariants.{Intact, Damaged}
+use Rattle.log_format.specs.declared.content.Part.TheVariants.{Length, Count}
+use Rattle.log_format.specs.declared.root.Root.{Root}
 use Rattle.sector_log.proofs.Findings.{found_with_is}
 use Rattle.sector_log.proofs.opened.Opened.found.Goals as goal
 

@@ -2,11 +2,11 @@ use Rattle.std.proofs.Common.{rules, ◌≡◌, ◌≤◌, ◌+◌, ◌/◌, len
 use Rattle.sector_device.proofs.Runs.{has_synced}
 use Rattle.std.proofs.lemmas.Bool.Decides.{nat_tests}
 use Rattle.input_entries.specs.declared.StoredEntry.{StoredEntry}
-use Rattle.sector_log.specs.Inputs.{grown}
-use Rattle.sector_log.proofs.Appending.{front, rests_again, added, fits_means, kept_after, count_after, nothing_grown, nothing_added, entries_of_each, log_stored}
+use Rattle.log_format.specs.Inputs.{grown}
+use Rattle.sector_log.proofs.Appending.{front, rests_again, added, kept_after, count_after, nothing_grown, nothing_added, entries_of_each, log_stored}
+use Rattle.log_format.proofs.Grown.{fits_means, length-grown}
 use Rattle.sector_log.specs.Store.{IsStored}
 use Rattle.sector_log.proofs.Appending.{since_prefix, since_nothing_appended, since_written, since_nothing_written}
-use Rattle.sector_log.proofs.Grown.{length-grown}
 use Rattle.sector_log.proofs.store.Store.append.Goals as goal
 
 pub returns-then-is_empty-clause-appended : goal.returns-then-is_empty-clause-appended

@@ -1,5 +1,5 @@
 use Rattle.std.proofs.Common.{rules, Some, sym, ap, ◌∙◌}
-use Rattle.sector_log.specs.Content.{last_generation, version_of}
+use Rattle.log_format.specs.Content.{last_generation, version_of}
 use Rattle.sector_log.proofs.NewGeneration.{since_old_or_new, since_nothing}
 use Rattle.sector_log.proofs.store.Store.replace.Goals as goal
 

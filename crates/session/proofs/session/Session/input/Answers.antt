@@ -3,7 +3,7 @@ use Rattle.std.specs.List.{list_all}
 use Rattle.sha2.specs.Sha256.{sha256}
 use Rattle.snapshot.specs.Encoding.{snapshot_length}
 use Rattle.input_entries.specs.Inputs.{is_input}
-use Rattle.sector_log.specs.Words.{device_of as device_of_store, entries_of}
+use Rattle.sector_log.specs.Accessors.{device_of as device_of_store, entries_of}
 use Rattle.machine.specs.declared.input.Input.{Input}
 use Rattle.session.specs.Inputs.{inputs_of}
 use Rattle.session.proofs.StandsLaws.{logged_append}

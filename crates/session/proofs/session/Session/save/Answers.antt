@@ -1,8 +1,8 @@
 use Rattle.std.proofs.Common.{rules, Ok, Err, ◌≡◌, ◌≤◌, ◌<◌, ◌+◌, ◌-◌, ◌^◌, [], ℕ, false, true, refl, inl, inr, ⊎_elim, sym, ap, ◌∙◌, subst, arith, length, drop}
 use Rattle.std.proofs.lemmas.Bool.Decides.{nat_tests}
-use Rattle.sector_log.specs.Content.{need, generation_in, last_generation}
-use Rattle.sector_log.specs.Inputs.{fits}
-use Rattle.sector_log.specs.Words.{device_of as device_of_store, is_broken as is_broken_store, entries_of, generation_of, id_of}
+use Rattle.log_format.specs.Content.{need, generation_in, last_generation}
+use Rattle.log_format.specs.Inputs.{fits}
+use Rattle.sector_log.specs.Accessors.{device_of as device_of_store, is_broken as is_broken_store, entries_of, generation_of, id_of}
 use Rattle.session.specs.Calls.{IsSaveCause}
 use Rattle.session.specs.Resting.{Rests}
 use Rattle.session.specs.declared.error.SessionError.{SessionError}

@@ -1,0 +1,14 @@
+mod Adding
+pub mod AppendLaw
+pub mod Areas
+mod Bytes
+mod Codec
+pub mod ContentLaw
+mod Counting
+pub mod FoundLaws
+pub mod Grown
+mod OpenLaw
+mod Parsing
+pub mod Roots
+pub mod Runs
+pub mod Wrong

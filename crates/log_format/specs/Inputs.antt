@@ -1,0 +1,57 @@
+-- The entries of a log: how many inputs they count, which is the first that is none, and what more inputs make of them.
+use Rattle.std.specs.Prelude.{◌≡◌, ◌&&◌, ◌++◌, ◌+◌, ◌*◌, ◌/◌, ◌≤◌, ◌<◌, ℕ, List, [], ◌∷◌, length, take, drop, slice_index_or, Bool, false, if◌then◌else◌, nat_le, Option, Some, None}
+use Rattle.input_entries.specs.Inputs.{inputs, inputs_in, is_entry, all_entries, single, joins, longer}
+use Rattle.log_format.specs.Sizes.{entries_per_sector, most_entries, most_inputs}
+use Rattle.input_entries.specs.declared.Entry.{Entry}
+use Rattle.input_entries.specs.declared.StoredEntry.{StoredEntry}
+
+-- each entry of a log is an input, and a log holds at most 216,000 of them
+pub record AreInputs (log : List StoredEntry) : Type 0 where
+  pub each : all_entries log
+  pub few : length (inputs log) ≤ most_inputs
+
+-- each entry has its six bytes
+abbrev pub HaveSix : List StoredEntry → Type 0
+HaveSix log = (k : ℕ) → k < length log → length (slice_index_or log k (record { code = [] })).code ≡ 6
+
+-- how many inputs a log counts from so many on: one for an entry that is no input, or with which there would be too many
+abbrev pub counted : ℕ → List StoredEntry → ℕ
+counted before [] = before
+counted before (s ∷ log) = counted (before + (if is_entry s && nat_le (before + length (inputs_in s)) most_inputs then length (inputs_in s) else 1)) log
+
+-- the index of the first entry that is no input, or with which there would be more than 216,000; `before` inputs stand
+-- before these
+abbrev pub wrong_from : ℕ → ℕ → List StoredEntry → Option ℕ
+wrong_from index before [] = None
+wrong_from index before (s ∷ log) =
+    if is_entry s && nat_le (before + length (inputs_in s)) most_inputs then wrong_from (index + 1) (before + length (inputs_in s)) log else Some index
+
+abbrev pub first_wrong : List StoredEntry → Option ℕ
+first_wrong log = wrong_from 0 0 log
+
+-- the same of the last entry, where there is one
+abbrev pub joins_last : Option StoredEntry → Entry → Bool
+joins_last None e = false
+joins_last (Some s) e = joins s e
+
+-- one input more: a frame lengthens the last run where it is equal, and every other input is a new entry
+abbrev pub with_input : List StoredEntry → Entry → List StoredEntry
+with_input [] e = single e ∷ []
+with_input (s ∷ []) e = if joins s e then longer s ∷ [] else s ∷ single e ∷ []
+with_input (s ∷ t ∷ log) e = s ∷ with_input (t ∷ log) e
+
+abbrev pub with_inputs : List StoredEntry → List Entry → List StoredEntry
+with_inputs log [] = log
+with_inputs log (e ∷ es) = with_inputs (with_input log e) es
+
+-- the entries of full sectors
+abbrev pub sealed : List StoredEntry → ℕ
+sealed log = entries_per_sector * (length log / entries_per_sector)
+
+-- the log with more inputs, where full sectors stay as they are
+unfoldable pub grown : List StoredEntry → List Entry → List StoredEntry
+grown log more = take (sealed log) log ++ with_inputs (drop (sealed log) log) more
+
+-- the entries fit the log's sectors, and the inputs a log
+unfoldable pub fits : List StoredEntry → List Entry → Bool
+fits log more = nat_le (length (grown log more)) most_entries && nat_le (length (inputs log) + length more) most_inputs

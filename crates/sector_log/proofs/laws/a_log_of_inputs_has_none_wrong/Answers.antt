@@ -1,5 +1,0 @@
-use Rattle.sector_log.proofs.Wrong.{none_wrong}
-use Rattle.sector_log.proofs.laws.a_log_of_inputs_has_none_wrong.Goals as goal
-
-pub returns : goal.returns
-returns c = none_wrong

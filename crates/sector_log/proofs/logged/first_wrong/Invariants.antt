@@ -1,9 +1,0 @@
-use Rattle.std.proofs.Common.{◌≡◌, ◌≤◌, drop}
-use Rattle.sector_log.specs.Inputs.{first_wrong, wrong_from}
-use Rattle.sector_log.proofs.logged.first_wrong.Given as goal
-
-abbrev pub invariant-loop-index : goal.invariant-loop-index
-invariant-loop-index l = record {
-  rest : first_wrong l.log ≡ wrong_from l.index l.before (drop l.index l.log);
-  bound : l.before ≤ 216000;
-}

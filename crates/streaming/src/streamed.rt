@@ -1,0 +1,65 @@
+//! A whole stream.
+ghost use Rattle.std.specs.Prelude.{◌≡◌, [], false, IfOk, IfErr};
+ghost use Rattle.sector_device.specs.DiskState.{HasAnswered};
+ghost use Rattle.session.specs.Accessors.{device_of, machine_of, rom_of, pending_of, acknowledged_of, is_broken};
+ghost use Rattle.streaming.specs.Streamed.{HasStreamedAll, IsStreamCause, faults_after_stream, left_by};
+
+use crate::error::{StreamError, StreamRefused};
+use crate::obeying::{End, stream_on};
+use cartridge::Cartridge;
+use sector_device::SectorDevice;
+use session::{Session, resume};
+use std::alloc::Global;
+use std::io::{Read, Write};
+
+/// Resumes the game on a device, writes `resumed N`, and obeys the lines of an input as they come,
+/// each before more is read. A line is a line of a script, or `picture`, which writes the machine's
+/// picture as plain PGM; an empty one is counted and skipped, and the last may lack its newline. As
+/// in `play`, `saved N` is written after each save: one at each `save`, right after the input that
+/// makes 3,200 unsaved, and at the end if any is unsaved.
+///
+/// Refusals: those of `resume`, with nothing read and nothing written; then whichever comes first
+/// of `GenerationsUsedUp`, `Device`, `CountFull` and `Output`, as in `play`; `Line` with the number of the first
+/// wrong line, counted from 1, and `Input` if a read fails, both once what was given before is
+/// saved and reported. A line of more than 64 bytes is wrong as soon as that many are read, and so
+/// is the line with the number `u64::MAX`, whatever it says. Memory is taken only to resume the
+/// game.
+pub fn stream<D: SectorDevice, R: Read, W: Write>(
+    alloc: Global,
+    device: D,
+    cartridge: &Cartridge,
+    input: &mut R,
+    out: &mut W,
+) -> Result<Session<D>, StreamRefused<D>>
+    ensures streamed { IfOk result (λ s.
+        HasStreamedAll cartridge.now (D.disk device) (D.disk (device_of s)) (acknowledged_of s) (machine_of s) (R.remaining input.old)
+        (R.remaining input.new) (W.contents out.old) (W.contents out.new)) }
+    ensures whole { IfOk result (λ s. (pending_of s ≡ []) × (is_broken s ≡ false) × (rom_of s ≡ cartridge.now)) }
+    ensures refused { IfErr result (λ refused.
+        IsStreamCause refused.why cartridge.now (D.disk device) (D.disk refused.device) (R.remaining input.old) (R.remaining input.new)
+        (W.contents out.old) (W.contents out.new)) }
+    ensures answered { HasAnswered (λ refused. faults_after_stream refused.why) (D.disk device) (D.disk (left_by result)) result }
+{
+    let mut session = match resume(alloc, device, cartridge) {
+        Ok(session) => session,
+        Err(refused) => return Err(StreamRefused {
+            why: StreamError::Session(refused.why),
+            device: refused.device,
+        }),
+    };
+    match stream_on(&mut session, input, out) {
+        Ok(End::Whole) => Ok(session),
+        Ok(End::Wrong(number)) => Err(StreamRefused {
+            why: StreamError::Line(number),
+            device: session.into_device(),
+        }),
+        Ok(End::Failed) => Err(StreamRefused {
+            why: StreamError::Input,
+            device: session.into_device(),
+        }),
+        Err(why) => Err(StreamRefused {
+            why: StreamError::Session(why),
+            device: session.into_device(),
+        }),
+    }
+}
