@@ -1,5 +1,5 @@
 -- One more step of a debugger.
-use Rattle.std.proofs.Common.{Bool, true, false, not, IsTrue, ◌≡◌, ◌∙◌, ℕ, zero, suc, ◌+◌, ◌-◌, ◌<◌, ◌≤◌, List, [], ◌∷◌, ◌++◌, length, drop, append-nil, append_assoc, below_more, length-append, length-drop, add-one, ap, refl, subst, sym, arith, inl, inr}
+use Rattle.std.proofs.Common.{◌≡◌, ◌∙◌, ℕ, zero, suc, ◌+◌, ◌-◌, ◌<◌, ◌≤◌, List, [], ◌++◌, length, drop, append-nil, append_assoc, below_more, length-append, length-drop, add-one, ap, refl, subst, sym, arith, inl, inr}
 use Rattle.std.proofs.lemmas.Bool.{cases_lt}
 use Rattle.std.proofs.lemmas.List.{drop-append-le, drop-drop}
 use Rattle.std.proofs.Math.Nat.{eq-or-lt_of_le}
@@ -7,6 +7,8 @@ use Rattle.std.specs.List.{Contains}
 use Rattle.circular_buffer.specs.Buffer.{Buffer, buffer, keep_last}
 use Rattle.memory_map.specs.BusRules.{bus_rules}
 use Rattle.machine.specs.Machine.{MachineState}
+use Rattle.machine.specs.FastRuns.{HasReported, instruction_in, instructions_in}
+use Rattle.machine.proofs.FastRuns.{no_instruction, instructions_more}
 use Rattle.sm83_processor.specs.Rules.{Rules}
 use Rattle.sm83_processor.specs.Steps.{step_of, after_steps}
 use Rattle.sm83_processor.specs.declared.processor.Processor.{Processor}
@@ -16,7 +18,7 @@ use Rattle.sm83_processor.specs.declared.step.StepKind.TheVariants.{Dispatch, Wa
 use Rattle.memory_map.specs.State.{BusState}
 use Rattle.sm83_processor.proofs.Runs.{after_steps-zero, after_steps-add_one}
 use Rattle.debugger.specs.Run.{HasRun, pc_after}
-use Rattle.debugger.specs.History.{DebuggerState, HoldsAtMost, after_run, instruction_in, instructions_in}
+use Rattle.debugger.specs.History.{DebuggerState, HoldsAtMost, after_run}
 
 pub keep_last-all : {X : Type 0} (n : ℕ) (xs : List X) → length xs ≤ n → keep_last n xs ≡ xs
 keep_last-all n xs most =
@@ -38,21 +40,9 @@ keep_last-again n xs ys =
     ∙ drop-drop (length (keep_last n xs ++ ys) - n) (length xs - n) (xs ++ ys)
     ∙ ap (λ (k : ℕ). drop k (xs ++ ys)) places
 
-instructions_more : {M : Type 0} (rules : Rules M) (n : ℕ) (p : Processor M) →
-    instructions_in rules (suc n) p ≡ instructions_in rules n p ++ instruction_in (step_of rules (after_steps rules n p)).stepped.kind
-unfolding instructions_in after_steps
-instructions_more rules zero p = append-nil _
-instructions_more rules (suc n) p =
-    ap (λ (xs : List Executed). instruction_in (step_of rules p).stepped.kind ++ xs) (instructions_more rules n (step_of rules p).after)
-    ∙ sym (append_assoc (instruction_in (step_of rules p).stepped.kind) _ _)
-
 pub one_instruction : {M : Type 0} (rules : Rules M) (p : Processor M) → instructions_in rules 1 p ≡ instruction_in (step_of rules p).stepped.kind
 unfolding instructions_in
 one_instruction rules p = append-nil _
-
-pub no_instruction : {M : Type 0} (rules : Rules M) (p : Processor M) → instructions_in rules 0 p ≡ []
-unfolding instructions_in
-no_instruction rules p = refl
 
 pub one_step : {M : Type 0} (rules : Rules M) (p : Processor M) → (step_of rules p).after ≡ after_steps rules 1 p
 unfolding after_steps
@@ -115,20 +105,20 @@ one_more n d e f so_far step = step ∙ ap (after_run 1) so_far ∙ two_runs n d
 pub past_more : (P : ℕ → Type 0) (n : ℕ) → ((k : ℕ) → 0 < k → k < n → P k) → (0 < n → P n) → (k : ℕ) → 0 < k → k < n + 1 → P k
 past_more P n before here k some below = below_more (λ j. 0 < j → P j) n (λ j less some. before j some less) here k below some
 
--- the instructions of n steps and of one more
-pub instructions_and : (n : ℕ) (p : Processor BusState) (kept : List Executed) (seen : Executed) → kept ≡ instructions_in bus_rules n p →
-    (step_of bus_rules (after_steps bus_rules n p)).stepped.kind ≡ Ran seen → kept ++ seen ∷ [] ≡ instructions_in bus_rules (n + 1) p
-instructions_and n p kept seen so_far ran =
-    ap (λ (xs : List Executed). xs ++ seen ∷ []) so_far
-    ∙ ap (λ (what : StepKind). instructions_in bus_rules n p ++ instruction_in what) (sym ran)
-    ∙ sym (instructions_more bus_rules n p)
-    ∙ ap (λ (k : ℕ). instructions_in bus_rules k p) (sym (add-one n))
-
 -- a machine that made n steps, and a buffer into which their instructions were put together
 pub steps_kept : (n : ℕ) (m : MachineState) (b k : Buffer Executed) (seen : List Executed) → seen ≡ instructions_in bus_rules n m.processor →
     k ≡ buffer (keep_last b.capacity (b.items ++ seen)) b.capacity →
     history_as (record m { processor = after_steps bus_rules n m.processor }) k ≡ after_run n (history_as m b)
 steps_kept n m b k seen is kept = rw (← is) (ap (history_as _) kept)
+
+-- a run of fast steps, whose instructions were put into the buffer together
+pub fast_steps_kept : (breaks : List ℕ) (n : ℕ) (m t : MachineState) (b k : Buffer Executed) (seen : List Executed) →
+    t ≡ record m { processor = after_steps bus_rules n m.processor } → HasReported breaks n m.processor t.processor seen →
+    k ≡ buffer (keep_last b.capacity (b.items ++ seen)) b.capacity → HasRun breaks n (history_as m b) (history_as t k)
+fast_steps_kept breaks n m t b k seen made reported kept = record {
+  run = ap (λ (x : MachineState). history_as x k) made ∙ steps_kept n m b k seen reported.ran kept;
+  past = reported.past;
+}
 
 -- n steps, and then k more
 pub runs : (k n : ℕ) (d : DebuggerState) → after_run k (after_run n d) ≡ after_run (n + k) d
@@ -155,13 +145,3 @@ run_on breaks m n d e f first here next = record {
     ]
   ];
 }
-
--- a step is due, which is fast and begins at no break but where it is the first
-pub record IsGoing (breaks : List ℕ) (is_fast : Bool) (made most : ℕ) (d : DebuggerState) : Type 0 where
-  pub fast : is_fast ≡ true
-  pub due : made < most
-  pub here : 0 < made → ¬ (Contains breaks (pc_after made d))
-
-pub not_both : (b : Bool) → IsTrue b → not b ≡ true → ⊥
-not_both true t e = cc
-not_both false t e = cc

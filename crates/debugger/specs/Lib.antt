@@ -3,5 +3,3 @@ pub mod Listing
 pub mod Run
 pub mod Report
 pub mod Registers
--- what only the code needs
-pub mod Marks

@@ -4,7 +4,7 @@ ghost use Rattle.std.specs.Prelude.{◌≡◌, ◌<◌, ◌≤◌, ◌↔◌, If
 ghost use Rattle.std.specs.Io.KnownBytes.{Appends};
 ghost use Rattle.std.specs.List.{Contains};
 ghost use Rattle.exact_text.specs.Written.{AppendsProperPrefix};
-ghost use Rattle.debugger.specs.Marks.{AreMarked};
+ghost use Rattle.machine.specs.FastRuns.{AreMarked};
 
 use crate::listing::write_lines;
 use crate::stop::Stop;
@@ -15,8 +15,9 @@ use std::alloc::Global;
 use std::io::Write;
 use std::marker::Model;
 
-/// How many fast steps are put into the history at once.
-const KEPT: usize = 256;
+/// How many fast steps are put into the history at once: more than most histories hold, so that of a
+/// long run most instructions are not copied into it.
+const KEPT: usize = 4_096;
 
 /// What stands where no instruction was put yet.
 const NOTHING: Executed = Executed {
@@ -135,7 +136,7 @@ impl Debugger {
         self.run_until_in(&mut RunRoom::new(), breaks, limit)
     }
 
-    /// As `run_until`, in room that many short runs share: making it takes as long as ten steps.
+    /// As `run_until`, in room that many short runs share: making it takes as long as a hundred steps.
     pub fn run_until_in(&mut self, room: &mut RunRoom, breaks: &[u16], limit: u32) -> Stop
         ensures { IsStop breaks.now limit self.old self.new result }
     {
@@ -164,9 +165,7 @@ impl Debugger {
 
     /// Makes fast steps, at least one, until one that is not the first would begin at a break, or may
     /// not be fast; at most `limit`, and no more than are put into the history at once. Says how many,
-    /// and whether the next step is surely fast. The loop has the only call of `step_fast`, so that
-    /// the code of the instructions stands in it.
-    #[inline(always)]
+    /// and whether the next step is surely fast.
     fn run_fast(
         &mut self,
         marks: &[bool; 256],
@@ -182,18 +181,10 @@ impl Debugger {
         ensures most { result.0 ≤ limit }
         ensures fast { result.1 ≡ true → IsFast bus_rules self.new.machine.processor }
     {
-        let most = limit.min(KEPT as u32);
-        let mut made = 0;
-        let mut is_fast = true;
-        let mut is_going = true;
-        while is_going {
-            is_fast = self.machine.step_fast(&mut kept[made as usize]);
-            made += 1;
-            let pc = self.machine.registers().pc;
-            is_going = is_fast && made < most && !is_break(marks, breaks, pc);
-        }
-        self.history.extend_from_slice(&kept[..made as usize]);
-        (made, is_fast)
+        let most = (limit as usize).min(KEPT);
+        let (made, is_fast) = self.machine.run_fast(kept, most, marks, breaks);
+        self.history.extend_from_slice(&kept[..made]);
+        (made as u32, is_fast)
     }
 
     /// How many instructions the history holds: at most `size`.

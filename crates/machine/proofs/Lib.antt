@@ -6,3 +6,5 @@ pub mod Sent
 pub mod StepParts
 pub mod Watching
 pub mod WatchedLaws
+pub mod StepsLeft
+pub mod FastRuns

@@ -5,6 +5,7 @@ pub mod Legal
 pub mod Sent
 pub mod Watched
 pub mod WatchedLaws
+pub mod FastRuns
 -- what only the code needs
 pub mod Waiting
 pub mod Watching

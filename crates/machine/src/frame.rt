@@ -32,6 +32,24 @@ pub(crate) const IN_HRAM: u8 = FIRST_OWN_LOOP + 3;
 /// The loop of fast steps above ROM.
 pub(crate) const ABOVE_ROM: u8 = FIRST_OWN_LOOP + 4;
 
+/// The loop of counted steps in the lower half of ROM.
+pub(crate) const COUNTED_IN_LOWER_ROM: u8 = FIRST_OWN_LOOP + 5;
+
+/// The loop of counted steps in the upper half of ROM.
+pub(crate) const COUNTED_IN_UPPER_ROM: u8 = FIRST_OWN_LOOP + 6;
+
+/// The loop of counted steps above ROM.
+pub(crate) const COUNTED_ABOVE_ROM: u8 = FIRST_OWN_LOOP + 7;
+
+/// The loop of reported steps in the lower half of ROM.
+pub(crate) const REPORTED_IN_LOWER_ROM: u8 = FIRST_OWN_LOOP + 8;
+
+/// The loop of reported steps in the upper half of ROM.
+pub(crate) const REPORTED_IN_UPPER_ROM: u8 = FIRST_OWN_LOOP + 9;
+
+/// The loop of reported steps above ROM.
+pub(crate) const REPORTED_ABOVE_ROM: u8 = FIRST_OWN_LOOP + 10;
+
 /// The address of the joypad's register P1.
 const JOYPAD: u16 = 0xff00;
 
@@ -115,9 +133,12 @@ fn run_fast_steps_here(processor: &mut Processor<Bus>, passed: u32) -> (u32, boo
 /// each byte.
 #[inline(always)]
 pub(crate) fn is_there<const LOOP: u8>(pc: u16) -> bool {
-    if LOOP == IN_LOWER_ROM {
+    if LOOP == IN_LOWER_ROM || LOOP == COUNTED_IN_LOWER_ROM || LOOP == REPORTED_IN_LOWER_ROM {
         pc < 0x3ffe
-    } else if LOOP == IN_UPPER_ROM {
+    } else if LOOP == IN_UPPER_ROM
+        || LOOP == COUNTED_IN_UPPER_ROM
+        || LOOP == REPORTED_IN_UPPER_ROM
+    {
         pc >= 0x4000 && pc < 0x7ffe
     } else if LOOP == IN_WRAM {
         pc >= 0xc000 && pc < 0xdffe

@@ -9,6 +9,8 @@ pub mod input;
 pub mod laws;
 pub mod machine;
 pub mod machine_without_memory;
+mod reported;
+mod steps;
 mod untimed;
 pub mod watched;
 

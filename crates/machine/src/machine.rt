@@ -1,19 +1,21 @@
 //! The whole machine.
 
-ghost use Rattle.std.specs.Prelude.{◌≡◌, ◌<◌, ◌≤◌, IfOk, length, All, slice_set, true};
+ghost use Rattle.std.specs.Prelude.{◌≡◌, ◌<◌, ◌≤◌, IfOk, length, take, All, slice_set, true};
 ghost use Rattle.memory_map.specs.BusRules.{bus_rules};
 ghost use Rattle.sm83_processor.specs.Steps.{step_of, after_steps};
 ghost use Rattle.sm83_processor.specs.FastStep.{IsFast};
-ghost use Rattle.sm83_processor.specs.declared.step.StepKind.{StepKind};
+ghost use Rattle.machine.specs.FastRuns.{AreMarked, HasReported};
 
 use crate::frame::run_frame;
 use crate::input::Input;
 use crate::machine_without_memory::MachineWithoutMemory;
+use crate::reported::run_reported;
+use crate::steps::run_steps;
 use cartridge::Cartridge;
 use memory_map::{Bus, Region};
 use picture_unit::LatePicture;
 use sm83_alu::{Flags, Registers};
-use sm83_processor::{Executed, Processor, ProcessorState, REPORTED, Stepped, length_of_opcode};
+use sm83_processor::{Executed, Processor, ProcessorState, Stepped};
 use std::alloc::{AllocError, Global};
 use std::marker::Model;
 
@@ -76,23 +78,6 @@ fn state_at_power_on() -> ProcessorState
 
 ghost use Rattle.machine.specs.Machine.{registers_at_power_on, state_at_power_on};
 
-/// A step that is fast: puts the instruction that ran into `ran`, before it runs, and says whether
-/// the next step is fast.
-#[inline(always)]
-fn run_and_report(processor: &mut Processor<Bus>, ran: &mut Executed) -> bool
-    requires { IsFast bus_rules processor.old }
-    ensures after { processor.new ≡ (step_of bus_rules processor.old).after }
-    ensures kind { (step_of bus_rules processor.old).stepped.kind ≡ StepKind.Ran ran.new }
-    ensures fast { result ≡ true → IsFast bus_rules processor.new }
-{
-    let pc = processor.registers.pc;
-    ran.pc = pc;
-    processor.memory.read_three(pc, &mut ran.bytes);
-    let opcode = ran.bytes[0];
-    ran.length = length_of_opcode(opcode);
-    processor.run_fast_opcode::<REPORTED>(opcode).1
-}
-
 impl Machine {
     pub(crate) fn of(processor: Processor<Bus>, overrun: u8) -> Machine
         requires { overrun < 6 }
@@ -147,23 +132,37 @@ impl Machine {
         self.processor.is_fast()
     }
 
-    /// A fast step, faster than `step`: puts the instruction that ran into `ran`, and says whether the
-    /// next step is surely fast too. Condition: the step is fast, as `is_fast` tells.
-    #[inline(always)]
-    pub fn step_fast(&mut self, ran: &mut Executed) -> bool
-        requires { IsFast bus_rules self.old.processor }
-        ensures machine { self.new ≡ record self.old { processor = (step_of bus_rules self.old.processor).after } }
-        ensures kind { (step_of bus_rules self.old.processor).stepped.kind ≡ StepKind.Ran ran.new }
-        ensures fast { result ≡ true → IsFast bus_rules self.new.processor }
+    /// Fast steps, faster than `step`, each with its instruction: puts those that ran into `kept`, from
+    /// its beginning. Makes one step, and then more until `most` were made, or the next one may not be
+    /// fast or begins at one of these addresses. Returns how many were made, and whether the next one is
+    /// surely fast. Conditions: the next step is fast, as `is_fast` tells; `most` is not 0, and `kept` has
+    /// as many places; the low byte of each address is marked.
+    pub fn run_fast(
+        &mut self,
+        kept: &mut [Executed],
+        most: usize,
+        marks: &[bool; 256],
+        breaks: &[u16],
+    ) -> (usize, bool)
+        requires some { 0 < most }
+        requires room { most ≤ length kept.old }
+        requires marks { AreMarked marks.now breaks.now }
+        requires fast { IsFast bus_rules self.old.processor }
+        ensures machine { self.new ≡ record self.old { processor = after_steps bus_rules result.0 self.old.processor } }
+        ensures run { HasReported breaks.now result.0 self.old.processor self.new.processor (take result.0 kept.new) }
+        ensures room { length kept.new ≡ length kept.old }
+        ensures some { 0 < result.0 }
+        ensures most { result.0 ≤ most }
+        ensures fast { result.1 ≡ true → IsFast bus_rules self.new.processor }
     {
-        run_and_report(&mut self.processor, ran)
+        run_reported(&mut self.processor, kept, most, marks, breaks)
     }
 
     /// Makes `count` steps.
     pub fn run_steps(&mut self, count: u32)
         ensures { self.new ≡ record self.old { processor = after_steps bus_rules count self.old.processor } }
     {
-        self.processor.run_steps(count);
+        run_steps(&mut self.processor, count);
         self.processor.memory.catch_up();
     }
 

@@ -1,15 +1,17 @@
 -- What it means for the rows that a line is noted, drawn, set or forgotten.
-use Rattle.std.proofs.Common.{◌≡◌, ℕ, ◌<◌, Bool, true, false, cond, List, [], ◌∷◌, length, get_or, set, refl, sym, ap, ◌∙◌, arith, zero, suc}
+use Rattle.std.proofs.Common.{◌≡◌, ℕ, ◌<◌, Bool, true, false, cond, List, [], ◌∷◌, length, get_or, set, refl, sym, ap, subst, ◌∙◌, arith, zero, suc, inl, inr}
 use Rattle.std.specs.Prelude.{All, replicate, if◌then◌else◌}
 use Rattle.picture_lines.specs.Pixel.{drawn_row}
 use Rattle.picture_lines.specs.declared.registers.LineRegisters.{LineRegisters}
-use Rattle.std.proofs.lemmas.List.{length-set}
+use Rattle.std.proofs.lemmas.List.{length-set, set-get_or, get_or-set_same, get_or-set_other}
+use Rattle.std.proofs.lemmas.Bool.{cases_eq}
 use Rattle.std.proofs.lemmas.List.Elements.{All-set}
+use Rattle.picture_unit.specs.declared.rows.KeptRows.{KeptRows}
 use Rattle.picture_unit.specs.declared.rows.LateLines.{LateLines}
 use Rattle.picture_unit.specs.declared.rows.Rows.{Rows}
 use Rattle.picture_unit.specs.declared.state.PictureState.{PictureState}
 use Rattle.picture_unit.specs.Picture.{IsWhole}
-use Rattle.picture_unit.specs.LateRows.{shown, with_late, rows_of, AreLines, AreRight}
+use Rattle.picture_unit.specs.LateRows.{shown, with_late, rows_of, AreLines, AreKept, AreRight}
 
 pub length-shown : (are_late : List Bool) (drawn_by : List LineRegisters) (vram oam : List ℕ) (rows : List (List ℕ)) → length (shown are_late drawn_by vram oam rows) ≡ length rows
 unfolding shown
@@ -142,7 +144,46 @@ whole_set p oam rows y row small whole = record {
   shades = All-set (λ (r : List ℕ). All (λ shade. shade < 4) r) rows y row small whole.shades;
 }
 
-pub rows_count : (r : Rows) (vram oam : List ℕ) → AreRight r → length (rows_of r vram oam) ≡ 144
+-- VRAM or OAM changes, and the rows stay
+pub whole_aside : (p : PictureState) (oam oam' : List ℕ) (rows rows' : List (List ℕ)) → length oam' ≡ 160 → rows' ≡ rows → IsWhole p oam rows → IsWhole p oam' rows'
+whole_aside p oam oam' rows rows' size same whole = record {
+  legal = whole.legal;
+  oam_size = size;
+  row_count = ap length same ∙ whole.row_count;
+  shades = subst (λ (x : List (List ℕ)). All (λ row. All (λ shade. shade < 4) row) x) (sym same) whole.shades;
+}
+
+pub rows_count : (r : Rows) (vram oam : List ℕ) → AreRight r vram oam → length (rows_of r vram oam) ≡ 144
 rows_count r vram oam right =
     length-shown r.late.are_late r.late.drawn_by vram oam (with_late r.earlier r.earlier_tiles r.earlier_oam.items r.drawn.items)
     ∙ (length-shown r.earlier.are_late r.earlier.drawn_by r.earlier_tiles r.earlier_oam.items r.drawn.items ∙ right.row_count)
+
+clear_at : (flags : List Bool) (y : ℕ) → get_or (set flags y false) y false ≡ false
+clear_at [] y = refl
+clear_at (flag ∷ flags) zero = refl
+clear_at (flag ∷ flags) (suc y) = clear_at flags y
+
+module _ (k : KeptRows) (rows : List (List ℕ)) (vram oam : List ℕ) (y : ℕ) where
+  -- a row is set: it is no longer kept
+  pub kept_set : (row : List ℕ) → AreKept k rows vram oam → AreKept (record k { are_marked = set k.are_marked y false }) (set rows y row) vram oam
+  kept_set row kept = λ some j within marked by. elim (cases_eq j y) [
+    | inl here ↦ absurd (let e : false ≡ true = sym (clear_at k.are_marked y) ∙ subst (λ (n : ℕ). get_or (set k.are_marked y false) n false ≡ true) here marked in cc)
+    | inr other ↦ get_or-set_other rows y j row [] other ∙ kept some j within (sym (get_or-set_other k.are_marked y j false false other) ∙ marked) by
+  ]
+
+  -- a row is drawn: it is kept by its registers
+  pub kept_drawn : (s : LineRegisters) → y < length rows → y < length k.drawn_by → AreKept k rows vram oam → k.has_some ≡ true →
+      AreKept (record k { are_marked = set k.are_marked y true; drawn_by = set k.drawn_by y s }) (set rows y (drawn_row s vram oam)) vram oam
+  kept_drawn s in_rows in_lines kept some = λ _ j within marked by. elim (cases_eq j y) [
+    | inl here ↦ subst (λ (n : ℕ). get_or (set rows y (drawn_row s vram oam)) n [] ≡ drawn_row (get_or (set k.drawn_by y s) n by) vram oam) (sym here)
+        (get_or-set_same rows y (drawn_row s vram oam) [] in_rows ∙ ap (λ (l : LineRegisters). drawn_row l vram oam) (sym (get_or-set_same k.drawn_by y s by in_lines)))
+    | inr other ↦
+        get_or-set_other rows y j (drawn_row s vram oam) [] other ∙ kept some j within (sym (get_or-set_other k.are_marked y j true false other) ∙ marked) by
+        ∙ ap (λ (l : LineRegisters). drawn_row l vram oam) (sym (get_or-set_other k.drawn_by y j s by other))
+  ]
+
+  -- A kept row is as its registers would draw it.
+  pub kept_stays : (s : LineRegisters) → y < 144 → AreKept k rows vram oam → k.has_some ≡ true → get_or k.are_marked y false ≡ true → get_or k.drawn_by y s ≡ s → rows ≡ set rows y (drawn_row s vram oam)
+  kept_stays s visible kept some marked same =
+      let here : get_or rows y [] ≡ drawn_row s vram oam = kept some y visible marked s ∙ ap (λ (l : LineRegisters). drawn_row l vram oam) same in
+      sym (subst (λ (row : List ℕ). set rows y row ≡ rows) here (set-get_or rows y []))

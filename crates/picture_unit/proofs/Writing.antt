@@ -1,67 +1,71 @@
 -- The text of a row, value by value, and that of the rows.
-use Rattle.std.proofs.Common.{◌≡◌, ℕ, ◌+◌, ◌<◌, ◌≤◌, ◌*◌, ◌-◌, ◌%◌, ◌/◌, List, [], ◌∷◌, ◌++◌, length, take, drop, get_or, refl, sym, ◌∙◌, ap, arith, map, append_assoc, zero, suc, inl, inr}
-use Rattle.std.specs.Prelude.{◌==◌, if◌then◌else◌}
+use Rattle.std.proofs.Common.{◌≡◌, Bool, false, bit_xor, ℕ, ◌+◌, ◌<◌, ◌≤◌, ◌*◌, ◌-◌, ◌%◌, List, [], ◌∷◌, ◌++◌, length, take, drop, get_or, refl, sym, ◌∙◌, ap, arith, map, append_assoc, zero, suc, inl, inr}
+use Rattle.std.specs.Prelude.{◌==◌, All, if◌then◌else◌}
 use Rattle.std.specs.List.{flat_map}
 use Rattle.std.proofs.Math.Seq.{take-add}
-use Rattle.std.proofs.lemmas.Bool.{cases_eq}
+use Rattle.std.proofs.lemmas.Bool.{cases_Bool}
+use Rattle.std.proofs.lemmas.Bool.Decides.{nat_tests}
 use Rattle.std.proofs.lemmas.List.{ext_get_or, get_or-map, get_or-take, get_or-drop, take-append-drop, length-map, length-take-le, length-drop}
 use Rattle.std.proofs.lemmas.List.Folds.{flat_map-map}
 use Rattle.std.proofs.lemmas.Grind.{flat_map-append}
 use Rattle.picture_unit.specs.Pgm.{values_text}
 
-length-values_text : (x : ℕ) (row : List ℕ) → length (values_text x row) ≡ 2 * length row
+pub length-values_text : (x : ℕ) (row : List ℕ) → length (values_text x row) ≡ 2 * length row
 unfolding values_text
 length-values_text x [] = refl
 length-values_text x (shade ∷ rest) =
     let rest' : length (values_text (x + 1) rest) ≡ 2 * length rest = length-values_text (x + 1) rest
     in omega arith
 
--- what the text of a row has for a column
-digit-at : (x : ℕ) (row : List ℕ) (i : ℕ) → i < length row → get_or (values_text x row) (2 * i) 0 ≡ 48 + (3 - get_or row i 0)
+-- the text of some columns and of those after them
+pub values_text-append : (x next : ℕ) (row more : List ℕ) → next ≡ x + length row → values_text x row ++ values_text next more ≡ values_text x (row ++ more)
 unfolding values_text
-digit-at x [] i within = absurd (omega arith)
-digit-at x (shade ∷ rest) zero within = refl
-digit-at x (shade ∷ rest) (suc i) within =
-    let twice : 2 * suc i ≡ suc (suc (2 * i)) = omega arith
-    in rw twice (digit-at (x + 1) rest i (omega arith))
+values_text-append x next [] more is =
+    let here : next ≡ x = omega arith
+    in ap (λ (n : ℕ). values_text n more) here
+values_text-append x next (shade ∷ rest) more is =
+    ap (λ (l : List ℕ). (48 + (3 - shade)) ∷ (if x % 32 == 31 then 10 else 32) ∷ l) (values_text-append (x + 1) next rest more (omega arith))
 
-separator-at : (x : ℕ) (row : List ℕ) (i column : ℕ) → i < length row → column ≡ x + i → get_or (values_text x row) (2 * i + 1) 0 ≡ (if column % 32 == 31 then 10 else 32)
+-- 3 less a shade, as a digit: the two low bits of the digit 3 are set
+turned : (shade : ℕ) → shade < 4 → bit_xor shade 51 ≡ 48 + (3 - shade)
+turned zero small = refl
+turned (suc zero) small = refl
+turned (suc (suc zero)) small = refl
+turned (suc (suc (suc zero))) small = refl
+turned (suc (suc (suc (suc n)))) small = absurd (omega arith)
+
+within_line : (x at k : ℕ) → x % 8 ≡ 0 → k < 7 → at ≡ x + k → ◌≡◌ {A = ℕ} (if at % 32 == 31 then 10 else 32) 32
+within_line x at k eighth before is = let other : (at % 32 == 31) ≡ false = grind (arith, nat_tests) in rw other refl
+
+ends_line : (x at last : ℕ) → x % 8 ≡ 0 → at ≡ x + 7 → last ≡ (if x % 32 == 24 then 10 else 32) → bit_xor 0 last ≡ (if at % 32 == 31 then 10 else 32)
+ends_line x at last eighth is last_is =
+    let same : (at % 32 == 31) ≡ (x % 32 == 24) = grind (arith, nat_tests) in
+    elim (cases_Bool (x % 32 == 24)) [
+      | inl is_end ↦ ap (λ (n : ℕ). bit_xor 0 n) (last_is ∙ ap (λ (b : Bool). if b then 10 else 32) is_end) ∙ sym (ap (λ (b : Bool). if b then 10 else 32) (same ∙ is_end))
+      | inr is_none ↦ ap (λ (n : ℕ). bit_xor 0 n) (last_is ∙ ap (λ (b : Bool). if b then 10 else 32) is_none) ∙ sym (ap (λ (b : Bool). if b then 10 else 32) (same ∙ is_none))
+    ]
+
+pair : (a b s t : ℕ) (l r : List ℕ) → a ≡ b → s ≡ t → l ≡ r → a ∷ s ∷ l ≡ b ∷ t ∷ r
+pair a b s t l r first second rest = cc
+
+-- eight shades with zeros between them, turned into text
+abbrev pub turned_apart : (last : ℕ) → List ℕ → List ℕ
+turned_apart last xs =
+    bit_xor (get_or (xs ++ 0 ∷ 0 ∷ 0 ∷ 0 ∷ 0 ∷ 0 ∷ 0 ∷ 0 ∷ []) 0 0) 51 ∷ bit_xor (get_or (xs ++ 0 ∷ 0 ∷ 0 ∷ 0 ∷ 0 ∷ 0 ∷ 0 ∷ 0 ∷ []) 8 0) 32 ∷ bit_xor (get_or (xs ++ 0 ∷ 0 ∷ 0 ∷ 0 ∷ 0 ∷ 0 ∷ 0 ∷ 0 ∷ []) 1 0) 51 ∷ bit_xor (get_or (xs ++ 0 ∷ 0 ∷ 0 ∷ 0 ∷ 0 ∷ 0 ∷ 0 ∷ 0 ∷ []) 9 0) 32 ∷ bit_xor (get_or (xs ++ 0 ∷ 0 ∷ 0 ∷ 0 ∷ 0 ∷ 0 ∷ 0 ∷ 0 ∷ []) 2 0) 51 ∷ bit_xor (get_or (xs ++ 0 ∷ 0 ∷ 0 ∷ 0 ∷ 0 ∷ 0 ∷ 0 ∷ 0 ∷ []) 10 0) 32 ∷ bit_xor (get_or (xs ++ 0 ∷ 0 ∷ 0 ∷ 0 ∷ 0 ∷ 0 ∷ 0 ∷ 0 ∷ []) 3 0) 51 ∷ bit_xor (get_or (xs ++ 0 ∷ 0 ∷ 0 ∷ 0 ∷ 0 ∷ 0 ∷ 0 ∷ 0 ∷ []) 11 0) 32 ∷ bit_xor (get_or (xs ++ 0 ∷ 0 ∷ 0 ∷ 0 ∷ 0 ∷ 0 ∷ 0 ∷ 0 ∷ []) 4 0) 51 ∷ bit_xor (get_or (xs ++ 0 ∷ 0 ∷ 0 ∷ 0 ∷ 0 ∷ 0 ∷ 0 ∷ 0 ∷ []) 12 0) 32 ∷ bit_xor (get_or (xs ++ 0 ∷ 0 ∷ 0 ∷ 0 ∷ 0 ∷ 0 ∷ 0 ∷ 0 ∷ []) 5 0) 51 ∷ bit_xor (get_or (xs ++ 0 ∷ 0 ∷ 0 ∷ 0 ∷ 0 ∷ 0 ∷ 0 ∷ 0 ∷ []) 13 0) 32 ∷ bit_xor (get_or (xs ++ 0 ∷ 0 ∷ 0 ∷ 0 ∷ 0 ∷ 0 ∷ 0 ∷ 0 ∷ []) 6 0) 51 ∷ bit_xor (get_or (xs ++ 0 ∷ 0 ∷ 0 ∷ 0 ∷ 0 ∷ 0 ∷ 0 ∷ 0 ∷ []) 14 0) 32 ∷ bit_xor (get_or (xs ++ 0 ∷ 0 ∷ 0 ∷ 0 ∷ 0 ∷ 0 ∷ 0 ∷ 0 ∷ []) 7 0) 51 ∷ bit_xor (get_or (xs ++ 0 ∷ 0 ∷ 0 ∷ 0 ∷ 0 ∷ 0 ∷ 0 ∷ 0 ∷ []) 15 0) last ∷ []
+
+pub eight-written : (x last : ℕ) (xs : List ℕ) → length xs ≡ 8 → x % 8 ≡ 0 → All (λ shade. shade < 4) xs → last ≡ (if x % 32 == 24 then 10 else 32) → turned_apart last xs ≡ values_text x xs
 unfolding values_text
-separator-at x [] i column within is = absurd (omega arith)
-separator-at x (shade ∷ rest) zero column within is =
-    let here : column ≡ x = omega arith
-    in rw here refl
-separator-at x (shade ∷ rest) (suc i) column within is =
-    let twice : 2 * suc i + 1 ≡ suc (suc (2 * i + 1)) = omega arith
-    in rw twice (separator-at (x + 1) rest i column (omega arith) (omega arith))
-
--- the digits of the columns before one
-abbrev pub HasDigits : List ℕ → List ℕ → ℕ → Type 0
-HasDigits text row columns = (i : ℕ) → i < columns → get_or text (2 * i) 0 ≡ 48 + (3 - get_or row i 0)
-
--- a space follows each digit of the columns from one on
-abbrev pub HasSpaces : List ℕ → ℕ → ℕ → Type 0
-HasSpaces text from columns = (i : ℕ) → from ≤ i → i < columns → get_or text (2 * i + 1) 0 ≡ 32
-
--- what follows the digits of the columns before one
-abbrev pub HasSeparators : List ℕ → ℕ → Type 0
-HasSeparators text columns = (i : ℕ) → i < columns → get_or text (2 * i + 1) 0 ≡ (if i % 32 == 31 then 10 else 32)
-
--- a text that has each digit and what follows it is that of the row
-pub row-written : (text row : List ℕ) → length text ≡ 320 → length row ≡ 160 → HasDigits text row 160 → HasSeparators text 160 → text ≡ values_text 0 row
-row-written text row size width digits separators =
-    let size' : length (values_text 0 row) ≡ 320 = length-values_text 0 row ∙ omega arith
-    in ext_get_or 0 text (values_text 0 row) (size ∙ sym size') (λ j within.
-    let i = j / 2 in
-    let below : i < 160 = omega arith in
-    elim (cases_eq (j % 2) 0) [
-      | inl even ↦
-          let at : j ≡ 2 * i = omega arith
-          in rw at (digits i below ∙ sym (digit-at 0 row i (omega arith)))
-      | inr odd ↦
-          let at : j ≡ 2 * i + 1 = omega arith
-          in rw at (separators i below ∙ sym (separator-at 0 row i i (omega arith) (omega arith)))
-    ])
+eight-written x last [] long eighth small last_is = absurd (omega arith)
+eight-written x last (a ∷ []) long eighth small last_is = absurd (omega arith)
+eight-written x last (a ∷ b ∷ []) long eighth small last_is = absurd (omega arith)
+eight-written x last (a ∷ b ∷ c ∷ []) long eighth small last_is = absurd (omega arith)
+eight-written x last (a ∷ b ∷ c ∷ d ∷ []) long eighth small last_is = absurd (omega arith)
+eight-written x last (a ∷ b ∷ c ∷ d ∷ e ∷ []) long eighth small last_is = absurd (omega arith)
+eight-written x last (a ∷ b ∷ c ∷ d ∷ e ∷ f ∷ []) long eighth small last_is = absurd (omega arith)
+eight-written x last (a ∷ b ∷ c ∷ d ∷ e ∷ f ∷ g ∷ []) long eighth small last_is = absurd (omega arith)
+eight-written x last (a ∷ b ∷ c ∷ d ∷ e ∷ f ∷ g ∷ h ∷ more ∷ rest) long eighth small last_is = absurd (omega arith)
+eight-written x last (a ∷ b ∷ c ∷ d ∷ e ∷ f ∷ g ∷ h ∷ []) long eighth small last_is =
+    pair _ _ _ _ _ _ (turned a (small 0 0 (omega arith))) (sym (within_line x _ 0 eighth (omega arith) (omega arith))) (pair _ _ _ _ _ _ (turned b (small 1 0 (omega arith))) (sym (within_line x _ 1 eighth (omega arith) (omega arith))) (pair _ _ _ _ _ _ (turned c (small 2 0 (omega arith))) (sym (within_line x _ 2 eighth (omega arith) (omega arith))) (pair _ _ _ _ _ _ (turned d (small 3 0 (omega arith))) (sym (within_line x _ 3 eighth (omega arith) (omega arith))) (pair _ _ _ _ _ _ (turned e (small 4 0 (omega arith))) (sym (within_line x _ 4 eighth (omega arith) (omega arith))) (pair _ _ _ _ _ _ (turned f (small 5 0 (omega arith))) (sym (within_line x _ 5 eighth (omega arith) (omega arith))) (pair _ _ _ _ _ _ (turned g (small 6 0 (omega arith))) (sym (within_line x _ 6 eighth (omega arith) (omega arith))) (pair _ _ _ _ _ _ (turned h (small 7 0 (omega arith))) (ends_line x _ last eighth (omega arith) last_is) refl)))))))
 
 -- texts that are each that of a row
 pub texts-written : (f : List ℕ → List ℕ) (texts rows : List (List ℕ)) (first count : ℕ) → length texts ≡ count → first + count ≤ length rows → ((i : ℕ) → i < count → get_or texts i [] ≡ f (get_or rows (first + i) [])) → texts ≡ map f (take count (drop first rows))

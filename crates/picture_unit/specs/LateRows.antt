@@ -1,7 +1,8 @@
 -- The rows of shades while lines that are due to be drawn are only noted.
-use Rattle.std.specs.Prelude.{◌≡◌, ℕ, ◌<◌, List, [], ◌∷◌, length, All, Bool, false, replicate, if◌then◌else◌}
+use Rattle.std.specs.Prelude.{◌≡◌, ℕ, ◌<◌, List, [], ◌∷◌, length, get_or, All, Bool, true, false, replicate, if◌then◌else◌}
 use Rattle.picture_lines.specs.Pixel.{drawn_row}
 use Rattle.picture_lines.specs.declared.registers.LineRegisters.{LineRegisters}
+use Rattle.picture_unit.specs.declared.rows.KeptRows.{KeptRows}
 use Rattle.picture_unit.specs.declared.rows.LateLines.{LateLines}
 use Rattle.picture_unit.specs.declared.rows.Rows.{Rows}
 
@@ -24,8 +25,15 @@ pub record AreLines (lines : LateLines) : Type 0 where
   pub visible : All (λ by. by.ly < 144) lines.drawn_by
   pub none : lines.has_some ≡ false → lines.are_late ≡ replicate 144 false
 
-pub record AreRight (r : Rows) : Type 0 where
+-- The marked rows are as VRAM and OAM draw them, by the registers that go with them.
+abbrev pub AreKept : KeptRows → List (List ℕ) → (vram oam : List ℕ) → Type 0
+AreKept k rows vram oam =
+    k.has_some ≡ true → (y : ℕ) → y < 144 → get_or k.are_marked y false ≡ true → (by : LineRegisters) → get_or rows y [] ≡ drawn_row (get_or k.drawn_by y by) vram oam
+
+-- what is known of the rows while VRAM and OAM are these
+pub record AreRight (r : Rows) (vram oam : List ℕ) : Type 0 where
   pub late : AreLines r.late
   pub earlier : AreLines r.earlier
   pub oam_size : length r.earlier_oam.items ≡ 160
   pub row_count : length r.drawn.items ≡ 144
+  pub kept : AreKept r.kept r.drawn.items vram oam

@@ -36,7 +36,7 @@ impl Model for Picture {
 
     ghost invariant = { λ p. record {
       whole : IsWhole p.state p.oam.items (rows_of p.rows p.tiles p.oam.items);
-      rows : AreRight p.rows;
+      rows : AreRight p.rows p.tiles p.oam.items;
     } };
 }
 

@@ -1,5 +1,5 @@
 -- An instruction by its opcode, for the calls that run one whose opcode has been read.
-use Rattle.std.specs.Prelude.{ℕ, ◌+◌, ◌-◌, ◌%◌, false, if◌then◌else◌}
+use Rattle.std.specs.Prelude.{◌≡◌, ℕ, ◌+◌, ◌-◌, ◌%◌, false, if◌then◌else◌}
 use Rattle.sm83_processor.specs.Rules.{Rules}
 use Rattle.sm83_processor.specs.RegisterOperations.{next_address, is_taken}
 use Rattle.sm83_processor.specs.Execution.{executed, at_pc}
@@ -40,3 +40,10 @@ executed_after_fetch rules i s = executed rules i (past (length_of i) s)
 -- its M-cycles with these flags
 abbrev pub cycles_with : Instr → Flags → ℕ
 cycles_with i f = if is_taken i f then cycles_taken_of i else cycles_of i
+
+-- what an instruction does to a processor, whose opcode has not been fetched yet
+pub record Executes {M : Type 0} (rules : Rules M) (i : Instr) (old new : Processor M) (m_cycles : ℕ) : Type 0 where
+  -- what it leaves
+  pub after : new ≡ executed_after_fetch rules i (after_fetch old)
+  -- the M-cycles that it takes
+  pub cycles : m_cycles ≡ cycles_with i old.registers.flags

@@ -6,7 +6,7 @@
 ghost use Rattle.std.specs.Prelude.{◌≡◌, ◌<◌, ◌+◌, ◌*◌, if◌then◌else◌};
 ghost use Rattle.sm83_processor.specs.RegisterOperations.{next_address};
 ghost use Rattle.sm83_processor.specs.Steps.{second_address};
-ghost use Rattle.sm83_processor.specs.Opcodes.{after_fetch, low_at, high_at, past, executed_after_fetch, cycles_with};
+ghost use Rattle.sm83_processor.specs.Opcodes.{after_fetch, low_at, high_at, past, Executes};
 ghost use Rattle.opcode_table.specs.Table.{word_of};
 ghost use Rattle.opcode_table.specs.Timing.{is_in_memory};
 ghost use Rattle.opcode_table.specs.declared.instruction.Instr.{Instr};
@@ -96,8 +96,7 @@ impl<M: Memory> Processor<M> {
     /// NOP
     #[inline]
     pub(crate) fn run_nop(&mut self) -> u32
-        ensures after { self.new ≡ executed_after_fetch M.rules Instr.Nop (after_fetch self.old) }
-        ensures cycles { result ≡ cycles_with Instr.Nop self.old.registers.flags }
+        ensures { Executes M.rules Instr.Nop self.old self.new result }
     {
         self.move_past(1);
         1
@@ -106,8 +105,7 @@ impl<M: Memory> Processor<M> {
     /// LD (n16),SP
     #[inline]
     pub(crate) fn run_store_sp(&mut self, address: u16) -> u32
-        ensures after { self.new ≡ executed_after_fetch M.rules (Instr.StoreSp address) (after_fetch self.old) }
-        ensures cycles { result ≡ cycles_with (Instr.StoreSp address) self.old.registers.flags }
+        ensures { Executes M.rules (Instr.StoreSp address) self.old self.new result }
     {
         self.move_past(3);
         self.store_sp(address);
@@ -117,8 +115,7 @@ impl<M: Memory> Processor<M> {
     /// STOP
     #[inline]
     pub(crate) fn run_stop(&mut self) -> u32
-        ensures after { self.new ≡ executed_after_fetch M.rules Instr.Stop (after_fetch self.old) }
-        ensures cycles { result ≡ cycles_with Instr.Stop self.old.registers.flags }
+        ensures { Executes M.rules Instr.Stop self.old self.new result }
     {
         self.move_past(2);
         self.state.stopped = true;
@@ -129,8 +126,7 @@ impl<M: Memory> Processor<M> {
     /// JR e
     #[inline]
     pub(crate) fn run_jump_relative(&mut self, offset: u8) -> u32
-        ensures after { self.new ≡ executed_after_fetch M.rules (Instr.JumpRelative offset) (after_fetch self.old) }
-        ensures cycles { result ≡ cycles_with (Instr.JumpRelative offset) self.old.registers.flags }
+        ensures { Executes M.rules (Instr.JumpRelative offset) self.old self.new result }
     {
         self.move_past(2);
         self.jump_by(offset);
@@ -140,8 +136,7 @@ impl<M: Memory> Processor<M> {
     /// JR cc,e
     #[inline]
     pub(crate) fn run_jump_relative_if(&mut self, condition: Condition, offset: u8) -> u32
-        ensures after { self.new ≡ executed_after_fetch M.rules (Instr.JumpRelativeIf condition offset) (after_fetch self.old) }
-        ensures cycles { result ≡ cycles_with (Instr.JumpRelativeIf condition offset) self.old.registers.flags }
+        ensures { Executes M.rules (Instr.JumpRelativeIf condition offset) self.old self.new result }
     {
         self.move_past(2);
         if condition_holds(condition, self.registers.flags) {
@@ -155,8 +150,7 @@ impl<M: Memory> Processor<M> {
     /// LD rp,n16
     #[inline]
     pub(crate) fn run_load_register16(&mut self, register: Register16, word: u16) -> u32
-        ensures after { self.new ≡ executed_after_fetch M.rules (Instr.LoadRegister16 register word) (after_fetch self.old) }
-        ensures cycles { result ≡ cycles_with (Instr.LoadRegister16 register word) self.old.registers.flags }
+        ensures { Executes M.rules (Instr.LoadRegister16 register word) self.old self.new result }
     {
         self.move_past(3);
         set_register16(&mut self.registers, register, word);
@@ -166,8 +160,7 @@ impl<M: Memory> Processor<M> {
     /// ADD HL,rp
     #[inline]
     pub(crate) fn run_add_hl(&mut self, register: Register16) -> u32
-        ensures after { self.new ≡ executed_after_fetch M.rules (Instr.AddHl register) (after_fetch self.old) }
-        ensures cycles { result ≡ cycles_with (Instr.AddHl register) self.old.registers.flags }
+        ensures { Executes M.rules (Instr.AddHl register) self.old self.new result }
     {
         self.move_past(1);
         self.add_to_hl(register);
@@ -177,8 +170,7 @@ impl<M: Memory> Processor<M> {
     /// LD (BC),A and the like
     #[inline]
     pub(crate) fn run_store_accumulator(&mut self, operand: Indirect) -> u32
-        ensures after { self.new ≡ executed_after_fetch M.rules (Instr.StoreAccumulator operand) (after_fetch self.old) }
-        ensures cycles { result ≡ cycles_with (Instr.StoreAccumulator operand) self.old.registers.flags }
+        ensures { Executes M.rules (Instr.StoreAccumulator operand) self.old self.new result }
     {
         self.move_past(1);
         self.memory
@@ -190,8 +182,7 @@ impl<M: Memory> Processor<M> {
     /// LD A,(BC) and the like
     #[inline]
     pub(crate) fn run_load_accumulator(&mut self, operand: Indirect) -> u32
-        ensures after { self.new ≡ executed_after_fetch M.rules (Instr.LoadAccumulator operand) (after_fetch self.old) }
-        ensures cycles { result ≡ cycles_with (Instr.LoadAccumulator operand) self.old.registers.flags }
+        ensures { Executes M.rules (Instr.LoadAccumulator operand) self.old self.new result }
     {
         self.move_past(1);
         let byte = self.memory.read(address(&self.registers, operand));
@@ -203,8 +194,7 @@ impl<M: Memory> Processor<M> {
     /// INC rp
     #[inline]
     pub(crate) fn run_increment_register16(&mut self, register: Register16) -> u32
-        ensures after { self.new ≡ executed_after_fetch M.rules (Instr.IncrementRegister16 register) (after_fetch self.old) }
-        ensures cycles { result ≡ cycles_with (Instr.IncrementRegister16 register) self.old.registers.flags }
+        ensures { Executes M.rules (Instr.IncrementRegister16 register) self.old self.new result }
     {
         self.move_past(1);
         self.increment_register16(register);
@@ -214,8 +204,7 @@ impl<M: Memory> Processor<M> {
     /// DEC rp
     #[inline]
     pub(crate) fn run_decrement_register16(&mut self, register: Register16) -> u32
-        ensures after { self.new ≡ executed_after_fetch M.rules (Instr.DecrementRegister16 register) (after_fetch self.old) }
-        ensures cycles { result ≡ cycles_with (Instr.DecrementRegister16 register) self.old.registers.flags }
+        ensures { Executes M.rules (Instr.DecrementRegister16 register) self.old self.new result }
     {
         self.move_past(1);
         self.decrement_register16(register);
@@ -225,8 +214,7 @@ impl<M: Memory> Processor<M> {
     /// INC r
     #[inline]
     pub(crate) fn run_increment(&mut self, operand: Operand8) -> u32
-        ensures after { self.new ≡ executed_after_fetch M.rules (Instr.Increment operand) (after_fetch self.old) }
-        ensures cycles { result ≡ cycles_with (Instr.Increment operand) self.old.registers.flags }
+        ensures { Executes M.rules (Instr.Increment operand) self.old self.new result }
     {
         self.move_past(1);
         let outcome = sm83_alu::increment(self.operand(operand), self.registers.flags);
@@ -238,8 +226,7 @@ impl<M: Memory> Processor<M> {
     /// DEC r
     #[inline]
     pub(crate) fn run_decrement(&mut self, operand: Operand8) -> u32
-        ensures after { self.new ≡ executed_after_fetch M.rules (Instr.Decrement operand) (after_fetch self.old) }
-        ensures cycles { result ≡ cycles_with (Instr.Decrement operand) self.old.registers.flags }
+        ensures { Executes M.rules (Instr.Decrement operand) self.old self.new result }
     {
         self.move_past(1);
         let outcome = sm83_alu::decrement(self.operand(operand), self.registers.flags);
@@ -251,8 +238,7 @@ impl<M: Memory> Processor<M> {
     /// LD r,n8
     #[inline]
     pub(crate) fn run_load_byte(&mut self, operand: Operand8, byte: u8) -> u32
-        ensures after { self.new ≡ executed_after_fetch M.rules (Instr.LoadByte operand byte) (after_fetch self.old) }
-        ensures cycles { result ≡ cycles_with (Instr.LoadByte operand byte) self.old.registers.flags }
+        ensures { Executes M.rules (Instr.LoadByte operand byte) self.old self.new result }
     {
         self.move_past(2);
         self.set_operand(operand, byte);
@@ -262,8 +248,7 @@ impl<M: Memory> Processor<M> {
     /// RLCA and the like
     #[inline]
     pub(crate) fn run_accumulator(&mut self, operation: AccumulatorOperation) -> u32
-        ensures after { self.new ≡ executed_after_fetch M.rules (Instr.Accumulator operation) (after_fetch self.old) }
-        ensures cycles { result ≡ cycles_with (Instr.Accumulator operation) self.old.registers.flags }
+        ensures { Executes M.rules (Instr.Accumulator operation) self.old self.new result }
     {
         self.move_past(1);
         operate_accumulator(&mut self.registers, operation);
@@ -273,8 +258,7 @@ impl<M: Memory> Processor<M> {
     /// LD r,r
     #[inline]
     pub(crate) fn run_load(&mut self, to: Operand8, from: Operand8) -> u32
-        ensures after { self.new ≡ executed_after_fetch M.rules (Instr.Load to from) (after_fetch self.old) }
-        ensures cycles { result ≡ cycles_with (Instr.Load to from) self.old.registers.flags }
+        ensures { Executes M.rules (Instr.Load to from) self.old self.new result }
     {
         self.move_past(1);
         let byte = self.operand(from);
@@ -285,8 +269,7 @@ impl<M: Memory> Processor<M> {
     /// HALT. Apart, so that a loop of steps keeps nothing in a register for IE and IF.
     #[inline(never)]
     pub(crate) fn run_halt(&mut self) -> u32
-        ensures after { self.new ≡ executed_after_fetch M.rules Instr.Halt (after_fetch self.old) }
-        ensures cycles { result ≡ cycles_with Instr.Halt self.old.registers.flags }
+        ensures { Executes M.rules Instr.Halt self.old self.new result }
     {
         self.move_past(1);
         self.halt();
@@ -296,8 +279,7 @@ impl<M: Memory> Processor<M> {
     /// ADD A,r and the like
     #[inline]
     pub(crate) fn run_operate(&mut self, operation: Operation, operand: Operand8) -> u32
-        ensures after { self.new ≡ executed_after_fetch M.rules (Instr.Operate operation operand) (after_fetch self.old) }
-        ensures cycles { result ≡ cycles_with (Instr.Operate operation operand) self.old.registers.flags }
+        ensures { Executes M.rules (Instr.Operate operation operand) self.old self.new result }
     {
         self.move_past(1);
         let byte = self.operand(operand);
@@ -308,8 +290,7 @@ impl<M: Memory> Processor<M> {
     /// ADD A,n8 and the like
     #[inline]
     pub(crate) fn run_operate_byte(&mut self, operation: Operation, byte: u8) -> u32
-        ensures after { self.new ≡ executed_after_fetch M.rules (Instr.OperateByte operation byte) (after_fetch self.old) }
-        ensures cycles { result ≡ cycles_with (Instr.OperateByte operation byte) self.old.registers.flags }
+        ensures { Executes M.rules (Instr.OperateByte operation byte) self.old self.new result }
     {
         self.move_past(2);
         operate(&mut self.registers, operation, byte);
@@ -319,8 +300,7 @@ impl<M: Memory> Processor<M> {
     /// RET cc
     #[inline]
     pub(crate) fn run_return_if(&mut self, condition: Condition) -> u32
-        ensures after { self.new ≡ executed_after_fetch M.rules (Instr.ReturnIf condition) (after_fetch self.old) }
-        ensures cycles { result ≡ cycles_with (Instr.ReturnIf condition) self.old.registers.flags }
+        ensures { Executes M.rules (Instr.ReturnIf condition) self.old self.new result }
     {
         self.move_past(1);
         if condition_holds(condition, self.registers.flags) {
@@ -334,8 +314,7 @@ impl<M: Memory> Processor<M> {
     /// LDH (n8),A
     #[inline]
     pub(crate) fn run_store_high(&mut self, low: u8) -> u32
-        ensures after { self.new ≡ executed_after_fetch M.rules (Instr.StoreHigh low) (after_fetch self.old) }
-        ensures cycles { result ≡ cycles_with (Instr.StoreHigh low) self.old.registers.flags }
+        ensures { Executes M.rules (Instr.StoreHigh low) self.old self.new result }
     {
         self.move_past(2);
         self.memory
@@ -346,8 +325,7 @@ impl<M: Memory> Processor<M> {
     /// ADD SP,e
     #[inline]
     pub(crate) fn run_add_sp(&mut self, offset: u8) -> u32
-        ensures after { self.new ≡ executed_after_fetch M.rules (Instr.AddSp offset) (after_fetch self.old) }
-        ensures cycles { result ≡ cycles_with (Instr.AddSp offset) self.old.registers.flags }
+        ensures { Executes M.rules (Instr.AddSp offset) self.old self.new result }
     {
         self.move_past(2);
         let outcome = sm83_alu::add_offset(self.registers.sp, offset);
@@ -359,8 +337,7 @@ impl<M: Memory> Processor<M> {
     /// LDH A,(n8)
     #[inline]
     pub(crate) fn run_load_high(&mut self, low: u8) -> u32
-        ensures after { self.new ≡ executed_after_fetch M.rules (Instr.LoadHigh low) (after_fetch self.old) }
-        ensures cycles { result ≡ cycles_with (Instr.LoadHigh low) self.old.registers.flags }
+        ensures { Executes M.rules (Instr.LoadHigh low) self.old self.new result }
     {
         self.move_past(2);
         self.registers.a = self.memory.read(HIGH_PAGE + u16::from(low));
@@ -370,8 +347,7 @@ impl<M: Memory> Processor<M> {
     /// LD HL,SP+e
     #[inline]
     pub(crate) fn run_load_hl_sp(&mut self, offset: u8) -> u32
-        ensures after { self.new ≡ executed_after_fetch M.rules (Instr.LoadHlSp offset) (after_fetch self.old) }
-        ensures cycles { result ≡ cycles_with (Instr.LoadHlSp offset) self.old.registers.flags }
+        ensures { Executes M.rules (Instr.LoadHlSp offset) self.old self.new result }
     {
         self.move_past(2);
         let outcome = sm83_alu::add_offset(self.registers.sp, offset);
@@ -383,8 +359,7 @@ impl<M: Memory> Processor<M> {
     /// POP rp
     #[inline]
     pub(crate) fn run_pop(&mut self, register: StackRegister16) -> u32
-        ensures after { self.new ≡ executed_after_fetch M.rules (Instr.Pop register) (after_fetch self.old) }
-        ensures cycles { result ≡ cycles_with (Instr.Pop register) self.old.registers.flags }
+        ensures { Executes M.rules (Instr.Pop register) self.old self.new result }
     {
         self.move_past(1);
         let word = self.pop();
@@ -395,8 +370,7 @@ impl<M: Memory> Processor<M> {
     /// RET
     #[inline]
     pub(crate) fn run_return(&mut self) -> u32
-        ensures after { self.new ≡ executed_after_fetch M.rules Instr.Return (after_fetch self.old) }
-        ensures cycles { result ≡ cycles_with Instr.Return self.old.registers.flags }
+        ensures { Executes M.rules Instr.Return self.old self.new result }
     {
         self.move_past(1);
         self.return_from_call();
@@ -406,8 +380,7 @@ impl<M: Memory> Processor<M> {
     /// RETI
     #[inline]
     pub(crate) fn run_return_from_interrupt(&mut self) -> u32
-        ensures after { self.new ≡ executed_after_fetch M.rules Instr.ReturnFromInterrupt (after_fetch self.old) }
-        ensures cycles { result ≡ cycles_with Instr.ReturnFromInterrupt self.old.registers.flags }
+        ensures { Executes M.rules Instr.ReturnFromInterrupt self.old self.new result }
     {
         self.move_past(1);
         self.return_from_call();
@@ -418,8 +391,7 @@ impl<M: Memory> Processor<M> {
     /// JP HL
     #[inline]
     pub(crate) fn run_jump_hl(&mut self) -> u32
-        ensures after { self.new ≡ executed_after_fetch M.rules Instr.JumpHl (after_fetch self.old) }
-        ensures cycles { result ≡ cycles_with Instr.JumpHl self.old.registers.flags }
+        ensures { Executes M.rules Instr.JumpHl self.old self.new result }
     {
         self.move_past(1);
         self.registers.pc = hl(&self.registers);
@@ -429,8 +401,7 @@ impl<M: Memory> Processor<M> {
     /// LD SP,HL
     #[inline]
     pub(crate) fn run_load_sp_hl(&mut self) -> u32
-        ensures after { self.new ≡ executed_after_fetch M.rules Instr.LoadSpHl (after_fetch self.old) }
-        ensures cycles { result ≡ cycles_with Instr.LoadSpHl self.old.registers.flags }
+        ensures { Executes M.rules Instr.LoadSpHl self.old self.new result }
     {
         self.move_past(1);
         self.registers.sp = hl(&self.registers);
@@ -440,8 +411,7 @@ impl<M: Memory> Processor<M> {
     /// JP cc,n16
     #[inline]
     pub(crate) fn run_jump_if(&mut self, condition: Condition, address: u16) -> u32
-        ensures after { self.new ≡ executed_after_fetch M.rules (Instr.JumpIf condition address) (after_fetch self.old) }
-        ensures cycles { result ≡ cycles_with (Instr.JumpIf condition address) self.old.registers.flags }
+        ensures { Executes M.rules (Instr.JumpIf condition address) self.old self.new result }
     {
         self.move_past(3);
         if condition_holds(condition, self.registers.flags) {
@@ -455,8 +425,7 @@ impl<M: Memory> Processor<M> {
     /// LD (C),A
     #[inline]
     pub(crate) fn run_store_high_c(&mut self) -> u32
-        ensures after { self.new ≡ executed_after_fetch M.rules Instr.StoreHighC (after_fetch self.old) }
-        ensures cycles { result ≡ cycles_with Instr.StoreHighC self.old.registers.flags }
+        ensures { Executes M.rules Instr.StoreHighC self.old self.new result }
     {
         self.move_past(1);
         let address = HIGH_PAGE + u16::from(self.registers.c);
@@ -467,8 +436,7 @@ impl<M: Memory> Processor<M> {
     /// LD (n16),A
     #[inline]
     pub(crate) fn run_store_at(&mut self, address: u16) -> u32
-        ensures after { self.new ≡ executed_after_fetch M.rules (Instr.StoreAt address) (after_fetch self.old) }
-        ensures cycles { result ≡ cycles_with (Instr.StoreAt address) self.old.registers.flags }
+        ensures { Executes M.rules (Instr.StoreAt address) self.old self.new result }
     {
         self.move_past(3);
         self.memory.write(address, self.registers.a);
@@ -478,8 +446,7 @@ impl<M: Memory> Processor<M> {
     /// LD A,(C)
     #[inline]
     pub(crate) fn run_load_high_c(&mut self) -> u32
-        ensures after { self.new ≡ executed_after_fetch M.rules Instr.LoadHighC (after_fetch self.old) }
-        ensures cycles { result ≡ cycles_with Instr.LoadHighC self.old.registers.flags }
+        ensures { Executes M.rules Instr.LoadHighC self.old self.new result }
     {
         self.move_past(1);
         let address = HIGH_PAGE + u16::from(self.registers.c);
@@ -490,8 +457,7 @@ impl<M: Memory> Processor<M> {
     /// LD A,(n16)
     #[inline]
     pub(crate) fn run_load_at(&mut self, address: u16) -> u32
-        ensures after { self.new ≡ executed_after_fetch M.rules (Instr.LoadAt address) (after_fetch self.old) }
-        ensures cycles { result ≡ cycles_with (Instr.LoadAt address) self.old.registers.flags }
+        ensures { Executes M.rules (Instr.LoadAt address) self.old self.new result }
     {
         self.move_past(3);
         self.registers.a = self.memory.read(address);
@@ -501,8 +467,7 @@ impl<M: Memory> Processor<M> {
     /// JP n16
     #[inline]
     pub(crate) fn run_jump(&mut self, address: u16) -> u32
-        ensures after { self.new ≡ executed_after_fetch M.rules (Instr.Jump address) (after_fetch self.old) }
-        ensures cycles { result ≡ cycles_with (Instr.Jump address) self.old.registers.flags }
+        ensures { Executes M.rules (Instr.Jump address) self.old self.new result }
     {
         self.move_past(3);
         self.registers.pc = address;
@@ -512,8 +477,7 @@ impl<M: Memory> Processor<M> {
     /// DI
     #[inline]
     pub(crate) fn run_disable_interrupts(&mut self) -> u32
-        ensures after { self.new ≡ executed_after_fetch M.rules Instr.DisableInterrupts (after_fetch self.old) }
-        ensures cycles { result ≡ cycles_with Instr.DisableInterrupts self.old.registers.flags }
+        ensures { Executes M.rules Instr.DisableInterrupts self.old self.new result }
     {
         self.move_past(1);
         self.state.ime = false;
@@ -524,8 +488,7 @@ impl<M: Memory> Processor<M> {
     /// EI
     #[inline]
     pub(crate) fn run_enable_interrupts(&mut self) -> u32
-        ensures after { self.new ≡ executed_after_fetch M.rules Instr.EnableInterrupts (after_fetch self.old) }
-        ensures cycles { result ≡ cycles_with Instr.EnableInterrupts self.old.registers.flags }
+        ensures { Executes M.rules Instr.EnableInterrupts self.old self.new result }
     {
         self.move_past(1);
         self.state.ime_pending = true;
@@ -535,8 +498,7 @@ impl<M: Memory> Processor<M> {
     /// CALL cc,n16
     #[inline]
     pub(crate) fn run_call_if(&mut self, condition: Condition, address: u16) -> u32
-        ensures after { self.new ≡ executed_after_fetch M.rules (Instr.CallIf condition address) (after_fetch self.old) }
-        ensures cycles { result ≡ cycles_with (Instr.CallIf condition address) self.old.registers.flags }
+        ensures { Executes M.rules (Instr.CallIf condition address) self.old self.new result }
     {
         self.move_past(3);
         if condition_holds(condition, self.registers.flags) {
@@ -550,8 +512,7 @@ impl<M: Memory> Processor<M> {
     /// PUSH rp
     #[inline]
     pub(crate) fn run_push(&mut self, register: StackRegister16) -> u32
-        ensures after { self.new ≡ executed_after_fetch M.rules (Instr.Push register) (after_fetch self.old) }
-        ensures cycles { result ≡ cycles_with (Instr.Push register) self.old.registers.flags }
+        ensures { Executes M.rules (Instr.Push register) self.old self.new result }
     {
         self.move_past(1);
         let word = stack_register16(&self.registers, register);
@@ -562,8 +523,7 @@ impl<M: Memory> Processor<M> {
     /// CALL n16
     #[inline]
     pub(crate) fn run_call(&mut self, address: u16) -> u32
-        ensures after { self.new ≡ executed_after_fetch M.rules (Instr.Call address) (after_fetch self.old) }
-        ensures cycles { result ≡ cycles_with (Instr.Call address) self.old.registers.flags }
+        ensures { Executes M.rules (Instr.Call address) self.old self.new result }
     {
         self.move_past(3);
         self.call(address);
@@ -573,8 +533,7 @@ impl<M: Memory> Processor<M> {
     /// RST n8
     #[inline]
     pub(crate) fn run_restart(&mut self, address: u8) -> u32
-        ensures after { self.new ≡ executed_after_fetch M.rules (Instr.Restart address) (after_fetch self.old) }
-        ensures cycles { result ≡ cycles_with (Instr.Restart address) self.old.registers.flags }
+        ensures { Executes M.rules (Instr.Restart address) self.old self.new result }
     {
         self.move_past(1);
         self.call(u16::from(address));
@@ -584,8 +543,7 @@ impl<M: Memory> Processor<M> {
     /// RLC r and the like
     #[inline(always)]
     pub(crate) fn run_shift(&mut self, shift_by: Shift, operand: Operand8) -> u32
-        ensures after { self.new ≡ executed_after_fetch M.rules (Instr.Shift shift_by operand) (after_fetch self.old) }
-        ensures cycles { result ≡ cycles_with (Instr.Shift shift_by operand) self.old.registers.flags }
+        ensures { Executes M.rules (Instr.Shift shift_by operand) self.old self.new result }
     {
         self.move_past(2);
         let outcome = shift(shift_by, self.operand(operand), self.registers.flags.carry);
@@ -596,8 +554,7 @@ impl<M: Memory> Processor<M> {
     /// BIT n,r
     #[inline(always)]
     pub(crate) fn run_test_bit(&mut self, bit: u8, operand: Operand8) -> u32
-        ensures after { self.new ≡ executed_after_fetch M.rules (Instr.TestBit bit operand) (after_fetch self.old) }
-        ensures cycles { result ≡ cycles_with (Instr.TestBit bit operand) self.old.registers.flags }
+        ensures { Executes M.rules (Instr.TestBit bit operand) self.old self.new result }
     {
         self.move_past(2);
         let byte = self.operand(operand);
@@ -609,8 +566,7 @@ impl<M: Memory> Processor<M> {
     /// RES n,r
     #[inline(always)]
     pub(crate) fn run_reset_bit(&mut self, bit: u8, operand: Operand8) -> u32
-        ensures after { self.new ≡ executed_after_fetch M.rules (Instr.ResetBit bit operand) (after_fetch self.old) }
-        ensures cycles { result ≡ cycles_with (Instr.ResetBit bit operand) self.old.registers.flags }
+        ensures { Executes M.rules (Instr.ResetBit bit operand) self.old self.new result }
     {
         self.move_past(2);
         let byte = sm83_alu::reset_bit(bit, self.operand(operand));
@@ -621,8 +577,7 @@ impl<M: Memory> Processor<M> {
     /// SET n,r
     #[inline(always)]
     pub(crate) fn run_set_bit(&mut self, bit: u8, operand: Operand8) -> u32
-        ensures after { self.new ≡ executed_after_fetch M.rules (Instr.SetBit bit operand) (after_fetch self.old) }
-        ensures cycles { result ≡ cycles_with (Instr.SetBit bit operand) self.old.registers.flags }
+        ensures { Executes M.rules (Instr.SetBit bit operand) self.old self.new result }
     {
         self.move_past(2);
         let byte = sm83_alu::set_bit(bit, self.operand(operand));
@@ -632,32 +587,28 @@ impl<M: Memory> Processor<M> {
 
     #[inline(never)]
     pub(crate) fn run_shift_out_of_line(&mut self, shift_by: Shift, operand: Operand8) -> u32
-        ensures after { self.new ≡ executed_after_fetch M.rules (Instr.Shift shift_by operand) (after_fetch self.old) }
-        ensures cycles { result ≡ cycles_with (Instr.Shift shift_by operand) self.old.registers.flags }
+        ensures { Executes M.rules (Instr.Shift shift_by operand) self.old self.new result }
     {
         self.run_shift(shift_by, operand)
     }
 
     #[inline(never)]
     pub(crate) fn run_test_bit_out_of_line(&mut self, bit: u8, operand: Operand8) -> u32
-        ensures after { self.new ≡ executed_after_fetch M.rules (Instr.TestBit bit operand) (after_fetch self.old) }
-        ensures cycles { result ≡ cycles_with (Instr.TestBit bit operand) self.old.registers.flags }
+        ensures { Executes M.rules (Instr.TestBit bit operand) self.old self.new result }
     {
         self.run_test_bit(bit, operand)
     }
 
     #[inline(never)]
     pub(crate) fn run_reset_bit_out_of_line(&mut self, bit: u8, operand: Operand8) -> u32
-        ensures after { self.new ≡ executed_after_fetch M.rules (Instr.ResetBit bit operand) (after_fetch self.old) }
-        ensures cycles { result ≡ cycles_with (Instr.ResetBit bit operand) self.old.registers.flags }
+        ensures { Executes M.rules (Instr.ResetBit bit operand) self.old self.new result }
     {
         self.run_reset_bit(bit, operand)
     }
 
     #[inline(never)]
     pub(crate) fn run_set_bit_out_of_line(&mut self, bit: u8, operand: Operand8) -> u32
-        ensures after { self.new ≡ executed_after_fetch M.rules (Instr.SetBit bit operand) (after_fetch self.old) }
-        ensures cycles { result ≡ cycles_with (Instr.SetBit bit operand) self.old.registers.flags }
+        ensures { Executes M.rules (Instr.SetBit bit operand) self.old self.new result }
     {
         self.run_set_bit(bit, operand)
     }
@@ -665,8 +616,7 @@ impl<M: Memory> Processor<M> {
     /// an undefined opcode
     #[inline]
     pub(crate) fn run_undefined(&mut self, opcode: u8) -> u32
-        ensures after { self.new ≡ executed_after_fetch M.rules (Instr.Undefined opcode) (after_fetch self.old) }
-        ensures cycles { result ≡ cycles_with (Instr.Undefined opcode) self.old.registers.flags }
+        ensures { Executes M.rules (Instr.Undefined opcode) self.old self.new result }
     {
         self.move_past(1);
         self.state.locked = true;

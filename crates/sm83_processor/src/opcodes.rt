@@ -2,7 +2,7 @@
 //! by the others.
 
 ghost use Rattle.std.specs.Prelude.{◌≡◌, ◌≤◌, ◌%◌, ◌/◌, true};
-ghost use Rattle.sm83_processor.specs.Opcodes.{after_fetch, after_any_fetch, instruction_at, executed_after_fetch, cycles_with};
+ghost use Rattle.sm83_processor.specs.Opcodes.{after_fetch, after_any_fetch, instruction_at, executed_after_fetch, cycles_with, Executes};
 ghost use Rattle.sm83_processor.specs.FastStep.{IsUsual};
 ghost use Rattle.opcode_table.specs.Table.{bit_instruction};
 
@@ -84,8 +84,7 @@ impl<M: Memory> Processor<M> {
     #[inline(always)]
     #[tactic(auto, unfolding(opcode_table::specs::Table::instruction_of, opcode_table::specs::Table::loads_and_steps, opcode_table::specs::Table::jumps_and_stack))]
     fn run_instruction<const LOOP: u8>(&mut self, opcode: u8) -> u32
-        ensures after { self.new ≡ executed_after_fetch M.rules (instruction_at M.rules opcode (after_fetch self.old)) (after_fetch self.old) }
-        ensures cycles { result ≡ cycles_with (instruction_at M.rules opcode (after_fetch self.old)) self.old.registers.flags }
+        ensures { Executes M.rules (instruction_at M.rules opcode (after_fetch self.old)) self.old self.new result }
     {
         match opcode {
             0x00 => self.run_nop(),
@@ -351,8 +350,7 @@ impl<M: Memory> Processor<M> {
     /// caller's own loop it is in line, since a call costs as much as most of these instructions.
     #[inline(always)]
     fn run_prefixed<const LOOP: u8>(&mut self, byte: u8) -> u32
-        ensures after { self.new ≡ executed_after_fetch M.rules (bit_instruction (byte / 64) (byte % 8) (byte / 8 % 8)) (after_fetch self.old) }
-        ensures cycles { result ≡ cycles_with (bit_instruction (byte / 64) (byte % 8) (byte / 8 % 8)) self.old.registers.flags }
+        ensures { Executes M.rules (bit_instruction (byte / 64) (byte % 8) (byte / 8 % 8)) self.old self.new result }
     {
         if LOOP == ANY_STEP || LOOP == COUNTED || LOOP == REPORTED {
             self.run_bit_opcode_out_of_line(byte)
@@ -363,8 +361,7 @@ impl<M: Memory> Processor<M> {
 
     #[inline(never)]
     fn run_bit_opcode_out_of_line(&mut self, byte: u8) -> u32
-        ensures after { self.new ≡ executed_after_fetch M.rules (bit_instruction (byte / 64) (byte % 8) (byte / 8 % 8)) (after_fetch self.old) }
-        ensures cycles { result ≡ cycles_with (bit_instruction (byte / 64) (byte % 8) (byte / 8 % 8)) self.old.registers.flags }
+        ensures { Executes M.rules (bit_instruction (byte / 64) (byte % 8) (byte / 8 % 8)) self.old self.new result }
     {
         self.run_bit_opcode::<ANY_STEP>(byte)
     }
@@ -375,8 +372,7 @@ impl<M: Memory> Processor<M> {
     #[inline(always)]
     #[tactic(auto, unfolding(opcode_table::specs::Table::bit_instruction))]
     fn run_bit_opcode<const LOOP: u8>(&mut self, byte: u8) -> u32
-        ensures after { self.new ≡ executed_after_fetch M.rules (bit_instruction (byte / 64) (byte % 8) (byte / 8 % 8)) (after_fetch self.old) }
-        ensures cycles { result ≡ cycles_with (bit_instruction (byte / 64) (byte % 8) (byte / 8 % 8)) self.old.registers.flags }
+        ensures { Executes M.rules (bit_instruction (byte / 64) (byte % 8) (byte / 8 % 8)) self.old self.new result }
     {
         match byte {
             0x00 => self.run_shift(Shift::RotateLeft, Operand8::B),

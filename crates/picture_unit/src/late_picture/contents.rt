@@ -1,6 +1,6 @@
 //! What the late picture unit holds: its state, VRAM, OAM and rows.
 
-ghost use Rattle.std.specs.Prelude.{◌≡◌, ◌<◌, length, All, Some, slice_get, slice_set};
+ghost use Rattle.std.specs.Prelude.{◌≡◌, ◌<◌, length, All, Some, slice_get, slice_set, IfSome};
 ghost use Rattle.picture_unit.specs.Picture.{IsLegalPicture};
 ghost use Rattle.picture_unit.specs.Stores.{region_of, region_length, region_filled};
 
@@ -61,6 +61,17 @@ impl LatePicture {
     {
         let late = self.frame_cycle() - self.picture.frame_cycle();
         self.picture.row_after(late, y)
+    }
+
+    /// The rows, if they can be read as they were drawn last, as they can after `draw_late`.
+    pub(crate) fn drawn_rows(&self) -> Option<&[[u8; 160]]>
+        ensures rows { IfSome result (λ rows. rows.now ≡ self.now.rows) }
+        ensures shades { IfSome result (λ rows. All (λ row. All (λ shade. shade < 4) row) rows.now) }
+    {
+        if self.frame_cycle() != self.picture.frame_cycle() {
+            return None;
+        }
+        self.picture.drawn_rows()
     }
 
     /// How many rows the picture has: 144.

@@ -1,6 +1,6 @@
 //! What the picture unit holds: its state, VRAM, OAM and rows.
 
-ghost use Rattle.std.specs.Prelude.{◌≡◌, ◌<◌, length, All, Some, slice_get, slice_set};
+ghost use Rattle.std.specs.Prelude.{◌≡◌, ◌<◌, length, All, Some, slice_get, slice_set, IfSome};
 ghost use Rattle.picture_unit.specs.Picture.{IsLegalPicture, ticks};
 ghost use Rattle.picture_unit.specs.Stores.{region_of, region_length, region_filled};
 
@@ -67,6 +67,14 @@ impl Picture {
         ensures shades { All (λ shade. shade < 4) result }
     {
         self.rows.row(y, &self.tiles, &self.oam)
+    }
+
+    /// The rows, if no line is to be drawn on any.
+    #[inline(always)]
+    pub(crate) fn drawn_rows(&self) -> Option<&[[u8; 160]]>
+        ensures { IfSome result (λ rows. rows.now ≡ self.now.rows) }
+    {
+        self.rows.drawn_rows()
     }
 
     /// The shades of a row after this many M-cycles. If its line is drawn in them, it is drawn pixel

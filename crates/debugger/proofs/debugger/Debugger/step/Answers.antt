@@ -1,6 +1,6 @@
 use Rattle.std.proofs.Common.{◌∙◌, [], ◌∷◌, ap, sym}
 use Rattle.sm83_processor.specs.declared.step.Stepped.{Stepped}
-use Rattle.debugger.specs.History.{instruction_in}
+use Rattle.machine.specs.FastRuns.{instruction_in}
 use Rattle.debugger.proofs.Histories.{nothing_kept, other_steps, step_kept}
 use Rattle.debugger.proofs.debugger.Debugger.step.Goals as goal
 

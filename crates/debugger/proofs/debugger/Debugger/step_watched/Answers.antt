@@ -1,6 +1,7 @@
 use Rattle.std.proofs.Common.{◌∙◌, [], ◌∷◌, ap, subst, sym}
 use Rattle.sm83_processor.specs.declared.step.Stepped.{Stepped}
-use Rattle.debugger.specs.History.{DebuggerState, HoldsAtMost, after_run, instruction_in}
+use Rattle.debugger.specs.History.{DebuggerState, HoldsAtMost, after_run}
+use Rattle.machine.specs.FastRuns.{instruction_in}
 use Rattle.debugger.proofs.Histories.{history_as, nothing_kept, other_steps, parts_are, step_kept}
 use Rattle.debugger.proofs.debugger.Debugger.step_watched.Goals as goal
 use Rattle.debugger.proofs.debugger.Debugger.step_watched.Goals.{in-Ran, in_default}

@@ -25,7 +25,7 @@ invariant_of-result c =
         row_count = ap length blank ∙ length-replicate 144 row;
         shades = rw blank (All-replicate (λ row. All (λ shade. shade < 4) row) 144 (replicate 160 0) (zeros-small 160));
       };
-      rows = c.in_ok-rows.ensures.right;
+      rows = c.in_ok-rows.ensures.right vram oam;
     }
 
 pub returns : goal.returns

@@ -34,7 +34,7 @@ invariant_of-self c =
         row_count = whole.row_count;
         shades = whole.shades;
       };
-      rows = c.note.ensures.right;
+      rows = c.note.ensures.right p.tiles p.oam.items c.self.invariant.rows;
     }
 
 pub invariant_of-self-else-is_window_drawn : goal.invariant_of-self-else-is_window_drawn
@@ -42,5 +42,5 @@ invariant_of-self-else-is_window_drawn c =
     let p = c.self.inside in
     record {
       whole = subst (λ (rows : List (List ℕ)). IsWhole p.state p.oam.items rows) (sym (c.note.ensures.rows p.tiles p.oam.items)) (whole_set p.state p.oam.items (rows_of p.rows p.tiles p.oam.items) _ _ (drawn_row-small _ _ _) c.self.invariant.whole);
-      rows = c.note.ensures.right;
+      rows = c.note.ensures.right p.tiles p.oam.items c.self.invariant.rows;
     }

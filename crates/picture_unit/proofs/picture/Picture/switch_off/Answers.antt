@@ -34,5 +34,5 @@ invariant_of-self c =
         row_count = ap length blank ∙ length-replicate 144 row;
         shades = rw blank (All-replicate (λ row. All (λ shade. shade < 4) row) 144 (replicate 160 0) (zeros-small 160));
       };
-      rows = c.blank.ensures.right;
+      rows = c.blank.ensures.right c.self.inside.tiles c.self.inside.oam.items;
     }

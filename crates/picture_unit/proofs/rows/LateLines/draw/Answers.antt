@@ -1,4 +1,4 @@
-use Rattle.std.proofs.Common.{◌≡◌, ℕ, List, Bool, false, get_or, set, sym, ap, subst, ◌∙◌, arith, inl, inr}
+use Rattle.std.proofs.Common.{◌≡◌, ℕ, List, Bool, false, get_or, set, length, refl, sym, ap, subst, ◌∙◌, arith, inl, inr}
 use Rattle.std.specs.Prelude.{replicate}
 use Rattle.std.proofs.lemmas.List.{get_or-set_same, get_or-set_other, length-set}
 use Rattle.std.proofs.lemmas.Bool.{cases_eq}
@@ -20,10 +20,12 @@ loop-y-preserved c =
     let late = c.loop-y.self.are_late in
     let y = c.loop-y.y in
     elim c.if-self-y.branch [
-      | then-self-y w ↦ rw (w.self-is, w.tiles-is, w.rows-is, w.objects-is) (record {
-        tiles = w.draw_with.ensures.tiles ∙ before.tiles;
-        objects = w.draw_with.ensures.chosen;
-        row_count = length-set c.loop-y.rows y w.draw_with.new.row ∙ before.row_count;
+      | then-self-y w ↦ rw (w.self-is, w.kept-is, w.tiles-is, w.rows-is, w.objects-is) (record {
+        tiles = w.draw.ensures.tiles ∙ before.tiles;
+        objects = w.draw.ensures.chosen;
+        row_count = ap length w.draw.ensures.rows ∙ length-set c.loop-y.rows y _ ∙ before.row_count;
+        some = w.draw.ensures.some;
+        kept = rw before.tiles at w.draw.ensures.kept;
         late_count = length-set late y false ∙ before.late_count;
         drawn_by = before.drawn_by;
         none = λ j h. elim (cases_eq j y) [
@@ -31,14 +33,16 @@ loop-y-preserved c =
           | inr other ↦ get_or-set_other late y j false false other ∙ before.none j (omega arith)
         ];
         rows =
-            shown-drawn late lines.drawn_by c.args.tiles.now c.args.oam.now c.loop-y.rows y _ w.draw_with.new.row w.if-self-y.true (omega (arith, c.loop-y-test.true))
-            (rw (before.drawn_by, before.tiles) at w.draw_with.ensures.row)
+            ap (λ (rows : List (List ℕ)). shown (set late y false) lines.drawn_by c.args.tiles.now c.args.oam.now rows) (rw (before.drawn_by, before.tiles) at w.draw.ensures.rows)
+            ∙ shown-drawn late lines.drawn_by c.args.tiles.now c.args.oam.now c.loop-y.rows y _ _ w.if-self-y.true (omega (arith, c.loop-y-test.true)) refl
             ∙ before.rows;
       })
-      | else-self-y w ↦ rw (w.self-is, w.tiles-is, w.rows-is, w.objects-is) (record {
+      | else-self-y w ↦ rw (w.self-is, w.kept-is, w.tiles-is, w.rows-is, w.objects-is) (record {
         tiles = before.tiles;
         objects = before.objects;
         row_count = before.row_count;
+        some = before.some;
+        kept = before.kept;
         late_count = before.late_count;
         drawn_by = before.drawn_by;
         none = λ j h. elim (cases_eq j y) [

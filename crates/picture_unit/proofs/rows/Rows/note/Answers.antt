@@ -3,14 +3,15 @@ use Rattle.picture_unit.proofs.LateLines.{lines-noted, lines-cleared, shown-note
 use Rattle.picture_unit.proofs.rows.Rows.note.Goals as goal
 
 pub returns-clause-right : goal.returns-clause-right
-returns-clause-right c =
+returns-clause-right c = λ vram oam right.
     let r = c.args.self.now in
     let y = c.args.registers.now.ly in
     record {
-      late = lines-noted r.late y c.args.registers.now c.requires.line_in c.requires.right.late;
-      earlier = lines-cleared r.earlier y c.requires.right.earlier;
-      oam_size = c.requires.right.oam_size;
-      row_count = c.requires.right.row_count;
+      late = lines-noted r.late y c.args.registers.now c.requires.line_in right.late;
+      earlier = lines-cleared r.earlier y right.earlier;
+      oam_size = right.oam_size;
+      row_count = right.row_count;
+      kept = right.kept;
     }
 
 pub returns-clause-rows : goal.returns-clause-rows

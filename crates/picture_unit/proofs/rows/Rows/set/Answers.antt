@@ -1,16 +1,17 @@
 use Rattle.std.proofs.Common.{arith, ◌∙◌}
 use Rattle.std.proofs.lemmas.List.{length-set}
-use Rattle.picture_unit.proofs.LateLines.{lines-cleared, shown-set}
+use Rattle.picture_unit.proofs.LateLines.{lines-cleared, shown-set, kept_set}
 use Rattle.picture_unit.proofs.rows.Rows.set.Goals as goal
 
 pub returns-clause-right : goal.returns-clause-right
-returns-clause-right c =
+returns-clause-right c = λ vram oam right.
     let r = c.args.self.now in
     record {
-      late = lines-cleared r.late c.args.y c.requires.right.late;
-      earlier = lines-cleared r.earlier c.args.y c.requires.right.earlier;
-      oam_size = c.requires.right.oam_size;
-      row_count = length-set r.drawn.items c.args.y c.args.row.now ∙ c.requires.right.row_count;
+      late = lines-cleared r.late c.args.y right.late;
+      earlier = lines-cleared r.earlier c.args.y right.earlier;
+      oam_size = right.oam_size;
+      row_count = length-set r.drawn.items c.args.y c.args.row.now ∙ right.row_count;
+      kept = kept_set r.kept r.drawn.items vram oam c.args.y c.args.row.now right.kept;
     }
 
 pub returns-clause-rows : goal.returns-clause-rows
