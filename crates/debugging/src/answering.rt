@@ -301,7 +301,7 @@ fn write_state<W: Write>(
 fn digest_text(digest: [u8; 32]) -> Option<ArrayString<80>>
     ensures { IfSome result (λ text. text.bytes ≡ digest_line digest) }
 {
-    let digits = digest_digits(digest)?;
+    let digits = digest_digits(digest);
     let digits = digits.as_str();
     let mut text = ArrayString::new();
     match writeln!(text, "state {digits}") {

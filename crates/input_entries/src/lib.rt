@@ -7,7 +7,7 @@ mod counts;
 mod inputs;
 mod logged;
 
-pub use bytes::{begins_with, is_zeros};
+pub use bytes::{begins_with, is_zeros, u16_at, u32_at, u64_at};
 pub use counts::{inputs_of, run_length};
 pub use inputs::{are_inputs, joins, longer, single};
 pub use logged::Logged;

@@ -4,38 +4,10 @@ ghost use Rattle.input_entries.specs.Bytes.{begins_with, zeros};
 ghost use Rattle.log_format.specs.Log.{stored, width, entries_of_full_sector, count_in, is_log_sector, entries_at};
 ghost use Rattle.log_format.specs.Sizes.{entries_per_old_sector};
 ghost use Rattle.log_format.specs.Content.{is_valid_root, root_in, root_front, version_in, newer};
-ghost use Rattle.std.specs.Int.{w16, w32, w64, from_le_bytes};
 
 use crate::root::{Root, Version};
 use crate::sizes::{ENTRIES_PER_OLD_SECTOR, ENTRIES_PER_SECTOR};
-use input_entries::{StoredEntry, begins_with, is_zeros};
-
-fn u64_at(sector: &[u8; 512], at: usize) -> u64
-    requires { at + 8 ≤ 512 }
-    ensures { result ≡ from_le_bytes w64 (take 8 (drop at sector.now)) }
-{
-    let mut bytes = [0; 8];
-    bytes.copy_from_slice(&sector[at..at + 8]);
-    u64::from_le_bytes(bytes)
-}
-
-fn u32_at(sector: &[u8; 512], at: usize) -> u32
-    requires { at + 4 ≤ 512 }
-    ensures { result ≡ from_le_bytes w32 (take 4 (drop at sector.now)) }
-{
-    let mut bytes = [0; 4];
-    bytes.copy_from_slice(&sector[at..at + 4]);
-    u32::from_le_bytes(bytes)
-}
-
-fn u16_at(sector: &[u8; 512], at: usize) -> u16
-    requires { at + 2 ≤ 512 }
-    ensures { result ≡ from_le_bytes w16 (take 2 (drop at sector.now)) }
-{
-    let mut bytes = [0; 2];
-    bytes.copy_from_slice(&sector[at..at + 2]);
-    u16::from_le_bytes(bytes)
-}
+use input_entries::{StoredEntry, begins_with, is_zeros, u16_at, u32_at, u64_at};
 
 fn id_at(sector: &[u8; 512]) -> [u8; 32]
     ensures { result ≡ take 32 (drop 20 sector.now) }

@@ -1,32 +1,13 @@
 //! What the bytes of sectors say.
 ghost use Rattle.std.specs.Prelude.{◌≡◌, ◌≤◌, ◌+◌, ◌++◌, length, take, drop, true, if◌then◌else◌, vec_capacity};
 ghost use Rattle.std.specs.List.{list_all};
-ghost use Rattle.std.specs.Int.{w16, w32, from_le_bytes};
 ghost use Rattle.input_entries.specs.Inputs.{is_entry};
 ghost use Rattle.recording.specs.Keeping.{AreGood};
 ghost use Rattle.recording.specs.Format.{is_head, is_head_of, has_front, count_in, entries_from, entries_at, stored};
 ghost use Rattle.recording.specs.Sizes.{entries_per_sector};
 
 use crate::sizes::ENTRIES_PER_SECTOR;
-use input_entries::{StoredEntry, begins_with, inputs_of, is_zeros};
-
-fn u32_at(sector: &[u8; 512], at: usize) -> u32
-    requires { at + 4 ≤ 512 }
-    ensures { result ≡ from_le_bytes w32 (take 4 (drop at sector.now)) }
-{
-    let mut bytes = [0; 4];
-    bytes.copy_from_slice(&sector[at..at + 4]);
-    u32::from_le_bytes(bytes)
-}
-
-fn u16_at(sector: &[u8; 512], at: usize) -> u16
-    requires { at + 2 ≤ 512 }
-    ensures { result ≡ from_le_bytes w16 (take 2 (drop at sector.now)) }
-{
-    let mut bytes = [0; 2];
-    bytes.copy_from_slice(&sector[at..at + 2]);
-    u16::from_le_bytes(bytes)
-}
+use input_entries::{StoredEntry, begins_with, inputs_of, is_zeros, u16_at, u32_at};
 
 /// Whether the sector is the head of a recording.
 #[tactic(auto, unfolding(crate::specs::Format::is_head))]

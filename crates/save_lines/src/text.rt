@@ -31,9 +31,9 @@ pub(crate) fn numbers_text(
 pub(crate) fn digests_text(rom: [u8; 32], state: [u8; 32]) -> Option<ArrayString<144>>
     ensures { IfSome result (λ text. text.bytes ≡ rom_line rom ++ state_line state) }
 {
-    let rom = digest_digits(rom)?;
+    let rom = digest_digits(rom);
     let rom = rom.as_str();
-    let state = digest_digits(state)?;
+    let state = digest_digits(state);
     let state = state.as_str();
     let mut text = ArrayString::new();
     match write!(text, "rom {rom}\nstate {state}\n") {

@@ -14,11 +14,10 @@ mod opcodes;
 pub mod processor;
 mod register_operations;
 mod register_pairs;
-mod run;
 pub mod step;
 
 pub use lengths::length_of_opcode;
 pub use memory::Memory;
-pub use opcodes::{FIRST_OWN_LOOP, REPORTED};
+pub use opcodes::FIRST_OWN_LOOP;
 pub use processor::{Processor, ProcessorState};
 pub use step::{Executed, StepKind, Stepped};

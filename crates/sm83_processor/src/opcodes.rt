@@ -25,15 +25,9 @@ const ENABLE_INTERRUPTS: u8 = 0xfb;
 /// `LOOP` of a call that makes a step of any kind.
 pub(crate) const ANY_STEP: u8 = 0;
 
-/// `LOOP` of the loop that counts fast steps.
-pub(crate) const COUNTED: u8 = 2;
-
-/// `LOOP` of the loop that reports fast steps.
-pub const REPORTED: u8 = 3;
-
 /// The first `LOOP` that a caller may give a loop of its own. In such a loop the instructions after
 /// the prefix CB are in line too.
-pub const FIRST_OWN_LOOP: u8 = 4;
+pub const FIRST_OWN_LOOP: u8 = 1;
 
 impl<M: Memory> Processor<M> {
     /// Executes the instruction of this opcode, with PC still at the opcode. Returns its M-cycles,
@@ -352,7 +346,7 @@ impl<M: Memory> Processor<M> {
     fn run_prefixed<const LOOP: u8>(&mut self, byte: u8) -> u32
         ensures { Executes M.rules (bit_instruction (byte / 64) (byte % 8) (byte / 8 % 8)) self.old self.new result }
     {
-        if LOOP == ANY_STEP || LOOP == COUNTED || LOOP == REPORTED {
+        if LOOP == ANY_STEP {
             self.run_bit_opcode_out_of_line(byte)
         } else {
             self.run_bit_opcode::<LOOP>(byte)

@@ -154,39 +154,6 @@ impl<M: Memory> Processor<M> {
         self.memory.pending_interrupts() != 0 && self.state.ime
     }
 
-    /// Makes a fast step: says how many M-cycles passed in it, and whether the next one is fast.
-    #[inline(always)]
-    pub(crate) fn run_fast<const LOOP: u8>(&mut self) -> (u8, bool)
-        requires { IsFast M.rules self.old }
-        ensures after { self.new ≡ (step_of M.rules self.old).after }
-        ensures cycles { result.0 ≡ (step_of M.rules self.old).stepped.cycles }
-        ensures fast { result.1 ≡ true → IsFast M.rules self.new }
-    {
-        let opcode = self.memory.read(self.registers.pc);
-        self.run_fast_opcode::<LOOP>(opcode)
-    }
-
-    /// Makes a fast step whose opcode the caller has read: says how many M-cycles passed in it, and
-    /// whether the next one is fast. Conditions: the step is fast, and the byte at PC is this
-    /// opcode.
-    #[inline(always)]
-    pub fn run_fast_opcode<const LOOP: u8>(&mut self, opcode: u8) -> (u8, bool)
-        requires fast { IsFast M.rules self.old }
-        requires here { opcode ≡ byte_at M.rules self.old.registers.pc self.old }
-        ensures after { self.new ≡ (step_of M.rules self.old).after }
-        ensures cycles { result.0 ≡ (step_of M.rules self.old).stepped.cycles }
-        ensures fast { result.1 ≡ true → IsFast M.rules self.new }
-    {
-        let (count, usual, _) = self.run_opcode::<LOOP>(opcode);
-        let cycles = count as u8;
-        if !usual {
-            self.memory.pass(cycles);
-            return (cycles, false);
-        }
-        self.memory.pass(cycles);
-        (cycles, !self.is_interrupted())
-    }
-
     #[inline(always)]
     fn dispatch_or_run(&mut self) -> Stepped
         ensures after { self.new ≡ (dispatched_or_ran M.rules self.old).after }

@@ -9,5 +9,5 @@ use Rattle.save_lines.proofs.text.digests_text.Goals as goal
 pub returns-in-Ok : goal.returns-in-Ok
 returns-in-Ok c =
     contents_after_writes _ (λ (s : ArrayString). s.bytes) (λ _ _ _ t. t) _ _ _ c.in-Ok.ensures.writes
-    ∙ rw c.new-text.ensures (rw c.as_str-rom.ensures.value (rw c.in_ok-rom.ensures (rw c.as_str-state.ensures.value (rw c.in_ok-state.ensures
+    ∙ rw c.new-text.ensures (rw c.as_str-rom.ensures.value (rw c.digest_digits-rom.ensures (rw c.as_str-state.ensures.value (rw c.digest_digits-state.ensures
     (two_lines (codes "rom ") (encode_lower c.args.rom) (codes "state ") (encode_lower c.args.state) (codes "\n"))))))
