@@ -20,7 +20,7 @@ help:
 	@echo '  make check           proves what changed, seconds a crate (CRATE=name for one crate)'
 	@echo '  make edits           tries every wrong body, 10 to 40 s each (CRATE=name for one crate)'
 	@echo '  make test            the gate: proves everything from nothing, runs the tests and programs (docs/CONTRIBUTING.md says how long)'
-	@echo '  make bench           proves the benchmarks: times, instructions a frame, device calls (20 minutes from nothing)'
+	@echo '  make bench           proves the benchmarks: times, instructions a frame; calls of the save file (20 minutes from nothing; needs strace)'
 	@echo '  make compare         compares the program with a second one, in Python, on random ROMs (SECONDS=20 a kind)'
 	@echo '  make hostile         gives the program damaged files and wrong scripts, kills it, and looks at what is left (SECONDS=20 a kind)'
 	@echo '  make fuzz            gives it random ROMs, scripts and save files alone, from another seed each time (SECONDS=20 in all)'
@@ -42,7 +42,7 @@ bin/gbkeep: $(SOURCES)
 build: bin/gbkeep
 
 # each is installed as gbkeep-NAME
-TOOLS := window script rest movie film branch png
+TOOLS := window script rest movie film branch verify png
 
 install: bin/gbkeep
 	install -D -m 755 bin/gbkeep $(DESTDIR)$(PREFIX)/bin/gbkeep
@@ -70,8 +70,7 @@ bench:
 	cd crates/bench && $(RT) run -- lines
 	cd crates/bench && $(RT) run -- units
 	cd crates/bench && $(RT) run -- snapshots
-	cd crates/bench && $(RT) run -- storage
-	cd crates/bench && RT_SECONDS=600 $(RT) run -- sessions
+	python3 -B scripts/session_cost.py bin/gbkeep
 	python3 -B scripts/program_cost.py bin/gbkeep
 
 SECONDS ?= 20
@@ -132,6 +131,7 @@ test:
 	python3 -B scripts/refusals.py
 	python3 -B scripts/definitions.py public
 	$(RT) ci
+	python3 -B scripts/program_tests/run.py $(PROGRAM)/out/gbkeep_program
 	python3 -B scripts/front_door.py $(PROGRAM)/out/gbkeep_program
 	python3 -B players/test_players.py $(PROGRAM)/out/gbkeep_program
 	python3 -B scripts/second_storage/hostile.py $(PROGRAM)/out/gbkeep_program 4 1

@@ -4,7 +4,10 @@
 usage: test_players.py GBKEEP
 
 It needs nothing but Python. The status is 1 at the first difference."""
+import contextlib
+import io
 import os
+import pty
 import random
 import shutil
 import struct
@@ -27,6 +30,7 @@ from rest import rest_of
 from script import Wrong, friendly_line, friendly_move, friendly_moves, inputs_of, own_lines, own_moves
 from slots import go_back, keep_slot, slot_of
 from timed_game import INPUTS_BETWEEN, TimedGame
+from verify import pieces_of, tell
 
 CART = DEMO / 'demo.gb'
 # shows the clock's seconds, minutes, hours and low byte of the days as bits, in the first four rows of each tile
@@ -106,6 +110,21 @@ class Room:
         """What a tool of the player's prints."""
         done = subprocess.run([sys.executable, '-B', tool, *words], capture_output=True, text=True, env=dict(os.environ, GBKEEP=self.program))
         return done.stdout + done.stderr
+
+    def tool_at_terminal(self, tool, *words):
+        """The status of a tool, what it prints, and what it tells a terminal."""
+        ours, terminal = pty.openpty()
+        done = subprocess.run([sys.executable, '-B', tool, *words], stdout=subprocess.PIPE, stderr=terminal, env=dict(os.environ, GBKEEP=self.program))
+        os.close(terminal)
+        told = b''
+        while True:
+            try:
+                some = os.read(ours, 1 << 16)
+            except OSError:
+                break
+            told += some
+        os.close(ours)
+        return done.returncode, done.stdout.decode(), told.decode()
 
     def frame(self, save, cart=CART):
         """The picture that `gbkeep frame` writes, and the count that it reports."""
@@ -428,6 +447,16 @@ def test_recordings(room):
     with Game(CART, save, room.program, recording) as game:
         expect('taken up', game.resumed, 104)
     expect('agree', run(room.program, 'verify', str(CART), str(save), str(recording)), 'agree 104\n')
+    expect('verify.py', room.tool(HERE / 'verify.py', CART, save, recording), 'agree 104\n')
+    status, out, err = room.tool_at_terminal(HERE / 'verify.py', CART, save, recording)
+    expect('verify.py at a terminal', (status, out, err.endswith('\r\x1b[K')), (0, 'agree 104\n', True))
+    expect('pieces', list(pieces_of([('frames', 1, 7000), ('seconds', 5)])),
+           [('frames 01 3000\n', 3000), ('frames 01 3000\n', 3000), ('frames 01 1000\n', 1000), ('seconds 5\n', 1)])
+    told = io.StringIO()
+    with contextlib.redirect_stderr(told), subprocess.Popen(['sleep', '60']) as goes_on:
+        tell(room.program, str(CART), [('frames', 0, 60), ('frames', START, 4), ('seconds', 1), ('frames', RIGHT, 3001)], goes_on)
+        goes_on.kill()
+    expect('what is told', told.getvalue(), ''.join(f'\r{played} of 3,066 inputs' for played in ('60', '64', '65', '3,065', '3,066')) + '\r\x1b[K')
     other, branch = room.path('branch.sav'), room.path('branch.rec')
     expect('a branch', room.tool(HERE / 'branch.py', CART, recording, '62', other, branch), 'saved 62\n')
     expect('its inputs', run(room.program, 'recorded', str(CART), str(branch)), 'frames 00 60\nframes 80 2\n')
@@ -440,6 +469,7 @@ def test_recordings(room):
     with Game(CART, save, room.program) as game:
         game.frame(A)
     expect('played by another command', refusal(lambda: Game(CART, save, room.program, recording)), 'gbkeep: recording behind, 104 inputs')
+    expect('verify.py then', room.tool(HERE / 'verify.py', CART, save, recording), 'gbkeep: recording behind, 104 inputs\n')
 
 
 def main():

@@ -319,7 +319,7 @@ def installed(room):
     """`make install`, and each tool that it installs."""
     status, got = shell(room, 'make install PREFIX=inst')
     wrong = [f'make install: {got}'] if status != 0 else []
-    for path in ('bin/gbkeep', 'bin/gbkeep-window', 'bin/gbkeep-script', 'bin/gbkeep-rest', 'bin/gbkeep-movie', 'bin/gbkeep-film', 'bin/gbkeep-branch', 'share/man/man1/gbkeep.1',
+    for path in ('bin/gbkeep', 'bin/gbkeep-window', 'bin/gbkeep-script', 'bin/gbkeep-rest', 'bin/gbkeep-movie', 'bin/gbkeep-film', 'bin/gbkeep-branch', 'bin/gbkeep-verify', 'share/man/man1/gbkeep.1',
                  'share/bash-completion/completions/gbkeep', 'share/gbkeep/gbkeep.py'):
         if not os.path.exists(os.path.join(room, 'inst', path)):
             wrong.append(f'make install leaves no {path}')

@@ -146,6 +146,7 @@ class Sources:
         self.texts = {crate: sources(crate) for crate in self.crates}
         self.tests = {f'{path.stem}::{name}' for crate in self.crates if crate.endswith('_tests') for path, text in self.texts[crate].items()
                       for name in re.findall(r'#\[test\]\nfn (\w+)', text)}
+        self.tests |= {f'program::{name}' for path in Path('scripts/program_tests').glob('test_*.py') for name in re.findall(r'^def test_(\w+)', path.read_text(), re.M)}
         parts = [parts_of(self.texts, crate) for crate in self.crates]
         enums = {name: variants for one, _ in parts for name, variants in one.items()}
         specs = {crate: ''.join(definitions_in(path.read_text()) for path in sorted((Path('crates') / crate / 'specs').glob('*.antt'))) for crate in self.crates}

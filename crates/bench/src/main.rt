@@ -1,20 +1,17 @@
-//! Benchmarks: `bench WORD` times frames, lines, units, snapshots or sessions, or counts the device calls of the log.
+//! Benchmarks: `bench WORD` times frames, lines, units or snapshots.
 //!
-//! `bench frames ROM COUNT` and `bench cart FILE COUNT` play a ROM once, and `bench sessions COUNT` takes up a log once, for a tool that counts
+//! `bench frames ROM COUNT` and `bench cart FILE COUNT` play a ROM once, and `bench steps CALL COUNT` makes steps once, for a tool that counts
 //! instructions.
 //! Without a word it prints its words.
 #![tactic(auto)]
 
 mod best;
 mod carts;
-mod counting;
 mod debugging;
 mod frames;
 mod lines;
 mod rom;
-mod sessions;
 mod snapshots;
-mod storage;
 mod units;
 
 use std::{env, io};
@@ -52,11 +49,6 @@ fn main(rt: HostRuntime) -> io::Result<()> {
         Some("lines") => lines::time(&rt),
         Some("units") => units::time(&rt),
         Some("snapshots") => snapshots::time(&rt),
-        Some("storage") => storage::count(&rt),
-        Some("sessions") => match words.next() {
-            Some(count) => sessions::take_up(&rt, count.parse().unwrap_or(1)),
-            None => sessions::time(&rt),
-        },
         _ => usage(&rt),
     }
 }
@@ -72,10 +64,5 @@ fn usage(rt: &HostRuntime) -> io::Result<()> {
     println!(rt;
         "bench units: M-cycles of picture, timer and serial port, at once and one by one"
     )?;
-    println!(rt; "bench snapshots: encode and decode")?;
-    println!(rt; "bench storage: device calls of append and replace, the same in each run")?;
-    println!(rt;
-        "bench sessions: device calls of sessions; saves on a file, a play of ten minutes, and the resume of a full log"
-    )?;
-    println!(rt; "bench sessions COUNT: takes up a log of so many frames once")
+    println!(rt; "bench snapshots: encode and decode")
 }

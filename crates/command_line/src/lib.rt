@@ -19,7 +19,7 @@ use std::alloc::Global;
 use std::convert::AsStr;
 
 /// What the program is asked to do. Paths and addresses are still the words that were given.
-#[derive(Clone, Copy, Debug, PartialEq, Eq)]
+#[derive(Clone, Copy)]
 pub enum Request<'a> {
     /// Prints the header of the cartridge.
     Info {

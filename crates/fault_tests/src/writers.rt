@@ -1,6 +1,6 @@
-//! Plays whose report or picture can't be written from some byte on.
+//! Plays and traces whose report, picture or lines can't be written from some byte on.
 use crate::common::{cartridge, game, resumes_between, rom, snapshots};
-use gbkeep::{PlayError, play_to_picture};
+use gbkeep::{PlayError, TraceError, play_to_picture, trace_lines};
 use machine::Machine;
 use sector_device::MemoryDevice;
 use session::SessionError;
@@ -159,6 +159,43 @@ fn the_picture_may_end_in_any_byte(rt: HostRuntime) -> Result<(), Fail> {
     for (room, is_whole) in [(46_092, false), (46_093, true)] {
         let device = old.image(alloc, &[])?;
         assert_eq!(rt; draws(&rt, alloc, device, &want, room)?, is_whole);
+    }
+    Ok(())
+}
+
+/// Two steps of a new game, which jumps to itself.
+const TRACE: &[u8] = b"resumed 0\n0100 18FE   JR -02\n0100 18FE   JR -02\n";
+
+/// What a trace of two steps with so much room for its lines is refused with.
+fn trace_into(
+    alloc: Global,
+    device: MemoryDevice,
+    room: &mut [u8],
+) -> Result<Option<TraceError>, Fail> {
+    let mut lines: &mut [u8] = room;
+    let rom = rom(alloc)?;
+    Ok(match trace_lines(alloc, device, rom, 2, &mut lines) {
+        Ok(_) => None,
+        Err(refused) => Some(refused.why),
+    })
+}
+
+#[test]
+fn a_trace_may_end_in_any_byte(rt: HostRuntime) -> Result<(), Fail> {
+    let alloc = rt.alloc();
+    let cartridge = cartridge(alloc)?;
+    let old = game(&rt, alloc, &cartridge, 0)?;
+    for room in 0..TRACE.len() + 1 {
+        let mut buffer = [0; 64];
+        let device = old.image(alloc, &[])?;
+        let why = trace_into(alloc, device, &mut buffer[..room])?;
+        let want = if room < TRACE.len() {
+            Some(TraceError::Output)
+        } else {
+            None
+        };
+        assert!(rt; why == want);
+        assert!(rt; buffer[..room] == TRACE[..room]);
     }
     Ok(())
 }

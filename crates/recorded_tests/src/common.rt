@@ -33,7 +33,7 @@ fn set(bytes: &mut [u8], at: usize, value: u8) {
 }
 
 /// The snapshot of a machine.
-pub(crate) fn snapshot_of(alloc: Global, machine: &Machine) -> Result<Vec<u8>, Fail> {
+fn snapshot_of(alloc: Global, machine: &Machine) -> Result<Vec<u8>, Fail> {
     let ram = machine.region(Region::CartRam).len();
     if ram > 131_072 {
         return Err(Fail::from("too much RAM"));

@@ -1,5 +1,6 @@
-//! Worked values on recordings, through their public calls: as scripts, and compared with games; played, cut at any call of either
-//! device, and taken up again; and whole lives of a SAVE and its recording.
+//! Worked values on recorded plays, through their public calls: cut at any call of either device, compared, and taken up again; and whole
+//! lives of a SAVE and its recording. What the program prints of recordings, and why it refuses one, is tested
+//! by `scripts/program_tests`.
 #![tactic(auto)]
 
 #[cfg(test)]
@@ -9,18 +10,8 @@ mod common;
 #[cfg(test)]
 mod cuts;
 #[cfg(test)]
-mod games;
-#[cfg(test)]
 mod life_cuts;
 #[cfg(test)]
 mod lives;
 #[cfg(test)]
-mod looks;
-#[cfg(test)]
-mod plays;
-#[cfg(test)]
 mod rounds;
-#[cfg(test)]
-mod scripts;
-#[cfg(test)]
-mod verified;

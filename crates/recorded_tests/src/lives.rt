@@ -1,4 +1,5 @@
 //! Rounds of the lives of a SAVE and its recording.
+use crate::asserting::OrStop;
 use crate::common::Pair;
 use cartridge::Cartridge;
 use recorded_lives::{RecordedLife, RecordedRound, live_recorded};
@@ -43,6 +44,20 @@ pub(crate) fn round(
         save_kept: choices(alloc, keeps.save)?,
         recording_kept: choices(alloc, keeps.recording)?,
     })
+}
+
+/// The rounds of these rows: the lines of each, how many calls of the SAVE's device and of the recording's pass, and what its cut keeps.
+pub(crate) fn rounds_of(
+    rt: &impl Abort,
+    alloc: Global,
+    rows: &[(&[u8], u64, u64, Keeps)],
+) -> Vec<RecordedRound> {
+    let mut rounds = Vec::new(alloc);
+    for row in rows {
+        let one = round(alloc, row.0, row.1, row.2, row.3).or_stop(rt);
+        rounds.push(one).or_stop(rt);
+    }
+    rounds
 }
 
 pub(crate) fn lived(

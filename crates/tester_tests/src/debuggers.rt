@@ -1,4 +1,5 @@
 //! Steps of a debugger.
+use crate::roms::rom;
 use cartridge::Cartridge;
 use debugger::{Debugger, OutputFailed, Stop, write_stepped};
 use machine::{Machine, StepKind, Stepped};
@@ -8,13 +9,7 @@ use std::test::Fail;
 
 /// The machine at power-on with this program at 0100.
 fn machine(alloc: Global, program: &[u8]) -> Result<Machine, Fail> {
-    let mut rom = vec![in alloc; 0u8; 0x8000]?;
-    for (index, byte) in program.iter().enumerate() {
-        if let Some(place) = rom.get_mut(0x100usize.saturating_add(index)) {
-            *place = *byte;
-        }
-    }
-    match Cartridge::read(rom) {
+    match Cartridge::read(rom(alloc, program)?) {
         Ok(cartridge) => Ok(Machine::power_on(alloc, &cartridge)?),
         Err(_) => Err(Fail::from("no cartridge")),
     }

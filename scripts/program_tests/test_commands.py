@@ -1,0 +1,592 @@
+"""Registers and listings, games and scripts, streams, recordings, battery files, debuggers, traces, and what words the program understands."""
+import os
+
+from room import COUNTS, DISPATCHES, LOOP, PGM, PICTURE, SECTORS, SENDS, SUM, WAKES
+
+
+# ---- registers, listings and headers
+
+def test_steps_print_the_registers(room):
+    room.rom('sum.gb', SUM)
+    room.rom('increment.gb', '3e05 04')
+    room.rom('checksum.gb', header={0x14d: 1})
+    room.rom('undefined.gb', 'd3')
+    room.done('step sum.gb 2', 'A=00 F=B0 B=00 C=13 D=00 E=D8 H=01 L=4D SP=FFFE PC=0104 IME=0\n')
+    room.done('step checksum.gb 0', 'A=01 F=B0 B=00 C=13 D=00 E=D8 H=01 L=4D SP=FFFE PC=0100 IME=0\n')
+    room.done('step increment.gb 0', 'A=01 F=80 B=00 C=13 D=00 E=D8 H=01 L=4D SP=FFFE PC=0100 IME=0\n')
+    room.done('step increment.gb 1', 'A=05 F=80 B=00 C=13 D=00 E=D8 H=01 L=4D SP=FFFE PC=0102 IME=0\n')
+    room.done('step increment.gb 2', 'A=05 F=00 B=01 C=13 D=00 E=D8 H=01 L=4D SP=FFFE PC=0103 IME=0\n')
+    room.done('step undefined.gb 3', 'A=01 F=80 B=00 C=13 D=00 E=D8 H=01 L=4D SP=FFFE PC=0101 IME=0\n')
+
+
+def test_every_controller_is_run(room):
+    for kind in (0x00, 0x03, 0x06, 0x10, 0x13, 0x1e):
+        room.rom('controller.gb', '3e05', {0x147: kind, 0x149: 0x02})
+        room.done('step controller.gb 1', 'A=05 F=80 B=00 C=13 D=00 E=D8 H=01 L=4D SP=FFFE PC=0102 IME=0\n')
+        room.done('list controller.gb 100 1', '0100 3E05   LD A,05\n')
+
+
+def test_lists_and_headers_are_printed(room):
+    room.rom('jump.gb', '00 c35001')
+    room.rom('mbc2.gb', header={0x134: ord('H'), 0x135: 0x01, 0x136: ord('i'), 0x147: 0x05, 0x149: 0x07})
+    room.done('list jump.gb 0100 2', '0100 00     NOP\n0101 C35001 JP 0150\n')
+    room.done('list jump.gb ffff 2', 'FFFF 00     NOP\n0000 00     NOP\n')
+    room.done('list jump.gb FF00 1', 'FF00 CF     RST 08\n')
+    room.done('info jump.gb', '''\
+title []
+type 00 none
+rom 32768 bytes 2 banks code 00
+ram 0 bytes code 00
+checksum stored 00 computed E7
+sectors 156
+''')
+    room.done('info mbc2.gb', '''\
+title [H.i]
+type 05 MBC2
+rom 32768 bytes 2 banks code 00
+ram 512 bytes code 07
+checksum stored 00 computed 29
+sectors 158
+''')
+
+
+def test_faults_are_one_line(room):
+    room.rom('code1.gb', header={0x147: 1, 0x149: 1})
+    room.rom('unknown.gb', header={0x147: 0xff})
+    room.write('short.gb', bytes(100))
+    room.write('four.gb', bytes(0x1_0000))
+    room.write('large.gb', bytes(0x80_0002))
+    room.refused('step code1.gb 1', 'gbkeep: ram code 01\n')
+    room.refused('info unknown.gb', 'gbkeep: cartridge type FF\n')
+    room.refused('info short.gb', 'gbkeep: rom length 100\n')
+    room.refused('info four.gb', 'gbkeep: too many banks 4\n')
+    room.refused('step large.gb 1', 'gbkeep: rom length 8388609\n')
+    room.refused('info missing.gb', 'gbkeep: file failed\n')
+    room.refused('list missing.gb 12345 1', 'gbkeep: address\n', 2)
+    room.refused('list missing.gb +12 1', 'gbkeep: address\n', 2)
+    room.refused(['list', 'missing.gb', '', '1'], 'gbkeep: address\n', 2)
+    room.refused('list missing.gb 12G 1', 'gbkeep: address\n', 2)
+
+
+# ---- words
+
+def test_help_and_the_version_go_to_the_output(room):
+    room.done('--version', 'gbkeep 0.1.0\n')
+    room.done('-V', 'gbkeep 0.1.0\n')
+    room.begins('--help', 0, 'A Game Boy emulator', '')
+    room.begins('help step', 0, 'Prints the registers', '')
+    room.begins('step -h', 0, 'Prints the registers', '')
+    room.begins('step rom.gb many', 2, '', "error: invalid value 'many' for '<COUNT>'")
+    room.begins('fly', 2, '', "error: unrecognized subcommand 'fly'")
+
+
+def test_behind_two_hyphens_a_word_is_a_path(room):
+    room.rom('-plain.gb', '3e05')
+    room.done('list -- -plain.gb 100 +1', '0100 3E05   LD A,05\n')
+    room.refused('info -', 'gbkeep: file failed\n')
+
+
+def test_reads_each_command(room):
+    """How each operand was read is seen by what the run does."""
+    room.rom('a.gb', COUNTS, {0x134: ord('A')})
+    room.write('moves', 'frames 00 3\n')
+    room.done('info a.gb', '''\
+title [A]
+type 00 none
+rom 32768 bytes 2 banks code 00
+ram 0 bytes code 00
+checksum stored 00 computed A6
+sectors 156
+''')
+    room.done('step a.gb 0', 'A=01 F=80 B=00 C=13 D=00 E=D8 H=01 L=4D SP=FFFE PC=0100 IME=0\n')
+    # HL is 014D and half a million more
+    room.done('step a.gb 1000000', 'A=01 F=80 B=00 C=13 D=00 E=D8 H=A2 L=6D SP=FFFE PC=0100 IME=0\n')
+    # behind the two instructions there are no others but zeros and the title
+    rest = ''.join(f'{at:04X} 41     LD B,C\n' if at == 0x134 else f'{at:04X} 00     NOP\n' for at in range(0x103, 0x103 + 4094))
+    room.done('list a.gb 0100 4096', '0100 23     INC HL\n0101 18FD   JR -03\n' + rest)
+    room.done('new a.gb a.save 65536', 'begun 0\n')
+    room.expect('the size of a.save', room.size('a.save'), 33_554_432)
+    room.done('new a.gb b.save', 'begun 0\n')
+    room.expect('the size of b.save', room.size('b.save'), SECTORS * 512)
+    room.done('new-recording a.gb a.rec 2', 'begun 0\n')
+    room.expect('the size of a.rec', room.size('a.rec'), 1024)
+    room.done('trace a.gb a.save 1024', 'resumed 0\n' + 512 * '0100 23     INC HL\n0101 18FD   JR -03\n')
+    room.done('play a.gb a.save moves', 'resumed 0\nsaved 3\n')
+    room.done('frame a.gb a.save a.pgm', 'resumed 3\n')
+    picture = room.read('a.pgm')
+    room.expect('the picture', (len(picture), picture[:len(PGM)]), (PICTURE, PGM))
+    room.done('stream a.gb a.save', 'resumed 3\nsaved 4\n', 'frame 00\n')
+    room.done('record a.gb b.save a.rec', 'resumed 0\nsaved 2\n', 'frames 01 2\n')
+    room.done('recorded a.gb a.rec', 'frames 01 2\n')
+    room.done('debug a.gb', '0100 23     INC HL\n', 'step 1\n')
+    room.done('debug a.gb a.save', 'resumed 4\ndone\n', 'frame 00\n')
+    room.done('debug a.gb b.save', 'resumed 2\ndone\n', 'frame 00\n')
+
+
+def test_does_not_understand_what_is_out_of_range(room):
+    # the cartridge is there, so that a word which is taken would be seen by what it does
+    room.rom('a')
+    for words in ('list a 0 0', 'list a 0 4097', 'step a 1000001', 'step a -1', 'step a x', 'fly a', 'new a b 0', 'new a b 65537', 'trace a b 0',
+                  'trace a b 1025', 'trace a b', 'play a b', 'frame a b', 'step a', 'stream a', 'debug a b c', 'debug', ''):
+        room.begins(words, 2, '', 'error: ')
+    room.begins('--help', 0, 'A Game Boy emulator', '')
+    room.begins('help step', 0, 'Prints the registers', '')
+    room.begins('step --help', 0, 'Prints the registers', '')
+    room.expect('the files', sorted(os.listdir(room.folder)), ['a'])
+
+
+# ---- save files
+
+def test_a_game_is_begun_and_played_on(room):
+    room.rom('loop.gb', LOOP)
+    room.rom('other.gb', LOOP, {0x134: ord('B')})
+    room.write('first', 'frames 00 3\nseconds 60\nsave\n')
+    room.write('second', 'frame 01')
+    room.write('empty', '')
+    room.write('wrong', 'save\nframe 1G\n')
+    room.done('new loop.gb loop.save', 'begun 0\n')
+    room.done('play loop.gb loop.save first', 'resumed 0\nsaved 4\n')
+    room.done('play loop.gb loop.save second', 'resumed 4\nsaved 5\n')
+    room.done('play loop.gb loop.save empty', 'resumed 5\n')
+    room.refused('play loop.gb loop.save wrong', 'gbkeep: script line 2\n')
+    room.refused('play loop.gb loop.save missing', 'gbkeep: file failed\n')
+    room.done('frame loop.gb loop.save loop.pgm', 'resumed 5\n')
+    room.refused('frame loop.gb loop.save missing/loop.pgm', 'gbkeep: file failed\n')
+    room.refused('frame loop.gb loop.save loop.save', 'gbkeep: file failed\n')
+    room.refused('play other.gb loop.save first', 'gbkeep: other cartridge\n')
+    room.refused('frame other.gb loop.save other.pgm', 'gbkeep: other cartridge\n')
+    room.refused('new loop.gb loop.save 156', 'gbkeep: device failed\n')
+    room.done('play loop.gb loop.save empty', 'resumed 5\n')
+    picture = room.read('loop.pgm')
+    room.expect('the picture', (len(picture), picture[:len(PGM)]), (PICTURE, PGM))
+    room.expect('the size of other.pgm', room.size('other.pgm'), 0)
+
+
+def test_save_files_are_refused(room):
+    room.rom('still.gb', LOOP)
+    room.rom('code.gb', header={0x147: 1, 0x149: 1})
+    room.write('odd.save', bytes(1000))
+    room.write('blank.save', bytes(2048))
+    room.write('nothing', '')
+    room.refused('new still.gb small.save 100', 'gbkeep: too small, 156 sectors needed\n')
+    room.refused('new code.gb small.save 100', 'gbkeep: ram code 01\n')
+    room.refused('new missing.gb small.save 156', 'gbkeep: file failed\n')
+    room.refused('play still.gb small.save nothing', 'gbkeep: device failed\n')
+    room.refused('play still.gb odd.save missing', 'gbkeep: device size 1000\n')
+    room.refused('play still.gb blank.save nothing', 'gbkeep: no session\n')
+    room.expect('the size of small.save', room.size('small.save'), None)
+
+
+# ---- streams
+
+def test_lines_are_obeyed_and_answered(room):
+    room.rom('stream.gb', LOOP)
+    room.refused('stream stream.gb stream.save', 'gbkeep: device failed\n')
+    room.done('new stream.gb stream.save 156', 'begun 0\n')
+    room.done('stream stream.gb stream.save', 'resumed 0\nsaved 4\n', 'frames 00 3\n\nseconds 60\nsave\n')
+    room.done('stream stream.gb stream.save', 'resumed 4\nsaved 5\nsaved 5\nsaved 6\n', 'frame 01\nsave\nsave\nframe 02')
+    room.refused('stream stream.gb stream.save', 'gbkeep: script line 3\n', given='frame 00\n\nframe 1G\nframe 00\n', out='resumed 6\nsaved 7\n')
+    room.refused('stream stream.gb stream.save', 'gbkeep: script line 1\n', given='wait', out='resumed 7\n')
+    room.done('stream stream.gb stream.save', 'resumed 7\n')
+
+
+def test_a_picture_is_what_frame_writes(room):
+    room.rom('drawn.gb', LOOP)
+    room.done('new drawn.gb drawn.save 156', 'begun 0\n')
+    streamed = room.printed('stream drawn.gb drawn.save', 'frames 00 2\npicture\nsave\n')
+    room.done('frame drawn.gb drawn.save drawn.pgm', 'resumed 2\n')
+    picture = room.read('drawn.pgm')
+    room.expect('the size of the picture', len(picture), PICTURE)
+    room.expect('the stream', streamed, b'resumed 0\n' + picture + b'saved 2\n')
+
+
+# ---- recordings
+
+def test_a_recording_is_begun_read_and_compared(room):
+    room.rom('tape.gb', LOOP)
+    room.rom('tape-other.gb', LOOP, {0x134: ord('B')})
+    room.write('tape.script', 'frames 00 3\n')
+    room.write('tape.blank', bytes(2048))
+    room.refused('new-recording tape.gb tape.rec 1', 'gbkeep: too small, 2 sectors needed\n')
+    room.done('new-recording tape.gb tape.rec 4', 'begun 0\n')
+    room.refused('new-recording tape.gb tape.rec 4', 'gbkeep: device failed\n')
+    # an interrupted one left a blank file
+    room.done('new-recording tape.gb tape.blank 4', 'begun 0\n')
+    room.done('recorded tape.gb tape.rec', '')
+    room.refused('recorded tape-other.gb tape.rec', 'gbkeep: other cartridge\n')
+    room.refused('recorded tape.gb tape.gb', 'gbkeep: no recording\n')
+    room.refused('recorded tape.gb tape.script', 'gbkeep: device size 12\n')
+    room.done('new tape.gb tape.save', 'begun 0\n')
+    room.done('verify tape.gb tape.save tape.rec', 'agree 0\n')
+    room.refused('verify tape.gb tape.save tape.save', 'gbkeep: file failed\n')
+    room.refused('verify tape.gb tape.rec tape.save', 'gbkeep: no session\n')
+    room.refused('verify tape-other.gb tape.save tape.rec', 'gbkeep: other cartridge\n')
+    room.done('play tape.gb tape.save tape.script', 'resumed 0\nsaved 3\n')
+    room.refused('verify tape.gb tape.save tape.rec', 'gbkeep: recording behind, 0 inputs\n')
+
+
+def test_what_is_played_is_recorded(room):
+    room.rom('reel.gb', COUNTS)
+    room.done('new reel.gb reel.save', 'begun 0\n')
+    room.done('new-recording reel.gb reel.rec 2', 'begun 0\n')
+    room.write('reel.old', room.read('reel.save'))
+    room.refused('record reel.gb reel.save reel.rec', 'gbkeep: script line 5\n', given='frames 01 3\nframe 01\nsave\nseconds 60\nframe 1G\n',
+                 out='resumed 0\nsaved 4\nsaved 5\n')
+    room.done('recorded reel.gb reel.rec', 'frames 01 4\nseconds 60\n')
+    room.done('verify reel.gb reel.save reel.rec', 'agree 5\n')
+    # the same game before its inputs: the recording is ahead
+    room.done('verify reel.gb reel.old reel.rec', 'agree 0\n')
+    room.done('record reel.gb reel.old reel.rec', 'resumed 5\nsaved 6\n', 'frame 10\n')
+    room.refused('record reel.gb reel.save reel.save', 'gbkeep: file failed\n')
+    room.done('verify reel.gb reel.old reel.rec', 'agree 6\n')
+
+
+# ---- battery files, and what a save file holds
+
+def battery(ram, registers=(), time=0):
+    """RAM, and behind it the registers of the live clock and of the latched one, and a time of so many bytes."""
+    return bytes(at % 251 for at in range(ram)) + b''.join(bytes([register, 0, 0, 0]) for register in registers) + bytes(time)
+
+
+def test_a_battery_file_comes_back(room):
+    room.rom('plain.gb', LOOP, {0x147: 0x03, 0x149: 0x02})
+    room.rom('clock.gb', LOOP, {0x147: 0x10, 0x149: 0x02})
+    registers = 59, 58, 23, 255, 0xc1, 1, 2, 3, 4, 0
+    room.write('plain.sav', battery(8192))
+    room.write('clock.sav', battery(8192, registers, 4))
+    room.done('import plain.gb plain.sav plain.save', 'begun 0\n')
+    room.done('export plain.gb plain.save plain.out', 'exported 0\n')
+    room.done('import clock.gb clock.sav clock.save', 'begun 0\n')
+    room.done('export clock.gb clock.save clock.out', 'exported 0\n')
+    room.expect('plain.out', room.read('plain.out'), battery(8192))
+    room.expect('clock.out', room.read('clock.out'), battery(8192, registers, 8))
+
+
+def test_of_mbc2_the_lower_bits_count(room):
+    room.rom('half.gb', LOOP, {0x147: 0x06})
+    room.write('half.sav', b'\xab' * 512)
+    room.write('half.frames', 'frames 00 3\n')
+    room.done('import half.gb half.sav half.save 200', 'begun 0\n')
+    room.done('play half.gb half.save half.frames', 'resumed 0\nsaved 3\n')
+    room.done('export half.gb half.save half.out', 'exported 3\n')
+    room.refused('export half.gb half.save half.out', 'gbkeep: file failed\n')
+    room.expect('half.out', room.read('half.out'), b'\x0b' * 512)
+
+
+def test_battery_files_are_refused(room):
+    room.rom('bare.gb', LOOP, {0x147: 0x02, 0x149: 0x02})
+    room.rom('kept.gb', LOOP, {0x147: 0x03, 0x149: 0x02})
+    room.rom('wrong.gb', LOOP, {0x147: 0x03, 0x149: 0x01})
+    room.write('kept.sav', b'\x07' * 8192)
+    room.write('long.sav', b'\x07' * 8240)
+    room.write('taken.save', 'x')
+    room.done('new bare.gb bare.save', 'begun 0\n')
+    room.refused('export bare.gb bare.save never.out', 'gbkeep: no battery\n')
+    room.refused('export kept.gb bare.save never.out', 'gbkeep: other cartridge\n')
+    room.refused('import wrong.gb kept.sav never.save', 'gbkeep: ram code 01\n')
+    room.refused('import bare.gb kept.sav never.save', 'gbkeep: no battery\n')
+    room.refused('import kept.gb missing.sav never.save', 'gbkeep: file failed\n')
+    room.refused('import kept.gb long.sav never.save', 'gbkeep: battery length 8240, 8192 needed\n')
+    room.refused('import kept.gb kept.sav never.save 9', 'gbkeep: too small, 188 sectors needed\n')
+    room.refused('import kept.gb kept.sav taken.save', 'gbkeep: device failed\n')
+    room.expect('the sizes of never.save and never.out', (room.size('never.save'), room.size('never.out')), (None, None))
+
+
+def test_a_save_file_is_shown_as_it_is(room):
+    room.rom('seen.gb', LOOP)
+    room.rom('unseen.gb', LOOP, {0x134: ord('B')})
+    room.write('seen.frames', 'frames 00 3\n')
+    room.done('new seen.gb seen.save', 'begun 0\n')
+    room.done('play seen.gb seen.save seen.frames', 'resumed 0\nsaved 3\n')
+    # what `show` prints of the game is this and two digests, and its file stays as it was
+    before, start = room.read('seen.save'), b'inputs 3\nlogged 3\ngeneration 2\nsectors 156\nrom '
+    text = room.printed('show seen.gb seen.save')
+    again = room.printed('show seen.gb seen.save')
+    room.expect('how it begins', text[:len(start)], start)
+    room.expect('its length', len(text), 183)
+    room.expect('what is shown again', again, text)
+    room.expect('seen.save', room.read('seen.save'), before)
+    room.refused('show unseen.gb seen.save', 'gbkeep: other cartridge\n')
+
+
+# ---- debuggers: the answers, with each digest of a machine, are those of a second machine
+
+LINES = '''\
+registers
+state
+step 2
+state
+until 9 0109
+until 3 0109
+until 1 0109 0108
+until-op 9 40
+until-op 2 40
+history 3
+list 0100 3
+list FFFF 2
+memory fffe 4
+memory 00f0 33
+memory FE00 1
+memory ff40 2
+state
+state
+serial
+until 2000 0000
+serial
+serial
+frame 80
+history 5
+registers
+frames 00 2
+state
+seconds 5
+state
+until 4294967295 0 1 2 3 4 5 6 7 8 9 A b C d E 108
+registers'''
+
+ANSWERS = '''\
+A=01 F=80 B=00 C=13 D=00 E=D8 H=01 L=4D SP=FFFE PC=0100 IME=0
+state d410e79829d52fafe20561f5f2ab78db12d1324a6061ad1b13a1d65f63e56e3b
+0100 3E41   LD A,41
+0102 E001   LDH (01),A
+state 16b3dc432bf0ff8db755781f0d822cda6ac15e87c7d9040bb82f5dafac02e0a8
+stopped 0109
+stopped 0109
+limit 0108
+stopped 0108
+limit 0108
+history 3
+0109 18FD   JR -03
+0108 40     LD B,B
+0109 18FD   JR -03
+0100 3E41   LD A,41
+0102 E001   LDH (01),A
+0104 3E81   LD A,81
+FFFF 00     NOP
+0000 AB     XOR A,E
+FFFE 00 00 AB 00
+00F0 00 00 00 00 00 00 00 00 00 00 00 00 00 00 00 00
+0100 3E 41 E0 01 3E 81 E0 02 40 18 FD 00 00 00 00 00
+0110 00
+FE00 00
+FF40 91 87
+state 64cd953f9646b970757a219d6009951686288edfe3bebe97aa91fbef6ee82371
+state 64cd953f9646b970757a219d6009951686288edfe3bebe97aa91fbef6ee82371
+serial 0
+
+limit 0108
+serial 1
+A
+serial 0
+
+done
+history 0
+A=81 F=80 B=00 C=13 D=00 E=D8 H=01 L=4D SP=FFFE PC=0108 IME=0
+done
+state eae0496214bbc7ba2aef6d3acbbd992f28bb43ffad0eb4312e99480ffd374e18
+done
+state 9d1130d4dcf3683fe8c8b8a9568605d1fc37ed2b2442cdec79a126f6f69af3f9
+stopped 0108
+A=81 F=80 B=00 C=13 D=00 E=D8 H=01 L=4D SP=FFFE PC=0108 IME=0
+'''
+
+# an empty line, lines that are wrong, one that is not, another empty one, and a wrong one without its newline
+WRONG = '''
+step
+step 0
+step 4294967296
+step +1
+step 1 1
+step 1\x20
+ step 1
+step  1
+Step 1
+step 1\r
+until 1
+until 1 10000
+until 0 100
+until 1 1 1 1 1 1 1 1 1 1 1 1 1 1 1 1 1 1
+until-op 1
+until-op 1 4
+until-op 0 40
+frame
+frame 1G
+frames 00 1000001
+seconds -1
+registers\x20
+history 0
+history 65537
+list 100
+list 10000 1
+memory 0 65537
+memory 0x1 1
+serial 1
+save
+\0
+registers
+
+nothing'''
+
+WRONG_ANSWERS = ''.join(f'wrong {line}\n' for line in range(2, 33)) + '''\
+A=01 F=80 B=00 C=13 D=00 E=D8 H=01 L=4D SP=FFFE PC=0100 IME=0
+wrong 35
+'''
+
+
+def test_lines_are_answered_from_power_on(room):
+    room.rom('debug.gb', SENDS, {0: 0xab, 0x147: 0x10})
+    room.rom('debug.dispatch.gb', DISPATCHES)
+    room.rom('debug.halt.gb', '76')
+    room.rom('debug.wake.gb', WAKES)
+    room.done('debug debug.gb', ANSWERS, LINES)
+    room.done('debug debug.gb', WRONG_ANSWERS, WRONG)
+    room.done('debug debug.gb', '')
+    room.done('debug debug.dispatch.gb', '''\
+0100 3E01   LD A,01
+0102 E0FF   LDH (FF),A
+0104 FB     EI
+0105 00     NOP
+interrupt 40
+0040 00     NOP
+history 5
+0100 3E01   LD A,01
+0102 E0FF   LDH (FF),A
+0104 FB     EI
+0105 00     NOP
+0040 00     NOP
+history 2
+0105 00     NOP
+0040 00     NOP
+limit 004A
+''', 'step 6\nhistory 9\nhistory 2\nuntil 9 40\n')
+    room.done('debug debug.halt.gb', '''\
+limit 0101
+stopped 0101
+limit 0101
+wait
+wait
+limit 0101
+history 1
+0100 76     HALT
+''', 'until 1 101\nuntil 3 0101\nuntil 3 0102\nstep 2\nuntil-op 3 00\nhistory 65536\n')
+    # the step that ends the halt runs the instruction
+    room.done('debug debug.wake.gb', 'stopped 010C\n010C 40     LD B,B\n', 'until-op 1100 40\nstep 1\n')
+
+
+def test_a_game_keeps_nothing_of_a_debugger(room):
+    room.rom('debugged.gb', SENDS, {0: 0xab, 0x147: 0x10})
+    room.rom('debugged.other.gb', SENDS)
+    room.rom('debugged.kind.gb', SENDS, {0x147: 0xff})
+    room.write('debugged.script', 'frame 80\nseconds 5\n')
+    room.write('debugged.blank.save', '')
+    room.refused('debug debugged.gb debugged.save', 'gbkeep: device failed\n', given='registers\n')
+    room.done('new debugged.gb debugged.save 156', 'begun 0\n')
+    room.done('debug debugged.gb debugged.save', '''\
+resumed 0
+state d410e79829d52fafe20561f5f2ab78db12d1324a6061ad1b13a1d65f63e56e3b
+done
+wrong 3
+''', 'state\nframes 80 9\nsave')
+    room.done('play debugged.gb debugged.save debugged.script', 'resumed 0\nsaved 2\n')
+    # the byte was sent in a frame of the game
+    room.done('debug debugged.gb debugged.save', '''\
+resumed 2
+A=81 F=80 B=00 C=13 D=00 E=D8 H=01 L=4D SP=FFFE PC=0108 IME=0
+state 56a98b8432e3d67b541dad5d4dc9b02837fcf36dcdee8bf6a7b2a6de5680ff71
+0108 40     LD B,B
+0109 18FD   JR -03
+done
+done
+state 2139144cc93a51cd76db78b3a8fb049075bd90ca308f6c4c3b763211f494cf17
+serial 0
+
+''', 'registers\nstate\nstep 2\nframes 01 3\nseconds 9\nstate\nserial\n')
+    room.done('debug debugged.gb debugged.save', '''\
+resumed 2
+state 56a98b8432e3d67b541dad5d4dc9b02837fcf36dcdee8bf6a7b2a6de5680ff71
+''', 'state\n')
+    room.done('trace debugged.gb debugged.save 1', 'resumed 2\n0108 40     LD B,B\n')
+    room.refused('debug debugged.other.gb debugged.save', 'gbkeep: other cartridge\n', given='registers\n')
+    room.refused('debug debugged.kind.gb debugged.save', 'gbkeep: cartridge type FF\n', given='registers\n')
+    room.refused('debug debugged.kind.gb', 'gbkeep: cartridge type FF\n', given='registers\n')
+    room.refused('debug debugged.gb debugged.blank.save', 'gbkeep: no session\n', given='registers\n')
+    room.refused('debug missing.gb debugged.save', 'gbkeep: file failed\n', given='registers\n')
+    room.refused('debug missing.gb', 'gbkeep: file failed\n', given='registers\n')
+    room.done('show debugged.gb debugged.save', '''\
+inputs 2
+logged 0
+generation 6
+sectors 156
+rom 9d34dff3c42a3d9b1374602e88a79db7eedaa7d326b28d079d638320436ddf13
+state 56a98b8432e3d67b541dad5d4dc9b02837fcf36dcdee8bf6a7b2a6de5680ff71
+''')
+
+
+def test_pictures_are_what_frame_writes(room):
+    # the first colour of the background becomes the second lightest shade
+    room.rom('grey.gb', '3e01 e047 18fe')
+    room.write('grey.script', 'frames 00 2\n')
+    room.done('new grey.gb grey.save 156', 'begun 0\n')
+    debugged = room.printed('debug grey.gb grey.save', 'picture\nframe 00\nframe 00\npicture\n')
+    room.done('play grey.gb grey.save grey.script', 'resumed 0\nsaved 2\n')
+    room.done('frame grey.gb grey.save grey.pgm', 'resumed 2\n')
+    picture = room.read('grey.pgm')
+    # two pictures, one of power-on and one of two frames after it, with the lines around them
+    lines, first, between, last = debugged[:10], debugged[10:10 + PICTURE], debugged[10 + PICTURE:20 + PICTURE], debugged[20 + PICTURE:]
+    room.expect('the length of all', len(debugged), 92_206)
+    room.expect('the lines around the pictures', (lines, between), (b'resumed 0\n', b'done\ndone\n'))
+    room.expect('how the first picture begins', first[:len(PGM) + 6], PGM + b'3 3 3 ')
+    room.expect('how the last picture begins', picture[:len(PGM) + 6], PGM + b'2 2 2 ')
+    room.expect('the last picture', last, picture)
+
+
+def test_a_line_has_128_bytes_at_most(room):
+    room.rom('long.gb', SENDS)
+    for length in (1, 127, 128, 129, 896, 1024, 5000):
+        room.done('debug long.gb', 'wrong 1\nlimit 0102\nwrong 3\n', ' ' * length + '\nuntil 1 0102\nuntil')
+
+
+# ---- traces
+
+def test_the_next_steps_are_printed(room):
+    room.rom('trace.sum.gb', SUM)
+    room.rom('trace.halt.gb', '76')
+    room.rom('trace.dispatch.gb', DISPATCHES)
+    room.write('trace.empty', '')
+    room.write('trace.frame', 'frame 00\nseconds 60\n')
+    room.done('new trace.sum.gb trace.sum.save 156', 'begun 0\n')
+    room.done('trace trace.sum.gb trace.sum.save 2', 'resumed 0\n0100 3E3A   LD A,3A\n0102 C6C6   ADD A,C6\n')
+    # nothing was saved
+    room.done('play trace.sum.gb trace.sum.save trace.empty', 'resumed 0\n')
+    room.done('trace trace.sum.gb trace.sum.save 1', 'resumed 0\n0100 3E3A   LD A,3A\n')
+    room.done('new trace.halt.gb trace.halt.save 156', 'begun 0\n')
+    room.done('trace trace.halt.gb trace.halt.save 2', 'resumed 0\n0100 76     HALT\nwait\n')
+    room.done('play trace.halt.gb trace.halt.save trace.frame', 'resumed 0\nsaved 2\n')
+    room.done('trace trace.halt.gb trace.halt.save 1', 'resumed 2\nwait\n')
+    room.done('new trace.dispatch.gb trace.dispatch.save 156', 'begun 0\n')
+    room.done('trace trace.dispatch.gb trace.dispatch.save 6', '''\
+resumed 0
+0100 3E01   LD A,01
+0102 E0FF   LDH (FF),A
+0104 FB     EI
+0105 00     NOP
+interrupt 40
+0040 00     NOP
+''')
+
+
+def test_traces_are_refused(room):
+    room.rom('untraced.gb', '76')
+    room.rom('untraced.other.gb', '76', {0x134: ord('B')})
+    room.rom('untraced.kind.gb', '76', {0x147: 0xff})
+    room.write('untraced.blank.save', '')
+    room.write('untraced.odd.save', bytes(1000))
+    room.done('new untraced.gb untraced.save 156', 'begun 0\n')
+    room.refused('trace untraced.other.gb untraced.save 1', 'gbkeep: other cartridge\n')
+    room.refused('trace untraced.kind.gb untraced.save 1', 'gbkeep: cartridge type FF\n')
+    room.refused('trace missing.gb missing.save 1', 'gbkeep: file failed\n')
+    # the save file is opened before the cartridge is read
+    room.refused('trace untraced.kind.gb missing.save 1', 'gbkeep: device failed\n')
+    room.refused('trace untraced.kind.gb untraced.odd.save 1', 'gbkeep: device size 1000\n')
+    room.refused('trace untraced.gb untraced.blank.save 1', 'gbkeep: no session\n')
+    room.done('trace untraced.gb untraced.save 1', 'resumed 0\n0100 76     HALT\n')
