@@ -2,6 +2,7 @@
 """Tries wrong bodies on a copy of the repository: a proof has to refuse each, at a goal that stays open.
 
 usage: scripts/edits.py [CRATE | CRATE/EDIT]...    (no word: every crate; EDIT without .edit)
+       scripts/edits.py --apply                    (tries none, and says in a second which no longer apply to the text)
 
 The edits are those of crates/CRATE/must-fail and crates/CRATE/wrong-bodies. An edit counts only if it changes src/ and
 leaves a goal open: one that no proof was found for, or whose answer in a proof file no longer proves it. One that is
@@ -177,7 +178,25 @@ def try_crate(crate, chosen):
     return refused, len(edits) - refused
 
 
+def apply_all():
+    """Returns 1 if some edit does not apply to the text as it stands."""
+    apply, lost = 0, []
+    for edit in sorted(it for place in PLACES for it in (ROOT / "crates").glob(f"*/{place}/*.edit")):
+        crate = edit.parent.parent
+        try:
+            unchanged = [path.name for path, text in edited(edit, crate).items() if path.read_text() == text]
+            if unchanged:
+                raise ShowsNothing(f"it leaves {unchanged[0]} as it is")
+            apply += 1
+        except ShowsNothing as error:
+            lost.append(f"{crate.name}/{edit.parent.name}/{edit.stem}: {error}")
+    print("\n".join([*lost, f"{apply} edits apply, {len(lost)} not"]))
+    return 1 if lost else 0
+
+
 def main():
+    if sys.argv[1:] == ["--apply"]:
+        return apply_all()
     below, wanted = libraries(), {}
     for word in sys.argv[1:] or below:
         name, _, edit = word.partition("/")
