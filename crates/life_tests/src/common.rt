@@ -1,4 +1,5 @@
 //! Cartridges, devices and rounds of the tests. These have no contract, so that a test's proof does not follow the numbers.
+use crate::asserting::{OrStop, holds};
 use cartridge::Cartridge;
 use machine::{Input, Machine, Region};
 use script::Move;
@@ -40,22 +41,18 @@ pub(crate) fn new_device(
     alloc: Global,
     cartridge: &Cartridge,
     room: usize,
-) -> Result<MemoryDevice, Fail> {
-    let device = MemoryDevice::new(alloc, 188, room)?;
+) -> MemoryDevice {
+    let device = MemoryDevice::new(alloc, 188, room).or_stop(rt);
     let Ok(session) = new_game(alloc, device, cartridge) else {
         panic!(rt; "not begun");
     };
-    Ok(session.into_device().image(alloc, &[])?)
+    session.into_device().image(alloc, &[]).or_stop(rt)
 }
 
 /// A game of the third generation of version 1, with 5 inputs before the snapshot of the machine at power-on, and two in the log: a frame with
 /// button 0 and an hour.
-pub(crate) fn version_one(
-    rt: &impl Abort,
-    alloc: Global,
-    cartridge: &Cartridge,
-) -> Result<MemoryDevice, Fail> {
-    let mut device = new_device(rt, alloc, cartridge, 1000)?;
+pub(crate) fn version_one(rt: &impl Abort, alloc: Global, cartridge: &Cartridge) -> MemoryDevice {
+    let mut device = new_device(rt, alloc, cartridge, 1000);
     put(rt, &mut device, 1, 8, b"\x01\x00\x00\x00\x03");
     put(rt, &mut device, 1, 52, b"\x05");
     put(
@@ -65,20 +62,20 @@ pub(crate) fn version_one(
         0,
         b"GBL1\x00\x00\x02\x00\x00\x01\x00\x00\x00\x01\x10\x0e\x00\x00",
     );
-    assert!(rt; device.sync().is_ok());
-    Ok(device.image(alloc, &[])?)
+    holds!(rt; device.sync().is_ok());
+    device.image(alloc, &[]).or_stop(rt)
 }
 
 fn put(rt: &impl Abort, device: &mut MemoryDevice, at: u64, from: usize, bytes: &[u8]) {
     let mut whole = [0; 512];
     assert!(rt; at < device.count());
-    assert!(rt; device.read(at, &mut whole).is_ok());
+    holds!(rt; device.read(at, &mut whole).is_ok());
     assert!(rt; from < 512);
     for (place, byte) in whole[from..].iter_mut().zip(bytes) {
         *place = *byte;
     }
     assert!(rt; at < device.count());
-    assert!(rt; device.write(at, &whole).is_ok());
+    holds!(rt; device.write(at, &whole).is_ok());
 }
 
 /// The snapshot of a machine.
@@ -146,16 +143,18 @@ pub(crate) fn refused(
     }
 }
 
-/// The count at the end of a life of one round, and how the round ended.
+/// How a life of one round ended, and the count at its end.
 pub(crate) fn one_round(
     rt: &impl Abort,
     alloc: Global,
     device: MemoryDevice,
     cartridge: &Cartridge,
     round: Round,
-) -> Result<(RoundEnd, u64), Fail> {
-    let rounds = vec![in alloc; round]?;
+) -> (RoundEnd, u64) {
+    let rounds = vec![in alloc; round].or_stop(rt);
     let lived = lived(rt, alloc, device, cartridge, &rounds);
-    assert_eq!(rt; lived.rounds.len(), 1);
-    Ok((lived.rounds[0], lived.session.counts().all))
+    let Some(end) = lived.rounds.first() else {
+        panic!(rt; "no round");
+    };
+    (*end, lived.session.counts().all)
 }

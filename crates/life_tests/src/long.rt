@@ -1,5 +1,7 @@
 //! A long life.
+use crate::asserting::{OrStop, holds, same};
 use crate::common::{add_alternating, apply, cartridge, lived, snapshot_of, version_one};
+use cartridge::Cartridge;
 use machine::{Input, Machine};
 use script::Move;
 use std::alloc::Global;
@@ -145,15 +147,15 @@ fn give_survivors(
     let mut known = 0;
     for (i, (round, end)) in rounds.iter().zip(ends.iter()).enumerate() {
         let Some(resumed) = end.resumed else {
-            assert_eq!(rt; end.saved, known);
+            same!(rt; end.saved, known);
             had.missed = had.missed.saturating_add(1);
             continue;
         };
-        assert_eq!(rt; resumed, count);
+        same!(rt; resumed, count);
         let behind = count_behind(ends, i.saturating_add(1), last);
-        assert!(rt; resumed <= end.saved && end.saved <= behind);
+        holds!(rt; resumed <= end.saved && end.saved <= behind);
         let (given, left) = give(machine, &round.moves, behind.saturating_sub(resumed));
-        assert_eq!(rt; given, behind.saturating_sub(resumed));
+        same!(rt; given, behind.saturating_sub(resumed));
         if left > 0 {
             had.lost = had.lost.saturating_add(1);
         }
@@ -163,33 +165,44 @@ fn give_survivors(
         count = behind;
         known = end.saved;
     }
-    assert_eq!(rt; count, last);
+    same!(rt; count, last);
     had
 }
 
-#[test]
-fn three_hundred_rounds(rt: HostRuntime) -> Result<(), Fail> {
-    let alloc = rt.alloc();
-    let cartridge = cartridge(alloc)?;
+fn three_hundred(alloc: Global) -> Result<Vec<Round>, Fail> {
     let mut state = 88_172_645_463_325_252;
     let mut rounds = Vec::new(alloc);
     for i in 0..300 {
         rounds.push(random_round(alloc, &mut state, i % 25 == 24)?)?;
     }
-    let device = version_one(&rt, alloc, &cartridge)?;
-    let lived = lived(&rt, alloc, device, &cartridge, &rounds);
-    assert_eq!(rt; lived.rounds.len(), 300);
+    Ok(rounds)
+}
 
-    let mut machine = Machine::power_on(alloc, &cartridge)?;
+/// The machine of the game that the life begins with.
+fn first_machine(rt: &impl Abort, alloc: Global, cartridge: &Cartridge) -> Machine {
+    let mut machine = Machine::power_on(alloc, cartridge).or_stop(rt);
     apply(&mut machine, Input::Frame(1));
     apply(&mut machine, Input::Seconds(3600));
+    machine
+}
+
+/// Two machines have the same snapshot.
+fn are_same(rt: &impl Abort, alloc: Global, one: &Machine, other: &Machine) {
+    let found = snapshot_of(alloc, one).or_stop(rt);
+    holds!(rt; found == snapshot_of(alloc, other).or_stop(rt));
+}
+
+#[test]
+fn three_hundred_rounds(rt: HostRuntime) {
+    let alloc = rt.alloc();
+    let cartridge = cartridge(alloc).or_stop(&rt);
+    let rounds = three_hundred(alloc).or_stop(&rt);
+    let device = version_one(&rt, alloc, &cartridge);
+    let lived = lived(&rt, alloc, device, &cartridge, &rounds);
+    same!(rt; lived.rounds.len(), 300);
+    let mut machine = first_machine(&rt, alloc, &cartridge);
     let last = lived.session.counts().all;
     let had = give_survivors(&rt, &mut machine, 7, &rounds, &lived.rounds, last);
-    let found = snapshot_of(alloc, lived.session.machine())?;
-    assert!(rt; found == snapshot_of(alloc, &machine)?);
-    assert!(rt;
-        had.missed > 20 && had.lost > 50 && had.replaced > 3,
-        "{had:?}"
-    );
-    Ok(())
+    are_same(&rt, alloc, lived.session.machine(), &machine);
+    holds!(rt; had.missed > 20 && had.lost > 50 && had.replaced > 3, "{had:?}");
 }

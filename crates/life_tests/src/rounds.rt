@@ -1,7 +1,6 @@
 //! Lives of one round or none, and lives that are refused.
-use crate::common::{
-    add_alternating, cartridge, lived, new_device, one_round, refused, round, version_one,
-};
+use crate::asserting::{OrStop, holds, same};
+use crate::common::{add_alternating, cartridge, lived, new_device, one_round, refused, round};
 use cartridge::Cartridge;
 use script::Move;
 use sector_device::MemoryDevice;
@@ -19,66 +18,64 @@ const FIVE_SAVED: [Move; 2] = [
     Move::Save,
 ];
 
-#[test]
-fn a_round_with_ample_calls_does_all_its_moves(rt: HostRuntime) -> Result<(), Fail> {
-    let alloc = rt.alloc();
-    let cartridge = cartridge(alloc)?;
-    let device = new_device(&rt, alloc, &cartridge, 1000)?;
-    let ample = round(alloc, &FIVE_SAVED, 1000, &[])?;
-    let (end, count) = one_round(&rt, alloc, device, &cartridge, ample)?;
-    assert_eq!(rt;
-        end,
-        RoundEnd {
-            resumed: Some(0),
-            saved: 5
-        }
-    );
-    assert_eq!(rt; count, 5);
-    Ok(())
+/// A game on 188 sectors lives this round: how the round ended, and the count at the end.
+fn ends(rt: &impl Abort, alloc: Global, moves: &[Move], calls: u64) -> (RoundEnd, u64) {
+    let cartridge = cartridge(alloc).or_stop(rt);
+    let device = new_device(rt, alloc, &cartridge, 1000);
+    let round = round(alloc, moves, calls, &[]).or_stop(rt);
+    one_round(rt, alloc, device, &cartridge, round)
 }
 
 #[test]
-fn a_round_with_no_calls_does_nothing(rt: HostRuntime) -> Result<(), Fail> {
-    let alloc = rt.alloc();
-    let cartridge = cartridge(alloc)?;
-    let device = new_device(&rt, alloc, &cartridge, 1000)?;
-    let none = round(alloc, &FIVE_SAVED, 0, &[])?;
-    let (end, count) = one_round(&rt, alloc, device, &cartridge, none)?;
-    assert_eq!(rt;
-        end,
-        RoundEnd {
-            resumed: None,
-            saved: 0
-        }
-    );
-    assert_eq!(rt; count, 0);
-    Ok(())
+fn a_round_with_ample_calls_does_all_its_moves(rt: HostRuntime) {
+    let end = RoundEnd {
+        resumed: Some(0),
+        saved: 5,
+    };
+    same!(rt; ends(&rt, rt.alloc(), &FIVE_SAVED, 1000), (end, 5));
 }
 
-/// 40 alternating frames are saved, and the save of 80 more is cut behind so many calls.
-fn cut_save(
-    rt: &impl Abort,
-    alloc: Global,
-    cartridge: &Cartridge,
-    old: &MemoryDevice,
-    calls: u64,
-    kept: &[bool],
-) -> Result<(RoundEnd, u64), Fail> {
+#[test]
+fn a_round_with_no_calls_does_nothing(rt: HostRuntime) {
+    let end = RoundEnd {
+        resumed: None,
+        saved: 0,
+    };
+    same!(rt; ends(&rt, rt.alloc(), &FIVE_SAVED, 0), (end, 0));
+}
+
+/// Saves 40 alternating frames, and then 80 more.
+fn two_saves(alloc: Global) -> Result<Vec<Move>, Fail> {
     let mut moves = Vec::new(alloc);
     add_alternating(&mut moves, 40)?;
     moves.push(Move::Save)?;
     add_alternating(&mut moves, 80)?;
     moves.push(Move::Save)?;
-    let cut = round(alloc, &moves, calls, kept)?;
-    one_round(rt, alloc, old.image(alloc, &[])?, cartridge, cut)
+    Ok(moves)
+}
+
+/// The second of these saves is cut behind so many calls.
+fn cut_save(
+    rt: &impl Abort,
+    alloc: Global,
+    cartridge: &Cartridge,
+    old: &MemoryDevice,
+    moves: &[Move],
+    calls: u64,
+    kept: &[bool],
+) -> (RoundEnd, u64) {
+    let cut = round(alloc, moves, calls, kept).or_stop(rt);
+    let device = old.image(alloc, &[]).or_stop(rt);
+    one_round(rt, alloc, device, cartridge, cut)
 }
 
 /// Counted up from 0, there is a number of calls at which both writes of the second save are recorded and its sync is not made.
 #[test]
-fn a_cut_save_keeps_what_survives(rt: HostRuntime) -> Result<(), Fail> {
+fn a_cut_save_keeps_what_survives(rt: HostRuntime) {
     let alloc = rt.alloc();
-    let cartridge = cartridge(alloc)?;
-    let old = new_device(&rt, alloc, &cartridge, 1000)?;
+    let cartridge = cartridge(alloc).or_stop(&rt);
+    let old = new_device(&rt, alloc, &cartridge, 1000);
+    let moves = two_saves(alloc).or_stop(&rt);
     let cut = RoundEnd {
         resumed: Some(0),
         saved: 40,
@@ -86,76 +83,64 @@ fn a_cut_save_keeps_what_survives(rt: HostRuntime) -> Result<(), Fail> {
     let mut found = None;
     for calls in 0..170 {
         if found.is_none() {
-            let all = cut_save(&rt, alloc, &cartridge, &old, calls, &[true, true])?;
+            let all = cut_save(&rt, alloc, &cartridge, &old, &moves, calls, &[true, true]);
             if all == (cut, 120) {
                 found = Some(calls);
             }
         }
     }
-    let Some(calls) = found else {
-        return Err(Fail::from("no cut between the writes and their sync"));
-    };
-    let first = cut_save(&rt, alloc, &cartridge, &old, calls, &[true, false])?;
-    assert_eq!(rt; first, (cut, 84));
-    let second = cut_save(&rt, alloc, &cartridge, &old, calls, &[false, true])?;
-    assert_eq!(rt; second, (cut, 40));
-    Ok(())
+    holds!(rt; found.is_some(), "no cut between the writes and their sync");
+    let calls = found.unwrap_or(0);
+    let first = cut_save(&rt, alloc, &cartridge, &old, &moves, calls, &[true, false]);
+    same!(rt; first, (cut, 84));
+    let second = cut_save(&rt, alloc, &cartridge, &old, &moves, calls, &[false, true]);
+    same!(rt; second, (cut, 40));
+}
+
+/// A life of one round of five frames and a save, with ample calls, is refused.
+fn is_refused(
+    rt: &impl Abort,
+    alloc: Global,
+    device: MemoryDevice,
+    cartridge: &Cartridge,
+    why: SessionError,
+) -> MemoryDevice {
+    let round = round(alloc, &FIVE_SAVED, 1000, &[]).or_stop(rt);
+    let rounds = vec![in alloc; round].or_stop(rt);
+    let refused = refused(rt, alloc, device, cartridge, &rounds);
+    same!(rt; refused.why, why);
+    refused.device
 }
 
 #[test]
-fn a_life_of_no_rounds_takes_up_version_one(rt: HostRuntime) -> Result<(), Fail> {
+fn a_full_record_ends_the_life(rt: HostRuntime) {
     let alloc = rt.alloc();
-    let cartridge = cartridge(alloc)?;
-    let device = version_one(&rt, alloc, &cartridge)?;
-    let lived = lived(&rt, alloc, device, &cartridge, &[]);
-    assert_eq!(rt; lived.rounds.len(), 0);
-    assert_eq!(rt; lived.session.counts().all, 7);
-    Ok(())
-}
-
-#[test]
-fn a_full_record_ends_the_life(rt: HostRuntime) -> Result<(), Fail> {
-    let alloc = rt.alloc();
-    let cartridge = cartridge(alloc)?;
+    let cartridge = cartridge(alloc).or_stop(&rt);
     // The resume records 97 writes and syncs, and the save has no room for another.
-    let device = new_device(&rt, alloc, &cartridge, 97)?;
-    let rounds = vec![in alloc; round(alloc, &FIVE_SAVED, 1000, &[])?]?;
-    let refused = refused(&rt, alloc, device, &cartridge, &rounds);
-    assert_eq!(rt; refused.why, SessionError::Device);
-    assert!(rt; !refused.device.blown());
-    assert_eq!(rt; refused.device.calls(), 97);
-    Ok(())
+    let device = new_device(&rt, alloc, &cartridge, 97);
+    let left = is_refused(&rt, alloc, device, &cartridge, SessionError::Device);
+    holds!(rt; !left.blown());
+    same!(rt; left.calls(), 97);
 }
 
 #[test]
-fn a_call_that_was_set_to_fail_ends_the_life(rt: HostRuntime) -> Result<(), Fail> {
+fn a_call_that_was_set_to_fail_ends_the_life(rt: HostRuntime) {
     let alloc = rt.alloc();
-    let cartridge = cartridge(alloc)?;
-    let mut device = new_device(&rt, alloc, &cartridge, 1000)?;
+    let cartridge = cartridge(alloc).or_stop(&rt);
+    let mut device = new_device(&rt, alloc, &cartridge, 1000);
     // the sync of the save
     device.fail_at(163, false);
-    let rounds = vec![in alloc; round(alloc, &FIVE_SAVED, 1000, &[])?]?;
-    let refused = refused(&rt, alloc, device, &cartridge, &rounds);
-    assert_eq!(rt; refused.why, SessionError::Device);
-    assert!(rt; !refused.device.blown());
-    let left = refused.device.image(alloc, &[true])?;
-    assert_eq!(rt;
-        lived(&rt, alloc, left, &cartridge, &[])
-            .session
-            .counts()
-            .all,
-        5
-    );
-    Ok(())
+    let left = is_refused(&rt, alloc, device, &cartridge, SessionError::Device);
+    holds!(rt; !left.blown());
+    let left = left.image(alloc, &[true]).or_stop(&rt);
+    let lived = lived(&rt, alloc, left, &cartridge, &[]);
+    same!(rt; lived.session.counts().all, 5);
 }
 
 #[test]
-fn a_life_without_a_game_is_refused(rt: HostRuntime) -> Result<(), Fail> {
+fn a_life_without_a_game_is_refused(rt: HostRuntime) {
     let alloc = rt.alloc();
-    let cartridge = cartridge(alloc)?;
-    let device = MemoryDevice::new(alloc, 188, 1000)?;
-    let rounds = vec![in alloc; round(alloc, &FIVE_SAVED, 1000, &[])?]?;
-    let refused = refused(&rt, alloc, device, &cartridge, &rounds);
-    assert_eq!(rt; refused.why, SessionError::NoSession);
-    Ok(())
+    let cartridge = cartridge(alloc).or_stop(&rt);
+    let device = MemoryDevice::new(alloc, 188, 1000).or_stop(&rt);
+    is_refused(&rt, alloc, device, &cartridge, SessionError::NoSession);
 }
