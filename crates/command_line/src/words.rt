@@ -1,5 +1,6 @@
 //! The commands and their words.
 ghost use Rattle.std.specs.Prelude.{IfOk, codes};
+ghost use Rattle.clap.specs.Words.{App, new_rule, with_subcommand};
 ghost use Rattle.command_line.specs.Commands.{Reads, ReadsOperand, number, operand, over_cart, over_save};
 ghost use Rattle.command_line.specs.Commands.{bare, frame, gbkeep, info, list, new, play, step, stream, trace, without_sessions};
 ghost use Rattle.command_line.specs.Commands.{test_rom, new_recording, record_game, recorded, verify, with_sessions, with_recordings};
@@ -46,52 +47,57 @@ const DEBUG_LINES: &str = "Lines of the standard input, each answered before the
 pub(crate) fn command<'a>(alloc: Global) -> Result<Command<'a>, AllocError>
     ensures { IfOk result (Reads gbkeep) }
 {
-    with_battery_files(alloc)?
-        .subcommand(test_rom(alloc)?)?
-        .subcommand(debug(alloc)?)
+    let command = joined(with_battery_files(alloc), test_rom(alloc));
+    joined(command, debug(alloc))
 }
 
 /// So, and with those that show a game or carry its battery file.
 fn with_battery_files<'a>(alloc: Global) -> Result<Command<'a>, AllocError>
     ensures { IfOk result (Reads with_battery_files) }
 {
-    with_recordings(alloc)?
-        .subcommand(show(alloc)?)?
-        .subcommand(export(alloc)?)?
-        .subcommand(import(alloc)?)
+    let command = joined(with_recordings(alloc), show(alloc));
+    let command = joined(command, export(alloc));
+    joined(command, import(alloc))
 }
 
 /// So, and with those over a recording.
 fn with_recordings<'a>(alloc: Global) -> Result<Command<'a>, AllocError>
     ensures { IfOk result (Reads with_recordings) }
 {
-    with_sessions(alloc)?
-        .subcommand(new_recording(alloc)?)?
-        .subcommand(record_game(alloc)?)?
-        .subcommand(recorded(alloc)?)?
-        .subcommand(verify(alloc)?)
+    let command = joined(with_sessions(alloc), new_recording(alloc));
+    let command = joined(command, record_game(alloc));
+    let command = joined(command, recorded(alloc));
+    joined(command, verify(alloc))
 }
 
 /// The program with the commands over a game.
 fn with_sessions<'a>(alloc: Global) -> Result<Command<'a>, AllocError>
     ensures { IfOk result (Reads with_sessions) }
 {
-    without_sessions(alloc)?
-        .subcommand(play(alloc)?)?
-        .subcommand(frame(alloc)?)?
-        .subcommand(trace(alloc)?)?
-        .subcommand(stream(alloc)?)
+    let command = joined(without_sessions(alloc), play(alloc));
+    let command = joined(command, frame(alloc));
+    let command = joined(command, trace(alloc));
+    joined(command, stream(alloc))
 }
 
 /// The program with the commands that resume no session.
 fn without_sessions<'a>(alloc: Global) -> Result<Command<'a>, AllocError>
     ensures { IfOk result (Reads without_sessions) }
 {
-    bare(alloc)?
-        .subcommand(info(alloc)?)?
-        .subcommand(list(alloc)?)?
-        .subcommand(step(alloc)?)?
-        .subcommand(new(alloc)?)
+    let command = joined(bare(alloc), info(alloc));
+    let command = joined(command, list(alloc));
+    let command = joined(command, step(alloc));
+    joined(command, new(alloc))
+}
+
+/// A command with another one below it, if there was memory for both. Only here is there a command to drop.
+fn joined<'a>(
+    command: Result<Command<'a>, AllocError>,
+    below: Result<Command<'a>, AllocError>,
+) -> Result<Command<'a>, AllocError>
+    ensures { (app sub : App) → IfOk command.entry (Reads app) → IfOk below.entry (Reads sub) → IfOk result (Reads (with_subcommand app sub.top)) }
+{
+    command?.subcommand(below?)
 }
 
 /// The program without its commands.
@@ -111,6 +117,23 @@ fn word<'a>(alloc: Global, name: &'a str, help: &'a str) -> Arg<'a>
     Arg::new(alloc, name).required(true).help(help)
 }
 
+/// An operand that may be left out.
+fn optional_word<'a>(alloc: Global, name: &'a str, help: &'a str) -> Arg<'a>
+    ensures { ReadsOperand (new_rule name.now) result }
+{
+    Arg::new(alloc, name).help(help)
+}
+
+fn recording<'a>(alloc: Global) -> Arg<'a>
+    ensures { ReadsOperand (operand (codes "RECORDING")) result }
+{
+    word(
+        alloc,
+        "RECORDING",
+        "The file that keeps every input since power-on",
+    )
+}
+
 fn over_cart<'a>(alloc: Global, name: &'a str, about: &'a str) -> Result<Command<'a>, AllocError>
     ensures { IfOk result (Reads (over_cart name.now)) }
 {
@@ -128,9 +151,6 @@ fn info<'a>(alloc: Global) -> Result<Command<'a>, AllocError>
 fn list<'a>(alloc: Global) -> Result<Command<'a>, AllocError>
     ensures { IfOk result (Reads list) }
 {
-    let count = word(alloc, "COUNT", "How many instructions").value_parser(value_parser!(u32).range(
-        1..=4_096,
-    ));
     over_cart(
         alloc,
         "list",
@@ -141,27 +161,64 @@ fn list<'a>(alloc: Global) -> Result<Command<'a>, AllocError>
         "ADDR",
         "The first address, in one to four hexadecimal digits",
     ))?
-    .arg(count)
+    .arg(instructions(alloc))
 }
 
 fn step<'a>(alloc: Global) -> Result<Command<'a>, AllocError>
     ensures { IfOk result (Reads step) }
 {
-    let count = word(alloc, "COUNT", "How many steps").value_parser(value_parser!(u32).range(
-        0..=1_000_000,
-    ));
     over_cart(
         alloc,
         "step",
         "Prints the registers after some steps from power-on",
     )?
-    .arg(count)
+    .arg(steps(alloc))
 }
 
 fn over_save<'a>(alloc: Global, name: &'a str, about: &'a str) -> Result<Command<'a>, AllocError>
     ensures { IfOk result (Reads (over_save name.now)) }
 {
     over_cart(alloc, name, about)?.arg(word(alloc, "SAVE", "The file that keeps the game"))
+}
+
+/// How many instructions are listed.
+fn instructions<'a>(alloc: Global) -> Arg<'a>
+    ensures { ReadsOperand (number (codes "COUNT") 1 4096) result }
+{
+    word(alloc, "COUNT", "How many instructions").value_parser(value_parser!(u32).range(1..=4_096))
+}
+
+/// How many steps are made from power-on.
+fn steps<'a>(alloc: Global) -> Arg<'a>
+    ensures { ReadsOperand (number (codes "COUNT") 0 1000000) result }
+{
+    word(alloc, "COUNT", "How many steps").value_parser(value_parser!(u32).range(0..=1_000_000))
+}
+
+/// How many steps of a game are printed.
+fn traced_steps<'a>(alloc: Global) -> Arg<'a>
+    ensures { ReadsOperand (number (codes "COUNT") 1 1024) result }
+{
+    word(alloc, "COUNT", "How many steps").value_parser(value_parser!(u32).range(1..=1_024))
+}
+
+/// How many frames a test ROM has at most.
+fn frames<'a>(alloc: Global) -> Arg<'a>
+    ensures { ReadsOperand (number (codes "FRAMES") 1 1000000) result }
+{
+    word(alloc, "FRAMES", "The most frames").value_parser(value_parser!(u32).range(1..=1_000_000))
+}
+
+/// How many sectors a recording's file has.
+fn sectors_of_recording<'a>(alloc: Global) -> Arg<'a>
+    ensures { ReadsOperand (number (codes "SECTORS") 1 65536) result }
+{
+    word(
+        alloc,
+        "SECTORS",
+        "How many sectors of 512 bytes the file has",
+    )
+    .value_parser(value_parser!(u32).range(1..=65_536))
 }
 
 /// How many sectors a new game's file has.
@@ -205,15 +262,12 @@ fn frame<'a>(alloc: Global) -> Result<Command<'a>, AllocError>
 fn trace<'a>(alloc: Global) -> Result<Command<'a>, AllocError>
     ensures { IfOk result (Reads trace) }
 {
-    let count = word(alloc, "COUNT", "How many steps").value_parser(value_parser!(u32).range(
-        1..=1_024,
-    ));
     over_save(
         alloc,
         "trace",
         "Resumes a game and prints its next steps, which are not saved",
     )?
-    .arg(count)
+    .arg(traced_steps(alloc))
 }
 
 fn stream<'a>(alloc: Global) -> Result<Command<'a>, AllocError>
@@ -231,41 +285,29 @@ fn stream<'a>(alloc: Global) -> Result<Command<'a>, AllocError>
 fn test_rom<'a>(alloc: Global) -> Result<Command<'a>, AllocError>
     ensures { IfOk result (Reads test_rom) }
 {
-    let frames = word(alloc, "FRAMES", "The most frames").value_parser(value_parser!(u32).range(
-        1..=1_000_000,
-    ));
-    let script = Arg::new(alloc, "SCRIPT").help(
-        "The file of moves, a line each, that are made first",
-    );
     over_cart(
         alloc,
         "test",
         "Runs a test ROM from power-on until it says that it is done",
     )?
-    .arg(frames)?
-    .arg(script)
+    .arg(frames(alloc))?
+    .arg(optional_word(
+        alloc,
+        "SCRIPT",
+        "The file of moves, a line each, that are made first",
+    ))
 }
 
 fn new_recording<'a>(alloc: Global) -> Result<Command<'a>, AllocError>
     ensures { IfOk result (Reads new_recording) }
 {
-    let sectors = word(
-        alloc,
-        "SECTORS",
-        "How many sectors of 512 bytes the file has",
-    )
-    .value_parser(value_parser!(u32).range(1..=65_536));
     over_cart(
         alloc,
         "new-recording",
         "Makes a new file for every input of a game since power-on",
     )?
-    .arg(word(
-        alloc,
-        "RECORDING",
-        "The file that keeps every input since power-on",
-    ))?
-    .arg(sectors)
+    .arg(recording(alloc))?
+    .arg(sectors_of_recording(alloc))
 }
 
 fn record_game<'a>(alloc: Global) -> Result<Command<'a>, AllocError>
@@ -276,11 +318,7 @@ fn record_game<'a>(alloc: Global) -> Result<Command<'a>, AllocError>
         "record",
         "Resumes a game as stream does, and records each input before it is saved",
     )?
-    .arg(word(
-        alloc,
-        "RECORDING",
-        "The file that keeps every input since power-on",
-    ))
+    .arg(recording(alloc))
 }
 
 fn recorded<'a>(alloc: Global) -> Result<Command<'a>, AllocError>
@@ -291,11 +329,7 @@ fn recorded<'a>(alloc: Global) -> Result<Command<'a>, AllocError>
         "recorded",
         "Prints the inputs of a recording as a script",
     )?
-    .arg(word(
-        alloc,
-        "RECORDING",
-        "The file that keeps every input since power-on",
-    ))
+    .arg(recording(alloc))
 }
 
 fn verify<'a>(alloc: Global) -> Result<Command<'a>, AllocError>
@@ -306,11 +340,7 @@ fn verify<'a>(alloc: Global) -> Result<Command<'a>, AllocError>
         "verify",
         "Plays a recording again from power-on and compares it with the game",
     )?
-    .arg(word(
-        alloc,
-        "RECORDING",
-        "The file that keeps every input since power-on",
-    ))
+    .arg(recording(alloc))
 }
 
 fn show<'a>(alloc: Global) -> Result<Command<'a>, AllocError>
@@ -350,15 +380,16 @@ fn import<'a>(alloc: Global) -> Result<Command<'a>, AllocError>
 fn debug<'a>(alloc: Global) -> Result<Command<'a>, AllocError>
     ensures { IfOk result (Reads debug) }
 {
-    let save = Arg::new(alloc, "SAVE").help(
-        "The file of a game that it begins with, which keeps nothing of this",
-    );
     let lines = over_cart(
         alloc,
         "debug",
         "Runs a cartridge step by step, and shows its registers, memory and history",
     )?
-    .arg(save)?
+    .arg(optional_word(
+        alloc,
+        "SAVE",
+        "The file of a game that it begins with, which keeps nothing of this",
+    ))?
     .after_help(DEBUG_LINES);
     Ok(lines)
 }

@@ -1,4 +1,4 @@
-use Rattle.std.proofs.Common.{◌≡◌, ◌∙◌, ℕ, List, [], ◌∷◌, Option, Some, None, Bor, codes, inl, inr, sym, ap₂, subst, arith}
+use Rattle.std.proofs.Common.{◌≡◌, ℕ, List, [], ◌∷◌, Option, Some, None, Bor, codes, inl, inr, sym, subst, arith}
 use Rattle.std.specs.Option.{IsSomeAnd}
 use Rattle.command_line.specs.Words.{AsksFor, IsCommand, Word, WritesWithin}
 use Rattle.command_line.specs.declared.Request.TheVariants.{Import}
