@@ -1,7 +1,7 @@
 //! Worked values on the whole machine.
 use crate::asserting::{OrStop, holds, same};
 use cartridge::Cartridge;
-use machine::{Input, Machine, Region, StepKind, Stepped};
+use machine::{Machine, Region, StepKind, Stepped};
 use std::alloc::Global;
 use std::process::Abort;
 use std::test::Fail;
@@ -41,14 +41,6 @@ fn step(machine: &mut Machine) -> Stepped {
 
 fn byte_at(machine: &Machine, address: u16) -> u8 {
     machine.peek(address)
-}
-
-fn apply(machine: &mut Machine, input: Input) {
-    machine.apply(input);
-}
-
-fn buttons(machine: &Machine) -> u8 {
-    machine.state().bus.buttons
 }
 
 fn frame(machine: &mut Machine, buttons: u8) {
@@ -239,14 +231,4 @@ fn a_stop_ends_with_a_button(rt: HostRuntime) {
     press(&mut machine, 0x01);
     let _ = step(&mut machine);
     same!(rt; (a_of(&machine), pc_of(&machine)), (0x02, 0xc003));
-}
-
-#[test]
-fn inputs_set_buttons_and_the_clock(rt: HostRuntime) {
-    let mut machine = machine(rt.alloc(), &[0x18, 0xfe]).or_stop(&rt);
-    apply(&mut machine, Input::Frame(0x81));
-    same!(rt; buttons(&machine), 0x81);
-    let before = machine.state();
-    apply(&mut machine, Input::Seconds(60));
-    holds!(rt; machine.state() == before);
 }

@@ -174,15 +174,6 @@ fn snapshots_are_refused_at_their_first_fault(rt: HostRuntime) {
     }
 }
 
-#[test]
-fn another_kind_is_refused(rt: HostRuntime) {
-    let alloc = rt.alloc();
-    let plain = cartridge(alloc, 0x00, 0, &[]).or_stop(&rt);
-    let mbc1 = cartridge(alloc, 0x01, 0, &[]).or_stop(&rt);
-    let bytes = snapshot_at_power_on(alloc, &plain).or_stop(&rt);
-    has_fault(&rt, alloc, &bytes, &mbc1, Some(SnapError::Field(51)));
-}
-
 // All fields but the stores.
 const FRONT: [u8; 67] = [
     0x47, 0x42, 0x53, 0x4e, 0x41, 0x50, 0x30, 0x31, 0x01, 0x80, 0x00, 0x13, 0x00, 0xd8, 0x01, 0x4d,
@@ -345,18 +336,9 @@ fn machines_come_back_from_their_snapshots(rt: HostRuntime) {
     }
 }
 
-// Machines of this type with every RAM code, after writes from 014D on and with the next ones from 9F00 on.
-fn come_back(alloc: Global, kind: u8) -> Result<bool, Fail> {
-    for ram_code in RAM_CODES {
-        if !comes_back_with(alloc, kind, ram_code)? {
-            return Ok(false);
-        }
-    }
-    Ok(true)
-}
-
 const RAM_CODES: [u8; 5] = [0x00, 0x02, 0x03, 0x04, 0x05];
 
+// A machine of this type, with this RAM code, after writes from 014D on and with the next ones from 9F00 on.
 fn comes_back_with(alloc: Global, kind: u8, ram_code: u8) -> Result<bool, Fail> {
     let cartridge = cartridge(alloc, kind, ram_code, &WRITER)?;
     let mut machine = power_on(alloc, &cartridge)?;
@@ -371,34 +353,40 @@ fn set_h(machine: &mut Machine, h: u8) {
     machine.restore(&state);
 }
 
-#[test]
-fn plain_comes_back_from_its_snapshot(rt: HostRuntime) {
-    holds!(rt; come_back(rt.alloc(), 0x00).or_stop(&rt));
+fn come_back(rt: &impl Abort, alloc: Global, kinds: &[(u8, u8)]) {
+    for (kind, ram_code) in kinds {
+        holds!(rt; comes_back_with(alloc, *kind, *ram_code).or_stop(rt), "type {kind:02X}");
+    }
 }
 
 #[test]
-fn mbc1_comes_back_from_its_snapshot(rt: HostRuntime) {
-    holds!(rt; come_back(rt.alloc(), 0x02).or_stop(&rt));
+fn plain_mbc1_and_mbc2_come_back_from_their_snapshots(rt: HostRuntime) {
+    come_back(
+        &rt,
+        rt.alloc(),
+        &[
+            (0x00, 0x00),
+            (0x00, 0x02),
+            (0x02, 0x00),
+            (0x02, 0x03),
+            (0x06, 0x00),
+        ],
+    );
 }
 
 #[test]
-fn mbc2_comes_back_from_its_snapshot(rt: HostRuntime) {
-    holds!(rt; come_back(rt.alloc(), 0x06).or_stop(&rt));
-}
-
-#[test]
-fn mbc3_comes_back_from_its_snapshot(rt: HostRuntime) {
-    holds!(rt; come_back(rt.alloc(), 0x12).or_stop(&rt));
-}
-
-#[test]
-fn mbc5_comes_back_from_its_snapshot(rt: HostRuntime) {
-    holds!(rt; come_back(rt.alloc(), 0x1a).or_stop(&rt));
-}
-
-#[test]
-fn mbc5_with_rumble_comes_back_from_its_snapshot(rt: HostRuntime) {
-    holds!(rt; come_back(rt.alloc(), 0x1d).or_stop(&rt));
+fn mbc3_and_mbc5_come_back_from_their_snapshots(rt: HostRuntime) {
+    come_back(
+        &rt,
+        rt.alloc(),
+        &[
+            (0x12, 0x03),
+            (0x12, 0x05),
+            (0x1a, 0x00),
+            (0x1a, 0x04),
+            (0x1d, 0x03),
+        ],
+    );
 }
 
 // It enables RAM, sets the clock's minutes to 59 and its day to 256, and arms the latch.
@@ -550,34 +538,6 @@ fn is_good(number: u16, row: Row) -> bool {
     row.least <= number && number <= row.most && number & row.bits == number
 }
 
-// The first fault of a snapshot of the right length, by looking at each rule in turn.
-fn first_fault(bytes: &[u8], kind: Kind) -> Option<u32> {
-    let magic = *b"GBSNAP01";
-    for (index, byte) in magic.iter().enumerate() {
-        if at(bytes, index) != *byte {
-            return Some(0);
-        }
-    }
-    for row in rows(kind) {
-        if !is_good(number(bytes, row), row) {
-            return Some(row.offset);
-        }
-    }
-    for offset in 67..128 {
-        if at(bytes, offset) != 0 {
-            return Some(67);
-        }
-    }
-    if kind.number == 2 {
-        for offset in 22_607..23_119 {
-            if at(bytes, offset) > 15 {
-                return Some(22_607);
-            }
-        }
-    }
-    None
-}
-
 const VALUES: [u8; 24] = [
     0, 1, 2, 3, 4, 6, 7, 8, 15, 16, 31, 32, 63, 64, 113, 114, 127, 128, 153, 154, 160, 161, 192,
     255,
@@ -631,25 +591,6 @@ fn each_field_of_each_kind_is_looked_at(rt: HostRuntime) {
     }
 }
 
-#[test]
-fn every_byte_of_magic_and_unused_is_looked_at(rt: HostRuntime) {
-    let alloc = rt.alloc();
-    let cartridge = cartridge(alloc, 0x00, 0, &[]).or_stop(&rt);
-    let mut bytes = snapshot_at_power_on(alloc, &cartridge).or_stop(&rt);
-    for offset in 0..8 {
-        let byte = at(&bytes, offset);
-        put(&mut bytes, offset, byte ^ 1);
-        has_fault(&rt, alloc, &bytes, &cartridge, Some(SnapError::Field(0)));
-        put(&mut bytes, offset, byte);
-    }
-    for offset in 67..128 {
-        put(&mut bytes, offset, 0x80);
-        has_fault(&rt, alloc, &bytes, &cartridge, Some(SnapError::Field(67)));
-        put(&mut bytes, offset, 0);
-    }
-    has_fault(&rt, alloc, &bytes, &cartridge, None);
-}
-
 fn last_of_ram_in(alloc: Global, bytes: &[u8], cartridge: &Cartridge) -> Result<Option<u8>, Fail> {
     Ok(last_of_ram(&machine_of(alloc, bytes, cartridge)?))
 }
@@ -670,137 +611,4 @@ fn half_bytes_of_mbc2(rt: HostRuntime) {
         &cartridge,
         Some(SnapError::Field(22_607)),
     );
-}
-
-// The next number of a plain generator.
-fn next(seed: &mut u64) -> u64 {
-    *seed = seed
-        .wrapping_mul(6_364_136_223_846_793_005)
-        .wrapping_add(1_442_695_040_888_963_407);
-    *seed >> 33
-}
-
-fn change_byte(bytes: &mut [u8], seed: &mut u64) {
-    let limit = if next(seed) % 4 == 0 {
-        bytes.len() as u64
-    } else {
-        70
-    };
-    if limit > 0 {
-        let offset = next(seed) % limit;
-        put(bytes, offset as usize, (next(seed) % 256) as u8);
-    }
-}
-
-// This snapshot with up to five bytes changed.
-fn changed(alloc: Global, sound: &[u8], seed: &mut u64) -> Result<Vec<u8>, Fail> {
-    let mut bytes = sound.to_vec(alloc)?;
-    for _byte in 0..next(seed) % 6 {
-        change_byte(&mut bytes, seed);
-    }
-    Ok(bytes)
-}
-
-// Whether a machine was made. The answer has to be the first fault, or a machine with this very snapshot.
-fn is_made(alloc: Global, bytes: &[u8], cartridge: &Cartridge, kind: Kind) -> Result<bool, Fail> {
-    let fault = first_fault(bytes, kind);
-    match decode(alloc, bytes, cartridge) {
-        Ok(found) => {
-            has_no_fault(alloc, &found, bytes, fault)?;
-            Ok(true)
-        }
-        Err(why) => {
-            if fault.map(SnapError::Field) != Some(why) {
-                return Err(Fail::from("a wrong fault"));
-            }
-            Ok(false)
-        }
-    }
-}
-
-fn has_no_fault(
-    alloc: Global,
-    found: &Machine,
-    bytes: &[u8],
-    fault: Option<u32>,
-) -> Result<(), Fail> {
-    if fault.is_some() || snapshot_of(alloc, found)?.as_slice() != bytes {
-        return Err(Fail::from("a wrong machine"));
-    }
-    Ok(())
-}
-
-fn snapshot_behind_a_frame(alloc: Global, cartridge: &Cartridge) -> Result<Vec<u8>, Fail> {
-    let mut machine = power_on(alloc, cartridge)?;
-    frame(&mut machine, 0x81);
-    snapshot_of(alloc, &machine)
-}
-
-fn is_made_once_changed(
-    alloc: Global,
-    sound: &[u8],
-    seed: &mut u64,
-    cartridge: &Cartridge,
-    kind: Kind,
-) -> Result<bool, Fail> {
-    is_made(alloc, &changed(alloc, sound, seed)?, cartridge, kind)
-}
-
-// How many of so many snapshots with some bytes changed are still a machine's.
-fn random_snapshots(alloc: Global, kind: Kind, count: u32) -> Result<u32, Fail> {
-    let cartridge = cartridge(alloc, kind.cartridge_type, 0x02, &WRITER)?;
-    let sound = snapshot_behind_a_frame(alloc, &cartridge)?;
-    let mut seed = u64::from(kind.cartridge_type);
-    let mut made: u32 = 0;
-    for _text in 0..count {
-        if is_made_once_changed(alloc, &sound, &mut seed, &cartridge, kind)? {
-            made = made.wrapping_add(1);
-        }
-    }
-    Ok(made)
-}
-
-fn random_snapshots_are_answered(alloc: Global, index: usize) -> Result<bool, Fail> {
-    match kinds().get(index) {
-        Some(kind) => {
-            let made = random_snapshots(alloc, *kind, 400)?;
-            Ok(made > 80 && made < 360)
-        }
-        None => Ok(false),
-    }
-}
-
-#[test]
-fn random_snapshots_of_plain(rt: HostRuntime) {
-    holds!(rt; random_snapshots_are_answered(rt.alloc(), 0).or_stop(&rt));
-}
-
-#[test]
-fn random_snapshots_of_mbc1(rt: HostRuntime) {
-    holds!(rt; random_snapshots_are_answered(rt.alloc(), 1).or_stop(&rt));
-}
-
-#[test]
-fn random_snapshots_of_mbc2(rt: HostRuntime) {
-    holds!(rt; random_snapshots_are_answered(rt.alloc(), 2).or_stop(&rt));
-}
-
-#[test]
-fn random_snapshots_of_mbc3(rt: HostRuntime) {
-    holds!(rt; random_snapshots_are_answered(rt.alloc(), 3).or_stop(&rt));
-}
-
-#[test]
-fn random_snapshots_of_mbc3_with_clock(rt: HostRuntime) {
-    holds!(rt; random_snapshots_are_answered(rt.alloc(), 4).or_stop(&rt));
-}
-
-#[test]
-fn random_snapshots_of_mbc5(rt: HostRuntime) {
-    holds!(rt; random_snapshots_are_answered(rt.alloc(), 5).or_stop(&rt));
-}
-
-#[test]
-fn random_snapshots_of_mbc5_with_rumble(rt: HostRuntime) {
-    holds!(rt; random_snapshots_are_answered(rt.alloc(), 6).or_stop(&rt));
 }
