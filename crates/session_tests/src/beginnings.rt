@@ -2,9 +2,8 @@
 use crate::asserting::{OrStop, holds, same};
 use crate::common::{
     begun, begun_from, calls, cartridge, cartridge_of, clock_snapshot, count, counts,
-    frames_snapshot, fresh, game, give_frames, has_bytes, image, into_device, is_blank_from,
-    left_by_game_from, left_by_new_game, looks_at, other_cartridge, refused, resumed, resumes_at,
-    save, snapshot_of,
+    frames_snapshot, fresh, game, has_bytes, image, into_device, is_blank_from, left_by_game_from,
+    left_by_new_game, looks_at, resumes_at, snapshot_of,
 };
 use sector_device::MemoryDevice;
 use session::{SessionError, sectors_needed};
@@ -75,26 +74,6 @@ fn a_new_game_is_the_first_generation(rt: HostRuntime) {
     same!(rt; device.calls(), 96);
 }
 
-#[test]
-fn a_new_game_replaces_that_of_another_rom(rt: HostRuntime) {
-    let alloc = rt.alloc();
-    let ours = cartridge(alloc).or_stop(&rt);
-    let other = other_cartridge(alloc).or_stop(&rt);
-    let session = begun(&rt, alloc, game(&rt, alloc, &other, 5), &ours);
-    same!(rt; counts(&session), [0, 0, 0]);
-    let device = into_device(session);
-    let refusal = refused(&rt, alloc, device, &other);
-    same!(rt; refusal.why, SessionError::OtherCartridge);
-    resumes_at(
-        &rt,
-        alloc,
-        refusal.device,
-        &ours,
-        0,
-        &clock_snapshot(alloc, &ours, 0).or_stop(&rt),
-    );
-}
-
 /// Of a new game over one of 120 inputs, cut at any call, the old game or the new one is left; once it was begun only the new one.
 #[test]
 fn a_new_game_cut_anywhere_leaves_old_or_new(rt: HostRuntime) {
@@ -123,29 +102,6 @@ fn a_new_game_cut_anywhere_leaves_old_or_new(rt: HostRuntime) {
     same!(rt; begun_after, Some(101));
 }
 
-/// The same over another ROM's game: the one is found, or the other.
-#[test]
-fn a_cut_new_game_of_another_rom(rt: HostRuntime) {
-    let alloc = rt.alloc();
-    let ours = cartridge(alloc).or_stop(&rt);
-    let other = other_cartridge(alloc).or_stop(&rt);
-    let old = game(&rt, alloc, &other, 5);
-    for k in 90..101 {
-        let mut device = old.image(alloc, &[]).or_stop(&rt);
-        device.fuse(k);
-        let (why, device) = left_by_new_game(alloc, device, &ours);
-        for keeps in [[false, false], [true, true]] {
-            let left = image(alloc, &device, keeps).or_stop(&rt);
-            let is_new = why.is_none() || (keeps[0] && k > 97);
-            if is_new {
-                same!(rt; count(&rt, alloc, left, &ours), 0);
-            } else {
-                same!(rt; resumed(&rt, alloc, left, &other).counts().all, 5);
-            }
-        }
-    }
-}
-
 /// A game begun with a machine that has run some frames counts none of them, and replaces what was there.
 #[test]
 fn a_game_begins_with_a_given_machine(rt: HostRuntime) {
@@ -159,26 +115,6 @@ fn a_game_begins_with_a_given_machine(rt: HostRuntime) {
     same!(rt; counts(&session), [0, 0, 0]);
     let device = looks_at(&rt, alloc, into_device(session), &cartridge, 0, &bytes);
     resumes_at(&rt, alloc, device, &cartridge, 0, &bytes);
-}
-
-/// Its inputs are counted from 0, and lead on from its machine.
-#[test]
-fn a_game_with_a_given_machine_is_played_on(rt: HostRuntime) {
-    let alloc = rt.alloc();
-    let cartridge = cartridge(alloc).or_stop(&rt);
-    let bytes = frames_snapshot(alloc, &cartridge, 2).or_stop(&rt);
-    let device = fresh(alloc, 188).or_stop(&rt);
-    let mut session = begun_from(&rt, alloc, device, &cartridge, &bytes);
-    give_frames(&rt, &mut session, 2, 5);
-    save(&rt, &mut session, 3);
-    resumes_at(
-        &rt,
-        alloc,
-        into_device(session),
-        &cartridge,
-        3,
-        &frames_snapshot(alloc, &cartridge, 5).or_stop(&rt),
-    );
 }
 
 #[test]

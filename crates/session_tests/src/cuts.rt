@@ -1,8 +1,8 @@
 //! Resumes cut at any device call.
 use crate::asserting::{OrStop, same};
 use crate::common::{
-    begun, calls, cartridge, clock_snapshot, fresh, game, give_input, has_bytes, image,
-    into_device, left_by_resume, put, resumed, resumes_at, settled, snapshot_of,
+    begun, cartridge, clock_snapshot, fresh, game, give_input, has_bytes, image, into_device,
+    left_by_resume, put, resumed, resumes_at, settled, snapshot_of,
 };
 use cartridge::Cartridge;
 use machine::Input;
@@ -51,16 +51,6 @@ fn a_resume_cut_anywhere_loses_nothing(rt: HostRuntime) {
     let taken_up = resume_cut_anywhere(&rt, alloc, &cartridge, &old, 5, &bytes);
     // It looks by a sync and 64 reads: two roots, a log sector and 61 of the snapshot. Then it makes 96 calls.
     same!(rt; taken_up, Some(161));
-}
-
-#[test]
-fn a_resume_looks_and_writes_one_generation(rt: HostRuntime) {
-    let alloc = rt.alloc();
-    let cartridge = cartridge(alloc).or_stop(&rt);
-    let old = game(&rt, alloc, &cartridge, 5);
-    let session = resumed(&rt, alloc, old, &cartridge);
-    // A sync; 32 blank log sectors, 61 of the snapshot, a sync, the root and a sync.
-    same!(rt; calls(&session), 97);
 }
 
 /// The device of a game of the third generation of version 1, with 5 inputs before the snapshot and two in the log.

@@ -1,8 +1,8 @@
 //! What a resume finds on a device and refuses. Then it has made one sync and written nothing.
 use crate::asserting::{OrStop, same};
 use crate::common::{
-    answer, begun, cartridge, clock_snapshot, counts, fresh, game, give, into_device,
-    other_cartridge, put, refused, resumed, resumes_at, save, settled,
+    answer, begun, cartridge, counts, fresh, game, give, into_device, other_cartridge, put,
+    refused, resumed, save, settled,
 };
 use cartridge::Cartridge;
 use machine::Input;
@@ -103,17 +103,6 @@ fn an_empty_device_has_no_session(rt: HostRuntime) {
 }
 
 #[test]
-fn a_game_of_another_rom_is_left_alone(rt: HostRuntime) {
-    let alloc = rt.alloc();
-    let ours = cartridge(alloc).or_stop(&rt);
-    let other = other_cartridge(alloc).or_stop(&rt);
-    let device = game(&rt, alloc, &ours, 5);
-    let device = is_refused(&rt, alloc, device, &other, SessionError::OtherCartridge);
-    let bytes = clock_snapshot(alloc, &ours, 5).or_stop(&rt);
-    resumes_at(&rt, alloc, device, &ours, 5, &bytes);
-}
-
-#[test]
 fn another_rom_comes_before_damage(rt: HostRuntime) {
     let alloc = rt.alloc();
     let ours = cartridge(alloc).or_stop(&rt);
@@ -156,23 +145,6 @@ fn a_snapshot_that_does_not_fit(rt: HostRuntime) {
     let device = changed(&rt, alloc, &cartridge, 188, &[snapshot_length(u32::MAX)]);
     let short = SessionError::TooSmall { need: 16_777_282 };
     is_refused(&rt, alloc, device, &cartridge, short);
-}
-
-#[test]
-fn a_snapshot_of_other_length(rt: HostRuntime) {
-    let alloc = rt.alloc();
-    let cartridge = cartridge(alloc).or_stop(&rt);
-    for length in [40_000, 30_798, 30_800, 0] {
-        let device = changed(&rt, alloc, &cartridge, 512, &[snapshot_length(length)]);
-        let damage = Damage::Snapshot(SnapError::SnapLength(u64::from(length)));
-        is_refused(
-            &rt,
-            alloc,
-            device,
-            &cartridge,
-            SessionError::Damaged(damage),
-        );
-    }
 }
 
 #[test]

@@ -296,61 +296,6 @@ fn a_play_cut_before_any_call_keeps_what_it_told(rt: HostRuntime) {
     holds!(rt; seen.between > 0);
 }
 
-/// Plays a script to its end, and answers what is left.
-fn reports(
-    rt: &impl Abort,
-    alloc: Global,
-    device: MemoryDevice,
-    cartridge: &Cartridge,
-    script: &[u8],
-    want: &[u8],
-) -> MemoryDevice {
-    let moves = moves_of(rt, alloc, script);
-    let mut report = Vec::new(alloc);
-    let (why, device) = left_by_play(alloc, device, cartridge, &moves, &mut report);
-    same!(rt; why, None);
-    holds!(rt; report.as_slice() == want);
-    device
-}
-
-#[test]
-fn plays_report_what_is_saved(rt: HostRuntime) {
-    let alloc = rt.alloc();
-    let cartridge = cartridge(alloc).or_stop(&rt);
-    let begun = game(&rt, alloc, &cartridge, 0);
-    let first = reports(
-        &rt,
-        alloc,
-        begun.image(alloc, &[]).or_stop(&rt),
-        &cartridge,
-        b"frames 00 3\nseconds 60\nsave",
-        b"resumed 0\nsaved 4\n",
-    );
-    let second = reports(
-        &rt,
-        alloc,
-        first,
-        &cartridge,
-        b"frame 01",
-        b"resumed 4\nsaved 5\n",
-    );
-    let made = second.calls();
-    let third = reports(&rt, alloc, second, &cartridge, b"", b"resumed 5\n");
-    // no call but those of a resume
-    same!(rt; third.calls().saturating_sub(made), 97);
-    let mut script = Vec::new(alloc);
-    add_lines(&mut script, b"seconds 0\n", 3_200).or_stop(&rt);
-    script.extend_from_slice(b"save").or_stop(&rt);
-    reports(
-        &rt,
-        alloc,
-        begun,
-        &cartridge,
-        &script,
-        b"resumed 0\nsaved 3200\nsaved 3200\n",
-    );
-}
-
 #[test]
 fn a_play_on_an_empty_device_reports_nothing(rt: HostRuntime) {
     let alloc = rt.alloc();

@@ -1,10 +1,8 @@
 //! Streams of lines, and what they answer.
 use crate::asserting::{OrStop, holds, same};
-use crate::common::{cartridge, game, resumed, sector};
+use crate::common::{cartridge, game, resumed};
 use cartridge::Cartridge;
-use playing::play;
-use script::read_script;
-use sector_device::{MemoryDevice, SectorDevice};
+use sector_device::MemoryDevice;
 use session::SessionError;
 use std::alloc::Global;
 use std::io;
@@ -76,45 +74,6 @@ fn streams(
     device
 }
 
-fn sectors_are(rt: &impl Abort, one: &mut MemoryDevice, other: &mut MemoryDevice) {
-    same!(rt; one.count(), other.count());
-    for at in 0..one.count() {
-        holds!(rt; sector(rt, one, at) == sector(rt, other, at));
-    }
-}
-
-const SCRIPT: &[u8] = b"frame 01\n\nseconds 60\nsave\nframes 80 3\nsave\nsave\nseconds 4294967295";
-
-/// A stream of a script answers as a play of it does, and leaves the same device, however the bytes come.
-#[test]
-fn a_stream_of_a_script_is_its_play(rt: HostRuntime) {
-    let alloc = rt.alloc();
-    let cartridge = cartridge(alloc).or_stop(&rt);
-    let old = game(&rt, alloc, &cartridge, 5);
-    let Ok(moves) = read_script(alloc, SCRIPT) else {
-        panic!(rt; "no script");
-    };
-    let mut report = Vec::new(alloc);
-    let Ok(session) = play(
-        alloc,
-        old.image(alloc, &[]).or_stop(&rt),
-        &cartridge,
-        &moves,
-        &mut report,
-    ) else {
-        panic!(rt; "not played");
-    };
-    let mut played = session.into_device();
-    let want = b"resumed 5\nsaved 7\nsaved 10\nsaved 10\nsaved 11\n".as_slice();
-    holds!(rt; report.as_slice() == want);
-    for most in [1, 7, 5000] {
-        let mut left = streams(
-            &rt, alloc, &old, &cartridge, most, SCRIPT, false, None, want,
-        );
-        sectors_are(&rt, &mut left, &mut played);
-    }
-}
-
 /// What is written, what is refused, and what is saved then.
 #[test]
 fn lines_are_answered_or_refused(rt: HostRuntime) {
@@ -172,60 +131,6 @@ fn lines_are_answered_or_refused(rt: HostRuntime) {
         for most in [1, 4096] {
             streams(&rt, alloc, &old, &cartridge, most, lines, fails, want, text);
         }
-    }
-}
-
-/// The picture of the machine that a game stands for.
-fn picture_in(
-    rt: &impl Abort,
-    alloc: Global,
-    game: MemoryDevice,
-    cartridge: &Cartridge,
-) -> Vec<u8> {
-    let session = resumed(rt, alloc, game, cartridge);
-    let mut text = Vec::new(alloc);
-    holds!(rt; session.machine().picture().write_pgm(&mut text).is_ok());
-    text
-}
-
-#[test]
-fn pictures_are_those_of_their_machines(rt: HostRuntime) {
-    let alloc = rt.alloc();
-    let cartridge = cartridge(alloc).or_stop(&rt);
-    let old = game(&rt, alloc, &cartridge, 0);
-    let first = picture_in(&rt, alloc, old.image(alloc, &[]).or_stop(&rt), &cartridge);
-    let later = streams(
-        &rt,
-        alloc,
-        &old,
-        &cartridge,
-        9,
-        b"frames 00 2\n",
-        false,
-        None,
-        b"resumed 0\nsaved 2\n".as_slice(),
-    );
-    let second = picture_in(&rt, alloc, later, &cartridge);
-    same!(rt; first.len(), 46_093);
-    same!(rt; second.len(), 46_093);
-    let mut text = Vec::new(alloc);
-    text.extend_from_slice(b"resumed 0\n").or_stop(&rt);
-    text.extend_from_slice(&first).or_stop(&rt);
-    text.extend_from_slice(&second).or_stop(&rt);
-    text.extend_from_slice(&second).or_stop(&rt);
-    text.extend_from_slice(b"saved 2\n").or_stop(&rt);
-    for most in [1, 64] {
-        streams(
-            &rt,
-            alloc,
-            &old,
-            &cartridge,
-            most,
-            b"picture\nframes 00 2\npicture\npicture",
-            false,
-            None,
-            &text,
-        );
     }
 }
 
