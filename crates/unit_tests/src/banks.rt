@@ -42,6 +42,18 @@ fn read(banks: &Banks, address: u16) -> u8 {
     banks.read(address)
 }
 
+fn pass_seconds(banks: &mut Banks, seconds: u32) {
+    banks.pass_seconds(seconds);
+}
+
+fn state_of(banks: &Banks) -> BanksState {
+    banks.state()
+}
+
+fn is_blank(banks: &Banks) -> bool {
+    banks.ram().iter().all(|byte| *byte == 0)
+}
+
 /// Bytes of RAM.
 fn stored(banks: &Banks) -> usize {
     banks.ram().len()
@@ -51,200 +63,99 @@ fn stored_at(banks: &Banks, at: usize) -> Option<u8> {
     banks.ram().get(at).copied()
 }
 
-#[derive(Drop)]
-struct Shows {
-    kind: u8,
-    rom_banks: u16,
-    writes: &'static [(u16, u8)],
-    low: u16,
-    high: u16,
-}
+/// A type, how many banks of ROM there are, what is written then, and which banks are shown.
+type Shows = (u8, u16, &'static [(u16, u8)], u16, u16);
 
 fn select(rt: &impl Abort, alloc: Global, case: &Shows) {
-    let mut banks = inserted(alloc, case.kind, case.rom_banks, 0).or_stop(rt);
-    for (address, value) in case.writes {
+    let mut banks = inserted(alloc, case.0, case.1, 0).or_stop(rt);
+    for (address, value) in case.2 {
         write(&mut banks, *address, *value);
     }
-    same!(rt; bank_at(&banks, 0x0000), case.low);
-    same!(rt; bank_at(&banks, 0x4000), case.high);
+    same!(rt; bank_at(&banks, 0x0000), case.3);
+    same!(rt; bank_at(&banks, 0x4000), case.4);
 }
 
 /// Pan Docs, "MBC1" ("2000-3FFF ROM Bank Number", "6000-7FFF Banking Mode Select"), "MBC2" ("0000-3FFF RAM
 /// Enable, ROM Bank Number"), "MBC3" ("2000-3FFF ROM Bank Number") and "MBC5" ("2000-2FFF", "3000-3FFF").
+static ROM_BANKS: [Shows; 18] = [
+    (0x00, 2, &[(0x2000, 0), (0x4000, 3)], 0, 1),
+    (0x01, 128, &[], 0, 1),
+    (0x01, 128, &[(0x2000, 0), (0x4000, 1)], 0, 0x21),
+    (0x01, 128, &[(0x2000, 0x60), (0x4000, 3)], 0, 0x61),
+    (
+        0x01,
+        128,
+        &[(0x2000, 0), (0x4000, 1), (0x6000, 1)],
+        0x20,
+        0x21,
+    ),
+    (0x01, 16, &[(0x2000, 0x10)], 0, 0),
+    (0x01, 16, &[(0x3FFF, 0xE5), (0x5FFF, 2), (0x7FFF, 1)], 0, 5),
+    (0x05, 16, &[(0x2100, 0)], 0, 1),
+    (0x05, 16, &[(0x0100, 0x0F)], 0, 15),
+    (0x05, 16, &[(0x2000, 0x07), (0x4100, 0x07)], 0, 1),
+    (0x05, 4, &[(0x3FFF, 0xFE)], 0, 2),
+    (0x11, 128, &[(0x2000, 0)], 0, 1),
+    (0x11, 128, &[(0x2000, 0xA0)], 0, 0x20),
+    (0x11, 128, &[(0x3FFF, 0x7F)], 0, 0x7F),
+    (0x19, 512, &[], 0, 1),
+    (0x19, 512, &[(0x2000, 0)], 0, 0),
+    (0x19, 512, &[(0x2FFF, 0x45), (0x3000, 0xFF)], 0, 0x145),
+    (0x19, 64, &[(0x2000, 0x45), (0x3FFF, 1)], 0, 5),
+];
+
 #[test]
 fn rom_banks(rt: HostRuntime) {
-    let cases = [
-        Shows {
-            kind: 0x00,
-            rom_banks: 2,
-            writes: &[(0x2000, 0), (0x4000, 3)],
-            low: 0,
-            high: 1,
-        },
-        Shows {
-            kind: 0x01,
-            rom_banks: 128,
-            writes: &[],
-            low: 0,
-            high: 1,
-        },
-        Shows {
-            kind: 0x01,
-            rom_banks: 128,
-            writes: &[(0x2000, 0), (0x4000, 1)],
-            low: 0,
-            high: 0x21,
-        },
-        Shows {
-            kind: 0x01,
-            rom_banks: 128,
-            writes: &[(0x2000, 0x60), (0x4000, 3)],
-            low: 0,
-            high: 0x61,
-        },
-        Shows {
-            kind: 0x01,
-            rom_banks: 128,
-            writes: &[(0x2000, 0), (0x4000, 1), (0x6000, 1)],
-            low: 0x20,
-            high: 0x21,
-        },
-        Shows {
-            kind: 0x01,
-            rom_banks: 16,
-            writes: &[(0x2000, 0x10)],
-            low: 0,
-            high: 0,
-        },
-        Shows {
-            kind: 0x01,
-            rom_banks: 16,
-            writes: &[(0x3FFF, 0xE5), (0x5FFF, 2), (0x7FFF, 1)],
-            low: 0,
-            high: 5,
-        },
-        Shows {
-            kind: 0x05,
-            rom_banks: 16,
-            writes: &[(0x2100, 0)],
-            low: 0,
-            high: 1,
-        },
-        Shows {
-            kind: 0x05,
-            rom_banks: 16,
-            writes: &[(0x0100, 0x0F)],
-            low: 0,
-            high: 15,
-        },
-        Shows {
-            kind: 0x05,
-            rom_banks: 16,
-            writes: &[(0x2000, 0x07), (0x4100, 0x07)],
-            low: 0,
-            high: 1,
-        },
-        Shows {
-            kind: 0x05,
-            rom_banks: 4,
-            writes: &[(0x3FFF, 0xFE)],
-            low: 0,
-            high: 2,
-        },
-        Shows {
-            kind: 0x11,
-            rom_banks: 128,
-            writes: &[(0x2000, 0)],
-            low: 0,
-            high: 1,
-        },
-        Shows {
-            kind: 0x11,
-            rom_banks: 128,
-            writes: &[(0x2000, 0xA0)],
-            low: 0,
-            high: 0x20,
-        },
-        Shows {
-            kind: 0x11,
-            rom_banks: 128,
-            writes: &[(0x3FFF, 0x7F)],
-            low: 0,
-            high: 0x7F,
-        },
-        Shows {
-            kind: 0x19,
-            rom_banks: 512,
-            writes: &[],
-            low: 0,
-            high: 1,
-        },
-        Shows {
-            kind: 0x19,
-            rom_banks: 512,
-            writes: &[(0x2000, 0)],
-            low: 0,
-            high: 0,
-        },
-        Shows {
-            kind: 0x19,
-            rom_banks: 512,
-            writes: &[(0x2FFF, 0x45), (0x3000, 0xFF)],
-            low: 0,
-            high: 0x145,
-        },
-        Shows {
-            kind: 0x19,
-            rom_banks: 64,
-            writes: &[(0x2000, 0x45), (0x3FFF, 1)],
-            low: 0,
-            high: 5,
-        },
-    ];
-    for case in &cases {
+    for case in ROM_BANKS.as_slice() {
         select(&rt, rt.alloc(), case);
     }
 }
 
 /// Pan Docs, "The Cartridge Header", "0149 - RAM size", and the RAM registers of each controller's page: with so
 /// many banks of 8 KiB, bank n is also bank n plus their number.
+static RAM_BANKS: [(u8, u8, u8); 8] = [
+    (0x09, 0x02, 1),
+    (0x03, 0x02, 1),
+    (0x03, 0x03, 4),
+    (0x13, 0x03, 4),
+    (0x10, 0x05, 8),
+    (0x1B, 0x04, 16),
+    (0x1E, 0x03, 4),
+    (0x1E, 0x05, 8),
+];
+
+/// Writes its number to the last byte of each bank, and reads what is there then.
+fn are_shown(rt: &impl Abort, banks: &mut Banks, present: u8, selected: u8) {
+    for bank in 0..selected {
+        write(banks, 0x4000, bank);
+        write(banks, 0xBFFF, bank);
+    }
+    for bank in 0..selected {
+        write(banks, 0x4000, bank);
+        let last = selected
+            .saturating_sub(present)
+            .saturating_add(bank % present.max(1));
+        same!(rt; read(banks, 0xBFFF), last, "bank {bank}");
+    }
+}
+
 #[test]
 fn ram_banks(rt: HostRuntime) {
-    for (kind, ram_code, present) in [
-        (0x09, 0x02, 1),
-        (0x03, 0x02, 1),
-        (0x03, 0x03, 4),
-        (0x13, 0x03, 4),
-        (0x10, 0x05, 8),
-        (0x1B, 0x04, 16),
-        (0x1E, 0x03, 4),
-        (0x1E, 0x05, 8),
-    ] {
-        let mut banks = inserted(rt.alloc(), kind, 2, ram_code).or_stop(&rt);
-        same!(rt; stored(&banks), 0x2000 * usize::from(present));
-        same!(rt; read(&banks, 0xA000), if kind == 0x09 { 0x00 } else { 0xFF });
+    for (kind, ram_code, present) in RAM_BANKS.as_slice() {
+        let mut banks = inserted(rt.alloc(), *kind, 2, *ram_code).or_stop(&rt);
+        let is_plain = *kind == 0x09;
+        same!(rt; stored(&banks), 0x2000 * usize::from(*present));
+        same!(rt; read(&banks, 0xA000), if is_plain { 0x00 } else { 0xFF });
         write(&mut banks, 0x1FFF, 0x1A);
         write(&mut banks, 0x6000, 0x01);
-        let selected = if kind == 0x10 || kind == 0x13 {
-            8u8
+        let selected = if *kind == 0x10 || *kind == 0x13 {
+            8
         } else {
             16
         };
-        for bank in 0..selected {
-            write(&mut banks, 0x4000, bank);
-            write(&mut banks, 0xBFFF, bank);
-        }
-        for bank in 0..selected {
-            write(&mut banks, 0x4000, bank);
-            let last = if present == 0 {
-                0
-            } else {
-                selected - present + bank % present
-            };
-            same!(rt; read(&banks, 0xBFFF), last, "type {kind} bank {bank}");
-        }
+        are_shown(&rt, &mut banks, *present, selected);
         write(&mut banks, 0x0000, 0x0B);
-        same!(rt; read(&banks, 0xBFFF) == 0xFF, kind != 0x09);
+        same!(rt; read(&banks, 0xBFFF) == 0xFF, !is_plain);
     }
 }
 
@@ -300,49 +211,33 @@ fn clock(alloc: Global, registers: [u8; 5]) -> Result<Banks, Fail> {
 
 /// Latches the clock and reads registers 8 to C.
 fn latched(banks: &mut Banks) -> [u8; 5] {
-    banks.write(0x6000, 0x00);
-    banks.write(0x6000, 0x01);
+    write(banks, 0x6000, 0x00);
+    write(banks, 0x6000, 0x01);
     let mut registers = [0; 5];
     for (register, value) in (8u8..13).zip(registers.iter_mut()) {
-        banks.write(0x4000, register);
-        *value = banks.read(0xA000);
+        write(banks, 0x4000, register);
+        *value = read(banks, 0xA000);
     }
     registers
 }
 
+static SECONDS: [([u8; 5], u32, [u8; 5]); 7] = [
+    ([59, 59, 23, 0xFF, 0x01], 1, [0, 0, 0, 0, 0x80]),
+    ([59, 59, 23, 0xFF, 0x41], 1, [59, 59, 23, 0xFF, 0x41]),
+    ([63, 7, 0, 0, 0], 1, [0, 7, 0, 0, 0]),
+    ([60, 63, 31, 0, 0], 5, [1, 63, 31, 0, 0]),
+    ([59, 59, 23, 0xFF, 0x00], 1, [0, 0, 0, 0x00, 0x01]),
+    ([0, 0, 0, 0, 0x80], 86400, [0, 0, 0, 1, 0x80]),
+    ([0, 0, 0, 0, 0], 4294967295, [0x0F, 0x1C, 0x06, 0x2E, 0x80]),
+];
+
 #[test]
 fn seconds(rt: HostRuntime) {
-    for (registers, seconds, after) in [
-        ([59, 59, 23, 0xFF, 0x01], 1, [0, 0, 0, 0, 0x80]),
-        ([59, 59, 23, 0xFF, 0x41], 1, [59, 59, 23, 0xFF, 0x41]),
-        ([63, 7, 0, 0, 0], 1, [0, 7, 0, 0, 0]),
-        ([60, 63, 31, 0, 0], 5, [1, 63, 31, 0, 0]),
-        ([59, 59, 23, 0xFF, 0x00], 1, [0, 0, 0, 0x00, 0x01]),
-        ([0, 0, 0, 0, 0x80], 86400, [0, 0, 0, 1, 0x80]),
-        ([0, 0, 0, 0, 0], 4294967295, [0x0F, 0x1C, 0x06, 0x2E, 0x80]),
-    ] {
-        let mut banks = clock(rt.alloc(), registers).or_stop(&rt);
-        same!(rt; latched(&mut banks), registers);
-        banks.pass_seconds(seconds);
-        same!(rt; latched(&mut banks), after);
-    }
-}
-
-/// Jumps and single seconds agree, from registers out of range too.
-#[test]
-fn seconds_at_once(rt: HostRuntime) {
-    for registers in [
-        [58, 59, 23, 0xFF, 1],
-        [61, 62, 30, 0xFF, 0x81],
-        [0, 63, 25, 7, 0],
-    ] {
-        let mut at_once = clock(rt.alloc(), registers).or_stop(&rt);
-        let mut one_by_one = clock(rt.alloc(), registers).or_stop(&rt);
-        at_once.pass_seconds(20000);
-        for _ in 0..20000 {
-            one_by_one.pass_seconds(1);
-        }
-        same!(rt; at_once.state(), one_by_one.state());
+    for (registers, seconds, after) in SECONDS.as_slice() {
+        let mut banks = clock(rt.alloc(), *registers).or_stop(&rt);
+        same!(rt; latched(&mut banks), *registers);
+        pass_seconds(&mut banks, *seconds);
+        same!(rt; latched(&mut banks), *after);
     }
 }
 
@@ -356,21 +251,13 @@ fn the_latch_is_armed_by_zero(rt: HostRuntime) {
         ([0x02, 0x01], false),
     ] {
         let mut banks = clock(rt.alloc(), [10, 0, 0, 0, 0]).or_stop(&rt);
-        banks.pass_seconds(5);
+        pass_seconds(&mut banks, 5);
         for value in writes {
             write(&mut banks, 0x7FFF, value);
         }
         write(&mut banks, 0x4000, 0x08);
         same!(rt; read(&banks, 0xA000), if copies { 15 } else { 10 });
     }
-}
-
-#[test]
-fn without_a_clock_no_time_passes(rt: HostRuntime) {
-    let mut banks = inserted(rt.alloc(), 0x13, 2, 0x03).or_stop(&rt);
-    let before = banks.state();
-    banks.pass_seconds(4294967295);
-    same!(rt; banks.state(), before);
 }
 
 #[test]
@@ -400,47 +287,10 @@ fn begins_as_at_power_on(rt: HostRuntime) {
             clock: zero,
             latched: zero,
         };
-        same!(rt; banks.state(), state);
-        holds!(rt; banks.ram().iter().all(|byte| *byte == 0));
+        same!(rt; state_of(&banks), state);
+        holds!(rt; is_blank(&banks));
         same!(rt; read(&banks, 0x8000), 0xFF);
         same!(rt; read(&banks, 0xC000), 0xFF);
         same!(rt; read(&banks, 0xFFFF), 0xFF);
     }
-}
-
-#[test]
-fn restores_registers_and_ram(rt: HostRuntime) {
-    let mut banks = inserted(rt.alloc(), 0x1B, 64, 0x03).or_stop(&rt);
-    write(&mut banks, 0x0000, 0x0A);
-    write(&mut banks, 0x2000, 0x2A);
-    write(&mut banks, 0x4000, 0x03);
-    let state = banks.state();
-    assert_eq!(rt; state.kind, Controller::Mbc5);
-    same!(rt;
-        (state.ram_enabled, state.rom_bank, state.ram_bank),
-        (true, 0x2A, 3)
-    );
-    let other = BanksState {
-        rom_bank: 0x15,
-        ram_bank: 1,
-        ..state
-    };
-    banks.restore(&other);
-    same!(rt; banks.state(), other);
-    same!(rt; bank_at(&banks, 0x4000), 0x15);
-    let bytes = repeated(rt.alloc(), 0x77, stored(&banks)).or_stop(&rt);
-    fill(&rt, &mut banks, &bytes);
-    same!(rt; read(&banks, 0xB234), 0x77);
-}
-
-fn repeated(alloc: Global, value: u8, count: usize) -> Result<Vec<u8>, Fail> {
-    Ok(vec![in alloc; value; count]?)
-}
-
-/// Fills the RAM of an MBC5.
-fn fill(rt: &impl Abort, banks: &mut Banks, bytes: &[u8]) {
-    assert_eq!(rt; banks.state().kind, Controller::Mbc5);
-    assert_eq!(rt; banks.ram().len(), bytes.len());
-    assert_eq!(rt; bytes.len() % 0x2000, 0);
-    banks.fill(bytes);
 }

@@ -1,11 +1,9 @@
 //! The picture unit: time, registers, stores and pictures.
 use crate::asserting::{OrStop, holds, same};
 use picture_unit::{
-    LatePicture, OutputFailed, PictureRegion, PictureRequests, PictureState, map_shades,
-    tile_colours,
+    LatePicture, OutputFailed, PictureRequests, PictureState, map_shades, tile_colours,
 };
 use std::alloc::Global;
-use std::process::Abort;
 use std::test::Fail;
 
 const FRAME: u32 = 17556;
@@ -42,73 +40,10 @@ fn off(alloc: Global) -> Result<LatePicture, Fail> {
     Ok(picture)
 }
 
-// Eleven objects of tile 1 at the top, side by side in OAM order or against it.
-fn put_objects(picture: &mut LatePicture, is_reversed: bool) {
-    for index in 0..11 {
-        let place = if is_reversed { 10 - index } else { index };
-        picture.write_oam(4 * index, 16);
-        picture.write_oam(4 * index + 1, 8 * place);
-        picture.write_oam(4 * index + 2, 1);
-    }
-}
-
-// A row of shade 3 in some columns, and 0 in the others.
-fn black(start: usize, end: usize) -> [u8; 160] {
-    let mut row = [0; 160];
-    for column in 0..160 {
-        row[column] = if start <= column && column < end {
-            3
-        } else {
-            0
-        };
-    }
-    row
-}
-
-// Bytes without a pattern.
-fn put_noise(picture: &mut LatePicture) {
-    let mut noise: u32 = 2463534242;
-    for offset in 0..0x2000 {
-        noise = noise.wrapping_mul(1664525).wrapping_add(1013904223);
-        picture.write_vram(offset, (noise / 65536 % 256) as u8);
-    }
-    for offset in 0..160 {
-        noise = noise.wrapping_mul(1664525).wrapping_add(1013904223);
-        picture.write_oam(offset, (noise / 65536 % 170) as u8);
-    }
-}
-
-fn is_same(a: &LatePicture, b: &LatePicture) -> bool {
-    for y in 0..144 {
-        if a.row(y) != b.row(y) {
-            return false;
-        }
-    }
-    a.state() == b.state()
-        && a.region(PictureRegion::Vram) == b.region(PictureRegion::Vram)
-        && a.region(PictureRegion::Oam) == b.region(PictureRegion::Oam)
-}
-
-fn copy(alloc: Global, picture: &LatePicture) -> Result<LatePicture, Fail> {
-    let mut other = LatePicture::new(alloc)?;
-    let _ = other.pass(FRAME);
-    other.restore(&picture.state());
-    other.fill(PictureRegion::Vram, picture.region(PictureRegion::Vram));
-    other.fill(PictureRegion::Oam, picture.region(PictureRegion::Oam));
-    for y in 0..144 {
-        other.set_row(y, &picture.row(y));
-    }
-    Ok(other)
-}
-
 // These have no contract, so that a test's proof does not follow the picture.
 
 fn pass(picture: &mut LatePicture, cycles: u32) -> PictureRequests {
     picture.pass(cycles)
-}
-
-fn pass_by_definition(picture: &mut LatePicture, cycles: u32) -> PictureRequests {
-    picture.pass_by_definition(cycles)
 }
 
 fn write(picture: &mut LatePicture, address: u16, value: u8) -> bool {
@@ -136,29 +71,6 @@ fn window_counter(picture: &LatePicture) -> u8 {
 }
 
 #[test]
-fn ten_objects_in_oam_order(rt: HostRuntime) {
-    for (is_reversed, end) in [(false, 72), (true, 80)] {
-        let mut picture = off(rt.alloc()).or_stop(&rt);
-        put_objects(&mut picture, is_reversed);
-        write(&mut picture, 0xff40, 0x93);
-        pass(&mut picture, 20);
-        same!(rt; row_of(&picture, 0), black(0, end));
-    }
-}
-
-#[test]
-fn window_at_the_edges(rt: HostRuntime) {
-    for (wx, start, counter) in [(0x03, 0, 1), (0xa6, 159, 1), (0xa7, 160, 0)] {
-        let mut picture = off(rt.alloc()).or_stop(&rt);
-        write(&mut picture, 0xff4b, wx);
-        write(&mut picture, 0xff40, 0xf1);
-        pass(&mut picture, 114);
-        same!(rt; row_of(&picture, 0), black(start, 160), "WX {wx}");
-        same!(rt; window_counter(&picture), counter, "WX {wx}");
-    }
-}
-
-#[test]
 fn interrupts_of_a_frame(rt: HostRuntime) {
     let mut picture = off(rt.alloc()).or_stop(&rt);
     write(&mut picture, 0xff45, 1);
@@ -183,51 +95,6 @@ fn tile_written_between_lines(rt: HostRuntime) {
     pass(&mut picture, 114);
     same!(rt; row_of(&picture, 0), [0; 160]);
     same!(rt; row_of(&picture, 1), [3; 160]);
-}
-
-fn frames_are_same(
-    rt: &impl Abort,
-    at_once: &mut LatePicture,
-    by_one: &mut LatePicture,
-    plain: &mut LatePicture,
-) {
-    let requests = pass(at_once, FRAME);
-    holds!(rt; requests.vblank && requests.stat);
-    for _cycle in 0..FRAME {
-        pass(by_one, 1);
-    }
-    pass_by_definition(plain, FRAME);
-    holds!(rt; is_same(at_once, by_one));
-    holds!(rt; is_same(at_once, plain));
-}
-
-#[test]
-fn cycles_at_once_and_one_by_one(rt: HostRuntime) {
-    let mut at_once = off(rt.alloc()).or_stop(&rt);
-    put_objects(&mut at_once, false);
-    write(&mut at_once, 0xff41, 0x78);
-    write(&mut at_once, 0xff40, 0x93);
-    let mut by_one = copy(rt.alloc(), &at_once).or_stop(&rt);
-    let mut plain = copy(rt.alloc(), &at_once).or_stop(&rt);
-    frames_are_same(&rt, &mut at_once, &mut by_one, &mut plain);
-}
-
-#[test]
-fn restored_picture_goes_on_the_same(rt: HostRuntime) {
-    for lcdc in [0xa1, 0xf3, 0xef] {
-        let mut picture = off(rt.alloc()).or_stop(&rt);
-        put_noise(&mut picture);
-        write(&mut picture, 0xff4b, 90);
-        write(&mut picture, 0xff42, 3);
-        write(&mut picture, 0xff43, 77);
-        write(&mut picture, 0xff40, lcdc);
-        pass(&mut picture, FRAME + 5000);
-        let mut restored = copy(rt.alloc(), &picture).or_stop(&rt);
-        for _frame in 0..10 {
-            holds!(rt; pass(&mut picture, FRAME) == pass(&mut restored, FRAME));
-            holds!(rt; is_same(&picture, &restored));
-        }
-    }
 }
 
 // STAT, and what VRAM reads and holds and OAM reads and holds behind a write to each. Then 11 is copied to OAM.
@@ -271,25 +138,43 @@ fn modes_close_vram_and_oam(rt: HostRuntime) {
     same!(rt; outside(&picture), [0x11, 0, 0]);
 }
 
+// When the picture is due, LCDC, STAT, LY and the palette.
+fn told(picture: &LatePicture) -> (Option<u32>, [u8; 4]) {
+    let registers = [0xff40, 0xff41, 0xff44, 0xff47].map(|address| picture.read_register(address));
+    (picture.due(), registers)
+}
+
 #[test]
 fn switched_off_and_on(rt: HostRuntime) {
     let mut picture = LatePicture::new(rt.alloc()).or_stop(&rt);
-    same!(rt; due(&picture), Some(20));
-    same!(rt; read(&picture, 0xff40), 0x91);
-    same!(rt; read(&picture, 0xff47), 0xfc);
+    same!(rt; told(&picture), (Some(20), [0x91, 0x86, 0, 0xfc]));
     write(&mut picture, 0xff47, 0xff);
     pass(&mut picture, 1000);
     same!(rt; row_of(&picture, 7), [3; 160]);
     write(&mut picture, 0xff40, 0x11);
-    same!(rt; due(&picture), None);
+    same!(rt; told(&picture), (None, [0x11, 0x84, 0, 0xff]));
     same!(rt; row_of(&picture, 7), [0; 160]);
-    same!(rt; read(&picture, 0xff41), 0x84);
     pass(&mut picture, 4294967295);
     same!(rt; read(&picture, 0xff44), 0);
     write(&mut picture, 0xff40, 0x91);
-    same!(rt; read(&picture, 0xff41), 0x86);
-    same!(rt; due(&picture), Some(20));
-    same!(rt; read(&picture, 0xff46), 0xff);
+    same!(rt; told(&picture), (Some(20), [0x91, 0x86, 0, 0xff]));
+}
+
+const BLACK_LINE: &[u8] = b"3 3 3 3 3 3 3 3 3 3 3 3 3 3 3 3 3 3 3 3 3 3 3 3 3 3 3 3 3 3 3 3\n";
+
+fn is_black(text: &[u8]) -> bool {
+    text.starts_with(b"P2\n160 144\n3\n")
+        && text
+            .iter()
+            .skip(13)
+            .eq(BLACK_LINE.iter().cycle().take(46080))
+}
+
+// A writer with room for 100 bytes has the first of them.
+fn is_cut_short(picture: &LatePicture, text: &[u8]) -> bool {
+    let mut part = [0; 100];
+    let mut room: &mut [u8] = &mut part;
+    picture.write_pgm(&mut room) == Err(OutputFailed) && text.starts_with(&part)
 }
 
 #[test]
@@ -297,17 +182,9 @@ fn picture_at_power_on_as_text(rt: HostRuntime) {
     let picture = LatePicture::new(rt.alloc()).or_stop(&rt);
     let mut text = Vec::new(rt.alloc());
     same!(rt; picture.write_pgm(&mut text), Ok(()));
-    assert_eq!(rt; text.len(), 46093);
-    holds!(rt; text.starts_with(b"P2\n160 144\n3\n"));
-    for line in text[13..].chunks_exact(64) {
-        holds!(rt;
-            line == b"3 3 3 3 3 3 3 3 3 3 3 3 3 3 3 3 3 3 3 3 3 3 3 3 3 3 3 3 3 3 3 3\n".as_slice()
-        );
-    }
-    let mut part = [0; 100];
-    let mut room: &mut [u8] = &mut part;
-    same!(rt; picture.write_pgm(&mut room), Err(OutputFailed));
-    holds!(rt; text.starts_with(&part));
+    same!(rt; text.len(), 46093);
+    holds!(rt; is_black(&text));
+    holds!(rt; is_cut_short(&picture, &text));
 }
 
 #[test]

@@ -56,48 +56,49 @@ fn reads_moves(rt: HostRuntime) {
     accepts(&rt, alloc, b"seconds 0000000000", &[Move::Seconds(0)]);
 }
 
+static WRONG_LINES: [(&[u8], u32); 35] = [
+    (b"save\nframe 1G\n", 2),
+    (b"\nwait", 2),
+    (b"wait\nsave \n", 1),
+    (b"save\n\n\nsave\nframes 00 0", 5),
+    (b"frames 00 0", 1),
+    (b"frames 00 1000001", 1),
+    (b"frames 00 4294967297", 1),
+    (b"frames 00 00000000001", 1),
+    (b"frames 00", 1),
+    (b"frames 00 ", 1),
+    (b"frames 00 1 1", 1),
+    (b"frames  00 1", 1),
+    (b"frames 00 +1", 1),
+    (b"frames 00 -1", 1),
+    (b"frames 00 a", 1),
+    (b"frames 0 1", 1),
+    (b"frame  00", 1),
+    (b"frame 00 ", 1),
+    (b"frame 000", 1),
+    (b"frame 0", 1),
+    (b"frame", 1),
+    (b"frame ", 1),
+    (b"frame +1", 1),
+    (b"frame 00 1", 1),
+    (b"Frame 00", 1),
+    (b"save ", 1),
+    (b" save", 1),
+    (b" ", 1),
+    (b"save\r\n", 1),
+    (b"SAVE", 1),
+    (b"seconds", 1),
+    (b"seconds ", 1),
+    (b"seconds 4294967296", 1),
+    (b"seconds 10000000000", 1),
+    (b"seconds 00000000000", 1),
+];
+
 #[test]
 fn names_the_first_wrong_line(rt: HostRuntime) {
-    let cases: [(&[u8], u32); 35] = [
-        (b"save\nframe 1G\n", 2),
-        (b"\nwait", 2),
-        (b"wait\nsave \n", 1),
-        (b"save\n\n\nsave\nframes 00 0", 5),
-        (b"frames 00 0", 1),
-        (b"frames 00 1000001", 1),
-        (b"frames 00 4294967297", 1),
-        (b"frames 00 00000000001", 1),
-        (b"frames 00", 1),
-        (b"frames 00 ", 1),
-        (b"frames 00 1 1", 1),
-        (b"frames  00 1", 1),
-        (b"frames 00 +1", 1),
-        (b"frames 00 -1", 1),
-        (b"frames 00 a", 1),
-        (b"frames 0 1", 1),
-        (b"frame  00", 1),
-        (b"frame 00 ", 1),
-        (b"frame 000", 1),
-        (b"frame 0", 1),
-        (b"frame", 1),
-        (b"frame ", 1),
-        (b"frame +1", 1),
-        (b"frame 00 1", 1),
-        (b"Frame 00", 1),
-        (b"save ", 1),
-        (b" save", 1),
-        (b" ", 1),
-        (b"save\r\n", 1),
-        (b"SAVE", 1),
-        (b"seconds", 1),
-        (b"seconds ", 1),
-        (b"seconds 4294967296", 1),
-        (b"seconds 10000000000", 1),
-        (b"seconds 00000000000", 1),
-    ];
-    for (script, number) in cases {
+    for (script, number) in WRONG_LINES.as_slice() {
         let read = read_script(rt.alloc(), script).err();
-        same!(rt; read, Some(ScriptError::Script(number)), "{script:?}");
+        same!(rt; read, Some(ScriptError::Script(*number)), "{script:?}");
     }
 }
 

@@ -105,15 +105,6 @@ fn pass_serial(serial: &mut Serial, cycles: u32) -> u8 {
 }
 
 #[test]
-fn div_after_a_thousand_longest_passes(rt: HostRuntime) {
-    let mut timer = Timer::new();
-    for _ in 0..1000 {
-        same!(rt; pass_timer(&mut timer, u32::MAX), 0);
-    }
-    same!(rt; timer.div(), 0x9b);
-}
-
-#[test]
 fn a_transfer_takes_1024_cycles(rt: HostRuntime) {
     let mut serial = Serial::new();
     serial.write_sb(0x5a);
@@ -146,107 +137,5 @@ fn another_write_to_sc_ends_a_transfer(rt: HostRuntime) {
                 cycles_left: 1024
             }
         );
-    }
-}
-
-/// The next of a row of numbers without pattern (a linear congruential generator).
-fn next_number(seed: &mut u64) -> u64 {
-    *seed = seed
-        .wrapping_mul(6364136223846793005)
-        .wrapping_add(1442695040888963407);
-    *seed >> 33
-}
-
-/// The timer's signal by shifts, for the comparison.
-fn plain_signal(state: &TimerState) -> bool {
-    let bit = [9, 3, 5, 7][usize::from(state.tac % 4)];
-    state.tac >= 4 && state.counter >> bit & 1 == 1
-}
-
-/// One M-cycle of the timer, for the comparison; answers whether the signal fell and whether the interrupt is requested.
-fn plain_timer_cycle(state: &mut TimerState) -> (bool, bool) {
-    let before = plain_signal(state);
-    state.counter = state.counter.wrapping_add(4);
-    if !before || plain_signal(state) {
-        return (false, false);
-    }
-    if state.tima == 0xff {
-        state.tima = state.tma;
-        return (true, true);
-    }
-    state.tima += 1;
-    (true, false)
-}
-
-#[test]
-fn many_cycles_are_single_cycles_of_the_timer(rt: HostRuntime) {
-    let mut seed = 1;
-    for round in 0..5000 {
-        let mut plain = TimerState {
-            counter: (next_number(&mut seed) % 65536) as u16,
-            tima: (next_number(&mut seed) % 256) as u8,
-            tma: (next_number(&mut seed) % 256) as u8,
-            tac: (next_number(&mut seed) % 8) as u8,
-        };
-        let cycles = (next_number(&mut seed) % 2000) as u32;
-        let mut timer = timer_in(plain.counter, plain.tima, plain.tma, plain.tac);
-        let due = timer.due();
-        let requests = timer.pass(cycles);
-        let mut first = None;
-        let mut bits = 0;
-        for cycle in 1..=cycles {
-            let (fell, requested) = plain_timer_cycle(&mut plain);
-            if fell && first.is_none() {
-                first = Some(cycle);
-            }
-            if requested {
-                bits = 0x04;
-            }
-        }
-        same!(rt; timer.state(), plain, "round {round}");
-        same!(rt; requests.bits, bits, "round {round}");
-        same!(rt; due.filter(|&at| at <= cycles), first, "round {round}");
-    }
-}
-
-/// One M-cycle of the serial port, for the comparison.
-fn plain_serial_cycle(state: &mut SerialState) -> bool {
-    if state.cycles_left == 0 {
-        return false;
-    }
-    state.cycles_left -= 1;
-    if state.cycles_left > 0 {
-        return false;
-    }
-    state.sb = 0xff;
-    state.sc &= 0x7f;
-    true
-}
-
-#[test]
-fn many_cycles_are_single_cycles_of_the_serial_port(rt: HostRuntime) {
-    let mut seed = 2;
-    for round in 0..5000 {
-        let mut plain = SerialState {
-            sb: (next_number(&mut seed) % 256) as u8,
-            sc: if next_number(&mut seed) % 2 == 0 {
-                0x81
-            } else {
-                0x80
-            },
-            cycles_left: (next_number(&mut seed) % 1025) as u16,
-        };
-        let cycles = (next_number(&mut seed) % 2000) as u32;
-        let mut serial = Serial::new();
-        serial.restore(&plain);
-        let requests = serial.pass(cycles);
-        let mut bits = 0;
-        for _ in 0..cycles {
-            if plain_serial_cycle(&mut plain) {
-                bits = 0x08;
-            }
-        }
-        same!(rt; serial.state(), plain, "round {round}");
-        same!(rt; requests.bits, bits, "round {round}");
     }
 }
