@@ -8,8 +8,9 @@ help:
 	@echo 'To have it:'
 	@echo '  make build           proves the program and leaves it at bin/gbkeep, with a line a crate (from nothing: 20 minutes on two idle'
 	@echo '                       processors; 82 minutes, of 88 processor minutes, were seen on four busy ones)'
-	@echo '  make demo            plays a minute of examples/demo and leaves bin/demo.sav, bin/demo.pgm and bin/demo.png (a second)'
-	@echo '  make play            plays a cartridge in a window (CART=examples/demo/demo.gb SAVE=bin/play-demo.sav; needs python3-pygame)'
+	@echo '  make demo            plays a minute of examples/demo and leaves bin/demo.gbkeep, bin/demo.pgm and bin/demo.png (a second)'
+	@echo '  make play            plays a cartridge in a window (CART=examples/demo/demo.gb SAVE=NAME.gbkeep; without SAVE, the game is kept in'
+	@echo '                       ~/.local/share/gbkeep; needs python3-pygame)'
 	@echo '  make install         puts program, window, tools, man page and completion below PREFIX (PREFIX=$(PREFIX))'
 	@echo '  make libretro        leaves bin/gbkeep_libretro.so, a core for RetroArch and its kind (needs a C compiler and retroarch-dev)'
 	@echo '  make dist            leaves a tarball and Debian packages in dist (needs dpkg-deb)'
@@ -23,11 +24,13 @@ help:
 	@echo '  make bench           proves the benchmarks: times, instructions a frame; calls of the save file (20 minutes from nothing; needs strace)'
 	@echo '  make compare         compares the program with a second one, in Python, on random ROMs (SECONDS=20 a kind)'
 	@echo '  make hostile         gives the program damaged files and wrong scripts, kills it, and looks at what is left (SECONDS=20 a kind)'
-	@echo '  make fuzz            gives it random ROMs, scripts and save files alone, from another seed each time (SECONDS=20 in all)'
+	@echo '  make fuzz            gives it random ROMs, scripts and save files alone, from another seed each time (SECONDS=20 in all), and then its'
+	@echo '                       tools hostile files, for 60 seconds'
 	@echo '  make strace          compares each write and sync of the save file with a second writer (needs strace)'
 	@echo '  make memory          refuses each allocation in turn (20 seconds once both programs are built; needs a C compiler)'
-	@echo '  make test-window     plays the demo by real keys in a window of its own and kills it (a minute; needs xvfb, xdotool, python3-pygame)'
-	@echo '  make test-libretro   plays the demo by the core, kills it, and compares its pictures (half a minute; needs what make libretro needs)'
+	@echo '  make test-window     plays the demo by real keys in a window of its own and kills it (two minutes; needs xvfb, xdotool, python3-pygame)'
+	@echo '  make test-libretro   plays the demo by the core, kills it at each point, and gives it a program that answers garbage (two minutes; needs'
+	@echo '                       what make libretro needs, and a compiler with the sanitizers)'
 
 ARGS ?= step data/rom.gb 2
 
@@ -42,7 +45,7 @@ bin/gbkeep: $(SOURCES)
 build: bin/gbkeep
 
 # each is installed as gbkeep-NAME
-TOOLS := window script rest movie film branch verify png
+TOOLS := window script rest movie film branch verify png battery
 
 install: bin/gbkeep
 	install -D -m 755 bin/gbkeep $(DESTDIR)$(PREFIX)/bin/gbkeep
@@ -50,7 +53,8 @@ install: bin/gbkeep
 	install -D -m 644 completions/gbkeep.bash $(DESTDIR)$(PREFIX)/share/bash-completion/completions/gbkeep
 	install -d $(DESTDIR)$(PREFIX)/share/gbkeep
 	install -m 755 $(TOOLS:%=players/%.py) $(DESTDIR)$(PREFIX)/share/gbkeep
-	install -m 644 players/faults.py players/gbkeep.py players/timed_game.py players/slots.py players/window_keys.py $(DESTDIR)$(PREFIX)/share/gbkeep
+	install -m 644 players/faults.py players/gbkeep.py players/timed_game.py players/slots.py players/window_files.py players/window_keys.py $(DESTDIR)$(PREFIX)/share/gbkeep
+	install -m 644 players/input_files.py players/new_files.py players/tools.py scripts/second_storage/save_files.py $(DESTDIR)$(PREFIX)/share/gbkeep
 	for tool in $(TOOLS); do ln -sf ../share/gbkeep/$$tool.py $(DESTDIR)$(PREFIX)/bin/gbkeep-$$tool; done
 
 check:
@@ -83,23 +87,26 @@ hostile: bin/gbkeep
 
 fuzz: bin/gbkeep
 	python3 -B scripts/second_storage/hostile.py bin/gbkeep fuzz $(SECONDS)
+	python3 -B scripts/tool_fuzz.py bin/gbkeep 60
 
 strace: bin/gbkeep
 	python3 -B scripts/second_storage/traced.py bin/gbkeep
 
 demo: bin/gbkeep
-	rm -f bin/demo.sav
-	bin/gbkeep new examples/demo/demo.gb bin/demo.sav
-	bin/gbkeep play examples/demo/demo.gb bin/demo.sav examples/demo/tour.txt
-	bin/gbkeep frame examples/demo/demo.gb bin/demo.sav bin/demo.pgm
+	rm -f bin/demo.gbkeep
+	bin/gbkeep new examples/demo/demo.gb bin/demo.gbkeep
+	bin/gbkeep play examples/demo/demo.gb bin/demo.gbkeep examples/demo/tour.txt
+	bin/gbkeep frame examples/demo/demo.gb bin/demo.gbkeep bin/demo.pgm
 	python3 -B players/png.py bin/demo.pgm bin/demo.png
 
 # the Python that has pygame: Debian's, where another one comes first
 PYTHON ?= $(shell python3 -c 'import pygame' > /dev/null 2>&1 && echo python3 || echo /usr/bin/python3)
 CART ?= examples/demo/demo.gb
 
+# a game that is in bin goes on there
 play: bin/gbkeep
-	$(PYTHON) -B players/window.py "$(CART)" "$(or $(SAVE),bin/play-$$(basename "$(CART)" .gb).sav)"
+	@save="$(SAVE)" older="bin/play-$$(basename "$(CART)" .gb).sav"; if [ -z "$$save" ] && [ -e "$$older" ]; then save=$$older; fi; \
+	$(PYTHON) -B players/window.py "$(CART)" $${save:+"$$save"}
 
 CC ?= cc
 LIBRETRO ?= /usr/include/libretro-common
@@ -118,7 +125,8 @@ test-window: bin/gbkeep
 	$(PYTHON) -B players/test_window.py bin/gbkeep
 
 test-libretro: bin/gbkeep bin/gbkeep_libretro.so
-	python3 -B players/libretro/test_libretro.py bin/gbkeep bin/gbkeep_libretro.so
+	CC="$(CC)" python3 -B players/libretro/test_libretro.py bin/gbkeep bin/gbkeep_libretro.so
+	CC="$(CC)" LIBRETRO="$(LIBRETRO)" python3 -B players/libretro/test_garbage.py
 
 memory: bin/gbkeep
 	cd crates/refused_memory && $(RT) run > /dev/null
@@ -135,12 +143,15 @@ test:
 	python3 -B scripts/program_tests/run.py $(PROGRAM)/out/gbkeep_program
 	python3 -B scripts/front_door.py $(PROGRAM)/out/gbkeep_program
 	python3 -B players/test_players.py $(PROGRAM)/out/gbkeep_program
+	python3 -B players/test_slots.py $(PROGRAM)/out/gbkeep_program
 	python3 -B scripts/second_storage/hostile.py $(PROGRAM)/out/gbkeep_program 4 1
 	python3 -B scripts/second_storage/traced.py $(PROGRAM)/out/gbkeep_program 2 1 crates/failed_syncs/out/failed_syncs
 	python3 -B examples/demo/check.py $(PROGRAM)/out/gbkeep_program
 	python3 -B examples/test_roms/check.py
 	python3 -B testers/run.py --gbkeep $(PROGRAM)/out/gbkeep_program examples/test_roms/all.txt
 	python3 -B testers/test_debug.py $(PROGRAM)/out/gbkeep_program
+	python3 -B players/test_hostile_inputs.py $(PROGRAM)/out/gbkeep_program
+	python3 -B scripts/tool_fuzz.py $(PROGRAM)/out/gbkeep_program 5 1
 	python3 -B scripts/second_storage/refused_memory.py $(PROGRAM)/out/gbkeep_program crates/refused_memory/out/refused_memory
 	RT=$(RT) python3 -B scripts/dist.py passed $(PROGRAM)/out/gbkeep_program
 

@@ -8,11 +8,13 @@ from pathlib import Path
 HERE = Path(__file__).resolve().parent
 sys.path[:0] = [str(HERE.parent / 'players'), '/usr/share/gbkeep']
 from gbkeep import DOWN, LEFT, RIGHT, Game
+from new_files import new_file
 
 with Game(HERE / 'demo/demo.gb', sys.argv[1]) as game:
     game.frames(0, 60)
     for row in range(6):
         game.frames((RIGHT, LEFT)[row % 2], 70)
         game.frames(DOWN, 4)
-    Path(sys.argv[2]).write_bytes(game.picture().png())
+    with new_file(sys.argv[2], inputs=[sys.argv[1]], begins=(b'\x89PNG',)) as picture:
+        picture.write(game.picture().png())
     print('saved', game.save())

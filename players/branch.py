@@ -6,43 +6,57 @@ usage: branch.py CART RECORDING COUNT NEW_SAVE NEW_RECORDING
 NEW_SAVE and NEW_RECORDING are made; neither may be there. NEW_RECORDING has as many sectors as RECORDING, which is only read. The new game
 is played by `gbkeep record`, and goes on by it."""
 import os
-import sys
+from collections.abc import Iterable, Iterator
 
-from gbkeep import Game, Refused, begin, begin_recording
-from script import Wrong, inputs_of, play, recorded_moves
+from gbkeep import Game, begin, begin_recording
+from input_files import WrongInput, number, printable
+from script import Wrong, inputs_of, is_recording, play, recorded_moves
+from tools import WrongWords, operands, run_tool
+
+MOST_INPUTS = 2 ** 64 - 1
+SECTOR, MOST_SECTORS = 512, 65_536
 
 
-def first_of(moves, count):
+def first_of(moves: Iterable[tuple], count: int) -> Iterator[tuple]:
     """The moves up to the first `count` inputs."""
-    taken = []
     for move in moves:
         if count == 0:
-            break
+            return
         if inputs_of(move) > count:
             move = ('frames', move[1], count)
-        taken.append(move)
         count -= inputs_of(move)
+        yield move
     if count > 0:
         raise Wrong(f'RECORDING has {count} inputs fewer')
-    return taken
 
 
-def main():
-    if len(sys.argv) != 6 or not sys.argv[3].isdecimal():
-        sys.exit(__doc__)
-    cart, recording, count, new_save, new_recording = sys.argv[1:]
+def main(words: list[str]) -> None:
+    words = operands(words)
+    if len(words) != 5:
+        raise WrongWords
+    cart, recording, wanted, new_save, new_recording = words
     try:
-        for path in (new_save, new_recording):
-            if os.path.lexists(path):
-                raise Wrong(f'{path} is there already')
-        moves = first_of(recorded_moves(cart, recording), int(count))
-        begin_recording(cart, new_recording, os.path.getsize(recording) // 512)
+        count = number(wanted, 0, MOST_INPUTS, 'COUNT')
+    except WrongInput:
+        raise WrongWords from None
+    if not is_recording(recording):
+        raise Wrong(f'{printable(recording)}: this is no recording')
+    for path in (new_save, new_recording):
+        if os.path.lexists(path):
+            raise Wrong(f'{printable(path)} exists already: take a name that is free')
+    # whether there are so many, before anything is made
+    for _ in first_of(recorded_moves(cart, recording), count):
+        pass
+    begin_recording(cart, new_recording, min(os.path.getsize(recording) // SECTOR, MOST_SECTORS))
+    try:
         begin(cart, new_save)
-        with Game(cart, new_save, recording=new_recording) as game:
-            play(game, moves)
-    except (Wrong, Refused, OSError) as error:
-        sys.exit(str(error) if isinstance(error, (Wrong, Refused)) else f'branch.py: {error}')
+    except BaseException:
+        # it was made for this game alone
+        os.unlink(new_recording)
+        raise
+    with Game(cart, new_save, recording=new_recording) as game:
+        play(game, first_of(recorded_moves(cart, recording), count))
 
 
 if __name__ == '__main__':
-    main()
+    run_tool(main, __doc__)

@@ -12,15 +12,18 @@ What is given goes to the program at once and in order. `save` and `picture` wai
 also by an exception, what is unsaved is saved. A refusal of the program is raised as `Refused`.
 
 It needs no package beside Python's own. examples/collect.py is a whole example."""
+import contextlib
 import os
 import select
 import shutil
 import signal
 import subprocess
+from collections.abc import Iterator
 from dataclasses import dataclass
 from pathlib import Path
 
 from faults import explained
+from input_files import MOST_LINE, PathLike, printable
 from png import png_of
 
 RIGHT, LEFT, UP, DOWN, A, B, SELECT, START = (1 << bit for bit in range(8))
@@ -30,6 +33,8 @@ PICTURE_BYTES = 46_093
 MOST_FRAMES, MOST_SECONDS = 1_000_000, 0xffff_ffff
 # what a pipe takes at once when it takes anything
 PIECE = 4096
+# as much as a program says of itself without a line end: more of it is no program of ours
+MOST_UNREAD = 1 << 20
 # 2.3 MiB: ten hours of play with ten changes of buttons a second
 RECORDING_SECTORS = 4_800
 
@@ -37,10 +42,22 @@ RECORDING_SECTORS = 4_800
 class Refused(Exception):
     """The program refused a command. `line` is its line; `means` and `advice` say what docs/COMMANDS.md says of it."""
 
-    def __init__(self, line, command):
+    def __init__(self, line: str, command: str, means: str = '', advice: str = ''):
+        line = printable(line, MOST_LINE)
         super().__init__(line)
         self.line = line
-        self.means, self.advice = explained(line, command) or ('', '')
+        self.means, self.advice = (means, advice) if means or advice else explained(line, command) or ('', '')
+
+    def told(self) -> str:
+        """The line, what it means, and what to do about it, in one line."""
+        return '; '.join(part for part in (f'{self.line}: {self.means}' if self.means else self.line, self.advice) if part)
+
+
+class MissingProgram(Refused):
+    """There is no program that can be run."""
+
+    def __init__(self, program: PathLike, why: str):
+        super().__init__(f'{printable(program)} can\'t be run', '', why, '`make build` makes one, and the variable GBKEEP names another one')
 
 
 @dataclass(frozen=True)
@@ -75,27 +92,83 @@ def find_program():
     return os.environ.get('GBKEEP') or (str(beside) if beside.exists() else shutil.which('gbkeep') or str(beside))
 
 
+@contextlib.contextmanager
+def starting(program: PathLike) -> Iterator[None]:
+    """Turns what the system says of a program that can't be run into a refusal."""
+    if os.path.dirname(program) == '' and not shutil.which(program):
+        raise MissingProgram(program, 'not found')
+    if os.path.dirname(program) and (os.path.isdir(program) or not os.access(program, os.X_OK)):
+        raise MissingProgram(program, 'it may not be run' if os.path.exists(program) else 'no such program')
+    try:
+        yield
+    except OSError as error:
+        raise MissingProgram(program, error.strerror) from None
+    except ValueError as error:
+        raise Refused(f'a word is no name: {error}', '') from None
+
+
+def started(words: list[str], **how: object) -> subprocess.Popen:
+    """A process, of a program that can be run."""
+    with starting(words[0]):
+        return subprocess.Popen(words, **how)
+
+
 def run(program, command, *words):
     """Runs a command to its end, and answers what it printed."""
-    done = subprocess.run([program, command, '--', *words], capture_output=True, text=True, errors='replace')
-    if done.returncode != 0:
-        raise Refused(done.stderr.strip() or f'the program ended with status {done.returncode}', command)
-    return done.stdout
+    process = started([program, command, '--', *words], stdin=subprocess.DEVNULL, stdout=subprocess.PIPE, stderr=subprocess.PIPE, text=True, errors='replace')
+    with ended(process):
+        out, err = process.communicate()
+    if process.returncode != 0:
+        raise Refused(line_of(err, process.returncode), command)
+    return out
+
+
+@contextlib.contextmanager
+def ended(process: subprocess.Popen) -> Iterator[None]:
+    """Ends the process where the block is left by an exception."""
+    try:
+        yield
+    except BaseException:
+        process.kill()
+        process.wait()
+        raise
+
+
+def line_of(err: str, status: int) -> str:
+    """The line that a program refuses with."""
+    lines = [line for line in err.splitlines() if line.strip() and not line.startswith('gbkeep: warning: ')]
+    return lines[0] if lines else f'the program ended with status {status}'
 
 
 def header_of(cart, program=None):
-    fields = dict(line.split(' ', 1) for line in run(str(program or find_program()), 'info', str(cart)).splitlines())
-    return Header(fields['title'][1:-1].strip(), int(fields['type'].split()[0], 16), int(fields['sectors']))
+    fields = dict(line.split(' ', 1) for line in run(str(program or find_program()), 'info', str(cart)).splitlines() if ' ' in line)
+    try:
+        return Header(fields['title'][1:-1].strip(), int(fields['type'].split()[0], 16), int(fields['sectors']))
+    except (KeyError, IndexError, ValueError):
+        raise Refused(f'{printable(cart)} has no header that a game can be begun with', 'info') from None
+
+
+@contextlib.contextmanager
+def free_name(path: PathLike) -> Iterator[None]:
+    """Says of a new file that is refused whether its name is taken."""
+    try:
+        yield
+    except Refused as refused:
+        if refused.line == 'gbkeep: device failed' and os.path.lexists(path):
+            refused.means, refused.advice = f'{printable(path)} exists already', 'take a name that is free'
+        raise
 
 
 def begin(cart, save, program=None):
     """Begins a game in a new file, of as many sectors as it needs."""
-    run(str(program or find_program()), 'new', str(cart), str(save))
+    with free_name(save):
+        run(str(program or find_program()), 'new', str(cart), str(save))
 
 
 def begin_recording(cart, recording, sectors=RECORDING_SECTORS, program=None):
     """Makes an empty recording in a new file."""
-    run(str(program or find_program()), 'new-recording', str(cart), str(recording), str(sectors))
+    with free_name(recording):
+        run(str(program or find_program()), 'new-recording', str(cart), str(recording), str(sectors))
 
 
 class Game:
@@ -106,19 +179,24 @@ class Game:
 
     def __init__(self, cart, save, program=None, recording=None):
         program = str(program or find_program())
+        if recording and os.path.lexists(save) and not os.path.lexists(recording):
+            raise Refused(f'{printable(recording)} is not there', 'record', 'the game in SAVE has no recording of this name',
+                          'name the one that belongs to it; a recording is begun along with a new game')
         if not os.path.lexists(save):
             if recording and not os.path.lexists(recording):
                 begin_recording(cart, recording, program=program)
             begin(cart, save, program)
         words = ['record', '--', str(cart), str(save), str(recording)] if recording else ['stream', '--', str(cart), str(save)]
         self.command = words[0]
-        # a Ctrl-C is for the caller: the program goes on, and saves what is unsaved when it is closed
-        self.process = subprocess.Popen([program, *words], stdin=subprocess.PIPE, stdout=subprocess.PIPE,
-                                        stderr=subprocess.PIPE, bufsize=0, preexec_fn=lambda: signal.signal(signal.SIGINT, signal.SIG_IGN))
+        # a Ctrl-C or the end of a login is for the caller: the program goes on, and saves what is unsaved when it is closed
+        self.process = started([program, *words], stdin=subprocess.PIPE, stdout=subprocess.PIPE, stderr=subprocess.PIPE, bufsize=0,
+                               preexec_fn=lambda: [signal.signal(one, signal.SIG_IGN) for one in (signal.SIGINT, signal.SIGTERM, signal.SIGHUP)])
         self.input, self.output = self.process.stdin.fileno(), self.process.stdout.fileno()
         self.unread, self.pictures, self.saved, self.resumed = b'', [], None, None
-        while self.resumed is None:
-            self._take()
+        # nobody closes a game that is not yet there
+        with ended(self.process):
+            while self.resumed is None:
+                self._take()
         self.count = self.saved = self.resumed
 
     def frame(self, buttons=0):
@@ -199,25 +277,34 @@ class Game:
         while True:
             is_picture = self.unread.startswith(PICTURE_HEAD[:1])
             length = PICTURE_BYTES if is_picture else self.unread.find(b'\n') + 1
+            if length == 0 and len(self.unread) > MOST_UNREAD:
+                self._answers_wrongly()
             if length == 0 or len(self.unread) < length:
                 return bool(some)
             answer, self.unread = self.unread[:length], self.unread[length:]
             if is_picture:
                 self.pictures.append(answer)
                 continue
-            word, _, count = answer.partition(b' ')
+            word, _, count = answer[:-1].partition(b' ')
+            if word != (b'resumed' if self.resumed is None else b'saved') or not count.isdigit() or len(count) > 20:
+                self._answers_wrongly()
             if word == b'resumed':
                 self.resumed = int(count)
-            elif word == b'saved':
+            else:
                 self.saved = int(count)
+
+    def _answers_wrongly(self):
+        self.process.kill()
+        self.process.wait()
+        raise Refused('the program answers what no gbkeep answers', self.command)
 
     def _end(self, of_itself=True):
         """Waits for the program's end. A program that ends of itself has refused."""
         if not self.process.stdin.closed:
             self.process.stdin.close()
-        line = self.process.stderr.read().decode(errors='replace').strip()
+        line = self.process.stderr.read().decode(errors='replace')
         status = self.process.wait()
         self.process.stdout.close()
         self.process.stderr.close()
         if of_itself or status != 0:
-            raise Refused(line or f'the program ended with status {status}', self.command)
+            raise Refused(line_of(line, status), self.command)

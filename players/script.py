@@ -5,7 +5,8 @@ usage: script.py own FILE              prints the script that `gbkeep play` read
        script.py friendly SCRIPT       prints a script of gbkeep's in these words
        script.py check SCRIPT          says which line `gbkeep play` would refuse, and why
        script.py marks FILE            prints each mark with the count of inputs before it
-       script.py play CART SAVE FILE   plays it by `gbkeep stream`, however long it is
+       script.py play [--record RECORDING] CART SAVE FILE
+                                       plays it by `gbkeep stream`, or with RECORDING by `gbkeep record`; FILE may be a recording, too
 
 A friendly script has one move a line. `#` begins a comment; words are separated by any blanks, and lines end as on any system:
 
@@ -16,28 +17,49 @@ A friendly script has one move a line. `#` begins a comment; words are separated
     mark boss       gives this place a name
     include FILE    the moves of another file; its name is looked for beside this one
 
-Buttons: right left up down A B select start, in large or small letters. The lines of gbkeep's own scripts mean here what they mean there."""
-import re
-import sys
-from pathlib import Path
+All files of a script have 1,000,000 lines and 32 MiB at most, with what is included as often as it is; `-` is standard input.
 
-from gbkeep import MOST_FRAMES, MOST_SECONDS, Game, Refused, find_program, run
+Buttons: right left up down A B select start, in large or small letters. The lines of gbkeep's own scripts mean here what they mean there."""
+import os
+import re
+import subprocess
+import sys
+import tempfile
+from collections.abc import Iterable, Iterator
+from itertools import islice
+from pathlib import Path
+from typing import IO, Optional
+
+from gbkeep import MOST_FRAMES, MOST_SECONDS, Game, Refused, ended, find_program, line_of, started
+from input_files import PathLike, WrongInput, open_plain, printable, read_bytes
+from new_files import OURS, SECTOR
+from tools import Failed, WrongWords, operands, option, run_tool
 
 BUTTONS = ['right', 'left', 'up', 'down', 'A', 'B', 'select', 'start']
 MOST_BYTES = 1_048_576
+# of a script with all that it includes: a day of play with ten changes of buttons a second
+MOST_LINES, MOST_SIZE = 1_000_000, 1 << 25
+MOST_FILES, MOST_DEPTH, MOST_LINE = 10_000, 20, 10_000
+# a line of what the program prints of a recording
+MOST_RECORDED_LINE = 100
+LINES_AT_ONCE = 4_096
 
 
-class Wrong(Exception):
+class Wrong(Failed):
     """A script is wrong: where, and why."""
 
 
 # ---- gbkeep's own scripts
 
+def quoted(word):
+    return f"'{printable(word)}'"
+
+
 def number_of(word, least, most):
     if not re.fullmatch(r'[0-9]+', word):
-        raise ValueError(f'{word!r} is no decimal number')
+        raise ValueError(f'{quoted(word)} is no decimal number')
     if len(word) > 10:
-        raise ValueError(f'{word!r} has more than ten digits')
+        raise ValueError(f'{quoted(word)} has more than ten digits')
     if not least <= int(word) <= most:
         raise ValueError(f'{word} is not from {least} to {most}')
     return int(word)
@@ -45,7 +67,7 @@ def number_of(word, least, most):
 
 def buttons_of(word):
     if not re.fullmatch(r'[0-9a-fA-F]{2}', word):
-        raise ValueError(f'{word!r} is not two hexadecimal digits')
+        raise ValueError(f'{quoted(word)} is not two hexadecimal digits')
     return int(word, 16)
 
 
@@ -53,9 +75,9 @@ def own_move(words):
     """The move of the words of a line: ('frames', BUTTONS, COUNT), ('seconds', COUNT) or ('save',)."""
     name, wanted = words[0], {'frame': 2, 'frames': 3, 'seconds': 2, 'save': 1}
     if name not in wanted:
-        raise ValueError(f'{name!r} is no move')
+        raise ValueError(f'{quoted(name)} is no move')
     if len(words) != wanted[name]:
-        raise ValueError(f'{name!r} has {len(words) - 1} words after it, and takes {wanted[name] - 1}')
+        raise ValueError(f'{quoted(name)} has {len(words) - 1} words after it, and takes {wanted[name] - 1}')
     if name == 'save':
         return ('save',)
     if name == 'seconds':
@@ -107,41 +129,110 @@ def own_lines(moves):
 
 # ---- recordings
 
-def is_recording(path):
+def is_recording(path: PathLike) -> bool:
     """Whether a file is a recording of `gbkeep record`."""
-    if path == '-' or not Path(path).is_file():
-        return False
-    with open(path, 'rb') as file:
-        return file.read(8) == b'GBKPRECD'
+    return path != '-' and head_of(path) == b'GBKPRECD'
 
 
-def recorded_moves(cart, recording):
-    """The moves that a recording holds, since power-on."""
-    return [own_move(line.split(' ')) for line in run(find_program(), 'recorded', str(cart), str(recording)).splitlines()]
+def head_of(path: PathLike) -> bytes:
+    descriptor = open_plain(path)
+    try:
+        return os.read(descriptor, 8)
+    finally:
+        os.close(descriptor)
+
+
+def recorded_moves(cart: PathLike, recording: PathLike) -> Iterator[tuple]:
+    """The moves that a recording holds, since power-on.
+
+    The program has ended before the first of them is given, so that nobody who plays them holds the recording."""
+    printed = tempfile.TemporaryFile(prefix='recorded-')
+    process = started([find_program(), 'recorded', '--', str(cart), str(recording)], stdin=subprocess.DEVNULL, stdout=printed, stderr=subprocess.PIPE)
+    with ended(process):
+        _, err = process.communicate()
+    if process.returncode != 0:
+        raise Refused(line_of(err.decode(errors='replace'), process.returncode), 'recorded')
+    printed.seek(0)
+    return moves_in(printed)
+
+
+def moves_in(printed: IO[bytes]) -> Iterator[tuple]:
+    while line := printed.readline(MOST_RECORDED_LINE):
+        try:
+            yield own_move(line.decode().rstrip('\n').split(' '))
+        except ValueError:
+            raise Refused('the program answers what no gbkeep answers', 'recorded') from None
+
+
+def moves_to_play(cart: PathLike, path: PathLike) -> Iterable[tuple]:
+    """The moves of a recording or of a script."""
+    return recorded_moves(cart, path) if is_recording(path) else friendly_moves(path)
 
 
 # ---- friendly scripts
 
-def friendly_moves(path, around=()):
+class Reading:
+    """What is left to be read of a script and of all that it includes."""
+
+    def __init__(self):
+        self.lines, self.size, self.files = MOST_LINES, MOST_SIZE, MOST_FILES
+
+    def text(self, path: PathLike, place: str) -> str:
+        self.files -= 1
+        if self.files < 0:
+            raise Wrong(f'{place}: the script includes more than {MOST_FILES:,} files')
+        if path == '-':
+            data = sys.stdin.buffer.read(self.size + 1) if sys.stdin else b''
+        else:
+            data = read_bytes(path, MOST_SIZE)
+        self.size -= len(data)
+        if self.size < 0:
+            raise Wrong(f'{place}: the script has more than {MOST_SIZE:,} bytes with what it includes')
+        self.lines -= data.count(b'\n') + data.count(b'\r') + 1
+        if self.lines < 0:
+            raise Wrong(f'{place}: the script has more than {MOST_LINES:,} lines with what it includes')
+        no_file_of_ours(data, place)
+        # a name that is no text is found as it is
+        return data.decode(errors='surrogateescape')
+
+
+def no_file_of_ours(data: bytes, place: str) -> None:
+    # the first root of a game stands in the second sector
+    if data.startswith(OURS) or data[SECTOR:].startswith(OURS):
+        raise Wrong(f'{place}: this is a file of gbkeep and no script; `gbkeep recorded CART RECORDING` prints a recording as one')
+
+
+def friendly_moves(path: PathLike) -> list[tuple]:
     """The moves of a friendly script, with ('mark', NAME) where a place has a name. '-' is standard input."""
-    place = 'standard input' if path == '-' else str(path)
-    if path != '-' and Path(path).resolve() in around:
-        raise Wrong(f'{place}: it includes itself')
-    inside = around if path == '-' else (*around, Path(path).resolve())
-    text = (sys.stdin.buffer.read() if path == '-' else Path(path).read_bytes()).decode(errors='backslashreplace')
+    return moves_of_file(path, Reading(), ())
+
+
+def moves_of_file(path: PathLike, reading: Reading, around: tuple) -> list[tuple]:
+    place = 'standard input' if path == '-' else printable(path)
+    if path != '-':
+        held = os.stat(path)
+        if (held.st_dev, held.st_ino) in around:
+            raise Wrong(f'{place}: it includes itself')
+        around = (*around, (held.st_dev, held.st_ino))
+    if len(around) > MOST_DEPTH:
+        raise Wrong(f'{place}: files include each other more than {MOST_DEPTH} deep')
     moves = []
-    for number, line in enumerate(re.split(r'\r\n|\r|\n', text), 1):
-        words = line.partition('#')[0].split()
+    for number, line in enumerate(re.split(r'\r\n|\r|\n', reading.text(path, place)), 1):
+        line = line.partition('#')[0].strip()
+        if len(line) > MOST_LINE:
+            raise Wrong(f'{place}, line {number}: it has more than {MOST_LINE:,} characters')
+        words = line.split()
         if not words:
             continue
         try:
             if words[0] == 'include' and len(words) >= 2:
-                name = line.partition('#')[0].strip()[len('include'):].strip()
-                moves += friendly_moves(Path('.' if path == '-' else path).parent / name, inside)
+                name = line[len('include'):].strip()
+                moves += moves_of_file(Path('.' if path == '-' else path).parent / name, reading, around)
             else:
                 moves.append(friendly_move(words))
-        except (ValueError, OSError) as error:
-            raise Wrong(f'{place}, line {number}: {error}') from None
+        except (ValueError, OSError, WrongInput) as error:
+            why = getattr(error, 'strerror', None)
+            raise Wrong(f'{place}, line {number}: {printable(error.filename)}: {why}' if why else f'{place}, line {number}: {error}') from None
     return moves
 
 
@@ -154,14 +245,14 @@ def friendly_move(words):
     if name in ('frame', 'frames', 'seconds', 'save'):
         return own_move(words)
     if len(words) > 2:
-        raise ValueError(f'{words[2]!r} is one word too many')
+        raise ValueError(f'{quoted(words[2])} is one word too many')
     count = number_of(words[1], 1, 10 ** 10 - 1) if len(words) == 2 else 1
     if name == 'wait':
         return ('frames', 0, count)
     known, buttons = [button.lower() for button in BUTTONS], 0
     for button in name.split('+'):
         if button.lower() not in known:
-            raise ValueError(f'{button!r} is no button' if '+' in name else f'{name!r} is no move and no button')
+            raise ValueError(f'{quoted(button)} is no button' if '+' in name else f'{quoted(name)} is no move and no button')
         buttons |= 1 << known.index(button.lower())
     return ('frames', buttons, count)
 
@@ -193,32 +284,60 @@ def play(game, moves):
         print(f'saved {game.save()}', flush=True)
 
 
-def main():
-    words = sys.argv[1:]
+def printed(lines: Iterable[str]) -> None:
+    """Prints lines, many at once."""
+    lines = iter(lines)
+    while some := list(islice(lines, LINES_AT_ONCE)):
+        sys.stdout.write('\n'.join(some) + '\n')
+
+
+def script_of(path: PathLike) -> list[tuple]:
+    """The moves of a script of gbkeep's."""
+    data = read_bytes(path, MOST_SIZE)
+    no_file_of_ours(data, printable(path))
+    return own_moves(data)
+
+
+def opened_game(cart: str, save: str, recording: Optional[str]) -> Game:
     try:
-        if len(words) == 2 and words[0] == 'own':
-            print(*own_lines(friendly_moves(words[1])), sep='\n')
-        elif len(words) == 2 and words[0] == 'friendly':
-            print(*map(friendly_line, own_moves(Path(words[1]).read_bytes())), sep='\n')
-        elif len(words) == 2 and words[0] == 'check':
-            moves = own_moves(Path(words[1]).read_bytes())
-            print(f'right: {len(moves)} moves, {sum(map(inputs_of, moves))} inputs')
-        elif len(words) == 2 and words[0] == 'marks':
-            count = 0
-            for move in friendly_moves(words[1]):
-                count += inputs_of(move)
-                if move[0] == 'mark':
-                    print(move[1], count)
-        elif len(words) == 4 and words[0] == 'play':
-            moves = friendly_moves(words[3])
-            with Game(words[1], words[2]) as game:
-                print(f'resumed {game.resumed}', flush=True)
-                play(game, moves)
-        else:
-            sys.exit(__doc__)
-    except (Wrong, Refused, OSError) as error:
-        sys.exit(str(error) if isinstance(error, (Wrong, Refused)) else f'script.py: {error}')
+        return Game(cart, save, recording=recording)
+    except Refused as refused:
+        if refused.line == 'gbkeep: recorded game: play it by record':
+            refused.advice = '--record RECORDING plays it so; to end the recording, remove SAVE.recorded'
+        raise
+
+
+def played(cart: str, save: str, path: str, recording: Optional[str]) -> None:
+    moves = moves_to_play(cart, path)
+    with opened_game(cart, save, recording) as game:
+        print(f'resumed {game.resumed}', flush=True)
+        play(game, moves)
+
+
+def main(words: list[str]) -> None:
+    recording, words = option(words, '--record')
+    words = operands(words)
+    command = words[0] if words else ''
+    if recording is not None and command != 'play' or len(words) != (4 if command == 'play' else 2):
+        raise WrongWords
+    if command == 'own':
+        printed(own_lines(friendly_moves(words[1])))
+    elif command == 'friendly':
+        printed(map(friendly_line, script_of(words[1])))
+    elif command == 'check':
+        moves = script_of(words[1])
+        print(f'right: {len(moves)} moves, {sum(map(inputs_of, moves))} inputs')
+    elif command == 'marks':
+        count = 0
+        for move in friendly_moves(words[1]):
+            count += inputs_of(move)
+            if move[0] == 'mark':
+                print(printable(move[1]), count)
+    elif command == 'play':
+        played(*words[1:], recording)
+    else:
+        raise WrongWords
 
 
 if __name__ == '__main__':
-    main()
+    run_tool(main, __doc__)

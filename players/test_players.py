@@ -1,5 +1,5 @@
 #!/usr/bin/env python3
-"""Tries the player's tools on the program: the module, friendly scripts, the rest of a script, the clock by a clock that is not real.
+"""Tries the player's tools on the program: the module, friendly scripts, the rest of a script, movies, films, recordings.
 
 usage: test_players.py GBKEEP
 
@@ -9,7 +9,6 @@ import io
 import os
 import pty
 import random
-import shutil
 import struct
 import subprocess
 import sys
@@ -21,57 +20,15 @@ HERE = Path(__file__).resolve().parent
 DEMO = HERE.parent / 'examples/demo'
 sys.path.insert(0, str(HERE))
 sys.path.insert(0, str(DEMO))
-from assemble import Assembler
 from film import HEAD as FILM_HEAD
-from gbkeep import A, LEFT, RIGHT, START, Game, Refused, begin, header_of, run
+from gbkeep import A, LEFT, RIGHT, START, Game, Refused, begin, run
 from movie import bk2_frames, bk2_of, frames_of, log_frames, moves_of, vbm_frames
 from png import png_of
 from rest import rest_of
 from script import Wrong, friendly_line, friendly_move, friendly_moves, inputs_of, own_lines, own_moves
-from slots import go_back, keep_slot, slot_of
-from timed_game import INPUTS_BETWEEN, TimedGame
 from verify import pieces_of, tell
 
 CART = DEMO / 'demo.gb'
-# shows the clock's seconds, minutes, hours and low byte of the days as bits, in the first four rows of each tile
-CLOCK = '''
-        org $100
-        jp start
-        org $134
-        db "CLOCK"
-        org $147
-        db $10, $00, $02
-        org $150
-start:  di
-        ld a, $0a
-        ld [$0000], a
-        ld a, $0c               ; the clock runs
-        ld [$4000], a
-        xor a
-        ld [$a000], a
-        inc a
-        ldh [$ffff], a
-again:  xor a                   ; VBlank ends the halt, and nothing is called
-        ldh [$ff0f], a
-        halt
-        nop
-        xor a
-        ld [$6000], a
-        inc a
-        ld [$6000], a
-        ld hl, $8000
-        ld b, 8
-each:   ld a, b
-        ld [$4000], a
-        ld a, [$a000]
-        ld [hl+], a
-        ld [hl+], a
-        inc b
-        ld a, b
-        cp 12
-        jr nz, each
-        jr again
-'''
 
 
 def expect(what, got, wanted):
@@ -133,7 +90,7 @@ class Room:
 
 
 def test_game(room):
-    save = room.path('game.sav')
+    save = room.path('game.gbkeep')
     with Game(CART, save, room.program) as game:
         expect('a new game', (game.resumed, game.count, game.saved), (0, 0, 0))
         game.frames(A, 3300)
@@ -155,12 +112,12 @@ def test_game(room):
     expect('a shade', picture.shade(7, 3), int(pgm.split()[4 + 3 * 160 + 7]))
     subprocess.run([sys.executable, HERE / 'png.py', room.path('out.pgm'), room.path('out.png')], check=True)
     expect('png.py and png', room.path('out.png').read_bytes() == picture.png() == png_of(picture.shades, 160, 144), True)
-    shown = room.tool(HERE.parent / 'examples/collect.py', room.path('collect.sav'), room.path('collect.png'))
+    shown = room.tool(HERE.parent / 'examples/collect.py', room.path('collect.gbkeep'), room.path('collect.png'))
     expect('the example', (shown, room.path('collect.png').read_bytes()[:4]), ('saved 504\n', b'\x89PNG'))
 
 
 def test_refusals(room):
-    save = room.save('refused.sav')
+    save = room.save('refused.gbkeep')
     other = room.write('other.gb', bytes(32768))
     expect('another ROM', refusal(lambda: Game(other, save, room.program)), 'gbkeep: other cartridge')
     expect('no ROM', refusal(lambda: Game(room.path('none.gb'), save, room.program)), 'gbkeep: file failed')
@@ -184,20 +141,6 @@ def test_refusals(room):
         pass
     with Game(CART, save, room.program) as game:
         expect('an exception loses nothing', game.resumed, 15)
-
-
-def test_slots(room):
-    """A copy of SAVE, made while nothing has it open, is a save slot."""
-    save, slot = room.path('slots.sav'), room.path('slot.sav')
-    with Game(CART, save, room.program) as game:
-        game.frames(RIGHT, 200)
-        before = game.picture().shades
-    shutil.copy(save, slot)
-    with Game(CART, save, room.program) as game:
-        game.frames(LEFT, 300)
-        after = game.picture().shades
-    with Game(CART, slot, room.program) as game:
-        expect('a slot', (game.resumed, game.picture().shades == before, before == after), (200, True, False))
 
 
 def test_friendly(room):
@@ -240,7 +183,7 @@ def test_check(room):
                       (b'\n' * 1048577, 'line 0: the script has 1048577 bytes')):
         got = refusal(lambda: own_moves(text))
         expect(f'why {text[:20]!r} is wrong', why in got, True)
-    rnd, save, seen = random.Random(1), room.save('check.sav'), set()
+    rnd, save, seen = random.Random(1), room.save('check.gbkeep'), set()
     words = ['frame', 'frames', 'seconds', 'save', '00', '1f', 'FF', '0', '3', '7', '00000000003', '1000001', '4294967296', '-1', '+1', '\r', '\t', '#', '', 'é', 'x']
     for _ in range(150):
         lines = [rnd.choice(['save', 'frame 00', 'frames 01 3', 'seconds 7', '']) for _ in range(rnd.randrange(4))]
@@ -271,7 +214,7 @@ def test_rest(room):
         expect(f'the rest after {count}', [one for move in [*first, *rest_of(moves, count)] for one in [move[:2]] * inputs_of(move)],
                [one for move in moves for one in [move[:2]] * inputs_of(move)])
     expect('too much', refusal(lambda: rest_of(moves, whole + 2)), 'SAVE has 2 inputs more than SCRIPT')
-    script, save, other = room.write('whole.script', '\n'.join(own_lines(moves))), room.save('rest.sav'), room.save('whole.sav')
+    script, save, other = room.write('whole.script', '\n'.join(own_lines(moves))), room.save('rest.gbkeep'), room.save('whole.gbkeep')
     part = room.write('part.script', '\n'.join(own_lines(moves[:31])) + '\nframes 00 1\n')
     moves[31:31] = [('frames', 0, 30)]
     script.write_text('\n'.join(own_lines(moves)))
@@ -285,75 +228,6 @@ def test_rest(room):
     expect('the same picture', room.frame(save), room.frame(other))
 
 
-def clock_shown(game):
-    """The clock as the cartridge shows it: seconds, minutes, hours, days."""
-    game.frames(0, 3)
-    picture = game.picture()
-    return tuple(sum((picture.shade(x, y) == 0) << 7 - x for x in range(8)) for y in range(4))
-
-
-def test_clock(room):
-    cart, now = room.write('clock.gb', Assembler().assemble(CLOCK)), [1_000_000.5]
-    save, clock = room.path('clock.sav'), room.path('clock.sav.time')
-
-    def opened():
-        return TimedGame(cart, save, room.program, lambda: now[0])
-
-    with opened() as game:
-        expect('a new game', (game.notice, game.keep()), (None, 0))
-        now[0] += 5.2
-        game.keep()
-        expect('five seconds', clock_shown(game), (5, 0, 0, 0))
-        now[0] += 0.9
-        kept = game.keep()
-    expect('SAVE.time', clock.read_text(), f'{kept} 1000006\n')
-    # what `trace` and `frame` do to the file changes nothing
-    room.frame(save, cart)
-    run(room.program, 'trace', str(cart), str(save), '3')
-    os.utime(save)
-    now[0] += 3600
-    with opened() as game:
-        expect('an hour away', (game.notice, clock_shown(game)), (None, (6, 0, 1, 0)))
-        game.keep()
-    # the power was cut between SAVE and SAVE.time
-    with Game(cart, save, room.program) as game:
-        game.frames(0, INPUTS_BETWEEN)
-    now[0] += 60
-    with opened() as game:
-        expect('cut between', (game.notice, clock_shown(game)), (None, (6, 1, 1, 0)))
-        game.keep()
-    shutil.copy(save, room.path('older.sav'))
-    # played by something else
-    run(room.program, 'play', str(cart), str(save), str(room.write('long.script', 'frames 00 500')))
-    now[0] += 60
-    with opened() as game:
-        expect('played without it', ('played without the window' in game.notice, '60 seconds' in game.notice, clock_shown(game)), (True, True, (6, 2, 1, 0)))
-        game.keep()
-    with opened() as game:
-        expect('told once', game.notice, None)
-    shutil.copy(room.path('older.sav'), save)
-    with opened() as game:
-        expect('an older copy', ('older copy' in game.notice, clock_shown(game)), (True, (6, 1, 1, 0)))
-    now[0] -= 1000
-    with opened() as game:
-        expect('set back', ('set back' in game.notice, clock_shown(game)), (True, (6, 1, 1, 0)))
-        now[0] += 2
-        game.keep()
-        expect('on from there', clock_shown(game), (8, 1, 1, 0))
-    clock.unlink()
-    now[0] += 50
-    with opened() as game:
-        expect('no SAVE.time', ('no SAVE.time' in game.notice, clock_shown(game)), (True, (8, 1, 1, 0)))
-    with TimedGame(CART, room.path('none.sav'), room.program, lambda: now[0]) as game:
-        now[0] += 100
-        game.frame()
-        expect('a cartridge without a clock', (game.keep(), room.path('none.sav.time').exists()), (1, False))
-    size = lambda cart, path: (path.stat().st_size, header_of(cart, room.program).sectors * 512)
-    expect('as many sectors as it needs', *size(cart, save))
-    expect('as many sectors as it needs', *size(CART, room.save('size.sav')))
-    expect('header', (header_of(cart, room.program).title, header_of(CART, room.program).sectors), ('CLOCK', 284))
-
-
 def vbm_of(buttons, starts=0, controllers=1, system=0, more=b''):
     """A VisualBoyAdvance movie of these frames: A B Select Start Right Left Up Down as bits 0 to 7, resets above them."""
     head = struct.pack('<4sIIII4B', b'VBM\x1a', 1, 0, len(buttons), 0, starts, controllers, system, 0)
@@ -362,20 +236,21 @@ def vbm_of(buttons, starts=0, controllers=1, system=0, more=b''):
 
 def test_movies(room):
     rnd = random.Random(3)
-    frames = [buttons for _ in range(40) for buttons in [rnd.randrange(256)] * rnd.choice([1, 1, 2, 30])]
-    expect('moves of frames', list(frames_of(moves_of(frames))), frames)
+    frames = bytes(buttons for _ in range(40) for buttons in [rnd.randrange(256)] * rnd.choice([1, 1, 2, 30]))
+    expect('moves of frames', bytes(frames_of(moves_of(frames))), frames)
     movie = room.write('there.bk2', bk2_of(frames, 'a game'))
     expect('there and back', bk2_frames(movie), frames)
     script = room.tool(HERE / 'movie.py', 'script', movie)
-    expect('its script', list(frames_of(own_moves(script.encode()))), frames)
+    expect('its script', bytes(frames_of(own_moves(script.encode()))), frames)
     made = room.path('made.bk2')
     expect('a movie of a script', room.tool(HERE / 'movie.py', 'bk2', room.write('movie.script', script + 'save\n'), made), '')
     expect('its frames', bk2_frames(made), frames)
-    expect('nothing is replaced', 'File exists' in room.tool(HERE / 'movie.py', 'bk2', room.path('movie.script'), made), True)
+    expect('nothing is replaced', 'exists already' in room.tool(HERE / 'movie.py', 'bk2', room.path('movie.script'), made), True)
     # another order of the keys, a console's keys and a tilt before them
     key = 'LogKey:#Power|#Tilt X|Tilt Y|#P1 A|P1 B|P1 Up|P1 Down|P1 Left|P1 Right|P1 Start|P1 Select|\n'
-    expect('another log', log_frames(key + '|.|    0,   -3,|AB......|\n|.|    0,    0,|..U.L.S.|\n'), [0x30, 0x86])
-    expect('right, left, up, down of VisualBoyAdvance', vbm_frames(vbm_of([0x10, 0x20, 0x40, 0x80, 1, 2, 4, 8])), [1, 2, 4, 8, 0x10, 0x20, 0x40, 0x80])
+    log = key + '|.|    0,   -3,|AB......|\n|.|    0,    0,|..U.L.S.|\n'
+    expect('another log', log_frames(log.encode().splitlines()), bytes([0x30, 0x86]))
+    expect('right, left, up, down of VisualBoyAdvance', vbm_frames(vbm_of([0x10, 0x20, 0x40, 0x80, 1, 2, 4, 8])), bytes([1, 2, 4, 8, 0x10, 0x20, 0x40, 0x80]))
     expect('a script of it', room.tool(HERE / 'movie.py', 'script', room.write('old.vbm', vbm_of([0, 0, 0x11]))), 'frames 00 2\nframe 11\n')
 
     def packed(header, log='LogKey:#A|Reset|\n|..|'):
@@ -400,7 +275,7 @@ def test_film(room):
     expect('a film', room.tool(HERE / 'film.py', '--from', '11', '--to', '30', CART, script, film), '')
     data = film.read_bytes()
     expect('its size', (data[:len(FILM_HEAD)], len(data)), (FILM_HEAD, len(FILM_HEAD) + 20 * (6 + 160 * 144)))
-    with Game(CART, room.path('film.sav'), room.program) as game:
+    with Game(CART, room.path('film.gbkeep'), room.program) as game:
         game.frames(0, 20)
         game.frames(START, 4)
         game.frames(RIGHT, 6)
@@ -410,34 +285,8 @@ def test_film(room):
                                        env=dict(os.environ, GBKEEP=room.program)).stdout[:len(FILM_HEAD) + 6], FILM_HEAD + b'FRAME\n')
 
 
-def test_going_back(room):
-    save = room.path('back.sav')
-    slot, before = slot_of(save), room.path('back.sav.before')
-    with TimedGame(cart_with_clock(room), save, room.program, now=lambda: 1_000) as game:
-        game.frames(A, 100)
-        game.keep()
-        keep_slot(save)
-        kept = save.read_bytes(), room.path('back.sav.time').read_bytes()
-        game.frames(LEFT, 50)
-    with TimedGame(cart_with_clock(room), save, room.program, now=lambda: 2_000) as game:
-        newer = game.keep()
-    expect('the slot', (slot.read_bytes(), room.path('back.sav.slot.time').read_bytes()), kept)
-    replaced = save.read_bytes(), room.path('back.sav.time').read_bytes()
-    go_back(save)
-    expect('back', (save.read_bytes(), room.path('back.sav.time').read_bytes()), kept)
-    expect('what it replaces', (before.read_bytes(), room.path('back.sav.before.time').read_bytes()), replaced)
-    expect('nothing else', sorted(path.name for path in room.folder.glob('back.sav*')),
-           ['back.sav', 'back.sav.before', 'back.sav.before.time', 'back.sav.slot', 'back.sav.slot.time', 'back.sav.time'])
-    with TimedGame(cart_with_clock(room), save, room.program, now=lambda: 3_000) as game:
-        expect('the game of the slot, and the time since', (game.resumed < newer, game.notice), (True, None))
-
-
-def cart_with_clock(room):
-    return room.write('clock.gb', Assembler().assemble(CLOCK))
-
-
 def test_recordings(room):
-    save, recording = room.path('run.sav'), room.path('run.rec')
+    save, recording = room.path('run.gbkeep'), room.path('run.rec')
     with Game(CART, save, room.program, recording) as game:
         game.frames(0, 60)
         game.frames(START, 4)
@@ -454,28 +303,30 @@ def test_recordings(room):
            [('frames 01 3000\n', 3000), ('frames 01 3000\n', 3000), ('frames 01 1000\n', 1000), ('seconds 5\n', 1)])
     told = io.StringIO()
     with contextlib.redirect_stderr(told), subprocess.Popen(['sleep', '60']) as goes_on:
-        tell(room.program, str(CART), [('frames', 0, 60), ('frames', START, 4), ('seconds', 1), ('frames', RIGHT, 3001)], goes_on)
+        tell(room.program, str(CART), [('frames', 0, 60), ('frames', START, 4), ('seconds', 1), ('frames', RIGHT, 3001)], 3066, goes_on)
         goes_on.kill()
     expect('what is told', told.getvalue(), ''.join(f'\r{played} of 3,066 inputs' for played in ('60', '64', '65', '3,065', '3,066')) + '\r\x1b[K')
-    other, branch = room.path('branch.sav'), room.path('branch.rec')
+    other, branch = room.path('branch.gbkeep'), room.path('branch.rec')
     expect('a branch', room.tool(HERE / 'branch.py', CART, recording, '62', other, branch), 'saved 62\n')
     expect('its inputs', run(room.program, 'recorded', str(CART), str(branch)), 'frames 00 60\nframes 80 2\n')
     expect('its size', branch.stat().st_size, recording.stat().st_size)
-    expect('a branch over a file', 'is there already' in room.tool(HERE / 'branch.py', CART, recording, '3', other, room.path('new.rec')), True)
+    expect('a branch over a file', 'exists already' in room.tool(HERE / 'branch.py', CART, recording, '3', other, room.path('new.rec')), True)
     expect('and nothing is made', room.path('new.rec').exists(), False)
-    expect('too many', 'has 3 inputs fewer' in room.tool(HERE / 'branch.py', CART, recording, '107', room.path('far.sav'), room.path('far.rec')), True)
+    expect('too many', 'has 3 inputs fewer' in room.tool(HERE / 'branch.py', CART, recording, '107', room.path('far.gbkeep'), room.path('far.rec')), True)
     expect('a film', room.tool(HERE / 'film.py', '--from', '100', CART, recording, room.path('run.y4m')), '')
     expect('its size', room.path('run.y4m').stat().st_size, len(FILM_HEAD) + 5 * (6 + 160 * 144))
+    expect('a recorded game', refusal(lambda: Game(CART, save, room.program)), 'gbkeep: recorded game: play it by record')
+    room.path('run.gbkeep.recorded').unlink()
     with Game(CART, save, room.program) as game:
         game.frame(A)
     expect('played by another command', refusal(lambda: Game(CART, save, room.program, recording)), 'gbkeep: recording behind, 104 inputs')
-    expect('verify.py then', room.tool(HERE / 'verify.py', CART, save, recording), 'gbkeep: recording behind, 104 inputs\n')
+    expect('verify.py then', room.tool(HERE / 'verify.py', CART, save, recording)[:36], 'gbkeep: recording behind, 104 inputs')
 
 
 def main():
     if len(sys.argv) != 2:
         sys.exit(__doc__)
-    tests = [test_game, test_refusals, test_slots, test_friendly, test_check, test_rest, test_clock, test_movies, test_film, test_going_back, test_recordings]
+    tests = [test_game, test_refusals, test_friendly, test_check, test_rest, test_movies, test_film, test_recordings]
     with tempfile.TemporaryDirectory(prefix='players-') as folder:
         for test in tests:
             test(Room(os.path.abspath(sys.argv[1]), folder))

@@ -1,12 +1,13 @@
 #!/usr/bin/env python3
 """Plays the demo cartridge in the window with real key events, on a display of its own, and kills it in the middle of play. Then it looks at
 what the window shows: a pause, a saved picture, running fast, a fault, a notice about the clock, a slot, the keys, another palette, full screen; and
-ends it by Ctrl-C.
+ends it by Ctrl-C and by a SIGTERM. It gives it names and files that no window can use, a recorded game, and a battery file.
 
 usage: test_window.py [GBKEEP [PICTURE]]    PICTURE: where a picture of the whole window goes, as PNG
 
 It needs Debian's packages xvfb, xdotool and python3-pygame, and installs nothing. The status is 1 where the window does not show the game, where
 what its title told as saved is gone after a SIGKILL, where the score of a second before is, or where any of the others is not shown."""
+import hashlib
 import os
 import re
 import select
@@ -26,11 +27,12 @@ sys.path.insert(0, str(DEMO))
 sys.path.insert(0, str(HERE))
 from assemble import Assembler
 from check import glyphs, status_line
-from gbkeep import HEIGHT, WIDTH, Game
+from gbkeep import HEIGHT, WIDTH, Game, run
 from png import chunk
-from test_players import CLOCK
+from test_slots import CLOCK, seconds_shown
 
 SCALE = 3
+DAY = 86_400
 # those of window.py, darkest first; the letters that it draws have others between them
 COLOURS = [(0x0f, 0x38, 0x0f), (0x30, 0x62, 0x30), (0x8b, 0xac, 0x0f), (0xe0, 0xf8, 0xd0)]
 
@@ -60,12 +62,13 @@ class Screen:
     def __init__(self, room):
         self.pixels = Path(room) / 'Xvfb_screen0'
         reader, writer = os.pipe()
-        self.process = subprocess.Popen(['Xvfb', '-displayfd', str(writer), '-screen', '0', '800x600x24', '-fbdir', room, '-nolisten', 'tcp'],
+        self.process = subprocess.Popen(['Xvfb', '-displayfd', str(writer), '-screen', '0', '800x600x24', '-fbdir', room, '-nolisten', 'tcp', '-noreset'],
                                         pass_fds=[writer], stdout=subprocess.DEVNULL, stderr=subprocess.DEVNULL)
         os.close(writer)
         if not select.select([reader], [], [], 20)[0]:
             sys.exit('Xvfb shows no display')
-        self.env = dict(os.environ, DISPLAY=':' + os.read(reader, 20).decode().strip(), SDL_AUDIODRIVER='dummy')
+        self.env = dict(os.environ, DISPLAY=':' + os.read(reader, 20).decode().strip(), SDL_AUDIODRIVER='dummy',
+                        XDG_CONFIG_HOME=f'{room}/config', XDG_DATA_HOME=f'{room}/data')
 
     def do(self, *words):
         return subprocess.run(['xdotool', *words], env=self.env, capture_output=True, text=True).stdout
@@ -86,9 +89,9 @@ class Screen:
 class Player:
     """A window that is open."""
 
-    def __init__(self, screen, gbkeep, save, cart=DEMO / 'demo.gb'):
+    def __init__(self, screen, gbkeep, save, cart=DEMO / 'demo.gb', *more):
         self.screen, self.save = screen, save
-        self.process = subprocess.Popen([sys.executable, '-B', HERE / 'window.py', '--gbkeep', gbkeep, cart, save], env=screen.env,
+        self.process = subprocess.Popen([sys.executable, '-B', HERE / 'window.py', '--gbkeep', gbkeep, *more, cart, *([save] if save else [])], env=screen.env,
                                         start_new_session=True, stdout=subprocess.PIPE, stderr=subprocess.STDOUT, text=True)
         self.window = None
         self.find()
@@ -127,14 +130,20 @@ class Player:
     def until_saved(self, count):
         return self.wait(lambda: self.saved() >= count and self.saved(), f'{count} inputs were never saved')
 
-    def pixels(self):
+    def pixels(self, is_whole=False):
+        """Those of the picture, or of the whole window."""
         place = dict(line.split('=') for line in self.screen.do('getwindowgeometry', '--shell', self.window).split())
-        return self.screen.shot(int(place['X']), int(place['Y']), WIDTH * SCALE, HEIGHT * SCALE)
+        return self.screen.shot(int(place['X']), int(place['Y']), WIDTH * SCALE, int(place['HEIGHT']) if is_whole else HEIGHT * SCALE)
 
     def has_words(self):
-        """Something is written over the picture, or in its place. (Before the first picture the window is black.)"""
-        colours = {colour for row in self.pixels() for colour in row}
-        return COLOURS[3] in colours and not colours <= set(COLOURS)
+        """Something is written over the picture, in its place, or below it. (Before the first picture the window is black.)"""
+        rows = self.pixels(is_whole=True)
+        colours, below = ({colour for row in part for colour in row} for part in (rows[:HEIGHT * SCALE], rows[HEIGHT * SCALE:]))
+        return COLOURS[3] in below or COLOURS[3] in colours and not colours <= set(COLOURS)
+
+    def covers(self):
+        """Something is written over the picture."""
+        return not {colour for row in self.pixels() for colour in row} <= set(COLOURS)
 
     def until_words(self, there, what):
         self.wait(lambda: self.has_words() == there, f'{what}: {"nothing is" if there else "something is still"} written in the window')
@@ -178,9 +187,9 @@ class Player:
         self.ended(0, '')
 
     def ended(self, status, output):
-        """It ends so, and prints that."""
+        """It ends so, and prints nothing or one line that begins with that."""
         printed = self.process.communicate(timeout=20)[0]
-        if (self.process.returncode, printed) != (status, output):
+        if self.process.returncode != status or not printed.startswith(output) or printed.count('\n') != bool(output):
             sys.exit(f'the window ended with status {self.process.returncode} and {printed!r}, and not {status} and {output!r}')
 
 
@@ -243,6 +252,9 @@ def look(open_window, screen, save, gbkeep):
     screen.keys('key', 'p')
     player.until_titled('GBKEEP DEMO: paused, ')
     player.until_words(True, 'in a pause')
+    shades = player.picture()
+    if player.covers() or player.shades() != shades:
+        sys.exit('what is said covers the picture')
     screen.keys('key', 'p')
     player.until_words(False, 'after a pause')
     screen.keys('keydown', 'Tab')
@@ -253,6 +265,8 @@ def look(open_window, screen, save, gbkeep):
     player.until_words(False, 'after it ran fast')
     shades = player.picture()
     player.until_words(True, 'after a picture')
+    if player.covers():
+        sys.exit('what is said covers the picture')
     player.until_words(False, 'two seconds after a picture')
     if len(set(shades)) < 3:
         sys.exit('the picture has no shades')
@@ -269,13 +283,13 @@ def look(open_window, screen, save, gbkeep):
         if not player.has_words() or player.process.poll() is not None:
             sys.exit('the fault does not stay')
         screen.keys('key', 'x')
-        player.ended(1, 'gbkeep: device failed\n')
+        player.ended(1, 'gbkeep: device failed')
     print('shown: pause, fast, picture, fault; Ctrl-C saves and ends')
 
 
 def look_at_clock(open_window, screen, room, gbkeep):
     """A game with a clock that something else has played."""
-    cart, save = room / 'clock.gb', room / 'clock.sav'
+    cart, save = room / 'clock.gb', room / 'clock.gbkeep'
     cart.write_bytes(Assembler().assemble(CLOCK))
     with Game(cart, save, gbkeep) as game:
         game.frames(0, 10)
@@ -293,10 +307,29 @@ def look_at_clock(open_window, screen, room, gbkeep):
     player.until_titled('CLOCK: ')
     player.until_saved(370)
     player.close()
-    print('shown: what the clock is given')
+    # of a leap of years the player is asked
+    clock = Path(f'{save}.time')
+    count, before = map(int, clock.read_text().split('\n')[0].split())
+    held = save.read_bytes()
+    for key, given in (('n', False), ('y', True)):
+        save.write_bytes(held)
+        clock.write_text(f'{count} {before - 400 * DAY}\n')
+        player = open_window(save, cart)
+        player.until_words(True, 'after a leap of 400 days')
+        time.sleep(1)
+        if not player.has_words():
+            sys.exit('the question does not stay')
+        screen.keys('key', key)
+        player.until_titled('CLOCK: ')
+        player.until_saved(count + 60)
+        player.close()
+        with Game(cart, save, gbkeep) as game:
+            if (seconds_shown(game) >= (400 % 256) * DAY) != given:
+                sys.exit(f'after {key!r} the clock shows {seconds_shown(game)} seconds')
+    print('shown: what the clock is given, and a question')
 
 
-def look_at_slot(open_window, screen, save):
+def look_at_slot(open_window, screen, save, gbkeep):
     """A slot, going back to it, the list of keys, another palette, and full screen."""
     player = open_window(save)
     kept = player.until_saved(120)
@@ -326,7 +359,138 @@ def look_at_slot(open_window, screen, save):
     player.find()
     player.until_saved(kept + 300)
     player.close()
-    print('shown: a slot, going back, keys, a palette, full screen')
+    player = open_window(save)
+    player.wait(lambda: {colour for row in player.pixels() for colour in row} <= {(shade,) * 3 for shade in (0, 0x55, 0xaa, 0xff)}, 'the palette was forgotten')
+    player.until_titled('GBKEEP DEMO: ')
+    told = player.saved()
+    # a login that ends: a SIGTERM for the window and the program
+    os.killpg(player.process.pid, signal.SIGTERM)
+    player.ended(0, '')
+    if int(run(str(gbkeep), 'show', str(DEMO / 'demo.gb'), str(save)).split()[1]) < told:
+        sys.exit('a SIGTERM lost inputs')
+    Path(screen.env['XDG_CONFIG_HOME'], 'gbkeep/palette').unlink()
+    print('shown: a slot, going back, keys, a palette that is kept, full screen; a SIGTERM saves and ends')
+
+
+def look_at_recorded(open_window, screen, room, gbkeep):
+    """A recorded game, with --record and without."""
+    cart, save, recording = DEMO / 'demo.gb', room / 'run.gbkeep', room / 'run.rec'
+    player = open_window(save, cart, '--record', str(recording))
+    player.until_saved(60)
+    screen.keys('key', 'F5')
+    player.wait(Path(f'{save}.slot').exists, 'F5 left no slot')
+    player.until_words(True, 'after F5 in a recorded game')
+    player.close()
+    told = run(str(gbkeep), 'verify', str(cart), str(save), str(recording))
+    # the mark, as `record` leaves it
+    if not Path(f'{save}.recorded').exists():
+        Path(f'{save}.recorded').write_text(f'{recording}\n')
+    player = open_window(save)
+    player.until_words(True, 'a question about the recording')
+    screen.keys('key', 'n')
+    player.ended(0, '')
+    if run(str(gbkeep), 'verify', str(cart), str(save), str(recording)) != told:
+        sys.exit('a recorded game was played')
+    player = open_window(save)
+    player.until_words(True, 'a question about the recording')
+    screen.keys('key', 'y')
+    player.until_saved(int(told.split()[1]) + 60)
+    player.close()
+    if run(str(gbkeep), 'verify', str(cart), str(save), str(recording)) == told:
+        sys.exit('a recorded game was not played on')
+    away = recording.rename(room / 'away.rec')
+    player = open_window(save)
+    player.until_words(True, 'a recording that is not there')
+    screen.keys('key', 'x')
+    player.ended(1, f'run.gbkeep is a recorded game, and its recording {recording} is not there: put it back, or name it by --record')
+    away.rename(recording)
+    plain = room / 'plain.gbkeep'
+    with Game(cart, plain, gbkeep) as game:
+        game.frame()
+    player = open_window(plain, cart, '--record', str(room / 'none.rec'))
+    player.until_words(True, 'a game without a recording')
+    screen.keys('key', 'x')
+    player.ended(1, f'{room / "none.rec"} is not there: the game in SAVE has no recording of this name')
+    print('shown: a recorded game and its recording')
+
+
+def look_at_battery(open_window, screen, room, gbkeep):
+    """A battery file of another emulator, with the time of its writing."""
+    cart, save, battery = room / 'clock.gb', room / 'battery.gbkeep', room / 'battery.sav'
+    registers = b''.join(value.to_bytes(4, 'little') for value in (7, 0, 0, 0, 0) * 2)
+    size = int(run(str(gbkeep), 'info', str(cart)).split('\nram ')[1].split()[0])
+    for key, shown in (('y', 7 + 5 * DAY), ('n', 7)):
+        battery.write_bytes(bytes(size) + registers + (int(time.time()) - 5 * DAY).to_bytes(8, 'little'))
+        player = open_window(save, cart, '--import', str(battery))
+        player.until_words(True, 'a question about the time since')
+        screen.keys('key', key)
+        player.until_saved(30)
+        player.close()
+        with Game(cart, save, gbkeep) as game:
+            seconds = seconds_shown(game)
+        if not shown <= seconds < shown + 60:
+            sys.exit(f'after {key!r} the clock shows {seconds} seconds, and not {shown}')
+        player = open_window(save, cart, '--import', str(battery))
+        player.until_words(True, 'a game that exists already')
+        screen.keys('key', 'x')
+        player.ended(1, f'gbkeep: device failed: {save} exists already')
+        for path in (save, Path(f'{save}.time')):
+            path.unlink()
+    print('shown: the time since a battery file was written')
+
+
+def look_at_names(open_window, screen, room, gbkeep):
+    """The SAVE of a cartridge that is given alone, and one with another emulator's name."""
+    cart, folder = DEMO / 'demo.gb', Path(screen.env['XDG_DATA_HOME']) / 'gbkeep'
+    name = f'demo-{hashlib.sha256(cart.read_bytes()).hexdigest()[:8]}'
+    player = open_window(None)
+    player.until_saved(30)
+    player.close()
+    if [path.name for path in folder.iterdir()] != [f'{name}.gbkeep']:
+        sys.exit(f'the SAVE of a cartridge is not {name}.gbkeep')
+    # a game that was begun under the ending of a battery file goes on
+    (folder / f'{name}.gbkeep').rename(folder / f'{name}.sav')
+    player = open_window(None)
+    count = player.until_saved(60)
+    player.close()
+    if [path.name for path in folder.iterdir()] != [f'{name}.sav'] or count < 60:
+        sys.exit('the game under its old name does not go on')
+    player = open_window(room / 'demo.SAV')
+    player.until_titled('GBKEEP DEMO: ')
+    player.until_words(True, 'a warning of a name')
+    if player.covers():
+        sys.exit('a warning covers the picture')
+    player.process.terminate()
+    player.ended(0, 'window.py: other emulators take demo.SAV for their battery file, and write over it: call it demo.gbkeep')
+    print('shown: the names of saves')
+
+
+def give_hostile_inputs(screen, room, gbkeep):
+    """What no window can use ends it with a line and a status."""
+    cart, fifo, no_text = DEMO / 'demo.gb', room / 'fifo', os.fsencode(room) + b'/\xff\x1b[2J.gbkeep'
+    os.mkfifo(fifo)
+    latin, long = room / 'latin.keys', room / 'long.keys'
+    latin.write_bytes(b'A = \xe9\n')
+    long.write_bytes(b'#' * 200_000)
+    wrong = room / 'wrong.keys'
+    wrong.write_text('A = \x1b[2J\n')
+    for words, status, what in (
+            (['/dev/zero'], 1, 'no plain file'), ([fifo], 1, 'no plain file'), ([room], 1, 'no plain file'), ([room / 'none.gb'], 1, 'No such file'),
+            (['--keys', fifo, cart], 1, 'no plain file'), (['--keys', '/dev/zero', cart], 1, 'no plain file'), (['--keys', latin, cart], 1, 'not UTF-8'),
+            (['--keys', long, cart], 1, 'more than'), (['--keys', wrong, cart], 1, 'is no key'), (['--scale', '9' * 5000, cart], 2, 'scale'),
+            (['--palette', '٣', cart], 2, 'palette'), (['--palette', '0', cart], 2, 'palette'), (['--none', cart], 2, ''), ([], 2, ''), ([cart, 'a', 'b'], 2, ''),
+            (['--gbkeep', room / 'nothing', cart], 1, 'make build'), (['--gbkeep', cart, cart], 1, ''), (['--record', 'r', '--import', 'b', cart], 2, 'not allowed')):
+        done = subprocess.run([sys.executable, '-B', HERE / 'window.py', *(['--gbkeep', gbkeep] if '--gbkeep' not in words else []), *words], env=screen.env,
+                              capture_output=True, timeout=30, stdin=subprocess.DEVNULL)
+        line = done.stderr.decode()
+        if done.returncode != status or what not in line or not line.endswith('\n') or not line[:-1].isprintable() or done.stdout:
+            sys.exit(f'window.py {words!r:.200}: {done.returncode}, {line!r}')
+    # a name that is no text is told in the window, and its title has no control characters
+    player = Player(screen, gbkeep, no_text)
+    player.until_words(True, 'a name that is no text')
+    screen.keys('key', 'x')
+    player.ended(1, 'gbkeep: a word is not text')
+    print('refused in a line: 18 hostile inputs')
 
 
 def main():
@@ -340,10 +504,14 @@ def main():
             players.append(Player(screen, gbkeep, save, *cart))
             return players[-1]
         try:
-            play_and_kill(open_window, screen, room / 'demo.sav', sys.argv[2] if len(sys.argv) > 2 else None)
-            look(open_window, screen, room / 'look.sav', gbkeep)
+            play_and_kill(open_window, screen, room / 'demo.gbkeep', sys.argv[2] if len(sys.argv) > 2 else None)
+            look(open_window, screen, room / 'look.gbkeep', gbkeep)
             look_at_clock(open_window, screen, room, gbkeep)
-            look_at_slot(open_window, screen, room / 'slot.sav')
+            look_at_slot(open_window, screen, room / 'slot.gbkeep', gbkeep)
+            look_at_recorded(open_window, screen, room, gbkeep)
+            look_at_battery(open_window, screen, room, gbkeep)
+            look_at_names(open_window, screen, room, gbkeep)
+            give_hostile_inputs(screen, room, gbkeep)
         finally:
             for player in players:
                 if player.process.poll() is None:

@@ -7,10 +7,13 @@ It prints what `gbkeep verify` prints, with its status: `agree N`, or a line on 
 plays the same inputs meanwhile, by `gbkeep debug`, and answers each piece of them: how many it has played is told. Neither writes to a file."""
 import subprocess
 import sys
+from collections.abc import Iterable, Iterator
 
 from branch import first_of
-from gbkeep import Refused, find_program, run
-from script import Wrong, inputs_of, recorded_moves
+from gbkeep import Refused, ended, find_program, line_of, run, started
+from input_files import printable
+from script import Wrong, recorded_moves
+from tools import WrongWords, operands, run_tool
 
 # frames of one line: a tenth of a second, or less
 PIECE = 3_000
@@ -29,25 +32,32 @@ def pieces_of(moves):
             left -= times
 
 
-def inputs_to_play(program, cart, save, recording):
-    """The moves that are played again: those of the recording up to the count of the game. Nothing where the program refuses to tell."""
+def inputs_to_play(program: str, cart: str, save: str, recording: str) -> tuple[Iterable[tuple], int]:
+    """The moves that are played again, those of the recording up to the count of the game, and that count. None where the program refuses to tell."""
     try:
         count = int(run(program, 'show', cart, save).split()[1])
-        return first_of(recorded_moves(cart, recording), count)
-    except (Refused, Wrong):
-        return []
+        return first_of(recorded_moves(cart, recording), count), count
+    except (Refused, ValueError, IndexError):
+        return [], 0
 
 
-def tell(program, cart, moves, verify):
-    """Plays the moves beside `verify`, and tells how many inputs are played, until one of both ends."""
-    count, played = sum(inputs_of(move) for move in moves), 0
-    words = [program, 'debug', '--', cart]
-    beside = subprocess.Popen(words, stdin=subprocess.PIPE, stdout=subprocess.PIPE, stderr=subprocess.DEVNULL)
+def told_pieces(moves: Iterable[tuple]) -> Iterator[tuple]:
+    """The pieces up to the last that is there: whether it is enough, `gbkeep verify` says."""
     try:
-        for line, inputs in pieces_of(moves):
+        yield from pieces_of(moves)
+    except (Wrong, Refused):
+        return
+
+
+def tell(program, cart, moves, count, verify):
+    """Plays the moves beside `verify`, and tells how many of `count` inputs are played, until one of both ends."""
+    played = 0
+    beside = started([program, 'debug', '--', cart], stdin=subprocess.PIPE, stdout=subprocess.PIPE, stderr=subprocess.DEVNULL)
+    try:
+        for line, inputs in told_pieces(moves):
             beside.stdin.write(line.encode())
             beside.stdin.flush()
-            if beside.stdout.readline() != b'done\n' or verify.poll() is not None:
+            if beside.stdout.readline(16) != b'done\n' or verify.poll() is not None:
                 break
             played += inputs
             print(f'\r{played:,} of {count:,} inputs', end='', file=sys.stderr, flush=True)
@@ -60,33 +70,25 @@ def tell(program, cart, moves, verify):
         print('\r\x1b[K', end='', file=sys.stderr, flush=True)
 
 
-def verified(program, cart, save, recording):
+def verified(program: str, cart: str, save: str, recording: str) -> str:
     """What `gbkeep verify` prints."""
-    moves = inputs_to_play(program, cart, save, recording) if sys.stderr.isatty() else []
-    words = [program, 'verify', '--', cart, save, recording]
-    verify = subprocess.Popen(words, stdout=subprocess.PIPE, stderr=subprocess.PIPE, text=True)
-    try:
-        if moves:
-            tell(program, cart, moves, verify)
+    moves, count = inputs_to_play(program, cart, save, recording) if sys.stderr and sys.stderr.isatty() else ([], 0)
+    verify = started([program, 'verify', '--', cart, save, recording], stdin=subprocess.DEVNULL, stdout=subprocess.PIPE, stderr=subprocess.PIPE, text=True, errors='replace')
+    with ended(verify):
+        if count:
+            tell(program, cart, moves, count, verify)
         out, err = verify.communicate()
-    except BaseException:
-        verify.kill()
-        raise
     if verify.returncode != 0:
-        raise Refused(err.strip() or f'the program ended with status {verify.returncode}', 'verify')
+        raise Refused(line_of(err, verify.returncode), 'verify')
     return out
 
 
-def main():
-    if len(sys.argv) != 4:
-        sys.exit(__doc__)
-    try:
-        print(verified(find_program(), *sys.argv[1:]), end='')
-    except (Refused, OSError) as error:
-        sys.exit(str(error) if isinstance(error, Refused) else f'verify.py: {error}')
-    except KeyboardInterrupt:
-        sys.exit(130)
+def main(words: list[str]) -> None:
+    words = operands(words)
+    if len(words) != 3:
+        raise WrongWords
+    print(printable(verified(find_program(), *words).rstrip('\n')))
 
 
 if __name__ == '__main__':
-    main()
+    run_tool(main, __doc__)

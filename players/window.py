@@ -1,9 +1,10 @@
 #!/usr/bin/env python3
 """Plays a game in a window, by `gbkeep stream`: it is saved every second, and no power cut loses more than the last one.
 
-usage: window.py [--gbkeep PROGRAM] [--scale N] [--keys FILE] [--palette N] [--record RECORDING] CART [SAVE]
+usage: window.py [--gbkeep PROGRAM] [--scale N] [--keys FILE] [--palette N] [--record RECORDING | --import BATTERY] CART [SAVE]
 
-SAVE is made where there is none; without SAVE, a cartridge has one of its own in ~/.local/share/gbkeep. Keys:
+SAVE is made where there is none; without SAVE, a cartridge has one of its own in ~/.local/share/gbkeep. A SAVE is best called NAME.gbkeep: other
+emulators take NAME.sav and NAME.srm for their battery files, and write over them. Keys:
 
     arrows                 the pad
     X, Z                   A, B
@@ -12,29 +13,33 @@ SAVE is made where there is none; without SAVE, a cartridge has one of its own i
     P                      pause, and on
     S                      a picture of the game beside SAVE, as PNG, in the greys of `gbkeep frame`
     F1                     shows the keys
-    F2                     the next palette, of four
-    F5, F9                 keeps the game in its slot (SAVE.slot), and goes back to it; what that replaces is SAVE.before
+    F2                     the next palette, of four, which is kept for the next time
+    F5, F9                 keeps the game in its slot (SAVE.slot), and goes back to it; a game that this replaces is kept as SAVE.before, SAVE.before.2 ..
     F11                    full screen, and back
 
 A gamepad's buttons are those that SDL knows it by. --keys FILE changes keys, by lines as `A = space`. The window can have any size.
 
 With --record every input is kept in RECORDING, too, which is made along with SAVE; a recorded game does not go back, since its recording goes on.
+With --import a game is begun in a new SAVE with the battery file of another emulator.
 
-A cartridge with a clock is given the seconds that have passed since the window last saved the game (SAVE.time). The title has the game's
-name, its speed and the count of inputs that are saved. Closing the window or Ctrl-C saves and ends.
+A cartridge with a clock is given the seconds that have passed since the window last saved the game (SAVE.time); of more than a year the window asks
+first. The title has the game's name, its speed and the count of inputs that are saved. Closing the window, Ctrl-C or a SIGTERM saves and ends.
 
 It needs pygame (Debian's package python3-pygame). It never writes into SAVE itself: all of that is the program's."""
 import argparse
-import hashlib
 import os
 import signal
 import sys
 import time
-from pathlib import Path
+from typing import Optional
 
-from gbkeep import HEIGHT, WIDTH, Refused, find_program
-from slots import go_back, keep_slot, slot_of
-from timed_game import TimedGame
+from gbkeep import HEIGHT, WIDTH, Refused, find_program, starting
+from input_files import MOST_LINE, WrongInput, printable, reason
+from slots import Slots, short
+from timed_game import TimedGame, WrongTime
+from tools import Words, count_word, name_of_tool
+from window_files import (LINE_SECONDS, WARNING_SECONDS, back_to_slot, battery_name, keep_in_slot, keep_palette, kept_palette, leave_picture, own_save,
+                          take_battery, with_recording)
 
 try:
     os.environ.setdefault('PYGAME_HIDE_SUPPORT_PROMPT', '1')
@@ -55,7 +60,6 @@ PALETTES = [[(0x0f, 0x38, 0x0f), (0x30, 0x62, 0x30), (0x8b, 0xac, 0x0f), (0xe0, 
             [(0x1f, 0x1f, 0x1f), (0x4d, 0x53, 0x3c), (0x8b, 0x95, 0x6d), (0xc4, 0xcf, 0xa1)],
             [(0x08, 0x18, 0x20), (0x34, 0x68, 0x56), (0x88, 0xc0, 0x70), (0xf0, 0xe0, 0xc0)]]
 EDGE = 8
-LINE_SECONDS = 2
 
 
 class Window:
@@ -66,13 +70,14 @@ class Window:
         pygame.font.init()
         self.keys, self.palette, self.pads = keys, palette, Pads()
         self.actions = {key: name for name, key in keys.items()}
-        self.size = (WIDTH * scale, HEIGHT * scale)
+        self.size = (WIDTH * scale, HEIGHT * scale + self.letters(WIDTH * scale).get_linesize())
         self.is_full = False
         self.open(self.size)
         self.shades, self.shown, self.is_stale = bytes(WIDTH * HEIGHT), None, False
         self.pressed = self.taken = 0
-        self.line, self.line_ends = '', 0.0
+        self.said = []
         self.is_closed = self.is_paused = self.any_key = False
+        self.answer = None
         self.wanted = set()
         for one in (signal.SIGINT, signal.SIGTERM, signal.SIGHUP):
             signal.signal(one, self.end)
@@ -81,14 +86,21 @@ class Window:
         """Opens the window anew, or takes the size that it was given."""
         self.screen = pygame.display.set_mode((0, 0) if self.is_full else size, pygame.FULLSCREEN if self.is_full else pygame.RESIZABLE)
         width, height = self.screen.get_size()
-        scale = min(width / WIDTH, height / HEIGHT)
+        # a strip below the picture is for what is said, so that no line covers the game
+        strip = self.letters(min(width, height * WIDTH // HEIGHT)).get_linesize()
+        scale = max(min(width / WIDTH, (height - strip) / HEIGHT), 0.1)
         # whole pixels where the window is about that large
         scale = int(scale) if scale >= 1 and scale - int(scale) < 0.05 else scale
         inner = (int(WIDTH * scale), int(HEIGHT * scale))
-        self.place = pygame.Rect((width - inner[0]) // 2, (height - inner[1]) // 2, *inner)
-        self.font = pygame.font.Font(None, max(14, 14 + 5 * self.place.width // WIDTH))
+        self.place = pygame.Rect((width - inner[0]) // 2, max(0, (height - strip - inner[1]) // 2), *inner)
+        self.strip = pygame.Rect(self.place.left, self.place.bottom, self.place.width, strip)
+        self.font = self.letters(self.place.width)
         self.screen.fill((0, 0, 0))
         self.is_stale = True
+
+    def letters(self, width):
+        """Letters as large as fits a picture of this width."""
+        return pygame.font.Font(None, max(14, 14 + 5 * width // WIDTH))
 
     def fill(self):
         """Fills the screen, or goes back to the window. It is opened anew, so that it comes to its place without a window manager, too."""
@@ -122,12 +134,14 @@ class Window:
                 self.pads.look()
             elif event.type == pygame.CONTROLLERBUTTONDOWN:
                 self.any_key = True
+                self.answer = {pygame.CONTROLLER_BUTTON_START: True, pygame.CONTROLLER_BUTTON_BACK: False}.get(event.button, self.answer)
             elif event.type == pygame.KEYUP:
                 name = self.actions.get(event.key)
                 if name in BUTTONS:
                     self.pressed &= ~(1 << BUTTONS.index(name))
             elif event.type == pygame.KEYDOWN:
                 self.any_key = True
+                self.answer = {pygame.K_y: True, pygame.K_n: False, pygame.K_ESCAPE: False}.get(event.key, self.answer)
                 self.key_down(self.actions.get(event.key))
 
     def key_down(self, name):
@@ -138,6 +152,7 @@ class Window:
             self.is_paused = not self.is_paused
         elif name == 'Palette':
             self.palette, self.is_stale = (self.palette + 1) % len(PALETTES), True
+            keep_palette(self.palette)
         elif name == 'Full screen':
             self.fill()
         elif name in ('Picture', 'Keys', 'Keep slot', 'Go back'):
@@ -157,27 +172,34 @@ class Window:
         return pygame.key.get_pressed()[self.keys['Fast']]
 
     def say(self, line, seconds=LINE_SECONDS):
-        """Shows a line below the picture for so long."""
-        self.line, self.line_ends = line, time.monotonic() + seconds
+        """Shows a line below the picture for so long; one that does not fit is shown in parts."""
+        now, parts = time.monotonic(), self.folded(line)
+        seconds = max(seconds, LINE_SECONDS * len(parts)) if len(parts) > 1 else seconds
+        self.said = [(part, now + seconds * number / len(parts)) for number, part in enumerate(parts, 1)]
 
     def show(self, shades=None):
-        """Shows a picture, or the last one again, and over it the line that is said or what the keys have set."""
+        """Shows a picture, or the last one again, and below it the line that is said or what the keys have set."""
         self.shades = shades or self.shades
-        if time.monotonic() >= self.line_ends:
-            self.line = ''
-        line = f'paused: {pygame.key.name(self.keys["Pause"]).upper()} goes on' if self.is_paused else self.line
+        now = time.monotonic()
+        self.said = [(part, end) for part, end in self.said if end > now]
+        said = self.said[0][0] if self.said else ''
+        line = said or (f'paused: {pygame.key.name(self.keys["Pause"]).upper()} goes on' if self.is_paused else '')
         if (self.shades, line) == self.shown and not self.is_stale:
             return
         self.shown, self.is_stale = (self.shades, line), False
-        self.draw([line] if line else [])
+        self.draw([], line)
 
-    def draw(self, lines):
+    def draw(self, lines, said=''):
+        """Draws the picture, lines over it, which the game waits for, and below it what is said while it goes on."""
         colours = PALETTES[self.palette]
         picture = pygame.image.frombuffer(self.shades, (WIDTH, HEIGHT), 'P')
         picture.set_palette(colours)
         self.screen.blit(pygame.transform.scale(picture.convert(self.screen), self.place.size), self.place)
+        self.screen.fill(colours[3] if said else (0, 0, 0), self.strip)
+        if said:
+            self.screen.blit(self.font.render(said, True, colours[0], colours[3]), (self.strip.left + EDGE, self.strip.top))
         texts = [self.font.render(line, True, colours[0], colours[3]) for line in lines]
-        top = max(self.place.top, self.place.bottom - EDGE - sum(text.get_height() for text in texts))
+        top = max(self.place.top, self.strip.bottom - sum(text.get_height() for text in texts))
         for text in texts:
             self.screen.blit(text, (self.place.left + EDGE, top))
             top += text.get_height()
@@ -191,64 +213,27 @@ class Window:
             lines[-1:] = [longer] if self.font.size(longer)[0] <= self.place.width - 2 * EDGE else [lines[-1], word]
         return [line for line in lines if line]
 
-    def tell(self, *texts):
-        """Shows texts until a key is pressed or the window is closed."""
-        self.any_key = False
+    def wait(self, texts, is_done):
+        """Shows texts until that is so or the window is closed."""
+        self.any_key, self.answer = False, None
         size = None
-        while not self.any_key and not self.is_closed:
+        while not is_done() and not self.is_closed:
             if self.is_stale or self.place.size != size:
                 self.is_stale, size = False, self.place.size
-                self.draw([line for text in (*texts, 'Press a key.') for line in self.folded(text)])
+                self.draw([line for text in texts for line in self.folded(text)])
             self.listen()
             time.sleep(0.02)
         self.taken, self.is_paused, self.is_stale = 0, False, True
         self.wanted.clear()
 
+    def tell(self, *texts: str) -> None:
+        """Shows texts until a key is pressed or the window is closed."""
+        self.wait([*texts, 'Press a key.'], lambda: self.any_key)
 
-def next_name(save):
-    """The first name of a picture beside SAVE that is free."""
-    number = 1
-    while Path(f'{save}-{number}.png').exists():
-        number += 1
-    return Path(f'{save}-{number}.png')
-
-
-def leave_picture(window, game, save):
-    name = next_name(save)
-    try:
-        name.write_bytes(game.picture().png())
-        window.say(f'picture: {name.name}')
-    except OSError as error:
-        window.say(f'no picture: {error.strerror}')
-
-
-def keep_in_slot(window, game, save):
-    try:
-        count = game.keep()
-        keep_slot(save)
-        window.say(f'kept in the slot: {count} inputs')
-    except OSError as error:
-        window.say(f'not kept: {error.strerror}')
-
-
-def back_to_slot(window, game, save, open_game):
-    """The game of the slot, or the one that goes on where there is none to go back to."""
-    if game.command == 'record':
-        window.say('a recorded game does not go back')
-        return game
-    if not slot_of(save).exists():
-        window.say('the slot is empty')
-        return game
-    game.keep()
-    game.close()
-    try:
-        go_back(save)
-        said = 'back to the slot'
-    except OSError as error:
-        said = f'not back: {error.strerror}'
-    game = open_game()
-    window.say(f'{said}: {game.count} inputs')
-    return game
+    def ask(self, *texts: str) -> Optional[bool]:
+        """Shows a question, and answers whether it was agreed to; None where the window was closed."""
+        self.wait([*texts, 'Y: yes. N: no. (Start and Back of a gamepad.)'], lambda: self.answer is not None)
+        return self.answer
 
 
 class Speed:
@@ -269,10 +254,10 @@ class Speed:
         return f'{self.rate / FRAMES_A_SECOND:.0%}'
 
 
-def play(window, game, save, open_game):
+def play(window, game, save, slots, open_game):
     """Plays until the window is closed, and returns the game that is open then."""
-    name = game.header.title or Path(save).name
-    speed, frames, due = Speed(), 0, time.monotonic()
+    name = printable(game.header.title) or short(save)
+    speed, frames, due, told = Speed(), 0, time.monotonic(), None
 
     def entitle():
         pygame.display.set_caption(f'{name}: {"paused" if window.is_paused else speed.text()}, {game.saved} saved')
@@ -288,12 +273,15 @@ def play(window, game, save, open_game):
             window.tell(*lines_of(window.keys))
             speed, due = Speed(), time.monotonic()
         if window.wants('Keep slot'):
-            keep_in_slot(window, game, save)
+            keep_in_slot(window, game, slots)
         if window.wants('Go back'):
-            game = back_to_slot(window, game, save, open_game)
+            game = back_to_slot(window, game, slots, open_game)
             speed, due = Speed(), time.monotonic()
             window.shades = game.picture().shades
             entitle()
+        if game.trouble != told:
+            told = game.trouble
+            window.say(told or 'the clock goes on', WARNING_SECONDS)
         if window.is_paused != was_paused:
             was_paused = window.is_paused
             if was_paused:
@@ -324,50 +312,90 @@ def play(window, game, save, open_game):
     return game
 
 
-def own_save(cart):
-    """The SAVE of a cartridge that is given alone: its file's name and the beginning of its SHA-256, so that no two ROMs share one."""
-    folder = Path(os.environ.get('XDG_DATA_HOME') or Path.home() / '.local/share') / 'gbkeep'
-    folder.mkdir(parents=True, exist_ok=True)
-    digest = hashlib.sha256(Path(cart).read_bytes()).hexdigest()
-    return str(folder / f'{Path(cart).stem}-{digest[:8]}.sav')
-
-
-def main():
-    words = argparse.ArgumentParser(description='Plays a game in a window.', epilog=__doc__, formatter_class=argparse.RawDescriptionHelpFormatter)
-    words.add_argument('--gbkeep', default=find_program(), help='the program (default: %(default)s)')
-    words.add_argument('--scale', type=int, default=3, choices=range(1, 9), help='how large a pixel is at first (default: 3)')
+def words_of(given: list[str]) -> argparse.Namespace:
+    words = Words(prog=name_of_tool(), description='Plays a game in a window.', epilog=__doc__, formatter_class=argparse.RawDescriptionHelpFormatter)
+    words.add_argument('--gbkeep', metavar='PROGRAM', default=find_program(), help='the program (default: %(default)s)')
+    words.add_argument('--scale', metavar='N', type=count_word(1, 8, 'scale'), default=3, help='how large a pixel is at first, 1 to 8 (default: 3)')
     words.add_argument('--keys', metavar='FILE', help='a file that changes keys, by lines as `A = space`')
-    words.add_argument('--palette', type=int, default=1, choices=range(1, len(PALETTES) + 1), help='the colours (default: 1)')
-    words.add_argument('--record', metavar='RECORDING', help='the file for every input since power-on')
+    words.add_argument('--palette', metavar='N', type=count_word(1, len(PALETTES), 'palette'), help='the colours, 1 to 4 (default: those of the last time)')
+    files = words.add_mutually_exclusive_group()
+    files.add_argument('--record', metavar='RECORDING', help='the file for every input since power-on')
+    files.add_argument('--import', metavar='BATTERY', dest='battery', help='begins a game with the battery file of another emulator')
     words.add_argument('cart', metavar='CART')
     words.add_argument('save', metavar='SAVE', nargs='?')
-    asked = words.parse_args()
+    return words.parse_args(given)
+
+
+def warning_of(asked: argparse.Namespace) -> Optional[str]:
+    """What is to be said of the name of a SAVE that was given, and that other emulators may look for."""
+    return battery_name(asked.save) if asked.save else None
+
+
+def run_window(window: Window, asked: argparse.Namespace, save: str) -> None:
+    """Plays the game until the window is closed."""
+    recording, is_agreed = asked.record, False
+    if asked.battery:
+        is_agreed = take_battery(window, asked.battery, asked.cart, save, asked.gbkeep)
+    elif not recording:
+        recording, is_played = with_recording(window, save)
+        if not is_played:
+            return
+
+    def ask(game: TimedGame, question: str) -> Optional[bool]:
+        window.shades = game.picture().shades
+        return is_agreed or window.ask(question)
+
+    def open_game() -> TimedGame:
+        game = TimedGame(asked.cart, save, asked.gbkeep, recording=recording, ask=ask)
+        if game.notice:
+            window.shades = game.picture().shades
+            window.tell(game.notice)
+        return game
+    game = open_game()
+    if warning_of(asked):
+        window.say(warning_of(asked), WARNING_SECONDS)
+    slots = Slots(asked.cart, save, asked.gbkeep, game.header.has_clock())
+    game = play(window, game, save, slots, open_game)
+    game.keep()
+    game.close()
+
+
+def main() -> int:
+    asked = words_of(sys.argv[1:])
     window = None
     try:
+        with starting(asked.gbkeep):
+            pass
+        save = asked.save or own_save(asked.cart)
         pygame.display.init()
         keys = keys_of(asked.keys)
-        save = asked.save or own_save(asked.cart)
-        window = Window(asked.scale, keys, asked.palette - 1)
-        pygame.display.set_caption(f'gbkeep: {Path(save).name}')
-
-        def open_game():
-            game = TimedGame(asked.cart, save, asked.gbkeep, recording=asked.record)
-            if game.notice:
-                window.shades = game.picture().shades
-                window.tell(game.notice)
-            return game
-        game = play(window, open_game(), save, open_game)
-        game.keep()
-        game.close()
+        palette = kept_palette() or 0 if asked.palette is None else asked.palette - 1
+        window = Window(asked.scale, keys, palette)
+        pygame.display.set_caption(f'gbkeep: {short(save)}')
+        if warning_of(asked):
+            print(f'window.py: {warning_of(asked)}', file=sys.stderr)
+        run_window(window, asked, save)
+        return 0
     except WrongKeys as wrong:
-        sys.exit(str(wrong))
+        line = printable(wrong, MOST_LINE)
     except Refused as refused:
-        pygame.display.set_caption(refused.line)
-        window.tell(refused.line, *(f'{text[:1].upper()}{text[1:]}.'.replace('`', '') for text in (refused.means, refused.advice) if text))
-        sys.exit(refused.line)
-    except (OSError, pygame.error) as error:
-        sys.exit(f'window.py: {error}')
+        line = refused.told()
+        if window is not None and not window.is_closed:
+            pygame.display.set_caption(refused.line)
+            window.tell(refused.line, *(f'{text[:1].upper()}{text[1:]}.'.replace('`', '') for text in (refused.means, refused.advice) if text))
+    except (WrongInput, WrongTime) as wrong:
+        line = printable(wrong, MOST_LINE)
+        if window is not None:
+            window.tell(line)
+    except OSError as error:
+        line = f'window.py: {printable(error.filename)}: {reason(error)}' if error.filename else f'window.py: {reason(error)}'
+    except pygame.error as error:
+        line = f'window.py: {printable(error)}'
+    except KeyboardInterrupt:
+        return 130
+    print(line, file=sys.stderr)
+    return 1
 
 
 if __name__ == '__main__':
-    main()
+    sys.exit(main())

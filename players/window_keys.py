@@ -4,6 +4,8 @@ A file of keys has a line for each key that is another one, as `A = space`; `#` 
 case; those on the right are SDL's names of keys, as `x`, `space`, `left shift`, `return` or `keypad 1`."""
 import pygame
 
+from input_files import WrongInput, printable, read_text
+
 # the buttons first, as bits 0 to 7; then what else a key does, and its key
 ACTIONS = [('Right', 'right'), ('Left', 'left'), ('Up', 'up'), ('Down', 'down'), ('A', 'x'), ('B', 'z'), ('Select', 'backspace'), ('Start', 'return'),
            ('Fast', 'tab'), ('Pause', 'p'), ('Picture', 's'), ('Keys', 'f1'), ('Palette', 'f2'), ('Keep slot', 'f5'), ('Go back', 'f9'), ('Full screen', 'f11')]
@@ -13,6 +15,7 @@ MEANINGS = {'Fast': 'while it is held: as fast as it goes', 'Pause': 'pause, and
 # a gamepad's buttons, by SDL's mapping
 PAD = [pygame.CONTROLLER_BUTTON_DPAD_RIGHT, pygame.CONTROLLER_BUTTON_DPAD_LEFT, pygame.CONTROLLER_BUTTON_DPAD_UP, pygame.CONTROLLER_BUTTON_DPAD_DOWN,
        pygame.CONTROLLER_BUTTON_B, pygame.CONTROLLER_BUTTON_A, pygame.CONTROLLER_BUTTON_BACK, pygame.CONTROLLER_BUTTON_START]
+MOST_BYTES = 1 << 16
 # how far a stick is moved before it counts, of 32,767
 STICK = 16_000
 
@@ -25,7 +28,7 @@ def key_of(name):
     try:
         return pygame.key.key_code(name)
     except ValueError:
-        raise ValueError(f'{name!r} is no key') from None
+        raise ValueError(f"'{printable(name)}' is no key") from None
 
 
 def keys_of(path=None):
@@ -34,21 +37,24 @@ def keys_of(path=None):
     names = {name.lower(): name for name in keys}
     if path is None:
         return keys
-    with open(path, encoding='utf-8', errors='backslashreplace') as file:
-        for number, line in enumerate(file, 1):
-            left, equals, right = line.partition('#')[0].partition('=')
-            if not left.strip() and not equals:
-                continue
-            try:
-                if left.strip().lower() not in names:
-                    raise ValueError(f'{left.strip()!r} is nothing that a key does')
-                keys[names[left.strip().lower()]] = key_of(right.strip().lower())
-            except ValueError as error:
-                raise WrongKeys(f'{path}, line {number}: {error}') from None
+    try:
+        text = read_text(path, MOST_BYTES)
+    except WrongInput as error:
+        raise WrongKeys(str(error)) from None
+    for number, line in enumerate(text.split('\n'), 1):
+        left, equals, right = line.partition('#')[0].partition('=')
+        if not left.strip() and not equals:
+            continue
+        try:
+            if left.strip().lower() not in names:
+                raise ValueError(f"'{printable(left.strip())}' is nothing that a key does")
+            keys[names[left.strip().lower()]] = key_of(right.strip().lower())
+        except ValueError as error:
+            raise WrongKeys(f'{printable(path)}, line {number}: {error}') from None
     taken = {}
     for name, key in keys.items():
         if key in taken:
-            raise WrongKeys(f'{path}: {name} and {taken[key]} have one key, {pygame.key.name(key)}')
+            raise WrongKeys(f'{printable(path)}: {name} and {taken[key]} have one key, {pygame.key.name(key)}')
         taken[key] = name
     return keys
 

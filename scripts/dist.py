@@ -159,7 +159,7 @@ def main():
         debian(window, 'gbkeep-window', date, f'Architecture: all\nDepends: gbkeep (= {VERSION}), python3 (>= 3.9), python3-pygame\n'
                "Description: window and player's tools for gbkeep\n"
                ' gbkeep-window plays a game of gbkeep by keyboard. gbkeep-script reads scripts\n that are easier to write, gbkeep-rest goes on with a'
-               ' script where a save file\n stands, gbkeep-movie reads and writes movies of other emulators, gbkeep-film\n makes a film of a script or a recording, gbkeep-branch a new game of the first\n inputs of a recording, gbkeep-verify compares a game with its recording, and\n gbkeep-png makes a PNG of a'
+               ' script where a save file\n stands, gbkeep-movie reads and writes movies of other emulators, gbkeep-film\n makes a film of a script or a recording, gbkeep-branch a new game of the first\n inputs of a recording, gbkeep-verify compares a game with its recording,\n gbkeep-battery carries battery files to other emulators and back, and\n gbkeep-png makes a PNG of a'
                ' picture.\n')
         if not core(Path(room) / 'core', machine, date):
             print('without the libretro core: that needs a C compiler and retroarch-dev')

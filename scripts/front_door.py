@@ -190,7 +190,7 @@ def walks(text):
 
 def parted(head):
     """The faults of an entry: `too small, N sectors needed` is one, as `recording behind, N inputs` is, and several may stand in a row."""
-    return [head] if head.startswith(('too small', 'recording behind', 'battery length')) else head.split(', ')
+    return [head] if head.startswith(('too small', 'recording behind', 'recording ahead', 'battery length')) else head.split(', ')
 
 
 def deletions(texts):
@@ -261,6 +261,8 @@ def clone(room, program):
     for path in ('README.md', 'Makefile', 'crates.txt', 'examples', 'players', 'testers', 'docs', 'completions'):
         copy = shutil.copytree if os.path.isdir(path) else shutil.copy
         copy(path, os.path.join(room, path))
+    os.makedirs(os.path.join(room, 'scripts/second_storage'))
+    shutil.copy('scripts/second_storage/save_files.py', os.path.join(room, 'scripts/second_storage'))
     os.makedirs(os.path.join(room, 'bin'))
     os.makedirs(os.path.join(room, 'crates'))
     shutil.copy(program, os.path.join(room, 'bin/gbkeep'))
@@ -319,11 +321,12 @@ def installed(room):
     """`make install`, and each tool that it installs."""
     status, got = shell(room, 'make install PREFIX=inst')
     wrong = [f'make install: {got}'] if status != 0 else []
-    for path in ('bin/gbkeep', 'bin/gbkeep-window', 'bin/gbkeep-script', 'bin/gbkeep-rest', 'bin/gbkeep-movie', 'bin/gbkeep-film', 'bin/gbkeep-branch', 'bin/gbkeep-verify', 'share/man/man1/gbkeep.1',
+    for path in ('bin/gbkeep', 'bin/gbkeep-window', 'bin/gbkeep-script', 'bin/gbkeep-rest', 'bin/gbkeep-movie', 'bin/gbkeep-film', 'bin/gbkeep-branch', 'bin/gbkeep-verify', 'bin/gbkeep-battery',
+                 'share/man/man1/gbkeep.1',
                  'share/bash-completion/completions/gbkeep', 'share/gbkeep/gbkeep.py'):
         if not os.path.exists(os.path.join(room, 'inst', path)):
             wrong.append(f'make install leaves no {path}')
-    played = shell(room, "printf 'A 3\\n' > few.txt; inst/bin/gbkeep-script play examples/demo/demo.gb few.sav few.txt; inst/bin/gbkeep-rest examples/demo/demo.gb few.sav few.txt")
+    played = shell(room, "printf 'A 3\\n' > few.txt; inst/bin/gbkeep-script play examples/demo/demo.gb few.gbkeep few.txt; inst/bin/gbkeep-rest examples/demo/demo.gb few.gbkeep few.txt")
     if played != (0, 'resumed 0\nsaved 3\nresumed 3\n'):
         wrong.append(f'the installed tools print {played}')
     return wrong

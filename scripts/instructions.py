@@ -68,7 +68,7 @@ def frames(bench, cart, name):
 
 def picture(gbkeep, cart, room):
     """What a picture after each frame adds to a stream, without a time: it is the difference of differences."""
-    save = os.path.join(room, 'new.sav')
+    save = os.path.join(room, 'new.gbkeep')
 
     def command(line):
         def words(count):

@@ -14,8 +14,8 @@ back; `play` plays it on, and `export` has to be the known RAM; the emulator rea
 it plays on twice, and what it writes has to be the known RAM. A line says how many bytes and registers were equal in these comparisons.
 
 The clock is compared at times of day that the script sets and that stand still (mGBA has a call for that; for gambatte a `time` of the script's own
-stands before the system's), since both emulators add to a clock the time since the file was written. `export` writes 0 as that time, so mGBA is told
-that it is 0, and nothing has passed. Reading the file some other day, it would add the years since 1970.
+stands before the system's), since both emulators add to a clock the time since the file was written. `export` writes 0 as that time, and
+players/battery.py, whose converters these are, puts in the time at which the emulator reads the file, so that nothing has passed.
 
 - mGBA: all ten registers of its file, in which the two clocks are an hour apart and the days have run over, have to come back. It reads only the
   latched clock and the time; the game latches at each frame, so the two clocks of what `play` left are equal.
@@ -37,6 +37,7 @@ from pathlib import Path
 TOP = Path(__file__).resolve().parent.parent
 sys.path[:0] = [str(TOP / 'players'), str(TOP / 'players/libretro'), str(TOP / 'examples/demo')]
 from assemble import Assembler
+from battery import battery_of, clock_bytes, from_gambatte, from_mgba, registers_after, to_gambatte, to_mgba
 from gbkeep import A, Refused, run
 
 CORES = sorted(Path('/usr/lib').glob('*/libretro/gambatte_libretro.so'))
@@ -235,12 +236,12 @@ class Cart:
             ram[at] = self.kept(ram[at] + STEP & 255)
         ram[COUNT:COUNT + 4] = bytes(last >> 4 * place & 15 for place in range(4))
         if self.has_clock:
-            ram[SEEN:SEEN + 5] = registers(seen)
+            ram[SEEN:SEEN + 5] = registers_after(seen)
         return bytes(ram)
 
     def clock(self, live, latched):
         """What a file has behind the RAM, of the seconds that the two clocks stand at."""
-        return clock_bytes(registers(live), registers(latched)) if self.has_clock else b''
+        return clock_bytes(registers_after(live), registers_after(latched)) if self.has_clock else b''
 
 
 CARTS = [Cart('MBC1, 8 KiB', 0x03, 2, 8192), Cart('MBC1, 32 KiB', 0x03, 3, 32768), Cart('MBC2', 0x06, 0, 512, is_mbc2=True),
@@ -249,17 +250,6 @@ CARTS = [Cart('MBC1, 8 KiB', 0x03, 2, 8192), Cart('MBC1, 32 KiB', 0x03, 3, 32768
 
 def count_in(ram):
     return sum(ram[COUNT + place] << 4 * place for place in range(4))
-
-
-def registers(seconds):
-    """The clock's registers after so many seconds from 0."""
-    days = seconds // DAY
-    return bytes([seconds % 60, seconds // 60 % 60, seconds // 3600 % 24, days % 256, days // 256 % 2 + 0x80 * (days > 511)])
-
-
-def clock_bytes(live, latched):
-    """The ten registers in four bytes each, and 0 as the time of writing."""
-    return b''.join(bytes([register, 0, 0, 0]) for register in live + latched) + bytes(8)
 
 
 class Differs(Exception):
@@ -287,7 +277,7 @@ class Mgba:
     name, ending = 'mGBA', 'sav'
     # 230 days: the clock runs over, and sets its carry
     away = 230 * DAY + 90_061
-    reads_at = 0
+    reads_at = NOW
 
     def __init__(self, room):
         self.program = room / 'mgba_player'
@@ -298,22 +288,16 @@ class Mgba:
         fields = [bytes.fromhex(line.split()[1]) for line in told([self.program, rom, path, *words]).splitlines()]
         return list(zip(fields[::2], fields[1::2]))
 
-    def ram_of(self, cart, held):
-        return bytes(byte >> shift & 15 for byte in held for shift in (0, 4)) if cart.is_mbc2 else held[:cart.ram]
-
     def held(self, cart, look, path, now):
         """What it holds, as a file of gbkeep's. It has the latched clock alone, and makes the live one of that and of the time since."""
         ram, clock = look
-        return self.ram_of(cart, ram) + (clock_bytes(clock, clock) if cart.has_clock else b'')
+        return from_mgba(ram if cart.is_mbc2 else ram[:cart.ram]).ram + (clock_bytes(clock, clock) if cart.has_clock else b'')
 
     def put(self, cart, path, battery, now):
-        if cart.is_mbc2:
-            battery = bytes(low | high << 4 for low, high in zip(battery[::2], battery[1::2]))
-        path.write_bytes(battery)
+        path.write_bytes(to_mgba(battery_of(battery), now))
 
     def get(self, cart, path, now):
-        file = path.read_bytes()
-        return self.ram_of(cart, file) + (file[cart.ram:] if cart.has_clock else b'')
+        return from_mgba(path.read_bytes()).data()
 
 
 def play_gambatte(core, rom, path, words):
@@ -385,23 +369,17 @@ class Gambatte:
         lines = told([sys.executable, '-B', __file__, 'gambatte', self.core, rom, path, *words], env=dict(os.environ, LD_PRELOAD=str(self.clock)))
         return [bytes.fromhex(line.split()[1]) for line in lines.splitlines() if line.startswith('ram ')]
 
-    def ram_of(self, cart, held):
-        return bytes(byte & 15 for byte in held[:512]) if cart.is_mbc2 else held
-
     def held(self, cart, look, path, now):
         """What it holds, as a file of gbkeep's: the live clock by the time beside the file, the latched one as the game has seen it."""
-        ram = self.ram_of(cart, look)
-        if not cart.has_clock:
-            return ram
-        began = int.from_bytes(path.with_suffix('.rtc').read_bytes(), 'little', signed=True)
-        return ram + clock_bytes(registers(now - began), ram[SEEN:SEEN + 5])
+        clock = path.with_suffix('.rtc').read_bytes() if cart.has_clock else None
+        battery = from_gambatte(look, clock, now, cart.is_mbc2)
+        return battery.ram + (clock_bytes(battery.live(), battery.ram[SEEN:SEEN + 5]) if cart.has_clock else b'')
 
     def put(self, cart, path, battery, now):
-        path.write_bytes(battery[:cart.ram] + bytes(8192 - 512 if cart.is_mbc2 else 0))
-        if cart.has_clock:
-            live = battery[cart.ram:cart.ram + 20:4]
-            days = live[3] + 256 * (live[4] & 1)
-            path.with_suffix('.rtc').write_bytes((now - live[0] - 60 * (live[1] + 60 * (live[2] + 24 * days))).to_bytes(8, 'little', signed=True))
+        ram, clock = to_gambatte(battery_of(battery), now)
+        path.write_bytes(ram)
+        if clock is not None:
+            path.with_suffix('.rtc').write_bytes(clock)
 
     def get(self, cart, path, now):
         return self.held(cart, path.read_bytes(), path, now)

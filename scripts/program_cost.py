@@ -37,7 +37,7 @@ def processor_seconds(words, text=b'', status=0):
 
 def seconds(gbkeep, room, text, cart=DEMO):
     """The processor time of a stream of this text, on a new game."""
-    save = os.path.join(room, 'new.sav')
+    save = os.path.join(room, 'new.gbkeep')
     if os.path.exists(save):
         os.remove(save)
     subprocess.run([gbkeep, 'new', cart, save], check=True, capture_output=True)
@@ -93,7 +93,7 @@ def long_recording(room, count):
 
 def wall_seconds(gbkeep, room, words, text):
     """The wall time of a command on a new game with a new recording."""
-    save, recording = os.path.join(room, 'saves.sav'), os.path.join(room, 'saves.rec')
+    save, recording = os.path.join(room, 'saves.gbkeep'), os.path.join(room, 'saves.rec')
     for path in (save, recording):
         if os.path.exists(path):
             os.remove(path)

@@ -42,7 +42,7 @@ class Room:
 
     def __init__(self, gbkeep, folder, cartridge):
         self.gbkeep = gbkeep
-        self.cart, self.save, self.bare, self.script, self.trace = (os.path.join(folder, name) for name in ('rom.gb', 'game.sav', 'bare', 'moves', 'trace'))
+        self.cart, self.save, self.bare, self.script, self.trace = (os.path.join(folder, name) for name in ('rom.gb', 'game.gbkeep', 'bare', 'moves', 'trace'))
         rom = bytearray(0x8000)
         for at, code in cartridge.items():
             rom[at:at + len(code)] = code

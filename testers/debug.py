@@ -10,15 +10,20 @@ import argparse
 import difflib
 import os
 import re
-import shutil
 import signal
 import subprocess
 import sys
+from collections.abc import Iterable, Iterator
 from pathlib import Path
+from typing import Optional
 
 HERE = Path(__file__).resolve().parent
 sys.path.insert(0, str(HERE.parent / 'players'))
-from gbkeep import MOST_FRAMES, MOST_SECONDS, PICTURE_BYTES, Picture, Refused, find_program
+from gbkeep import MOST_FRAMES, MOST_SECONDS, PICTURE_BYTES, Picture, Refused, find_program, line_of, started
+from input_files import WrongInput, number, printable, read_bytes
+from new_files import Unsafe, new_file
+from png import PNG_HEAD
+from tools import Failed, Words, run_tool
 
 HELP = '''\
   step [N]            the next N steps, a line each (1)
@@ -33,7 +38,8 @@ HELP = '''\
   list [ADDR [N]]     N instructions (10) from ADDR on (PC)
   memory ADDR [N]     N bytes (64) from ADDR on
   serial              the bytes that were sent since the last serial
-  picture FILE        writes the picture: PNG where FILE ends in .png, else plain PGM
+  picture FILE        writes the picture: PNG where FILE ends in .png, else plain PGM;
+                      a FILE that is there has to be a picture
   state               the SHA-256 of the machine's snapshot
   help, quit
 
@@ -48,15 +54,24 @@ COMMANDS = re.findall(r'^  ([a-z-]+) ', HELP, re.M) + ['help', 'quit']
 STEPS, ROOM = (1, 0xffff_ffff), (1, 65_536)
 UNTIL, FRAMES, HISTORY, LIST, MEMORY = 1_000_000, 60, 16, 10, 64
 MOST_ADDRESSES = 16
+# a .sym file of a large game has 2 MiB
+MOST_SYM, MOST_LABEL, MOST_COMPARED = 1 << 23, 256, 100_000
+# a line that nobody types, and an answer of the program
+MOST_LINE, MOST_ANSWER = 1 << 16, 1 << 12
 
 
-class Wrong(Exception):
+class Wrong(Failed):
     """A line, or a file, is wrong: why."""
+
+
+def quoted(word):
+    return f"'{printable(word)}'"
 
 
 def like(word, names):
     """The name that a wrong word may mean."""
-    near = difflib.get_close_matches(word, names, 1)
+    # the comparison takes the square of a length
+    near = difflib.get_close_matches(word, names, 1) if len(word) <= MOST_LABEL and len(names) <= MOST_COMPARED else []
     return f' (there is {near[0]})' if near else ''
 
 
@@ -67,15 +82,15 @@ class Labels:
 
     def __init__(self, path=None):
         self.path, self.named, self.at = path, {}, {}
-        for line in Path(path).read_text(errors='replace').splitlines() if path else []:
+        for line in read_bytes(path, MOST_SYM).decode(errors='replace').splitlines() if path else []:
             # what else such a file may have is no label
-            found = re.fullmatch(r'([0-9a-fA-F]+):([0-9a-fA-F]{4})\s+(\S+)', line.partition(';')[0].strip())
-            if found:
+            found = re.fullmatch(r'([0-9a-fA-F]{1,4}):([0-9a-fA-F]{4})\s+(\S{1,%d})' % MOST_LABEL, line.partition(';')[0].strip())
+            if found and found[3].isprintable():
                 bank, address, name = int(found[1], 16), int(found[2], 16), found[3]
                 self.named[name] = address
                 self.at.setdefault(address, []).append((bank, name))
         if path and not self.named:
-            raise Wrong(f'{path} has no line such as 00:0150 Main')
+            raise Wrong(f'{printable(path)} has no line such as 00:0150 Main')
 
     def address(self, word):
         """What a word stands for: a label, or hexadecimal digits."""
@@ -84,8 +99,8 @@ class Labels:
         digits = word[1:] if word.startswith('$') else word
         if re.fullmatch('[0-9a-fA-F]{1,4}', digits):
             return int(digits, 16)
-        where = f'no label of {self.path}' + like(word, self.named) if self.path else 'there is no .sym file'
-        raise Wrong(f'{word!r} is no address, and {where}')
+        where = f'no label of {printable(self.path)}' + like(word, self.named) if self.path else 'there is no .sym file'
+        raise Wrong(f'{quoted(word)} is no address, and {where}')
 
     def lines(self, address):
         """The labels of an address, a line each, as they stand in a source."""
@@ -98,13 +113,15 @@ class Program:
     """A `gbkeep debug`, whose answer to a line is read before the next is given."""
 
     def __init__(self, program, cart, save=None):
-        if not shutil.which(program):
-            raise Wrong(f'there is no program {program}: `make build` makes it, and --program names another one')
         words = [program, 'debug', '--', str(cart), *([str(save)] if save else [])]
+        # what is read, and so never written over
+        self.read = [one for one in (cart, save) if one]
         # a Ctrl-C is for the prompt alone
-        self.process = subprocess.Popen(words, stdin=subprocess.PIPE, stdout=subprocess.PIPE, stderr=subprocess.PIPE,
-                                        preexec_fn=lambda: signal.signal(signal.SIGINT, signal.SIG_IGN))
+        self.process = started(words, stdin=subprocess.PIPE, stdout=subprocess.PIPE, stderr=subprocess.PIPE,
+                               preexec_fn=lambda: signal.signal(signal.SIGINT, signal.SIG_IGN))
         self.resumed = self.line() if save else None
+        if self.resumed is not None:
+            self.number(self.resumed, 2 ** 64)
 
     def ask(self, line):
         """Gives a line, and answers the first line of the answer."""
@@ -114,18 +131,32 @@ class Program:
             self.end()
         answer = self.line()
         if answer.startswith('wrong '):
-            raise Wrong(f'the program does not take {line!r}')
+            raise Wrong(f'the program does not take {quoted(line)}')
         return answer
+
+    def address(self, answer):
+        """The address behind the first word of an answer."""
+        digits = answer.partition(' ')[2]
+        if not re.fullmatch('[0-9A-F]{4}', digits):
+            raise Refused(f'the program answers {quoted(answer)}', 'debug')
+        return int(digits, 16)
 
     def lines(self, line, count):
         """Gives a line whose answer has so many lines."""
         return [self.ask(line), *(self.line() for _ in range(count - 1))]
 
     def line(self):
-        data = self.process.stdout.readline()
+        data = self.process.stdout.readline(MOST_ANSWER)
         if not data.endswith(b'\n'):
             self.end()
-        return data[:-1].decode('ascii', 'replace')
+        return printable(data[:-1], MOST_ANSWER)
+
+    def number(self, answer, most):
+        """The number behind the first word of an answer."""
+        try:
+            return number(answer.partition(' ')[2], 0, most, 'the answer')
+        except WrongInput:
+            raise Refused(f'the program answers {quoted(answer)}', 'debug') from None
 
     def bytes(self, count):
         data = self.process.stdout.read(count)
@@ -141,9 +172,9 @@ class Program:
 
     def end(self):
         """The program has ended of itself."""
-        line = self.process.stderr.read().decode(errors='replace').strip()
-        status = self.process.wait()
-        raise Refused(line or f'the program ended with status {status}', 'debug')
+        self.process.kill()
+        line = self.process.stderr.read().decode(errors='replace')
+        raise Refused(line_of(line, self.process.wait()), 'debug')
 
     def kill(self):
         self.process.kill()
@@ -163,13 +194,13 @@ def few(words, least, most):
 def count_of(word, span):
     """A number within its bounds, written in decimal digits."""
     if not re.fullmatch('[0-9]{1,10}', word) or not span[0] <= int(word) <= span[1]:
-        raise Wrong(f'{word!r} is no number from {span[0]:,} to {span[1]:,}')
+        raise Wrong(f'{quoted(word)} is no number from {span[0]:,} to {span[1]:,}')
     return int(word)
 
 
 def byte_of(word):
     if not re.fullmatch('[0-9a-fA-F]{2}', word):
-        raise Wrong(f'{word!r} is not two hexadecimal digits')
+        raise Wrong(f'{quoted(word)} is not two hexadecimal digits')
     return word
 
 
@@ -183,6 +214,7 @@ class Session:
 
     def __init__(self, program, labels):
         self.program, self.labels = program, labels
+        self.read = [*program.read, *([labels.path] if labels.path else [])]
         # whether the cartridge is taken, is known once a line is answered
         self.registers = program.ask('registers')
 
@@ -191,7 +223,7 @@ class Session:
         if name == 'save':
             raise Wrong('a debugger saves nothing')
         if name not in COMMANDS:
-            raise Wrong(f'{name!r} is no line, and help lists them' + like(name, COMMANDS))
+            raise Wrong(f'{quoted(name)} is no line, and help lists them' + like(name, COMMANDS))
         return getattr(self, 'do_' + name.replace('-', '_'))(words)
 
     def with_labels(self, lines):
@@ -203,7 +235,7 @@ class Session:
 
     def place(self, answer):
         """Where a run stands, with the labels of that place."""
-        return [' ; '.join([answer, *(line.replace(':', '', 1).replace(' ; ', ', ') for line in self.labels.lines(int(answer.split()[1], 16)))])]
+        return [' ; '.join([answer, *(line.replace(':', '', 1).replace(' ; ', ', ') for line in self.labels.lines(self.program.address(answer)))])]
 
     def do_step(self, words):
         count = count_of((few(words, 0, 1) or ['1'])[0], STEPS)
@@ -243,10 +275,10 @@ class Session:
     def do_history(self, words):
         count = count_of((few(words, 0, 1) or [str(HISTORY)])[0], ROOM)
         answer = self.program.ask(f'history {count}')
-        return [answer, *self.with_labels(self.program.line() for _ in range(int(answer.split()[1])))]
+        return [answer, *self.with_labels(self.program.line() for _ in range(self.program.number(answer, ROOM[1])))]
 
     def do_list(self, words):
-        words = few(words, 0, 2) or [re.search('PC=(....)', self.program.ask('registers'))[1]]
+        words = few(words, 0, 2) or [self.program.ask('registers').partition('PC=')[2][:4]]
         address, count = self.labels.address(words[0]), count_of((*words, str(LIST))[1], ROOM)
         return self.with_labels(self.program.lines(f'list {address:04X} {count}', count))
 
@@ -258,7 +290,7 @@ class Session:
     def do_serial(self, words):
         few(words, 0, 0)
         answer = self.program.ask('serial')
-        data = self.program.bytes(int(answer.split()[1]) + 1)[:-1]
+        data = self.program.bytes(self.program.number(answer, ROOM[1]) + 1)[:-1]
         return [answer, *([shown(data)] if data else [])]
 
     def do_picture(self, words):
@@ -266,9 +298,10 @@ class Session:
         data = self.program.ask('picture').encode() + b'\n'
         data += self.program.bytes(PICTURE_BYTES - len(data))
         try:
-            path.write_bytes(Picture(data).png() if path.suffix == '.png' else data)
-        except OSError as error:
-            raise Wrong(f'{path}: {error.strerror}') from None
+            with new_file(path, self.read, begins=(b'P2', PNG_HEAD)) as file:
+                file.write(Picture(data).png() if path.suffix == '.png' else data)
+        except (OSError, Unsafe) as error:
+            raise Wrong(str(error)) from None
         return []
 
     def do_state(self, words):
@@ -328,56 +361,70 @@ def prompt(session):
             print(wrong)
 
 
-def done(session, lines, place):
+def typed() -> Iterator[str]:
+    """The lines of standard input, of which none may be long."""
+    while line := sys.stdin.buffer.readline(MOST_LINE):
+        if len(line) == MOST_LINE and not line.endswith(b'\n'):
+            raise Wrong(f'standard input has a line of more than {MOST_LINE:,} bytes')
+        yield line.decode(errors='surrogateescape')
+
+
+def done(session, lines: Iterable[str], place):
     """Lines that nobody types: the first wrong one ends it."""
-    for number, text in enumerate(lines, 1):
+    for number_of_line, text in enumerate(lines, 1):
         try:
             if not run(session, text):
                 return
         except Wrong as wrong:
-            raise Wrong(f'{place} {number}: {wrong}') from None
+            raise Wrong(f'{place} {number_of_line}: {wrong}') from None
 
 
-def main():
-    words = argparse.ArgumentParser(usage='debug.py [--save SAVE] [--do LINE].. [--program GBKEEP] CART [SYM]', description='Looks inside a cartridge or a game.',
-                                    epilog='Lines:\n' + HELP, formatter_class=argparse.RawDescriptionHelpFormatter)
-    words.add_argument('--save', metavar='SAVE', help='begins with the game in SAVE, which keeps nothing of this')
-    words.add_argument('--do', '-c', action='append', metavar='LINE', help='does this line, and ends; may be given again')
-    words.add_argument('--program', default=find_program(), metavar='GBKEEP', help='the program (default: %(default)s)')
-    words.add_argument('cart', metavar='CART', help='the ROM file')
-    words.add_argument('sym', nargs='?', metavar='SYM', help='its labels (default: CART with the suffix .sym, if it is there)')
-    asked = words.parse_args()
-    beside = Path(asked.cart).with_suffix('.sym')
-    program = None
+def beside(cart: str) -> Optional[Path]:
+    """The labels that lie beside a cartridge."""
     try:
-        labels = Labels(asked.sym or (beside if beside.exists() else None))
-        program = Program(str(asked.program), asked.cart, asked.save)
+        path = Path(cart).with_suffix('.sym')
+        return path if path.exists() else None
+    except (ValueError, OSError):
+        return None
+
+
+def asked_of(words: list[str]) -> argparse.Namespace:
+    parser = Words(prog='debug.py', usage='debug.py [--save SAVE] [--do LINE].. [--program GBKEEP] CART [SYM]', description='Looks inside a cartridge or a game.',
+                   epilog='Lines:\n' + HELP, formatter_class=argparse.RawDescriptionHelpFormatter)
+    parser.add_argument('--save', metavar='SAVE', help='begins with the game in SAVE, which keeps nothing of this')
+    parser.add_argument('--do', '-c', action='append', metavar='LINE', help='does this line, and ends; may be given again')
+    parser.add_argument('--program', default=find_program(), metavar='GBKEEP', help='the program (default: %(default)s)')
+    parser.add_argument('cart', metavar='CART', help='the ROM file')
+    parser.add_argument('sym', nargs='?', metavar='SYM', help='its labels (default: CART with the suffix .sym, if it is there)')
+    return parser.parse_args(words)
+
+
+def main(words: list[str]) -> None:
+    asked, program = asked_of(words), None
+    try:
+        labels = Labels(asked.sym or beside(asked.cart))
+        program = Program(asked.program, asked.cart, asked.save)
         if program.resumed:
             print(program.resumed, flush=True)
         session = Session(program, labels)
         if asked.do:
             done(session, asked.do, '--do')
+        elif sys.stdin is None:
+            pass
         elif sys.stdin.isatty():
             prompt(session)
         else:
-            sys.stdin.reconfigure(errors='replace')
-            done(session, sys.stdin, 'line')
+            done(session, typed(), 'line')
         program.close()
-    except (Wrong, Refused) as error:
-        sys.exit(str(error) if isinstance(error, Refused) else f'debug.py: {error}')
-    except BrokenPipeError:
-        # whoever read the answers is gone, so nothing is left to be flushed at the end
-        os.dup2(os.open(os.devnull, os.O_WRONLY), sys.stdout.fileno())
-        sys.exit(1)
-    except OSError as error:
-        sys.exit(f'debug.py: {error.filename}: {error.strerror}')
+    except Wrong as wrong:
+        raise Failed(f'debug.py: {wrong}') from None
     except KeyboardInterrupt:
         print('\ndebug.py: ended, since a run that is interrupted does not go on', file=sys.stderr)
-        sys.exit(130)
+        raise
     finally:
         if program:
             program.kill()
 
 
 if __name__ == '__main__':
-    main()
+    run_tool(main)

@@ -99,7 +99,7 @@ def test_lines(room):
     for line, why in (('jump', "'jump' is no line"), ('stepp', 'there is step'), ('save', 'saves nothing'), ('step 0', "'0' is no number from 1"), ('step 1 2', '2, and it takes 0 to 1'),
                       ('until', 'no address'), ('until 5 ' + '0150 ' * 17, 'there are 17 addresses'), ('until wolk', f'no label of {DEMO / "demo.sym"} (there is walk)'),
                       ('until-op 5 4', "'4' is not two"), ('memory C000 65537', 'no number from 1 to 65,536'), ('memory 12345', "'12345' is no address"),
-                      ('frame 8', "'8' is not two"), ('seconds', 'words behind it: 0'), ('registers 1', 'takes 0'), ('picture', 'takes 1'), ('picture /none/out.png', 'No such file')):
+                      ('frame 8', "'8' is not two"), ('seconds', 'words behind it: 0'), ('registers 1', 'takes 0'), ('picture', 'takes 1'), ('picture /none/out.png', 'no such folder')):
         status, out, err = room.tool(CART, typed=f'registers\n{line}\nregisters\n')
         expect(f'the error of {line!r}', (status, len(out.splitlines()), err.startswith('debug.py: line 2: '), why in err), (1, 1, True, True))
     expect('no .sym', room.tool(room.write('bare.gb', ''), program=room.write('taken', '#!/bin/sh\nread line\necho\nread line\n', 0o755), typed='until walk\n'),
@@ -108,18 +108,21 @@ def test_lines(room):
 
 
 def test_saves(room):
-    save = room.folder / 'game.sav'
+    save = room.folder / 'game.gbkeep'
     subprocess.run([room.program, 'new', CART, save], check=True, capture_output=True)
     expect('a game', room.tool('--save', save, CART, *do('step')), (0, 'resumed 0\n0100 00     NOP\n', ''))
     expect('it has nothing of that', room.tool('--save', save, CART, *do('step')), (0, 'resumed 0\n0100 00     NOP\n', ''))
 
 
 def test_ends(room):
-    expect('no program', room.tool(CART, program='/none/gbkeep'), (1, '', 'debug.py: there is no program /none/gbkeep: `make build` makes it, and --program names another one\n'))
-    expect('no cartridge', room.tool(room.folder / 'none.gb', *do('step')), (1, '', 'gbkeep: file failed\n'))
+    expect('no program', room.tool(CART, program='/none/gbkeep'), (1, '', "/none/gbkeep can't be run: no such program; `make build` makes one, and the variable GBKEEP names another one\n"))
+    status, out, err = room.tool(room.folder / 'none.gb', *do('step'))
+    expect('no cartridge', (status, out, err[:20], err.count('\n')), (1, '', 'gbkeep: file failed:', 1))
     expect('no labels', room.tool(CART, room.folder / 'none.sym'), (1, '', f'debug.py: {room.folder / "none.sym"}: No such file or directory\n'))
-    expect('no game', room.tool('--save', room.folder / 'none.sav', CART, *do('step')), (1, '', 'gbkeep: device failed\n'))
-    expect('an end in between', room.tool(CART, program=room.write('ends', ENDS, 0o755), typed='registers\nregisters\n'), (1, '', 'gbkeep: no memory\n'))
+    status, out, err = room.tool('--save', room.folder / 'none.gbkeep', CART, *do('step'))
+    expect('no game', (status, out, err[:22], err.count('\n')), (1, '', 'gbkeep: device failed:', 1))
+    status, out, err = room.tool(CART, program=room.write('ends', ENDS, 0o755), typed='registers\nregisters\n')
+    expect('an end in between', (status, out, err[:18], err.count('\n')), (1, '', 'gbkeep: no memory:', 1))
 
 
 def child_of(process):

@@ -64,7 +64,7 @@ def main():
     known = glyphs(source)
     with tempfile.TemporaryDirectory(prefix='demo-') as room:
         def gbkeep(*words):
-            return subprocess.run([sys.argv[1], words[0], HERE / 'demo.gb', f'{room}/demo.sav', *words[1:]], capture_output=True, text=True, check=True).stdout
+            return subprocess.run([sys.argv[1], words[0], HERE / 'demo.gb', f'{room}/demo.gbkeep', *words[1:]], capture_output=True, text=True, check=True).stdout
 
         def shown():
             gbkeep('frame', f'{room}/demo.pgm')

@@ -18,6 +18,7 @@
 #include <stdio.h>
 #include <stdlib.h>
 #include <string.h>
+#include <sys/random.h>
 #include <sys/socket.h>
 #include <sys/stat.h>
 #include <sys/time.h>
@@ -31,12 +32,22 @@
 #define GBKEEP_PROGRAM "gbkeep"
 #endif
 
+#ifndef READ_MILLISECONDS
+#define READ_MILLISECONDS 5000
+#define END_MILLISECONDS 10000
+#endif
+
 extern char **environ;
 
 enum { WIDTH = 160, HEIGHT = 144, SHADES = WIDTH * HEIGHT, HEAD_BYTES = 13, PICTURE_BYTES = 46093, SILENCE = 800, MOST_LINE = 64 };
-enum { READ_MILLISECONDS = 5000, END_MILLISECONDS = 10000 };
-/* as many inputs as a SAVE may have beyond SAVE.time if the power was cut between the two */
-enum { INPUTS_BETWEEN = 125 };
+/* the seconds between two saves are an option: half a minute is the longest that is offered, an hour the longest that is taken */
+enum { FRAMES_A_SAVE_SECOND = 60, MOST_SAVE_SECONDS = 3600 };
+/* as many inputs as a SAVE may have beyond the last line of SAVE.time where the power was cut: those of half a minute, and some */
+enum { INPUTS_BETWEEN = 2000 };
+/* a leap of the date that is not taken; an earlier date that is no fault, since clocks are set right all the time */
+enum { YEAR = 366 * 86400, NO_FAULT = 60 };
+enum { MOST_TIME_BYTES = 512, MOST_TIME_LINES = 8 };
+static const long long LAST_SECOND = 99999999999, MOST_SECONDS = 0xffffffff;
 static const double FRAMES_A_SECOND = 4194304.0 / 70224;
 static const char PICTURE_HEAD[] = "P2\n160 144\n3\n";
 
@@ -69,14 +80,23 @@ static retro_input_poll_t poll_input;
 static retro_input_state_t pressed;
 static retro_log_printf_t log_line;
 
+/* A line of SAVE.time: a SAVE with so many inputs or more was given the time until then. */
+struct time_line {
+    unsigned long long count;
+    long long seconds;
+};
+
 static struct {
     pid_t program;
     int in, out, errors;
     char save[PATH_MAX], clock_file[PATH_MAX];
-    bool has_clock, gives_time_away;
+    bool has_clock, gives_time_away, has_resumed, is_new;
     unsigned palette, frames, save_frames;
     unsigned long long count, saved;
-    long long given_until;
+    /* the clock's time: until when it was given, what SAVE.time says of that, and the session's own time */
+    long long given_until, opened_milliseconds, began_milliseconds;
+    struct time_line written;
+    bool clock_stands;
     /* what was read and not yet taken */
     uint8_t unread[PICTURE_BYTES + 4096];
     size_t unread_bytes;
@@ -182,10 +202,15 @@ static bool start(char *const words[]) {
     return failed == 0;
 }
 
-static long long milliseconds(void) {
+static long long milliseconds_of(clockid_t clock) {
     struct timespec now;
-    clock_gettime(CLOCK_MONOTONIC, &now);
+    if (clock_gettime(clock, &now) || now.tv_sec < 0 || now.tv_sec > LAST_SECOND)
+        return 0;
     return now.tv_sec * 1000LL + now.tv_nsec / 1000000;
+}
+
+static long long milliseconds(void) {
+    return milliseconds_of(CLOCK_MONOTONIC);
 }
 
 /* What can be read within the limit: -1 where nothing came. */
@@ -268,32 +293,61 @@ static bool run_command(char *const words[], char *text, size_t size) {
 
 /* ---- lines of a stream */
 
-/* Takes the answers that are whole. */
-static void take_answers(void) {
-    for (;;) {
-        bool is_picture = game.unread_bytes > 0 && game.unread[0] == 'P';
-        uint8_t *newline = memchr(game.unread, '\n', game.unread_bytes);
-        size_t length = is_picture ? PICTURE_BYTES : newline ? (size_t)(newline - game.unread) + 1 : 0;
-        if (length == 0 || game.unread_bytes < length)
-            return;
+/* A number in decimal digits, `most` at most; false where none is there. What follows it is at `text` then. */
+static bool take_number(const char **text, unsigned long long most, unsigned long long *number) {
+    unsigned long long found = 0;
+    const char *at = *text;
+    for (; *at >= '0' && *at <= '9'; at++) {
+        unsigned digit = (unsigned)(*at - '0');
+        if (found > most / 10 || found * 10 > most - digit)
+            return false;
+        found = found * 10 + digit;
+    }
+    if (at == *text)
+        return false;
+    *text = at, *number = found;
+    return true;
+}
+
+/* The count of a line `WORD COUNT`. */
+static bool counts(const char *line, const char *word, unsigned long long *count) {
+    size_t length = strlen(word);
+    const char *at = line + length;
+    return strncmp(line, word, length) == 0 && take_number(&at, ULLONG_MAX, count) && strcmp(at, "\n") == 0;
+}
+
+/* Takes the answers that are whole; false where one is none of gbkeep's. */
+static bool take_answers(void) {
+    size_t taken = 0;
+    bool good = true;
+    while (good && taken < game.unread_bytes) {
+        const uint8_t *answer = game.unread + taken;
+        size_t left = game.unread_bytes - taken;
+        bool is_picture = answer[0] == 'P';
+        const uint8_t *newline = memchr(answer, '\n', left);
+        size_t length = is_picture ? PICTURE_BYTES : newline ? (size_t)(newline - answer) + 1 : 0;
+        if (length == 0 || left < length)
+            break;
         if (is_picture) {
-            if (memcmp(game.unread, PICTURE_HEAD, HEAD_BYTES) == 0) {
-                for (int at = 0; at < SHADES; at++)
-                    game.shades[at] = game.unread[HEAD_BYTES + 2 * at] & 3;
-                game.has_picture = true;
-            }
+            good = game.has_resumed && memcmp(answer, PICTURE_HEAD, HEAD_BYTES) == 0;
+            for (int at = 0; good && at < SHADES; at++)
+                game.shades[at] = answer[HEAD_BYTES + 2 * at] & 3;
+            game.has_picture = good;
         } else {
             char line[MOST_LINE] = "";
             unsigned long long count;
-            memcpy(line, game.unread, length < MOST_LINE ? length : MOST_LINE - 1);
-            if (sscanf(line, "resumed %llu", &count) == 1)
-                game.count = game.saved = count;
-            else if (sscanf(line, "saved %llu", &count) == 1)
+            memcpy(line, answer, length < MOST_LINE ? length : MOST_LINE - 1);
+            good = length < MOST_LINE && counts(line, game.has_resumed ? "saved " : "resumed ", &count);
+            if (good && !game.has_resumed)
+                game.count = count, game.has_resumed = true;
+            if (good)
                 game.saved = count;
         }
-        game.unread_bytes -= length;
-        memmove(game.unread, game.unread + length, game.unread_bytes);
+        taken += length;
     }
+    game.unread_bytes -= taken;
+    memmove(game.unread, game.unread + taken, game.unread_bytes);
+    return good;
 }
 
 /* Reads some of the answers; false where the program is at its end, or gives none in time. */
@@ -304,8 +358,12 @@ static bool read_answers(long long until) {
         return false;
     }
     game.unread_bytes += (size_t)got;
-    take_answers();
-    return true;
+    if (take_answers() && game.unread_bytes < sizeof game.unread)
+        return true;
+    if (game.program > 0)
+        kill(game.program, SIGKILL);
+    give_up("the program answers what no gbkeep answers");
+    return false;
 }
 
 static bool send_line(const char *format, ...) {
@@ -329,77 +387,178 @@ static bool send_line(const char *format, ...) {
 
 /* ---- the cartridge's clock */
 
-/* SAVE.time holds `COUNT SECONDS`: the inputs that SAVE had when the clock was last given the time, and that time. */
-static bool read_clock_file(unsigned long long *count, long long *seconds) {
-    FILE *file = fopen(game.clock_file, "re");
-    bool known = file && fscanf(file, "%llu %lld", count, seconds) == 2;
-    if (file)
-        fclose(file);
-    return known;
+/* The lines of SAVE.time: how many there are; 0 where it is not there or empty, and -1 where it is no file of the core's or the window's. */
+static int read_clock_file(struct time_line lines[MOST_TIME_LINES]) {
+    char text[MOST_TIME_BYTES + 1];
+    struct stat there;
+    int fd = open(game.clock_file, O_RDONLY | O_NONBLOCK | O_CLOEXEC | O_NOCTTY), found = 0;
+    if (fd < 0)
+        return errno == ENOENT && lstat(game.clock_file, &there) != 0 ? 0 : -1;
+    bool is_plain = fstat(fd, &there) == 0 && S_ISREG(there.st_mode);
+    ssize_t size = is_plain ? read(fd, text, sizeof text) : -1;
+    close(fd);
+    if (size < 0 || size > MOST_TIME_BYTES || memchr(text, 0, (size_t)size))
+        return -1;
+    text[size] = 0;
+    for (const char *at = text; *at; found++) {
+        unsigned long long count, seconds;
+        if (found == MOST_TIME_LINES || !take_number(&at, ULLONG_MAX, &count) || *at++ != ' ' || !take_number(&at, (unsigned long long)LAST_SECOND, &seconds)
+            || (*at && *at++ != '\n'))
+            return -1;
+        lines[found] = (struct time_line){count, (long long)seconds};
+    }
+    return found;
 }
 
-static void write_clock_file(void) {
-    char new_name[PATH_MAX + 8], folder[PATH_MAX];
-    snprintf(new_name, sizeof new_name, "%s.new", game.clock_file);
-    FILE *file = fopen(new_name, "we");
-    if (!file)
-        return;
-    bool good = fprintf(file, "%llu %lld\n", game.saved, game.given_until) > 0 && fflush(file) == 0 && fsync(fileno(file)) == 0;
-    good = fclose(file) == 0 && good;
-    if (!good || rename(new_name, game.clock_file))
-        return;
-    snprintf(folder, sizeof folder, "%s", game.clock_file);
-    char *slash = strrchr(folder, '/');
+static bool write_whole(int fd, const char *text) {
+    for (size_t left = strlen(text); left > 0;) {
+        ssize_t more = write(fd, text, left);
+        if (more < 0 && errno == EINTR)
+            continue;
+        if (more <= 0)
+            return false;
+        text += more, left -= (size_t)more;
+    }
+    return true;
+}
+
+/* Puts these lines in the place of SAVE.time, durably, by a file with a name that nobody has. A file of somebody else's stays. */
+static bool write_clock_file(const struct time_line lines[], int count) {
+    struct time_line old[MOST_TIME_LINES];
+    char path[PATH_MAX], text[MOST_TIME_BYTES] = "", made[48];
+    unsigned long long number;
+    struct stat there;
+    if (read_clock_file(old) < 0)
+        return false;
+    /* a link stays, and the file that it leads to is replaced */
+    if (!realpath(game.clock_file, path))
+        snprintf(path, sizeof path, "%s", game.clock_file);
+    char *slash = strrchr(path, '/');
+    const char *name = slash ? slash + 1 : path;
     if (slash)
         *slash = 0;
-    int fd = open(slash ? folder : ".", O_RDONLY | O_CLOEXEC);
+    int folder = open(slash ? *path ? path : "/" : ".", O_RDONLY | O_DIRECTORY | O_CLOEXEC);
+    if (folder < 0)
+        return false;
+    for (int one = 0; one < count; one++)
+        snprintf(text + strlen(text), sizeof text - strlen(text), "%llu %lld\n", lines[one].count, lines[one].seconds);
+    bool good = getrandom(&number, sizeof number, 0) == sizeof number;
+    snprintf(made, sizeof made, ".gbkeep-%016llx.new", number);
+    int fd = good ? openat(folder, made, O_WRONLY | O_CREAT | O_EXCL | O_NOFOLLOW | O_CLOEXEC, 0666) : -1;
     if (fd >= 0) {
-        fsync(fd);
-        close(fd);
+        if (fstatat(folder, name, &there, AT_SYMLINK_NOFOLLOW) == 0)
+            good = fchmod(fd, there.st_mode & 0777) == 0;
+        good = good && write_whole(fd, text) && fsync(fd) == 0;
+        good = close(fd) == 0 && good;
+        good = good && renameat(folder, made, folder, name) == 0;
+        if (!good)
+            unlinkat(folder, made, 0);
     }
+    good = good && fd >= 0 && fsync(folder) == 0;
+    close(folder);
+    return good;
 }
 
-/* Gives the clock the seconds up to now. */
-static bool give_time(void) {
-    long long now = time(NULL), passed = now - game.given_until;
-    if (!game.has_clock || passed <= 0)
+static bool write_time(const struct time_line lines[], int count) {
+    bool good = write_clock_file(lines, count);
+    if (!good && !game.clock_stands)
+        tell(300, "The cartridge's clock stands still, since SAVE.time can't be written or is another kind of file.");
+    game.clock_stands = !good;
+    return good;
+}
+
+/* Until when the clock of a SAVE with so many inputs was given; of one that is older than each line, the last of all. */
+static long long given_until(const struct time_line lines[], int count, unsigned long long inputs) {
+    long long fitting = -1, last = -1;
+    for (int one = 0; one < count; one++) {
+        if (lines[one].seconds > last)
+            last = lines[one].seconds;
+        if (lines[one].count <= inputs && lines[one].seconds > fitting)
+            fitting = lines[one].seconds;
+    }
+    return fitting >= 0 ? fitting : last;
+}
+
+static long long session_milliseconds(void) {
+#ifdef CLOCK_BOOTTIME
+    /* it goes on while the computer sleeps */
+    return milliseconds_of(CLOCK_BOOTTIME);
+#else
+    return milliseconds();
+#endif
+}
+
+/* Gives the clock the seconds up to now. SAVE.time first says that this input gives them: so no cut leaves a file by which they are given twice.
+ * Within a session time is counted by a clock that nobody sets. */
+static bool give_time(bool *is_written) {
+    long long now = (game.opened_milliseconds + session_milliseconds() - game.began_milliseconds) / 1000, passed = now - game.given_until;
+    *is_written = false;
+    if (passed <= 0 || game.count == ULLONG_MAX)
         return true;
-    if (passed > 0xffffffffLL)
-        passed = 0xffffffffLL;
+    if (passed > MOST_SECONDS)
+        passed = MOST_SECONDS;
+    struct time_line lines[2] = {{game.count + 1, game.given_until + passed}, game.written};
+    *is_written = true;
+    if (!write_time(lines, 2))
+        return true;
+    game.written = lines[0];
     game.given_until += passed;
     game.count++;
     return send_line("seconds %lld\n", passed);
 }
 
-/* What passed while the game was away: given where the option says so, and the file knows. */
+/* What passed while the game was away: given where the option says so, the file knows, and it is no leap of the date. */
+static void take_up_time(const struct time_line lines[], int count) {
+    long long now = game.given_until, until = given_until(lines, count, game.count), away = now - until;
+    unsigned long long least = ULLONG_MAX, most = 0;
+    for (int one = 0; one < count; one++) {
+        least = lines[one].count < least ? lines[one].count : least;
+        most = lines[one].count > most ? lines[one].count : most;
+    }
+    if (away < -NO_FAULT)
+        tell(300, "The computer's date is before the time until which the cartridge's clock was given: the clock goes on from where it stood.%s",
+             away < -(long long)YEAR ? " Take SAVE.time away where the date is right." : "");
+    if (away <= 0) {
+        game.given_until = until;
+    } else if (game.gives_time_away && away > YEAR) {
+        tell(600, "By the computer's date the game was away for %lld days: the cartridge's clock is not given them.", away / 86400);
+    } else if (game.gives_time_away) {
+        if (game.count < least || (game.count > most && game.count - most > INPUTS_BETWEEN))
+            tell(300, "SAVE was played elsewhere, or is another copy: its clock is given the %lld seconds since it was last played here.", away);
+        game.given_until = until;
+    }
+}
+
 static void begin_clock(void) {
-    unsigned long long before;
-    long long until;
-    game.given_until = time(NULL);
-    if (!game.has_clock || !game.gives_time_away || game.count == 0)
+    struct time_line lines[MOST_TIME_LINES];
+    if (!game.has_clock)
         return;
-    if (!read_clock_file(&before, &until)) {
+    long long now = milliseconds_of(CLOCK_REALTIME);
+    game.given_until = now / 1000;
+    int count = read_clock_file(lines);
+    if (count > 0 && !game.is_new)
+        take_up_time(lines, count);
+    else if (count == 0 && game.count > 0 && game.gives_time_away)
         tell(300, "There is no SAVE.time: the cartridge's clock goes on from where it stood.");
-        return;
-    }
-    if (until > game.given_until) {
-        tell(300, "The computer's clock was set back: the cartridge's clock goes on from where it stood.");
-        return;
-    }
-    if (game.count < before || game.count > before + INPUTS_BETWEEN)
-        tell(300, "SAVE was played elsewhere, or is another copy: its clock is given the %lld seconds since it was last played here.", game.given_until - until);
-    game.given_until = until;
+    game.opened_milliseconds = now > game.given_until * 1000 ? now : game.given_until * 1000;
+    game.began_milliseconds = session_milliseconds();
+    game.written = (struct time_line){game.count, game.given_until};
+    write_time(&game.written, 1);
 }
 
 static bool save_game(bool is_told) {
-    if (!give_time() || !send_line("save\n"))
+    bool is_written = false;
+    if ((game.has_clock && !give_time(&is_written)) || !send_line("save\n"))
         return false;
     long long until = milliseconds() + READ_MILLISECONDS;
     while (game.saved < game.count)
         if (!read_answers(until))
             return false;
-    if (game.has_clock)
-        write_clock_file();
+    if (game.has_clock && !is_written && game.saved > game.written.count) {
+        struct time_line line = {game.saved, game.given_until};
+        if (write_time(&line, 1))
+            game.written = line;
+    }
     if (is_told)
         tell(60, "saved %llu", game.saved);
     return true;
@@ -418,8 +577,11 @@ static void read_options(void) {
     for (unsigned one = 0; one < sizeof PALETTE_NAMES / sizeof *PALETTE_NAMES; one++)
         if (strcmp(palette, PALETTE_NAMES[one]) == 0)
             game.palette = one;
-    int seconds = atoi(option("gbkeep_save_seconds"));
-    game.save_frames = 60 * (seconds > 0 ? (unsigned)seconds : 1);
+    const char *word = option("gbkeep_save_seconds");
+    unsigned long long seconds = 1;
+    if (!take_number(&word, MOST_SAVE_SECONDS, &seconds) || *word || seconds == 0)
+        seconds = 1;
+    game.save_frames = FRAMES_A_SAVE_SECOND * (unsigned)seconds;
     game.gives_time_away = strcmp(option("gbkeep_time_away"), "no") != 0;
 }
 
@@ -489,14 +651,14 @@ static bool take_up(const char *cart) {
     const char *type = strstr(text, "\ntype ");
     unsigned kind = type ? (unsigned)strtoul(type + 6, NULL, 16) : 0;
     game.has_clock = kind == 0x0f || kind == 0x10;
-    if (lstat(game.save, &there) != 0 && !run_command(begin, text, sizeof text))
+    game.is_new = lstat(game.save, &there) != 0;
+    if (game.is_new && !run_command(begin, text, sizeof text))
         return false;
     if (!start(stream))
         return false;
     /* the resume of a long log can take some seconds */
-    game.count = ULLONG_MAX;
     long long until = milliseconds() + 6LL * END_MILLISECONDS;
-    while (game.count == ULLONG_MAX)
+    while (!game.has_resumed)
         if (!read_answers(until))
             return false;
     begin_clock();
@@ -506,6 +668,8 @@ static bool take_up(const char *cart) {
 
 RETRO_API bool retro_load_game(const struct retro_game_info *info) {
     enum retro_pixel_format format = RETRO_PIXEL_FORMAT_XRGB8888;
+    if (game.program > 0)
+        retro_unload_game();
     memset(&game, 0, sizeof game);
     game.in = game.out = game.errors = -1;
     if (!info || !info->path || !environment(RETRO_ENVIRONMENT_SET_PIXEL_FORMAT, &format))
@@ -539,7 +703,7 @@ RETRO_API void retro_run(void) {
     game.frames++;
     if (game.program > 0 && send_line("frame %02x\npicture\n", buttons)) {
         long long until = milliseconds() + READ_MILLISECONDS;
-        game.count++;
+        game.count += game.count < ULLONG_MAX;
         game.has_picture = false;
         while (!game.has_picture && read_answers(until))
             ;

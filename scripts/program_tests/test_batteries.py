@@ -76,16 +76,16 @@ def played(room, name, kind, ram_code):
     """Makes a cartridge and a game of it that has had the three inputs."""
     room.rom(f'{name}.gb', WRITES, {0x147: kind, 0x149: ram_code})
     room.write('moves', MOVES)
-    room.done(f'new {name}.gb {name}.save 400', 'begun 0\n')
-    room.done(f'play {name}.gb {name}.save moves', 'resumed 0\nsaved 3\n')
+    room.done(f'new {name}.gb {name}.gbkeep 400', 'begun 0\n')
+    room.done(f'play {name}.gb {name}.gbkeep moves', 'resumed 0\nsaved 3\n')
 
 
 def exports(room, name, battery):
     """A played game has this battery file, and its save file stays as it was."""
-    before = room.read(f'{name}.save')
-    room.done(f'export {name}.gb {name}.save {name}.out', 'exported 3\n')
+    before = room.read(f'{name}.gbkeep')
+    room.done(f'export {name}.gb {name}.gbkeep {name}.out', 'exported 3\n')
     room.expect(f'{name}.out', room.read(f'{name}.out'), battery)
-    room.expect(f'{name}.save', room.read(f'{name}.save'), before)
+    room.expect(f'{name}.gbkeep', room.read(f'{name}.gbkeep'), before)
 
 
 def test_the_ram_of_a_game(room):
@@ -113,13 +113,13 @@ def test_exports_are_refused(room):
     played(room, 'kept', 0x03, 0x02)
     room.rom('other.gb', WRITES, {0x147: 0x1b, 0x149: 0x02})
     room.write('short.gb', bytes(5))
-    room.write('blank.save', bytes(400 * 512))
-    saves = 'bare.save', 'kept.save', 'blank.save'
+    room.write('blank.gbkeep', bytes(400 * 512))
+    saves = 'bare.gbkeep', 'kept.gbkeep', 'blank.gbkeep'
     before = [room.read(save) for save in saves]
     # no save file is looked into before the cartridge is known to have a battery
-    for words, why in (('bare.gb bare.save', 'no battery'), ('bare.gb kept.save', 'no battery'), ('bare.gb blank.save', 'no battery'),
-                       ('short.gb blank.save', 'rom length 5'), ('short.gb kept.save', 'rom length 5'), ('kept.gb blank.save', 'no session'),
-                       ('other.gb kept.save', 'other cartridge')):
+    for words, why in (('bare.gb bare.gbkeep', 'no battery'), ('bare.gb kept.gbkeep', 'no battery'), ('bare.gb blank.gbkeep', 'no battery'),
+                       ('short.gb blank.gbkeep', 'rom length 5'), ('short.gb kept.gbkeep', 'rom length 5'), ('kept.gb blank.gbkeep', 'no session'),
+                       ('other.gb kept.gbkeep', 'other cartridge')):
         room.refused(f'export {words} never.out', f'gbkeep: {why}\n')
         room.expect(f'the size of never.out after {words}', room.size('never.out'), None)
         room.expect(f'the save files after {words}', [room.read(save) for save in saves], before)
@@ -129,13 +129,13 @@ def test_battery_refusals_as_text(room):
     room.rom('bare.gb', WRITES, {0x147: 0x02, 0x149: 0x02})
     room.rom('kept.gb', WRITES, {0x147: 0x03, 0x149: 0x02})
     room.write('short.gb', bytes(5))
-    room.write('blank.save', bytes(400 * 512))
+    room.write('blank.gbkeep', bytes(400 * 512))
     room.write('short.sav', bytes(8191))
     room.write('right.sav', bytes(8192))
     room.write('large.gb', bytes(0x147) + b'\x1b\0\x02' + bytes(8 * MEBIBYTE - 0x14a))
-    room.refused('export short.gb blank.save never', 'gbkeep: rom length 5\n')
-    room.refused('export bare.gb blank.save never', 'gbkeep: no battery\n')
-    room.refused('export kept.gb blank.save never', 'gbkeep: no session\n')
+    room.refused('export short.gb blank.gbkeep never', 'gbkeep: rom length 5\n')
+    room.refused('export bare.gb blank.gbkeep never', 'gbkeep: no battery\n')
+    room.refused('export kept.gb blank.gbkeep never', 'gbkeep: no session\n')
     room.refused('import bare.gb right.sav never', 'gbkeep: no battery\n')
     room.refused('import kept.gb short.sav never', 'gbkeep: battery length 8191, 8192 needed\n')
     # in so much memory 8 MiB are read, but no machine has room for its own copy of them
@@ -143,7 +143,7 @@ def test_battery_refusals_as_text(room):
         got = limited(room, f'import large.gb {battery} never', resource.RLIMIT_AS, 23 * MEBIBYTE)
         room.expect(f'an import of {battery} in 23 MiB', got, (1, b'', f'gbkeep: {why}\n'.encode()))
     room.expect('the size of never', room.size('never'), None)
-    room.done('import large.gb right.sav large.save', 'begun 0\n')
+    room.done('import large.gb right.sav large.gbkeep', 'begun 0\n')
 
 
 def test_batteries_and_clocks(room):
@@ -152,13 +152,13 @@ def test_batteries_and_clocks(room):
         ram, has_clock = 512 if kind in (0x05, 0x06) else 0x2000, kind in CLOCKED
         room.rom(f'{name}.gb', WRITES, {0x147: kind, 0x149: 0x02})
         room.write(f'{name}.sav', bytes(ram))
-        room.done(f'new {name}.gb {name}.save', 'begun 0\n')
+        room.done(f'new {name}.gb {name}.gbkeep', 'begun 0\n')
         if kind in BATTERIES:
-            room.done(f'export {name}.gb {name}.save {name}.out', 'exported 0\n')
+            room.done(f'export {name}.gb {name}.gbkeep {name}.out', 'exported 0\n')
             room.expect(f'{name}.out', room.read(f'{name}.out'), bytes(ram + 48 * has_clock))
             room.done(f'import {name}.gb {name}.sav {name}.other', 'begun 0\n')
         else:
-            room.refused(f'export {name}.gb {name}.save {name}.out', 'gbkeep: no battery\n')
+            room.refused(f'export {name}.gb {name}.gbkeep {name}.out', 'gbkeep: no battery\n')
             room.refused(f'import {name}.gb {name}.sav {name}.other', 'gbkeep: no battery\n')
             room.expect(f'{name}.out and {name}.other', (room.size(f'{name}.out'), room.size(f'{name}.other')), (None, None))
         # of a type without a battery these two alone show what its file would have
@@ -178,7 +178,7 @@ def at_power_on(room, name, kind, ram_code=0x02):
 
 def takes(room, name, number, first, battery, ram, registers=None):
     """A battery file is taken: the machine is the first one, but has this RAM and these registers, and they are what is written again."""
-    given, save, out = (f'{name}.{number}.{end}' for end in ('sav', 'save', 'out'))
+    given, save, out = (f'{name}.{number}.{end}' for end in ('sav', 'gbkeep', 'out'))
     machine = bytearray(first)
     machine[CLOCKS], machine[FIXED:] = bytes(registers or 10), ram
     room.write(given, battery)
@@ -226,8 +226,8 @@ def test_the_rest_is_as_at_power_on(room):
     takes(room, 'rest', 0, first, counted(0x2000) + clock_bytes(REGISTERS), counted(0x2000), REGISTERS)
     # the RAM is not enabled at power-on, so that all of the memory looks the same
     lines = 'registers\nmemory 0000 65536\n'
-    room.done('debug rest.gb rest.0.save', 'resumed 0\n' + room.printed('debug rest.gb', lines).decode(), lines)
-    room.done('debug rest.gb rest.0.save', 'resumed 0\nA000 FF\ndone\nA000 5A 07\n', 'memory A000 1\nframe 00\nmemory A000 2\n')
+    room.done('debug rest.gb rest.0.gbkeep', 'resumed 0\n' + room.printed('debug rest.gb', lines).decode(), lines)
+    room.done('debug rest.gb rest.0.gbkeep', 'resumed 0\nA000 FF\ndone\nA000 5A 07\n', 'memory A000 1\nframe 00\nmemory A000 2\n')
 
 
 def test_imports_are_refused(room):
@@ -238,13 +238,13 @@ def test_imports_are_refused(room):
                               (0x03, 0x2001, 0x2000), (0x03, 0x2030, 0x2000), (0x06, 513, 512), (0x10, 0x202b, 0x2000),
                               (0x10, 0x202d, 0x2000), (0x10, 0x2031, 0x2000), (0x10, 0x2030, None), (0x10, 0x202c, None),
                               (0x10, 0x2000, None), (0x03, 0x2000, None)):
-        words = f'import {kind:02x}.gb {length}.sav {kind:02x}.{length}.save'
+        words = f'import {kind:02x}.gb {length}.sav {kind:02x}.{length}.gbkeep'
         room.write(f'{length}.sav', counted(length))
         if why is None:
             room.done(words, 'begun 0\n')
         else:
             room.refused(words, f'gbkeep: {why}\n' if why == 'no battery' else f'gbkeep: battery length {length}, {why} needed\n')
-        room.expect(f'{words!r} makes a game', room.size(f'{kind:02x}.{length}.save') is not None, why is None)
+        room.expect(f'{words!r} makes a game', room.size(f'{kind:02x}.{length}.gbkeep') is not None, why is None)
 
 
 # ---- save files, shown as lines
@@ -301,43 +301,43 @@ def shows(room, save, lines):
 
 def test_a_new_game_is_shown(room):
     titled(room, 'A')
-    kept(room, 'a.save', 190, 0)
-    shows(room, 'a.save', lines_of(room, snapshot_in(room, 'a.save'), 0, 0, 1, 190))
+    kept(room, 'a.gbkeep', 190, 0)
+    shows(room, 'a.gbkeep', lines_of(room, snapshot_in(room, 'a.gbkeep'), 0, 0, 1, 190))
 
 
 def test_inputs_are_counted(room):
     titled(room, 'A')
-    kept(room, 'a.save', 188, 31)
-    first = snapshot_in(room, 'a.save')
-    shows(room, 'a.save', lines_of(room, first, 31, 31, 1, 188))
-    room.done('stream A.gb a.save', 'resumed 31\nsaved 31\n', 'save\n')
-    shows(room, 'a.save', lines_of(room, first, 31, 0, 2, 188))
-    room.done('stream A.gb a.save', 'resumed 31\nsaved 35\n', ''.join(f'seconds {number}\n' for number in seconds(31, 35)) + 'save\n')
-    shows(room, 'a.save', lines_of(room, first, 35, 4, 3, 188))
+    kept(room, 'a.gbkeep', 188, 31)
+    first = snapshot_in(room, 'a.gbkeep')
+    shows(room, 'a.gbkeep', lines_of(room, first, 31, 31, 1, 188))
+    room.done('stream A.gb a.gbkeep', 'resumed 31\nsaved 31\n', 'save\n')
+    shows(room, 'a.gbkeep', lines_of(room, first, 31, 0, 2, 188))
+    room.done('stream A.gb a.gbkeep', 'resumed 31\nsaved 35\n', ''.join(f'seconds {number}\n' for number in seconds(31, 35)) + 'save\n')
+    shows(room, 'a.gbkeep', lines_of(room, first, 35, 4, 3, 188))
 
 
 def test_shows_are_refused(room):
     titled(room, 'A')
     titled(room, 'B')
     room.write('short.gb', bytes(3))
-    room.write('blank.save', bytes(188 * 512))
-    kept(room, 'a.save', 188, 2)
-    before = room.read('a.save')
-    room.refused('show short.gb blank.save', 'gbkeep: rom length 3\n')
-    room.refused('show A.gb blank.save', 'gbkeep: no session\n')
-    room.refused('show B.gb a.save', 'gbkeep: other cartridge\n')
-    room.expect('a.save and blank.save', (room.read('a.save'), room.read('blank.save')), (before, bytes(188 * 512)))
+    room.write('blank.gbkeep', bytes(188 * 512))
+    kept(room, 'a.gbkeep', 188, 2)
+    before = room.read('a.gbkeep')
+    room.refused('show short.gb blank.gbkeep', 'gbkeep: rom length 3\n')
+    room.refused('show A.gb blank.gbkeep', 'gbkeep: no session\n')
+    room.refused('show B.gb a.gbkeep', 'gbkeep: other cartridge\n')
+    room.expect('a.gbkeep and blank.gbkeep', (room.read('a.gbkeep'), room.read('blank.gbkeep')), (before, bytes(188 * 512)))
 
 
 def test_a_show_may_end_in_any_byte(room):
     """Wherever the output fails, the text up to there went out, and standard error says so."""
     titled(room, 'A')
-    kept(room, 'a.save', 188, 2)
-    before = room.read('a.save')
-    text = lines_of(room, snapshot_in(room, 'a.save'), 2, 2, 1, 188).encode()
+    kept(room, 'a.gbkeep', 188, 2)
+    before = room.read('a.gbkeep')
+    text = lines_of(room, snapshot_in(room, 'a.gbkeep'), 2, 2, 1, 188).encode()
     for left in range(len(text)):
-        got = limited(room, 'show A.gb a.save', resource.RLIMIT_FSIZE, left)
+        got = limited(room, 'show A.gb a.gbkeep', resource.RLIMIT_FSIZE, left)
         room.expect(f'a show with room for {left} bytes', got, (1, text[:left], b'gbkeep: output failed\n'))
-        room.expect(f'a.save after it was shown in {left} bytes', room.read('a.save'), before)
-    got = limited(room, 'show A.gb a.save', resource.RLIMIT_FSIZE, len(text))
+        room.expect(f'a.gbkeep after it was shown in {left} bytes', room.read('a.gbkeep'), before)
+    got = limited(room, 'show A.gb a.gbkeep', resource.RLIMIT_FSIZE, len(text))
     room.expect('a show with room for all', got, (0, text, b''))

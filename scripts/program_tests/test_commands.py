@@ -104,23 +104,23 @@ sectors 156
     # behind the two instructions there are no others but zeros and the title
     rest = ''.join(f'{at:04X} 41     LD B,C\n' if at == 0x134 else f'{at:04X} 00     NOP\n' for at in range(0x103, 0x103 + 4094))
     room.done('list a.gb 0100 4096', '0100 23     INC HL\n0101 18FD   JR -03\n' + rest)
-    room.done('new a.gb a.save 65536', 'begun 0\n')
-    room.expect('the size of a.save', room.size('a.save'), 33_554_432)
-    room.done('new a.gb b.save', 'begun 0\n')
-    room.expect('the size of b.save', room.size('b.save'), SECTORS * 512)
+    room.done('new a.gb a.gbkeep 65536', 'begun 0\n')
+    room.expect('the size of a.gbkeep', room.size('a.gbkeep'), 33_554_432)
+    room.done('new a.gb b.gbkeep', 'begun 0\n')
+    room.expect('the size of b.gbkeep', room.size('b.gbkeep'), SECTORS * 512)
     room.done('new-recording a.gb a.rec 2', 'begun 0\n')
     room.expect('the size of a.rec', room.size('a.rec'), 1024)
-    room.done('trace a.gb a.save 1024', 'resumed 0\n' + 512 * '0100 23     INC HL\n0101 18FD   JR -03\n')
-    room.done('play a.gb a.save moves', 'resumed 0\nsaved 3\n')
-    room.done('frame a.gb a.save a.pgm', 'resumed 3\n')
+    room.done('trace a.gb a.gbkeep 1024', 'resumed 0\n' + 512 * '0100 23     INC HL\n0101 18FD   JR -03\n')
+    room.done('play a.gb a.gbkeep moves', 'resumed 0\nsaved 3\n')
+    room.done('frame a.gb a.gbkeep a.pgm', 'resumed 3\n')
     picture = room.read('a.pgm')
     room.expect('the picture', (len(picture), picture[:len(PGM)]), (PICTURE, PGM))
-    room.done('stream a.gb a.save', 'resumed 3\nsaved 4\n', 'frame 00\n')
-    room.done('record a.gb b.save a.rec', 'resumed 0\nsaved 2\n', 'frames 01 2\n')
+    room.done('stream a.gb a.gbkeep', 'resumed 3\nsaved 4\n', 'frame 00\n')
+    room.done('record a.gb b.gbkeep a.rec', 'resumed 0\nsaved 2\n', 'frames 01 2\n')
     room.done('recorded a.gb a.rec', 'frames 01 2\n')
     room.done('debug a.gb', '0100 23     INC HL\n', 'step 1\n')
-    room.done('debug a.gb a.save', 'resumed 4\ndone\n', 'frame 00\n')
-    room.done('debug a.gb b.save', 'resumed 2\ndone\n', 'frame 00\n')
+    room.done('debug a.gb a.gbkeep', 'resumed 4\ndone\n', 'frame 00\n')
+    room.done('debug a.gb b.gbkeep', 'resumed 2\ndone\n', 'frame 00\n')
 
 
 def test_does_not_understand_what_is_out_of_range(room):
@@ -144,19 +144,19 @@ def test_a_game_is_begun_and_played_on(room):
     room.write('second', 'frame 01')
     room.write('empty', '')
     room.write('wrong', 'save\nframe 1G\n')
-    room.done('new loop.gb loop.save', 'begun 0\n')
-    room.done('play loop.gb loop.save first', 'resumed 0\nsaved 4\n')
-    room.done('play loop.gb loop.save second', 'resumed 4\nsaved 5\n')
-    room.done('play loop.gb loop.save empty', 'resumed 5\n')
-    room.refused('play loop.gb loop.save wrong', 'gbkeep: script line 2\n')
-    room.refused('play loop.gb loop.save missing', 'gbkeep: file failed\n')
-    room.done('frame loop.gb loop.save loop.pgm', 'resumed 5\n')
-    room.refused('frame loop.gb loop.save missing/loop.pgm', 'gbkeep: file failed\n')
-    room.refused('frame loop.gb loop.save loop.save', 'gbkeep: file failed\n')
-    room.refused('play other.gb loop.save first', 'gbkeep: other cartridge\n')
-    room.refused('frame other.gb loop.save other.pgm', 'gbkeep: other cartridge\n')
-    room.refused('new loop.gb loop.save 156', 'gbkeep: device failed\n')
-    room.done('play loop.gb loop.save empty', 'resumed 5\n')
+    room.done('new loop.gb loop.gbkeep', 'begun 0\n')
+    room.done('play loop.gb loop.gbkeep first', 'resumed 0\nsaved 4\n')
+    room.done('play loop.gb loop.gbkeep second', 'resumed 4\nsaved 5\n')
+    room.done('play loop.gb loop.gbkeep empty', 'resumed 5\n')
+    room.refused('play loop.gb loop.gbkeep wrong', 'gbkeep: script line 2\n')
+    room.refused('play loop.gb loop.gbkeep missing', 'gbkeep: file failed\n')
+    room.done('frame loop.gb loop.gbkeep loop.pgm', 'resumed 5\n')
+    room.refused('frame loop.gb loop.gbkeep missing/loop.pgm', 'gbkeep: file failed\n')
+    room.refused('frame loop.gb loop.gbkeep loop.gbkeep', 'gbkeep: file failed\n')
+    room.refused('play other.gb loop.gbkeep first', 'gbkeep: other cartridge\n')
+    room.refused('frame other.gb loop.gbkeep other.pgm', 'gbkeep: other cartridge\n')
+    room.refused('new loop.gb loop.gbkeep 156', 'gbkeep: device failed\n')
+    room.done('play loop.gb loop.gbkeep empty', 'resumed 5\n')
     picture = room.read('loop.pgm')
     room.expect('the picture', (len(picture), picture[:len(PGM)]), (PICTURE, PGM))
     room.expect('the size of other.pgm', room.size('other.pgm'), 0)
@@ -165,36 +165,36 @@ def test_a_game_is_begun_and_played_on(room):
 def test_save_files_are_refused(room):
     room.rom('still.gb', LOOP)
     room.rom('code.gb', header={0x147: 1, 0x149: 1})
-    room.write('odd.save', bytes(1000))
-    room.write('blank.save', bytes(2048))
+    room.write('odd.gbkeep', bytes(1000))
+    room.write('blank.gbkeep', bytes(2048))
     room.write('nothing', '')
-    room.refused('new still.gb small.save 100', 'gbkeep: too small, 156 sectors needed\n')
-    room.refused('new code.gb small.save 100', 'gbkeep: ram code 01\n')
-    room.refused('new missing.gb small.save 156', 'gbkeep: file failed\n')
-    room.refused('play still.gb small.save nothing', 'gbkeep: device failed\n')
-    room.refused('play still.gb odd.save missing', 'gbkeep: device size 1000\n')
-    room.refused('play still.gb blank.save nothing', 'gbkeep: no session\n')
-    room.expect('the size of small.save', room.size('small.save'), None)
+    room.refused('new still.gb small.gbkeep 100', 'gbkeep: too small, 156 sectors needed\n')
+    room.refused('new code.gb small.gbkeep 100', 'gbkeep: ram code 01\n')
+    room.refused('new missing.gb small.gbkeep 156', 'gbkeep: file failed\n')
+    room.refused('play still.gb small.gbkeep nothing', 'gbkeep: device failed\n')
+    room.refused('play still.gb odd.gbkeep missing', 'gbkeep: device size 1000\n')
+    room.refused('play still.gb blank.gbkeep nothing', 'gbkeep: no session\n')
+    room.expect('the size of small.gbkeep', room.size('small.gbkeep'), None)
 
 
 # ---- streams
 
 def test_lines_are_obeyed_and_answered(room):
     room.rom('stream.gb', LOOP)
-    room.refused('stream stream.gb stream.save', 'gbkeep: device failed\n')
-    room.done('new stream.gb stream.save 156', 'begun 0\n')
-    room.done('stream stream.gb stream.save', 'resumed 0\nsaved 4\n', 'frames 00 3\n\nseconds 60\nsave\n')
-    room.done('stream stream.gb stream.save', 'resumed 4\nsaved 5\nsaved 5\nsaved 6\n', 'frame 01\nsave\nsave\nframe 02')
-    room.refused('stream stream.gb stream.save', 'gbkeep: script line 3\n', given='frame 00\n\nframe 1G\nframe 00\n', out='resumed 6\nsaved 7\n')
-    room.refused('stream stream.gb stream.save', 'gbkeep: script line 1\n', given='wait', out='resumed 7\n')
-    room.done('stream stream.gb stream.save', 'resumed 7\n')
+    room.refused('stream stream.gb stream.gbkeep', 'gbkeep: device failed\n')
+    room.done('new stream.gb stream.gbkeep 156', 'begun 0\n')
+    room.done('stream stream.gb stream.gbkeep', 'resumed 0\nsaved 4\n', 'frames 00 3\n\nseconds 60\nsave\n')
+    room.done('stream stream.gb stream.gbkeep', 'resumed 4\nsaved 5\nsaved 5\nsaved 6\n', 'frame 01\nsave\nsave\nframe 02')
+    room.refused('stream stream.gb stream.gbkeep', 'gbkeep: script line 3\n', given='frame 00\n\nframe 1G\nframe 00\n', out='resumed 6\nsaved 7\n')
+    room.refused('stream stream.gb stream.gbkeep', 'gbkeep: script line 1\n', given='wait', out='resumed 7\n')
+    room.done('stream stream.gb stream.gbkeep', 'resumed 7\n')
 
 
 def test_a_picture_is_what_frame_writes(room):
     room.rom('drawn.gb', LOOP)
-    room.done('new drawn.gb drawn.save 156', 'begun 0\n')
-    streamed = room.printed('stream drawn.gb drawn.save', 'frames 00 2\npicture\nsave\n')
-    room.done('frame drawn.gb drawn.save drawn.pgm', 'resumed 2\n')
+    room.done('new drawn.gb drawn.gbkeep 156', 'begun 0\n')
+    streamed = room.printed('stream drawn.gb drawn.gbkeep', 'frames 00 2\npicture\nsave\n')
+    room.done('frame drawn.gb drawn.gbkeep drawn.pgm', 'resumed 2\n')
     picture = room.read('drawn.pgm')
     room.expect('the size of the picture', len(picture), PICTURE)
     room.expect('the stream', streamed, b'resumed 0\n' + picture + b'saved 2\n')
@@ -210,34 +210,33 @@ def test_a_recording_is_begun_read_and_compared(room):
     room.refused('new-recording tape.gb tape.rec 1', 'gbkeep: too small, 2 sectors needed\n')
     room.done('new-recording tape.gb tape.rec 4', 'begun 0\n')
     room.refused('new-recording tape.gb tape.rec 4', 'gbkeep: device failed\n')
-    # an interrupted one left a blank file
-    room.done('new-recording tape.gb tape.blank 4', 'begun 0\n')
+    room.refused('new-recording tape.gb tape.blank 4', 'gbkeep: device failed\n')
     room.done('recorded tape.gb tape.rec', '')
     room.refused('recorded tape-other.gb tape.rec', 'gbkeep: other cartridge\n')
     room.refused('recorded tape.gb tape.gb', 'gbkeep: no recording\n')
     room.refused('recorded tape.gb tape.script', 'gbkeep: device size 12\n')
-    room.done('new tape.gb tape.save', 'begun 0\n')
-    room.done('verify tape.gb tape.save tape.rec', 'agree 0\n')
-    room.refused('verify tape.gb tape.save tape.save', 'gbkeep: file failed\n')
-    room.refused('verify tape.gb tape.rec tape.save', 'gbkeep: no session\n')
-    room.refused('verify tape-other.gb tape.save tape.rec', 'gbkeep: other cartridge\n')
-    room.done('play tape.gb tape.save tape.script', 'resumed 0\nsaved 3\n')
-    room.refused('verify tape.gb tape.save tape.rec', 'gbkeep: recording behind, 0 inputs\n')
+    room.done('new tape.gb tape.gbkeep', 'begun 0\n')
+    room.done('verify tape.gb tape.gbkeep tape.rec', 'agree 0\n')
+    room.refused('verify tape.gb tape.gbkeep tape.gbkeep', 'gbkeep: file failed\n')
+    room.refused('verify tape.gb tape.rec tape.gbkeep', 'gbkeep: no session\n')
+    room.refused('verify tape-other.gb tape.gbkeep tape.rec', 'gbkeep: other cartridge\n')
+    room.done('play tape.gb tape.gbkeep tape.script', 'resumed 0\nsaved 3\n')
+    room.refused('verify tape.gb tape.gbkeep tape.rec', 'gbkeep: recording behind, 0 inputs\n')
 
 
 def test_what_is_played_is_recorded(room):
     room.rom('reel.gb', COUNTS)
-    room.done('new reel.gb reel.save', 'begun 0\n')
+    room.done('new reel.gb reel.gbkeep', 'begun 0\n')
     room.done('new-recording reel.gb reel.rec 2', 'begun 0\n')
-    room.write('reel.old', room.read('reel.save'))
-    room.refused('record reel.gb reel.save reel.rec', 'gbkeep: script line 5\n', given='frames 01 3\nframe 01\nsave\nseconds 60\nframe 1G\n',
+    room.write('reel.old', room.read('reel.gbkeep'))
+    room.refused('record reel.gb reel.gbkeep reel.rec', 'gbkeep: script line 5\n', given='frames 01 3\nframe 01\nsave\nseconds 60\nframe 1G\n',
                  out='resumed 0\nsaved 4\nsaved 5\n')
     room.done('recorded reel.gb reel.rec', 'frames 01 4\nseconds 60\n')
-    room.done('verify reel.gb reel.save reel.rec', 'agree 5\n')
+    room.done('verify reel.gb reel.gbkeep reel.rec', 'agree 5\n')
     # the same game before its inputs: the recording is ahead
     room.done('verify reel.gb reel.old reel.rec', 'agree 0\n')
     room.done('record reel.gb reel.old reel.rec', 'resumed 5\nsaved 6\n', 'frame 10\n')
-    room.refused('record reel.gb reel.save reel.save', 'gbkeep: file failed\n')
+    room.refused('record reel.gb reel.gbkeep reel.gbkeep', 'gbkeep: file failed\n')
     room.done('verify reel.gb reel.old reel.rec', 'agree 6\n')
 
 
@@ -254,10 +253,10 @@ def test_a_battery_file_comes_back(room):
     registers = 59, 58, 23, 255, 0xc1, 1, 2, 3, 4, 0
     room.write('plain.sav', battery(8192))
     room.write('clock.sav', battery(8192, registers, 4))
-    room.done('import plain.gb plain.sav plain.save', 'begun 0\n')
-    room.done('export plain.gb plain.save plain.out', 'exported 0\n')
-    room.done('import clock.gb clock.sav clock.save', 'begun 0\n')
-    room.done('export clock.gb clock.save clock.out', 'exported 0\n')
+    room.done('import plain.gb plain.sav plain.gbkeep', 'begun 0\n')
+    room.done('export plain.gb plain.gbkeep plain.out', 'exported 0\n')
+    room.done('import clock.gb clock.sav clock.gbkeep', 'begun 0\n')
+    room.done('export clock.gb clock.gbkeep clock.out', 'exported 0\n')
     room.expect('plain.out', room.read('plain.out'), battery(8192))
     room.expect('clock.out', room.read('clock.out'), battery(8192, registers, 8))
 
@@ -266,10 +265,10 @@ def test_of_mbc2_the_lower_bits_count(room):
     room.rom('half.gb', LOOP, {0x147: 0x06})
     room.write('half.sav', b'\xab' * 512)
     room.write('half.frames', 'frames 00 3\n')
-    room.done('import half.gb half.sav half.save 200', 'begun 0\n')
-    room.done('play half.gb half.save half.frames', 'resumed 0\nsaved 3\n')
-    room.done('export half.gb half.save half.out', 'exported 3\n')
-    room.refused('export half.gb half.save half.out', 'gbkeep: file failed\n')
+    room.done('import half.gb half.sav half.gbkeep 200', 'begun 0\n')
+    room.done('play half.gb half.gbkeep half.frames', 'resumed 0\nsaved 3\n')
+    room.done('export half.gb half.gbkeep half.out', 'exported 3\n')
+    room.refused('export half.gb half.gbkeep half.out', 'gbkeep: file failed\n')
     room.expect('half.out', room.read('half.out'), b'\x0b' * 512)
 
 
@@ -279,34 +278,34 @@ def test_battery_files_are_refused(room):
     room.rom('wrong.gb', LOOP, {0x147: 0x03, 0x149: 0x01})
     room.write('kept.sav', b'\x07' * 8192)
     room.write('long.sav', b'\x07' * 8240)
-    room.write('taken.save', 'x')
-    room.done('new bare.gb bare.save', 'begun 0\n')
-    room.refused('export bare.gb bare.save never.out', 'gbkeep: no battery\n')
-    room.refused('export kept.gb bare.save never.out', 'gbkeep: other cartridge\n')
-    room.refused('import wrong.gb kept.sav never.save', 'gbkeep: ram code 01\n')
-    room.refused('import bare.gb kept.sav never.save', 'gbkeep: no battery\n')
-    room.refused('import kept.gb missing.sav never.save', 'gbkeep: file failed\n')
-    room.refused('import kept.gb long.sav never.save', 'gbkeep: battery length 8240, 8192 needed\n')
-    room.refused('import kept.gb kept.sav never.save 9', 'gbkeep: too small, 188 sectors needed\n')
-    room.refused('import kept.gb kept.sav taken.save', 'gbkeep: device failed\n')
-    room.expect('the sizes of never.save and never.out', (room.size('never.save'), room.size('never.out')), (None, None))
+    room.write('taken.gbkeep', 'x')
+    room.done('new bare.gb bare.gbkeep', 'begun 0\n')
+    room.refused('export bare.gb bare.gbkeep never.out', 'gbkeep: no battery\n')
+    room.refused('export kept.gb bare.gbkeep never.out', 'gbkeep: other cartridge\n')
+    room.refused('import wrong.gb kept.sav never.gbkeep', 'gbkeep: ram code 01\n')
+    room.refused('import bare.gb kept.sav never.gbkeep', 'gbkeep: no battery\n')
+    room.refused('import kept.gb missing.sav never.gbkeep', 'gbkeep: file failed\n')
+    room.refused('import kept.gb long.sav never.gbkeep', 'gbkeep: battery length 8240, 8192 needed\n')
+    room.refused('import kept.gb kept.sav never.gbkeep 9', 'gbkeep: too small, 188 sectors needed\n')
+    room.refused('import kept.gb kept.sav taken.gbkeep', 'gbkeep: device failed\n')
+    room.expect('the sizes of never.gbkeep and never.out', (room.size('never.gbkeep'), room.size('never.out')), (None, None))
 
 
 def test_a_save_file_is_shown_as_it_is(room):
     room.rom('seen.gb', LOOP)
     room.rom('unseen.gb', LOOP, {0x134: ord('B')})
     room.write('seen.frames', 'frames 00 3\n')
-    room.done('new seen.gb seen.save', 'begun 0\n')
-    room.done('play seen.gb seen.save seen.frames', 'resumed 0\nsaved 3\n')
+    room.done('new seen.gb seen.gbkeep', 'begun 0\n')
+    room.done('play seen.gb seen.gbkeep seen.frames', 'resumed 0\nsaved 3\n')
     # what `show` prints of the game is this and two digests, and its file stays as it was
-    before, start = room.read('seen.save'), b'inputs 3\nlogged 3\ngeneration 2\nsectors 156\nrom '
-    text = room.printed('show seen.gb seen.save')
-    again = room.printed('show seen.gb seen.save')
+    before, start = room.read('seen.gbkeep'), b'inputs 3\nlogged 3\ngeneration 2\nsectors 156\nrom '
+    text = room.printed('show seen.gb seen.gbkeep')
+    again = room.printed('show seen.gb seen.gbkeep')
     room.expect('how it begins', text[:len(start)], start)
     room.expect('its length', len(text), 183)
     room.expect('what is shown again', again, text)
-    room.expect('seen.save', room.read('seen.save'), before)
-    room.refused('show unseen.gb seen.save', 'gbkeep: other cartridge\n')
+    room.expect('seen.gbkeep', room.read('seen.gbkeep'), before)
+    room.refused('show unseen.gb seen.gbkeep', 'gbkeep: other cartridge\n')
 
 
 # ---- debuggers: the answers, with each digest of a machine, are those of a second machine
@@ -478,18 +477,18 @@ def test_a_game_keeps_nothing_of_a_debugger(room):
     room.rom('debugged.other.gb', SENDS)
     room.rom('debugged.kind.gb', SENDS, {0x147: 0xff})
     room.write('debugged.script', 'frame 80\nseconds 5\n')
-    room.write('debugged.blank.save', '')
-    room.refused('debug debugged.gb debugged.save', 'gbkeep: device failed\n', given='registers\n')
-    room.done('new debugged.gb debugged.save 156', 'begun 0\n')
-    room.done('debug debugged.gb debugged.save', '''\
+    room.write('debugged.blank.gbkeep', '')
+    room.refused('debug debugged.gb debugged.gbkeep', 'gbkeep: device failed\n', given='registers\n')
+    room.done('new debugged.gb debugged.gbkeep 156', 'begun 0\n')
+    room.done('debug debugged.gb debugged.gbkeep', '''\
 resumed 0
 state d410e79829d52fafe20561f5f2ab78db12d1324a6061ad1b13a1d65f63e56e3b
 done
 wrong 3
 ''', 'state\nframes 80 9\nsave')
-    room.done('play debugged.gb debugged.save debugged.script', 'resumed 0\nsaved 2\n')
+    room.done('play debugged.gb debugged.gbkeep debugged.script', 'resumed 0\nsaved 2\n')
     # the byte was sent in a frame of the game
-    room.done('debug debugged.gb debugged.save', '''\
+    room.done('debug debugged.gb debugged.gbkeep', '''\
 resumed 2
 A=81 F=80 B=00 C=13 D=00 E=D8 H=01 L=4D SP=FFFE PC=0108 IME=0
 state 56a98b8432e3d67b541dad5d4dc9b02837fcf36dcdee8bf6a7b2a6de5680ff71
@@ -501,18 +500,18 @@ state 2139144cc93a51cd76db78b3a8fb049075bd90ca308f6c4c3b763211f494cf17
 serial 0
 
 ''', 'registers\nstate\nstep 2\nframes 01 3\nseconds 9\nstate\nserial\n')
-    room.done('debug debugged.gb debugged.save', '''\
+    room.done('debug debugged.gb debugged.gbkeep', '''\
 resumed 2
 state 56a98b8432e3d67b541dad5d4dc9b02837fcf36dcdee8bf6a7b2a6de5680ff71
 ''', 'state\n')
-    room.done('trace debugged.gb debugged.save 1', 'resumed 2\n0108 40     LD B,B\n')
-    room.refused('debug debugged.other.gb debugged.save', 'gbkeep: other cartridge\n', given='registers\n')
-    room.refused('debug debugged.kind.gb debugged.save', 'gbkeep: cartridge type FF\n', given='registers\n')
+    room.done('trace debugged.gb debugged.gbkeep 1', 'resumed 2\n0108 40     LD B,B\n')
+    room.refused('debug debugged.other.gb debugged.gbkeep', 'gbkeep: other cartridge\n', given='registers\n')
+    room.refused('debug debugged.kind.gb debugged.gbkeep', 'gbkeep: cartridge type FF\n', given='registers\n')
     room.refused('debug debugged.kind.gb', 'gbkeep: cartridge type FF\n', given='registers\n')
-    room.refused('debug debugged.gb debugged.blank.save', 'gbkeep: no session\n', given='registers\n')
-    room.refused('debug missing.gb debugged.save', 'gbkeep: file failed\n', given='registers\n')
+    room.refused('debug debugged.gb debugged.blank.gbkeep', 'gbkeep: no session\n', given='registers\n')
+    room.refused('debug missing.gb debugged.gbkeep', 'gbkeep: file failed\n', given='registers\n')
     room.refused('debug missing.gb', 'gbkeep: file failed\n', given='registers\n')
-    room.done('show debugged.gb debugged.save', '''\
+    room.done('show debugged.gb debugged.gbkeep', '''\
 inputs 2
 logged 0
 generation 6
@@ -526,10 +525,10 @@ def test_pictures_are_what_frame_writes(room):
     # the first colour of the background becomes the second lightest shade
     room.rom('grey.gb', '3e01 e047 18fe')
     room.write('grey.script', 'frames 00 2\n')
-    room.done('new grey.gb grey.save 156', 'begun 0\n')
-    debugged = room.printed('debug grey.gb grey.save', 'picture\nframe 00\nframe 00\npicture\n')
-    room.done('play grey.gb grey.save grey.script', 'resumed 0\nsaved 2\n')
-    room.done('frame grey.gb grey.save grey.pgm', 'resumed 2\n')
+    room.done('new grey.gb grey.gbkeep 156', 'begun 0\n')
+    debugged = room.printed('debug grey.gb grey.gbkeep', 'picture\nframe 00\nframe 00\npicture\n')
+    room.done('play grey.gb grey.gbkeep grey.script', 'resumed 0\nsaved 2\n')
+    room.done('frame grey.gb grey.gbkeep grey.pgm', 'resumed 2\n')
     picture = room.read('grey.pgm')
     # two pictures, one of power-on and one of two frames after it, with the lines around them
     lines, first, between, last = debugged[:10], debugged[10:10 + PICTURE], debugged[10 + PICTURE:20 + PICTURE], debugged[20 + PICTURE:]
@@ -554,17 +553,17 @@ def test_the_next_steps_are_printed(room):
     room.rom('trace.dispatch.gb', DISPATCHES)
     room.write('trace.empty', '')
     room.write('trace.frame', 'frame 00\nseconds 60\n')
-    room.done('new trace.sum.gb trace.sum.save 156', 'begun 0\n')
-    room.done('trace trace.sum.gb trace.sum.save 2', 'resumed 0\n0100 3E3A   LD A,3A\n0102 C6C6   ADD A,C6\n')
+    room.done('new trace.sum.gb trace.sum.gbkeep 156', 'begun 0\n')
+    room.done('trace trace.sum.gb trace.sum.gbkeep 2', 'resumed 0\n0100 3E3A   LD A,3A\n0102 C6C6   ADD A,C6\n')
     # nothing was saved
-    room.done('play trace.sum.gb trace.sum.save trace.empty', 'resumed 0\n')
-    room.done('trace trace.sum.gb trace.sum.save 1', 'resumed 0\n0100 3E3A   LD A,3A\n')
-    room.done('new trace.halt.gb trace.halt.save 156', 'begun 0\n')
-    room.done('trace trace.halt.gb trace.halt.save 2', 'resumed 0\n0100 76     HALT\nwait\n')
-    room.done('play trace.halt.gb trace.halt.save trace.frame', 'resumed 0\nsaved 2\n')
-    room.done('trace trace.halt.gb trace.halt.save 1', 'resumed 2\nwait\n')
-    room.done('new trace.dispatch.gb trace.dispatch.save 156', 'begun 0\n')
-    room.done('trace trace.dispatch.gb trace.dispatch.save 6', '''\
+    room.done('play trace.sum.gb trace.sum.gbkeep trace.empty', 'resumed 0\n')
+    room.done('trace trace.sum.gb trace.sum.gbkeep 1', 'resumed 0\n0100 3E3A   LD A,3A\n')
+    room.done('new trace.halt.gb trace.halt.gbkeep 156', 'begun 0\n')
+    room.done('trace trace.halt.gb trace.halt.gbkeep 2', 'resumed 0\n0100 76     HALT\nwait\n')
+    room.done('play trace.halt.gb trace.halt.gbkeep trace.frame', 'resumed 0\nsaved 2\n')
+    room.done('trace trace.halt.gb trace.halt.gbkeep 1', 'resumed 2\nwait\n')
+    room.done('new trace.dispatch.gb trace.dispatch.gbkeep 156', 'begun 0\n')
+    room.done('trace trace.dispatch.gb trace.dispatch.gbkeep 6', '''\
 resumed 0
 0100 3E01   LD A,01
 0102 E0FF   LDH (FF),A
@@ -579,14 +578,27 @@ def test_traces_are_refused(room):
     room.rom('untraced.gb', '76')
     room.rom('untraced.other.gb', '76', {0x134: ord('B')})
     room.rom('untraced.kind.gb', '76', {0x147: 0xff})
-    room.write('untraced.blank.save', '')
-    room.write('untraced.odd.save', bytes(1000))
-    room.done('new untraced.gb untraced.save 156', 'begun 0\n')
-    room.refused('trace untraced.other.gb untraced.save 1', 'gbkeep: other cartridge\n')
-    room.refused('trace untraced.kind.gb untraced.save 1', 'gbkeep: cartridge type FF\n')
-    room.refused('trace missing.gb missing.save 1', 'gbkeep: file failed\n')
+    room.write('untraced.blank.gbkeep', '')
+    room.write('untraced.odd.gbkeep', bytes(1000))
+    room.done('new untraced.gb untraced.gbkeep 156', 'begun 0\n')
+    room.refused('trace untraced.other.gb untraced.gbkeep 1', 'gbkeep: other cartridge\n')
+    room.refused('trace untraced.kind.gb untraced.gbkeep 1', 'gbkeep: cartridge type FF\n')
+    room.refused('trace missing.gb missing.gbkeep 1', 'gbkeep: file failed\n')
     # the save file is opened before the cartridge is read
-    room.refused('trace untraced.kind.gb missing.save 1', 'gbkeep: device failed\n')
-    room.refused('trace untraced.kind.gb untraced.odd.save 1', 'gbkeep: device size 1000\n')
-    room.refused('trace untraced.gb untraced.blank.save 1', 'gbkeep: no session\n')
-    room.done('trace untraced.gb untraced.save 1', 'resumed 0\n0100 76     HALT\n')
+    room.refused('trace untraced.kind.gb missing.gbkeep 1', 'gbkeep: device failed\n')
+    room.refused('trace untraced.kind.gb untraced.odd.gbkeep 1', 'gbkeep: device size 1000\n')
+    room.refused('trace untraced.gb untraced.blank.gbkeep 1', 'gbkeep: no session\n')
+    room.done('trace untraced.gb untraced.gbkeep 1', 'resumed 0\n0100 76     HALT\n')
+
+
+def test_a_jump_to_itself_ends_a_test(room):
+    """Also where its bytes are the last ones of ROM, WRAM or HRAM; not where one of them lies behind these."""
+    room.rom('rom.gb', 'f3 c3fe7f', {0x7ffe: 0x18, 0x7fff: 0xfe})
+    room.rom('wram.gb', 'f3 3e18 eafedf 3efe eaffdf c3fedf')
+    room.rom('hram.gb', 'f3 3e18 e0fd 3efe e0fe c3fdff')
+    room.rom('absolute.gb', 'f3 c3fd7f', {0x7ffd: 0xc3, 0x7ffe: 0xfd, 0x7fff: 0x7f})
+    # writes FE to 8000 and jumps to the 18 before it
+    room.rom('behind.gb', 'f3 3efe ea0080 c3ff7f', {0x7fff: 0x18})
+    for name, end in (('rom', 'loop'), ('wram', 'loop'), ('hram', 'loop'), ('absolute', 'loop'), ('behind', 'frames')):
+        status, out, err = room.run(f'test {name}.gb 3')
+        room.expect(f'how {name}.gb ended', (status, out.splitlines()[-1:], err), (1, [f'ended {end}'.encode()], b'gbkeep: test undecided\n'))

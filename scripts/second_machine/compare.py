@@ -392,7 +392,7 @@ class Gen:
         r = self.rnd
         out = b''
         for _ in range(r.randrange(1, 4)):
-            k = r.randrange(3)
+            r.randrange(3)
             base = r.choice([0x2000, 0x2000, 0x3000, 0x2100, 0x4000, 0x6000, 0x0000, 0x5FFF, 0x3FFF, 0x7FFF, 0x2FFF, 0x1FFF])
             a = base if r.random() < 0.6 else (base & 0xE000) + r.randrange(0x2000)
             out += self.regw(a, r.choice([0, 1, 0x10, 0x20, 0x1F, 0x40, 0x60, 0x80, 2, 3, r.randrange(256)]))

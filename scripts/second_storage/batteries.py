@@ -1,13 +1,13 @@
 """The kind `batteries` of hostile.py: battery files of any length that are taken and written again, what `show` prints, damaged games, and an `import`
 that is killed and asked for once more."""
-import hashlib, os, random, signal, subprocess, time
+import hashlib, os, signal, subprocess, time
 import hostile
 from hostile import CART, ROOM, SAVE, OUT, SCRIPT, damaged, differs, gbkeep, line, random_rom, random_script
 from save_files import FIXED, Cartridge, Refused, area_of, get, log_of, looked_at, need_of, put, snapshot_of
 
 BATTERY = os.path.join(ROOM, 'game.battery')
 EXPORTED = os.path.join(ROOM, 'exported.battery')
-OTHER = os.path.join(ROOM, 'other.save')
+OTHER = os.path.join(ROOM, 'other.gbkeep')
 WITH_BATTERY = {0x03, 0x06, 0x09, 0x0F, 0x10, 0x13, 0x1B, 0x1E}
 MASKS = (0x3F, 0x3F, 0x1F, 0xFF, 0xC1)
 
@@ -75,7 +75,9 @@ def looks(seed, rom, cart, note):
     if not logged:
         is_as(seed, note + ', OUT', get(EXPORTED), battery_of(snapshot, cart))
     left = get(EXPORTED)
-    is_as(seed, note + ', export again', gbkeep('export', CART, SAVE, EXPORTED), (1, b'', line('file failed')))
+    is_as(seed, note + ', export again', gbkeep('export', CART, SAVE, EXPORTED),
+          # a file with nothing in it is taken up
+          (1, b'', line('file failed')) if left else (0, b'exported %d\n' % count, b''))
     is_as(seed, note + ', OUT again', get(EXPORTED), left)
 
 

@@ -2,7 +2,7 @@
 
 Each line is read and answered by second_machine/debug_lines.py, byte for byte. SAVE is left as save_files.py says, and byte for byte as `trace` leaves it:
 it has one checkpoint more, and nothing of what was run."""
-import hashlib, random, signal, subprocess, sys, threading, time
+import hashlib, signal, subprocess, sys, threading
 from pathlib import Path
 import hostile
 from hostile import CART, SAVE, SCRIPT, damaged, differs, gbkeep, random_rom, same_file

@@ -18,7 +18,7 @@ from save_files import get, put
 
 GB = os.path.abspath(sys.argv[1]) if len(sys.argv) > 1 else ''
 ROOM = tempfile.mkdtemp(prefix='hostile-')
-CART, SAVE, SCRIPT, OUT = (os.path.join(ROOM, name) for name in ('rom.gb', 'game.save', 'moves.script', 'out.pgm'))
+CART, SAVE, SCRIPT, OUT = (os.path.join(ROOM, name) for name in ('rom.gb', 'game.gbkeep', 'moves.script', 'out.pgm'))
 TYPES = {0x00: 2, 0x08: 2, 0x09: 2, 0x01: 4, 0x03: 4, 0x06: 4, 0x10: 4, 0x0F: 2, 0x13: 4, 0x1B: 4, 0x1E: 4}
 differences = 0
 
@@ -234,7 +234,7 @@ def saves(rnd, seed):
     sound = get(SAVE)
     for turn in range(6):
         if not compare_play('saves', seed, damaged(rnd, sound, cart, other), cart, random_script(rnd, 300), 'damage %d' % turn):
-            shutil.copy(SAVE, 'differs.save')
+            shutil.copy(SAVE, 'differs.gbkeep')
             return
         again = get(SAVE)
         # what was taken up is taken up again, with the same snapshot
@@ -359,6 +359,14 @@ def gone(path):
         os.remove(path)
 
 
+def parts():
+    """How many files there are that were never whole; they are taken away."""
+    found = [name for name in os.listdir(ROOM) if name.startswith('.gbkeep-') and name.endswith('.part')]
+    for name in found:
+        os.remove(os.path.join(ROOM, name))
+    return len(found)
+
+
 def with_room(most, handler=signal.SIG_IGN):
     """Files end there: a write behind it fails, or by the default handler, as a shell starts a program, ends the program."""
     def limit():
@@ -407,7 +415,7 @@ def no_save_file(rnd, seed, image):
     if os.path.exists(os.path.join(ROOM, 'nothing')):
         differs('places', seed, 'a file was made behind a link')
     gone(SAVE)
-    for save in ('/dev/null', '/dev/full', '/dev/zero', os.path.join(ROOM, 'missing', 'game.save')):
+    for save in ('/dev/null', '/dev/full', '/dev/zero', os.path.join(ROOM, 'missing', 'game.gbkeep')):
         all_refuse(save)
     put(SAVE, image)
 
@@ -419,7 +427,7 @@ def no_leave(seed, image):
         refuses('places', seed, image, 'device failed', *words, **as_nobody())
     os.chmod(SAVE, 0o644)
     if os.geteuid() == 0:
-        other = os.path.join(ROOM, 'other.save')
+        other = os.path.join(ROOM, 'other.gbkeep')
         refuses('places', seed, image, 'device failed', 'new', CART, other, '300', **as_nobody())
         if os.path.exists(other):
             differs('places', seed, 'a file was made without leave')
@@ -460,7 +468,7 @@ def rnd_bytes(size):
 
 def sizes(seed):
     """A SAVE of more than 65,536 sectors is refused by its size alone, before it is read."""
-    great = os.path.join(ROOM, 'great.save')
+    great = os.path.join(ROOM, 'great.gbkeep')
     for size in (1 << 30, 65537 * 512):
         with open(great, 'wb') as file:
             file.truncate(size)
@@ -473,7 +481,7 @@ def sizes(seed):
 
 def links(rnd, seed, image, cart):
     """A game behind a link of either kind is played as any other."""
-    target = os.path.join(ROOM, 'target.save')
+    target = os.path.join(ROOM, 'target.gbkeep')
     for link in (os.symlink, os.link):
         gone(SAVE)
         put(target, image)
@@ -488,21 +496,23 @@ def links(rnd, seed, image, cart):
 
 
 def interrupted_new(rnd, seed, image):
-    """Where the size of files is limited `new` ends by a signal, and the next `new` takes up what it leaves. What else stands there stays."""
-    other = os.path.join(ROOM, 'other.save')
+    """Where the size of files is limited `new` ends by a signal, and leaves an empty file, which the next `new` takes up. What else stands there
+    stays, whatever it has."""
+    other = os.path.join(ROOM, 'other.gbkeep')
     words = ['new', CART, other, str(len(image) // 512)]
     got = gbkeep(*words, **with_room(rnd.choice([0, 512, len(image) - 1]), signal.SIG_DFL))
-    if got != (-signal.SIGXFSZ, b'', b'') or gbkeep(*words) != (0, b'begun 0\n', b''):
+    if got != (-signal.SIGXFSZ, b'', b'') or get(other) != b'' or parts() != 1 or gbkeep(*words) != (0, b'begun 0\n', b''):
         differs('places', seed, 'new where the size of files is limited: %r' % (got,))
     made = get(other)
     first = 2 + (len(made) // 512 - 2) // 2
     blob = (first + 32) * 512
     unfinished = bytes(blob) + made[blob:blob + rnd.choice([0, 512, 5120])]
     unfinished += bytes(len(made) - len(unfinished))
-    for left, taken in ((b'', True), (bytes(len(made)), True), (unfinished, True), (made, False), (b'x', False), (bytes(len(made) - 512), False),
+    for left, taken in ((b'', True), (bytes(len(made)), False), (unfinished, False), (made, False), (b'x', False), (bytes(len(made) - 512), False),
                         (bytes(len(made) - 1) + b'x', False), (bytes(600) + b'x' + bytes(len(made) - 601), False), (bytes(len(made) + 512), False),
                         (bytes(512) + made[512:1024] + bytes(len(made) - 1024), False)):
         put(other, left)
+        os.chmod(other, 0o644)
         got = gbkeep(*words)
         want = (0, b'begun 0\n', b'') if taken else (1, b'', line('device failed'))
         if got != want or get(other) != (made if taken else left):
@@ -521,7 +531,7 @@ def small_disk(seed, image):
         return
     disk = os.path.join(ROOM, 'disk')
     os.makedirs(disk, exist_ok=True)
-    text = 'mount -t tmpfs -o size=%d none "$1" || exit 9; "$2" new "$3" "$1/game.save" %d; echo "$?" "$(ls "$1")"' % (len(image) * 7 // 8 // 4096 * 4096, len(image) // 512)
+    text = 'mount -t tmpfs -o size=%d none "$1" || exit 9; "$2" new "$3" "$1/game.gbkeep" %d; echo "$?" "$(ls -A "$1")"' % (len(image) * 7 // 8 // 4096 * 4096, len(image) // 512)
     done = subprocess.run(['unshare', '--mount', 'sh', '-c', text, 'sh', disk, GB, CART], capture_output=True, timeout=10)
     if done.returncode == 0 and (done.stdout, done.stderr) != (b'1 \n', line('device failed')):
         differs('places', seed, 'new on a small disk: %r' % ((done.stdout, done.stderr),))
@@ -529,7 +539,7 @@ def small_disk(seed, image):
 
 def full_disk(rnd, seed, image, cart):
     """Where the disk is full no file is left of `new`, and a play keeps what it told."""
-    other = os.path.join(ROOM, 'other.save')
+    other = os.path.join(ROOM, 'other.gbkeep')
     room = rnd.choice([0, 1, 511, 512, len(image) - 1, rnd.randrange(len(image))])
     refuses('places', seed, image, 'device failed', 'new', CART, other, str(len(image) // 512), **with_room(room))
     if os.path.exists(other):
@@ -567,7 +577,7 @@ def pipes(rnd, seed):
     """Standard output is a pipe that nobody reads, or not to its end, or a device without room."""
     cart, image = a_game(rnd)
     before = count_of(image, cart)
-    other = os.path.join(ROOM, 'other.save')
+    other = os.path.join(ROOM, 'other.gbkeep')
     for words in (('info', CART), ('list', CART, '0', '4096'), ('step', CART, '3'), ('trace', CART, SAVE, '9'), ('debug', CART, SAVE),
                   ('play', CART, SAVE, SCRIPT), ('frame', CART, SAVE, OUT), ('new', CART, other, str(len(image) // 512)), ('--help',)):
         reader, writer = os.pipe()
@@ -682,13 +692,13 @@ def bare(rnd, seed):
                 os.close(stream)
             if mode == 0o711:
                 os.setuid(65534)
-        put(root + '/game.save', image)
-        os.chmod(root + '/game.save', 0o666)
+        put(root + '/game.gbkeep', image)
+        os.chmod(root + '/game.gbkeep', 0o666)
         os.chmod(root, mode)
         for _ in range(3):
-            done = subprocess.run(['/gbkeep', 'play', '/rom.gb', '/game.save', '/moves.script'], executable='/gbkeep', stdin=subprocess.DEVNULL,
+            done = subprocess.run(['/gbkeep', 'play', '/rom.gb', '/game.gbkeep', '/moves.script'], executable='/gbkeep', stdin=subprocess.DEVNULL,
                                   stdout=subprocess.DEVNULL, stderr=subprocess.DEVNULL, preexec_fn=enter, timeout=10)
-        left = get(root + '/game.save')
+        left = get(root + '/game.gbkeep')
         roots = [left[at:at + 8] for at in (0, 512)]
         if done.returncode not in (0, 1) or any(root not in (bytes(8), b'GBKPROOT') for root in roots) or mode == 0o711 and left != image:
             differs('closed', seed, 'in a root without /dev, mode %o, without streams %s: status %d, roots %r' % (mode, streams, done.returncode, roots))

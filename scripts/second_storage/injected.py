@@ -2,16 +2,16 @@
 
 Debian's strace lets a chosen call of a command fail, or kills the program there, and a library of some lines of C, where there is a C
 compiler, cuts a write short. The game in SAVE must be one that the second reader takes up, with every input that was told; CART and
-SCRIPT keep their bytes; and what `new` leaves is a game, or is taken up by the next `new`."""
+SCRIPT keep their bytes; and what `new` leaves is a game, or an empty file, which the next `new` takes up."""
 import os, re, shutil, subprocess
 import hostile
 import save_files as ref
 from save_files import get, put
 
-CALLS = 'openat,read,pread64,write,pwrite64,fsync,flock,ftruncate,statx,unlink'
+CALLS = 'openat,read,pread64,write,pwrite64,fsync,flock,ftruncate,statx,rename,unlink'
 FAULTS = {'openat': ['EIO', 'EMFILE', 'EINTR'], 'read': ['EIO', 'EINTR', 'EAGAIN'], 'pread64': ['EIO', 'EINTR'], 'write': ['EIO', 'ENOSPC', 'EINTR', 'EAGAIN'],
           'pwrite64': ['EIO', 'ENOSPC', 'EINTR', 'EDQUOT', 'EFBIG'], 'fsync': ['EIO', 'ENOSPC', 'EINTR'], 'flock': ['ENOLCK', 'EOPNOTSUPP', 'EINTR', 'EIO'],
-          'ftruncate': ['EIO', 'ENOSPC', 'EINTR', 'EFBIG'], 'statx': ['EIO', 'EACCES'], 'unlink': ['EIO', 'EROFS']}
+          'ftruncate': ['EIO', 'ENOSPC', 'EINTR', 'EFBIG'], 'statx': ['EIO', 'EACCES'], 'rename': ['EIO', 'EXDEV', 'EACCES'], 'unlink': ['EIO', 'EROFS']}
 LINES = [b''] + [hostile.line(why) for why in ('no memory', 'output failed', 'file failed', 'device failed', 'input failed')]
 SHORT = r'''
 #define _GNU_SOURCE
@@ -131,12 +131,15 @@ def of_new(rnd, seed):
         options, what = fault_of(rnd, counts)
         status, out, err = traced(words, options)
         left = get(hostile.SAVE) if os.path.exists(hostile.SAVE) else None
+        parts = hostile.parts()
         begun = left is not None and hostile.same_file(left, made)
         if status not in (0, 1, -9, 137) or err not in LINES or (out == b'begun 0\n') != (status == 0) or status == 0 and not begun:
             return hostile.differs('injected', seed, 'new, %s: %r' % (what, (status, out, err)))
+        if left not in (None, b'') and not begun:
+            return hostile.differs('injected', seed, 'new, %s: %r, and the file is not whole' % (what, (status, out, err)))
         # a file that can't be looked at may be another's by now, and an empty one is taken up by the next `new`
         stays = 'unlink' in what or 'statx' in what and left == b''
-        if status == 1 and err != hostile.line('output failed') and left is not None and not stays:
+        if status == 1 and err != hostile.line('output failed') and (left is not None or parts) and not stays:
             return hostile.differs('injected', seed, 'new, %s: %r, and it leaves a file' % (what, (status, out, err)))
         again = hostile.gbkeep(*words)
         if again != ((1, b'', hostile.line('device failed')) if begun else (0, b'begun 0\n', b'')) or not hostile.same_file(get(hostile.SAVE), made):
@@ -169,7 +172,7 @@ def no_locks(rnd, seed):
     hard = os.path.join(hostile.ROOM, 'hard')
     hostile.gone(hard)
     os.link(hostile.SAVE, hard)
-    for fault, path, want in (('EOPNOTSUPP', os.path.join(hostile.ROOM, '.', 'game.save'), 'file failed'), ('EOPNOTSUPP', hard, 'file failed'),
+    for fault, path, want in (('EOPNOTSUPP', os.path.join(hostile.ROOM, '.', 'game.gbkeep'), 'file failed'), ('EOPNOTSUPP', hard, 'file failed'),
                               ('ENOLCK', hostile.OUT, 'device failed')):
         put(hostile.SAVE, image)
         got = traced(['frame', hostile.CART, hostile.SAVE, path], ['-o', '/dev/null', '-e', 'trace=flock', '-e', 'inject=flock:error=' + fault])

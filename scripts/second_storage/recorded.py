@@ -1,6 +1,6 @@
 """The kind `recordings` of hostile.py: a game and its recording, compared byte for byte with recordings.py, damaged, cut, full, of another ROM, and
 killed in the middle."""
-import os, random, signal, subprocess, time
+import os, signal, subprocess, time
 import hostile
 import recordings as ref
 from hostile import CART, ROOM, SAVE, OUT, a_game, differs, gbkeep, line, moves_before, random_script, same_file, without_pictures
@@ -24,9 +24,10 @@ def new_recording(rnd, seed, cart, sectors):
         'recordings', seed, 'a new recording', get(RECORDING), bytes(ref.new_recording(sectors, cart)))
 
 
-def recorded(image, recording, cart, lines):
-    """Status, output without its pictures, errors, and the game with both files that `record` leaves."""
-    game = ref.RecordedGame(image, recording, cart)
+def recorded(image, recording, cart, lines, agree):
+    """Status, output without its pictures, errors, and the game with both files that `record` leaves. `agree`: the machine of the game is the one
+    after the recorded inputs, which this reader can't see."""
+    game = ref.RecordedGame(image, recording, cart, agree)
     moves, wrong = moves_before(lines)
     try:
         game.take_up()
@@ -36,10 +37,10 @@ def recorded(image, recording, cart, lines):
     return (1, game.report, line('script line %d' % wrong), game) if wrong else (0, game.report, b'', game)
 
 
-def compare_record(seed, cart, lines, note):
+def compare_record(seed, cart, lines, note, agree=True):
     """Records the lines in both; says whether they agree."""
     image, recording = get(SAVE), get(RECORDING)
-    want = recorded(image, recording, cart, lines)
+    want = recorded(image, recording, cart, lines, agree)
     done = subprocess.run([hostile.GB, 'record', CART, SAVE, RECORDING], input=b'\n'.join(lines), capture_output=True, timeout=10)
     if wrong_size():
         is_as('recordings', seed, note, (done.returncode, done.stdout, done.stderr), wrong_size())
@@ -148,7 +149,7 @@ def killed(rnd, seed, cart):
 def same_again(seed, cart):
     """What `recorded` prints, played on a new SAVE, gives the same game."""
     script = gbkeep('recorded', CART, RECORDING)[1]
-    other = os.path.join(ROOM, 'again.save')
+    other = os.path.join(ROOM, 'again.gbkeep')
     if os.path.exists(other):
         os.remove(other)
     gbkeep('new', CART, other)
@@ -161,8 +162,14 @@ def same_again(seed, cart):
 
 
 def recordings(rnd, seed):
-    cart, image = a_game(rnd)
-    rom = get(CART)
+    try:
+        of_a_pair(rnd, seed)
+    finally:
+        hostile.gone(SAVE + '.recorded')
+
+
+def of_a_pair(rnd, seed):
+    cart, _ = a_game(rnd)
     hostile.gone(SAVE)
     gbkeep('new', CART, SAVE)
     if not new_recording(rnd, seed, cart, rnd.choice([2, 3, 5, 40, 200])):
@@ -177,11 +184,17 @@ def recordings(rnd, seed):
     compare_record(seed, cart, [b'frames 01 9', b'seconds 2', b'save'], 'one save more')
     put(SAVE, sound)
     compare_record(seed, cart, [b'frame 02'], 'ahead')
+    # one that is further ahead than a power cut leaves it
+    put(SAVE, sound)
+    for _ in range(2):
+        compare_record(seed, cart, [b'frames %02x %d' % (rnd.randrange(256), rnd.choice([1, 1600, 3200]))], 'more')
+    put(SAVE, sound)
+    compare_record(seed, cart, [b'frame 02'], 'far ahead')
     for turn in range(5):
         put(SAVE, sound if rnd.random() < 0.7 else hostile.damaged(rnd, sound, cart, other))
         put(RECORDING, damaged(rnd, recording, cart, other))
-        compare_looks(seed, cart, 'damage %d' % turn)
-        compare_record(seed, cart, random_lines(rnd, 300), 'damage %d' % turn)
+        agree = compare_looks(seed, cart, 'damage %d' % turn)
+        compare_record(seed, cart, random_lines(rnd, 300), 'damage %d' % turn, agree)
     put(SAVE, sound), put(RECORDING, recording)
     for words in (('record', CART, SAVE, SAVE), ('verify', CART, SAVE, SAVE)):
         status, out, err = gbkeep(*words, stdin=subprocess.DEVNULL)

@@ -6,6 +6,8 @@ from save_files import Game, MOST_UNSAVED, Refused, SECTOR, le, looked_at
 ENTRIES = 83                # entries of a full sector
 LONGEST = 216000            # frames of the longest run
 MOST_TIMES = 1000000        # frames of a line of a script
+MOST_BEYOND = 3200          # inputs that a recording may have beyond its game
+MOST_COMPARED = 20000       # inputs of a game whose machine is compared
 HEAD = b'GBKPRECD' + (1).to_bytes(4, 'little')
 LIST = b'GBR1'
 
@@ -139,9 +141,9 @@ def script_of(inputs):
 class RecordedGame(Game):
     """A save file and a recording that `record` writes."""
 
-    def __init__(self, image, recording, cart):
+    def __init__(self, image, recording, cart, agree=True):
         super().__init__(image, cart)
-        self.recording = None
+        self.recording, self.agree = None, agree
         self.recorded_image = bytearray(recording)
 
     def take_up(self):
@@ -151,6 +153,10 @@ class RecordedGame(Game):
         self.recording = Recording(self.recorded_image, self.cart)
         if len(self.recording.inputs) < count:
             raise Refused('recording behind, %d inputs' % len(self.recording.inputs))
+        if len(self.recording.inputs) > count + MOST_BEYOND:
+            raise Refused('recording ahead, %d inputs' % len(self.recording.inputs))
+        if count <= MOST_COMPARED and not self.agree:
+            raise Refused('machines differ')
         self.resume()
         self.report = b''
         for given in self.recording.inputs[count:]:

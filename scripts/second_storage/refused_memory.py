@@ -12,8 +12,8 @@ import save_files as ref
 from save_files import get, put
 
 ROOM = tempfile.mkdtemp(prefix='refused-')
-CART, SAVE, NEW, SCRIPT, OUT, TOLD = (os.path.join(ROOM, name) for name in ('rom.gb', 'game.save', 'new.save', 'moves.script', 'out.pgm', 'told'))
-PAIR, RECORDING = os.path.join(ROOM, 'pair.save'), os.path.join(ROOM, 'pair.recording')     # a game and its recording
+CART, SAVE, NEW, SCRIPT, OUT, TOLD = (os.path.join(ROOM, name) for name in ('rom.gb', 'game.gbkeep', 'new.gbkeep', 'moves.script', 'out.pgm', 'told'))
+PAIR, RECORDING = os.path.join(ROOM, 'pair.gbkeep'), os.path.join(ROOM, 'pair.recording')     # a game and its recording
 BATTERY = os.path.join(ROOM, 'game.battery')
 # The count is of requests of the program, after the library is loaded. TOLD is made where one was refused.
 SOURCE = r'''

@@ -46,7 +46,8 @@ class Recorded(ref.Game):
         # the file, its entry in the folder, and the log as it is opened
         self.calls += ['sync', 'sync of the folder', 'sync']
         self.begin(1, 0, None)
-        self.calls.append('begun 0\n')
+        # the whole file gets its name
+        self.calls += ['named', 'sync of the folder', 'begun 0\n']
 
     def resume(self):
         # one as the file is attached, and one as the log is opened
@@ -69,7 +70,7 @@ class Recorded(ref.Game):
 
 
 class Pair(Recorded, recordings.RecordedGame):
-    """A game and its recording, whose calls are noted in one order; those of the recording begin with R."""
+    """A game and its recording, whose calls are noted in one order; those of the recording begin with R, that of the mark with M."""
 
     def __init__(self, image, recording, cart):
         recordings.RecordedGame.__init__(self, image, recording, cart)
@@ -79,8 +80,11 @@ class Pair(Recorded, recordings.RecordedGame):
         ref.Game.resume(self)
 
     def take_up(self):
-        # both files as they are attached, and both as they are opened
+        # both files as they are attached, as they are opened to be compared, and as they are opened to be played
         self.calls += ['sync', 'R sync', 'sync', 'R sync']
+        if not os.path.exists(hostile.SAVE + '.recorded'):
+            self.calls += ['M sync', 'sync of the folder']
+        self.calls += ['sync', 'R sync']
         recordings.RecordedGame.take_up(self)
         self.calls.append('resumed %d\n' % self.count)
 
@@ -99,7 +103,12 @@ class NewRecording:
     def __init__(self, sectors, cart):
         self.calls = [('R', at * 512, bytes(512)) for at in range(sectors)]
         # the file, its entry in the folder, and before it is looked at
-        self.calls += ['R sync', 'sync of the folder', 'R sync', ('R', 0, recordings.head_of(cart)), 'R sync', 'begun 0\n']
+        self.calls += ['R sync', 'sync of the folder', 'R sync', ('R', 0, recordings.head_of(cart)), 'R sync', 'named', 'sync of the folder', 'begun 0\n']
+
+
+def hexadecimal(text):
+    """As strace prints it."""
+    return ''.join('\\x%02x' % byte for byte in text.encode())
 
 
 def unescaped(text):
@@ -107,18 +116,28 @@ def unescaped(text):
 
 
 def calls_of(trace, save, other=recorded.RECORDING):
-    """What a trace shows of the save file, of the recording and of standard output, in order."""
-    calls, fd, folder, at, second = [], None, None, 0, None
-    hidden = ['"%s"' % ''.join('\\x%02x' % byte for byte in path.encode()) for path in (save, os.path.dirname(save), other)]
+    """What a trace shows of the save file, of the recording, of the mark of a recorded game and of standard output, in order. A file that is made
+    has another name until it is whole."""
+    calls, fd, folder, at, second, mark, made = [], None, None, 0, None, None, None
+    hidden = ['"%s"' % hexadecimal(path) for path in (save, os.path.dirname(save), other, save + '.recorded')]
     for row in open(trace):
         found = CALL.match(row)
         if not found:
             continue
         name, words, answer = found[1], found[2], int(found[3])
-        if name == 'openat' and hidden[0] in words and answer >= 0:
-            fd = answer
+        if name == 'openat' and hexadecimal('/.gbkeep-') in words and answer >= 0:
+            if made == save:
+                fd = answer
+            else:
+                second = answer
+        elif name == 'openat' and hidden[0] in words and answer >= 0:
+            fd, made = answer, save
         elif name == 'openat' and hidden[2] in words and answer >= 0:
-            second = answer
+            second, made = answer, other
+        elif name == 'openat' and hidden[3] in words and answer >= 0:
+            mark = answer
+        elif name == 'rename' and answer == 0 and hexadecimal('/.gbkeep-') in words and words.endswith('"%s"' % hexadecimal(made)):
+            calls.append('named')
         elif name == 'openat' and hidden[1] in words and answer >= 0:
             folder = answer
         elif name in ('write', 'pwrite64') and answer >= 0:
@@ -146,6 +165,8 @@ def calls_of(trace, save, other=recorded.RECORDING):
             if answer != 0:
                 sys.exit('a sync failed: ' + row)
             calls.append('R sync')
+        elif name == 'fsync' and words == str(mark):
+            calls.append('M sync')
         elif name == 'fsync' and words == str(folder):
             if answer != 0:
                 sys.exit('a sync failed: ' + row)
@@ -156,6 +177,8 @@ def calls_of(trace, save, other=recorded.RECORDING):
             folder = None
         elif name == 'close' and words == str(second):
             second = None
+        elif name == 'close' and words == str(mark):
+            mark = None
     return calls
 
 
@@ -167,7 +190,7 @@ def is_same(got, want):
 
 def trace(words, text=b'', file=hostile.SAVE):
     path = os.path.join(hostile.ROOM, 'trace')
-    done = subprocess.run(['strace', '-f', '-o', path, '-xx', '-s', '140000', '-e', 'trace=openat,read,write,pread64,pwrite64,lseek,fsync,fdatasync,close', hostile.GB, *words],
+    done = subprocess.run(['strace', '-f', '-o', path, '-xx', '-s', '140000', '-e', 'trace=openat,read,write,pread64,pwrite64,lseek,fsync,fdatasync,close,rename', hostile.GB, *words],
                           capture_output=True, timeout=60, input=text)
     if done.returncode != 0:
         sys.exit('%s: %r' % (words, done))
@@ -214,8 +237,8 @@ def exported(rom, cart):
     calls = trace(['export', hostile.CART, hostile.SAVE, batteries.EXPORTED], file=batteries.EXPORTED)
     data = b''.join(one[1] for one in calls if not isinstance(one, str))
     others = [one for one in calls if isinstance(one, str)]
-    wanted = ['sync', 'sync of the folder', 'exported %d\n' % count]
-    if others != wanted or calls[-3:] != wanted or len(data) != len(batteries.battery_of(ref.snapshot_of(get(hostile.SAVE), root), cart)):
+    wanted = ['sync', 'named', 'sync of the folder', 'exported %d\n' % count]
+    if others != wanted or calls[-4:] != wanted or len(data) != len(batteries.battery_of(ref.snapshot_of(get(hostile.SAVE), root), cart)):
         sys.exit('export: %r, wanted %r' % (others, wanted))
     return len(calls)
 

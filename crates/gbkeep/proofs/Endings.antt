@@ -5,9 +5,9 @@ use Rattle.command_line.specs.declared.Request.TheVariants.{Info, List as Listin
 use Rattle.test_run.specs.declared.verdict.Verdict.TheVariants.{Failed, Undecided}
 use Rattle.gbkeep.specs.declared.words.Asked.TheVariants.{Command}
 use Rattle.gbkeep.specs.declared.fault.Fault.{Fault}
-use Rattle.gbkeep.specs.declared.fault.Fault.TheVariants.{Cart, Memory, File, Output, Address, Word, Device, Script, Session, Line, Input, Recording, Behind, Differ, TestFailed, TestUndecided, NoBattery, BatteryLength}
+use Rattle.gbkeep.specs.declared.fault.Fault.TheVariants.{Cart, Memory, File, Output, Address, Word, Device, Script, Session, Line, Input, Recording, Behind, Ahead, Differ, RecordedGame, TestFailed, TestUndecided, NoBattery, BatteryLength}
 use Rattle.gbkeep.specs.Text.{Exchange, Text, IsUnread, IsUnwritten}
-use Rattle.gbkeep.specs.Request.{HasAddress, HasDevice, HasScript, IsCompared, IsGameRefused, IsRecordingRefused, IsTestDecided, IsWithoutBattery, IsOtherLength}
+use Rattle.gbkeep.specs.Request.{GivesInputs, HasAddress, HasDevice, HasScript, IsCompared, IsGameRefused, IsRecordingRefused, IsTestDecided, IsWithoutBattery, IsOtherLength}
 use Rattle.gbkeep.specs.Program.{HasEnded, HasLine, IsDebugRefused, IsRecordRefused, IsRefused, IsRefusedReading, IsStreamRefused, line_of, status_of}
 
 -- what never holds of a listing holds only of requests without an address
@@ -66,7 +66,9 @@ unread_by request (Line number) run unread is why line = absurd is
 unread_by request Input run unread is why line = absurd is
 unread_by request (Recording fault) run unread is why line = refused_by request (Recording fault) run refl (elsewhere (λ r. IsRecordingRefused r fault run.output.before run.output.since) (λ cart address count no. no) request is) why line
 unread_by request (Behind count) run unread is why line = refused_by request (Behind count) run refl (elsewhere (λ r. IsCompared r run.output.before run.output.since) (λ cart address count no. no) request is) why line
+unread_by request (Ahead count) run unread is why line = absurd is
 unread_by request Differ run unread is why line = refused_by request Differ run refl (elsewhere (λ r. IsCompared r run.output.before run.output.since) (λ cart address count no. no) request is) why line
+unread_by request RecordedGame run unread is why line = refused_by request RecordedGame run refl (elsewhere (λ r. GivesInputs r) (λ cart address count no. no) request is.0) why line
 unread_by request TestFailed run unread is why line = refused_by request TestFailed run refl (elsewhere (λ r. IsTestDecided r Failed run.output.before run.output.since) (λ cart address count no. no) request is) why line
 unread_by request TestUndecided run unread is why line = refused_by request TestUndecided run refl (elsewhere (λ r. IsTestDecided r Undecided run.output.before run.output.since) (λ cart address count no. no) request is) why line
 unread_by request NoBattery run unread is why line = refused_by request NoBattery run refl (elsewhere (λ r. IsWithoutBattery r run.output.before run.output.since) (λ cart address count no. no) request is) why line
@@ -86,7 +88,9 @@ stream_status (Line number) input output is = refl
 stream_status Input input output is = refl
 stream_status (Recording fault) input output is = absurd is
 stream_status (Behind count) input output is = absurd is
+stream_status (Ahead count) input output is = absurd is
 stream_status Differ input output is = absurd is
+stream_status RecordedGame input output is = refl
 stream_status TestFailed input output is = absurd is
 stream_status TestUndecided input output is = absurd is
 stream_status NoBattery input output is = absurd is
@@ -106,7 +110,9 @@ record_status (Line number) input output is = refl
 record_status Input input output is = refl
 record_status (Recording fault) input output is = refl
 record_status (Behind count) input output is = refl
-record_status Differ input output is = absurd is
+record_status (Ahead count) input output is = refl
+record_status Differ input output is = refl
+record_status RecordedGame input output is = absurd is
 record_status TestFailed input output is = absurd is
 record_status TestUndecided input output is = absurd is
 record_status NoBattery input output is = absurd is
@@ -126,7 +132,9 @@ debug_status save (Line number) input output is = absurd is
 debug_status save Input input output is = refl
 debug_status save (Recording fault) input output is = absurd is
 debug_status save (Behind count) input output is = absurd is
+debug_status save (Ahead count) input output is = absurd is
 debug_status save Differ input output is = absurd is
+debug_status save RecordedGame input output is = absurd is
 debug_status save TestFailed input output is = absurd is
 debug_status save TestUndecided input output is = absurd is
 debug_status save NoBattery input output is = absurd is

@@ -7,3 +7,5 @@ pub mod RecordTexts
 pub mod BatteryTexts
 pub mod DebugTexts
 pub mod Endings
+pub mod TestTexts
+pub mod BegunTexts

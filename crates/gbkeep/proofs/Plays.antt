@@ -22,7 +22,7 @@ use Rattle.session.proofs.Answering.{answered_otherwise}
 use Rattle.gbkeep.specs.Playing.{HasReported, IsLastMachine, IsPlayable, IsPlayCause, faults_after_play, inputs_of_script, left_by, moves_in, moves_read}
 use Rattle.gbkeep.specs.Text.{Text}
 use Rattle.gbkeep.specs.Program.{IsRefused, fault_of_play}
-use Rattle.gbkeep.specs.Request.{HasAddress, HasScript, IsCutShort, IsGameRefused, IsOutputRefused, IsReported, OfAScript}
+use Rattle.gbkeep.specs.Request.{HasAddress, HasScript, IsCutShort, IsGameRefused, IsOutputRefused, IsReported, IsScriptOf, OfAScript}
 
 -- no call of the device
 pub nothing_played : (rom : List ℕ) (now : DiskState) (given : List Input) → ((image : List (List ℕ)) → now.since now.moment image → now.image image) → HoldsSince now now (PlayImage rom now given)
@@ -83,26 +83,26 @@ frame_done rom script start old new none playable reported =
 
 -- why a request is refused whose game was played
 pub play_refused : (request : Request) (rom script : List ℕ) (start now : DiskState) (old new : Option (List ℕ)) (why : PlayError)
-    → HasAddress request → HasScript request
+    → HasAddress request → HasScript request → IsScriptOf request script
     → ((fault : SessionError) → IsPlayable rom script → IsCutShort (moves_in script) fault old new → IsGameRefused request fault old new)
     → (IsPlayable rom script → IsReported (moves_in script) old new → IsOutputRefused request old new)
     → IsPlayCause rom script (record { old = start; now = now; output = record { before = old; since = new } }) why → IsRefused request (fault_of_play why) old new
-play_refused request rom script start now old new (Cart fault) address plays game output cause = (address, cause.1, (rom, cause.0))
-play_refused request rom script start now old new (Script fault) address plays game output cause = (plays, cause.2, (script, cause.1))
-play_refused request rom script start now old new (Session fault) address plays game output cause =
+play_refused request rom script start now old new (Cart fault) address plays of game output cause = (address, cause.1, (rom, cause.0))
+play_refused request rom script start now old new (Script fault) address plays of game output cause = (plays, cause.2, (script, of, cause.1))
+play_refused request rom script start now old new (Session fault) address plays of game output cause =
     game fault cause.0 (cut_short rom start now (moves_in script) fault old new cause.1)
-play_refused request rom script start now old new Picture address plays game output cause =
+play_refused request rom script start now old new Picture address plays of game output cause =
     (address, output cause.0 (whole_report rom script start old new cause.1))
 
 -- and one that plays no moves
 pub empty_refused : (request : Request) (rom script : List ℕ) (start now : DiskState) (old new : Option (List ℕ)) (why : PlayError)
-    → script ≡ [] → HasAddress request → HasScript request
+    → script ≡ [] → HasAddress request → HasScript request → IsScriptOf request script
     → ((fault : SessionError) → IsAccepted rom → IsCutShort [] fault old new → IsGameRefused request fault old new)
     → (IsAccepted rom → IsReported [] old new → IsOutputRefused request old new)
     → IsPlayCause rom script (record { old = start; now = now; output = record { before = old; since = new } }) why → IsRefused request (fault_of_play why) old new
-empty_refused request rom script start now old new why none address plays game output cause =
+empty_refused request rom script start now old new why none address plays of game output cause =
     let empty = ap moves_in none ∙ no_moves in
-    play_refused request rom script start now old new why address plays
+    play_refused request rom script start now old new why address plays of
     (λ fault playable cut. game fault playable.cartridge (subst (λ (moves : List Move). IsCutShort moves fault old new) empty cut))
     (λ playable report. output playable.cartridge (subst (λ (moves : List Move). IsReported moves old new) empty report)) cause
 

@@ -15,6 +15,8 @@ use Rattle.command_line.specs.Words.{AsksFor, AskForSome, Word as WordText}
 use Rattle.command_line.specs.declared.Request.{Request}
 use Rattle.command_line.specs.declared.Request.TheVariants.{Info, List as Listing, Step, New, Play, Frame, Trace, Stream, NewRecording, Record, Recorded, Verify, Test, Show, Export, Import, Debug}
 use Rattle.session.specs.declared.error.SessionError.TheVariants.{Memory as GameMemory, Device as GameDevice, NoSession as GameNoSession, OtherCartridge as GameOtherCartridge, GenerationsUsedUp as GameGenerationsUsedUp, Broken as GameBroken, SaveFirst as GameSaveFirst, CountFull as GameCountFull, Output as GameOutput, TooSmall as GameTooSmall, Damaged as GameDamaged}
+use Rattle.sector_device.specs.declared.device.DeviceFault.TheVariants.{Device as FailedDevice, SizeNotSectors}
+use Rattle.recording.specs.declared.fault.RecordingFault.TheVariants.{Memory as TapeMemory, Device as TapeDevice, TooSmall as TapeTooSmall, NotBlank as TapeNotBlank, NoRecording as TapeNoRecording, OtherCartridge as TapeOtherCartridge, Full as TapeFull, Broken as TapeBroken}
 use Rattle.gbkeep.specs.declared.words.Asked.{Asked}
 use Rattle.gbkeep.specs.declared.words.Asked.TheVariants.{Command, Help, Misuse, OutOfRange}
 use Rattle.gbkeep.specs.declared.error.TextError.{TextError}
@@ -26,7 +28,8 @@ use Rattle.gbkeep.specs.declared.error.TraceError.TheVariants.{Cart as TraceCart
 use Rattle.gbkeep.specs.declared.fault.Fault.{Fault}
 use Rattle.test_run.specs.declared.error.TestError.{TestError}
 use Rattle.test_run.specs.declared.error.TestError.TheVariants.{Cart as TestCart, Script as TestScript, Memory as TestMemory, Output as TestOutput}
-use Rattle.test_run.specs.declared.verdict.Verdict.TheVariants.{Failed, Undecided}
+use Rattle.test_run.specs.declared.verdict.Verdict.TheVariants.{Passed, Failed, Undecided}
+use Rattle.test_run.specs.Refusals.{IsTested, IsTestRefused}
 use Rattle.recorded_play.specs.declared.error.RecordError.{RecordError}
 use Rattle.recorded_play.specs.declared.error.RecordError.TheVariants.{Session as RecordSession, Recording as RecordRecording, Behind as RecordBehind, Line as RecordLine, Input as RecordInput}
 use Rattle.recording_lines.specs.declared.error.ScriptLinesError.{ScriptLinesError}
@@ -44,15 +47,15 @@ use Rattle.debug_lines.specs.declared.error.DebugRomError.{DebugRomError}
 use Rattle.debug_lines.specs.declared.error.DebugRomError.TheVariants.{Cart as DebugRomCart, Memory as DebugRomMemory, Debug as DebugRomStopped}
 use Rattle.debug_lines.specs.declared.error.DebugGameError.{DebugGameError}
 use Rattle.debug_lines.specs.declared.error.DebugGameError.TheVariants.{Cart as DebugGameCart, Session as DebugGameSession, Memory as DebugGameMemory, Debug as DebugGameStopped}
-use Rattle.replaying.specs.declared.error.VerifyError.TheVariants.{Save as NoSave, Recording as NoRecording, Behind as RecordingBehind, Memory as NoMemory, Differ as MachinesDiffer}
+use Rattle.replaying.specs.declared.error.VerifyError.TheVariants.{Save as NoSave, Recording as NoRecording, Behind as RecordingBehind, Ahead as RecordingAhead, Memory as NoMemory, Differ as MachinesDiffer}
 use Rattle.gbkeep.specs.declared.error.StreamPlayError.{StreamPlayError}
 use Rattle.gbkeep.specs.declared.error.StreamPlayError.TheVariants.{Cart as StreamCart, Stream as StreamFault}
 use Rattle.streaming.specs.declared.obeying.End.TheVariants.{Whole, Wrong as WrongLine, Failed as FailedRead}
 use Rattle.streaming.specs.declared.error.StreamError.TheVariants.{Session as StreamSession, Line as StreamLine, Input as StreamInput}
-use Rattle.gbkeep.specs.declared.fault.Fault.TheVariants.{Cart, Memory, File, Output, Address, Word, Device, Script, Session, Line, Input, Recording, Behind, Differ, TestFailed, TestUndecided, NoBattery, BatteryLength}
+use Rattle.gbkeep.specs.declared.fault.Fault.TheVariants.{Cart, Memory, File, Output, Address, Word, Device, Script, Session, Line, Input, Recording, Behind, Ahead, Differ, RecordedGame, TestFailed, TestUndecided, NoBattery, BatteryLength}
 use Rattle.script.specs.Script.{IsRefused as IsScriptRefused}
 use Rattle.gbkeep.specs.Text.{Exchange, Text, IsUnread, IsUnwritten}
-use Rattle.gbkeep.specs.Request.{HasAddress, HasDevice, HasScript, IsDone, IsCompared, IsGameRefused, IsOutputRefused, IsRecordingRefused, IsTestDecided, IsWithoutBattery, IsOtherLength, IsStreamStopped, IsStreamedTo, IsRecordStopped, IsRecordedTo, IsDebugged, IsDebugStopped, IsDebugUnbegun}
+use Rattle.gbkeep.specs.Request.{HasAddress, HasDevice, HasScript, IsDone, IsCompared, GivesInputs, IsGameRefused, IsOutputRefused, IsRecordingRefused, IsTestDecided, IsWithoutBattery, IsOtherLength, IsScriptOf, makes_battery_name, IsStreamStopped, IsStreamedTo, IsRecordStopped, IsRecordedTo, IsDebugged, IsDebugStopped, IsDebugUnbegun}
 
 abbrev pub status_of : Fault → ℕ
 status_of (Cart fault) = 1
@@ -68,7 +71,9 @@ status_of (Line number) = 1
 status_of Input = 1
 status_of (Recording fault) = 1
 status_of (Behind count) = 1
+status_of (Ahead count) = 1
 status_of Differ = 1
+status_of RecordedGame = 1
 status_of TestFailed = 1
 status_of TestUndecided = 1
 status_of NoBattery = 1
@@ -121,6 +126,7 @@ fault_of_verifying (VerifyCart fault) = Cart fault
 fault_of_verifying (Verified (NoSave fault)) = Session fault
 fault_of_verifying (Verified (NoRecording fault)) = Recording fault
 fault_of_verifying (Verified (RecordingBehind count)) = Behind count
+fault_of_verifying (Verified (RecordingAhead count)) = Ahead count
 fault_of_verifying (Verified NoMemory) = Memory
 fault_of_verifying (Verified MachinesDiffer) = Differ
 fault_of_verifying VerifyOutput = Output
@@ -163,6 +169,17 @@ fault_of_debug_game DebugGameMemory = Memory
 fault_of_debug_game (DebugGameStopped DebugInput) = Input
 fault_of_debug_game (DebugGameStopped DebugOutput) = Output
 
+-- a test of this ROM with this script was done, or it was refused
+abbrev pub IsTestServed : (rom text : List ℕ) → (frames : ℕ) → Result Unit Fault → Option (List ℕ) → Option (List ℕ) → Type 0
+IsTestServed rom text frames (Ok u) old new = IsTested rom text frames old new Passed
+IsTestServed rom text frames (Err TestFailed) old new = IsTested rom text frames old new Failed
+IsTestServed rom text frames (Err TestUndecided) old new = IsTested rom text frames old new Undecided
+IsTestServed rom text frames (Err (Cart fault)) old new = IsTestRefused rom text frames old new (TestCart fault)
+IsTestServed rom text frames (Err (Script fault)) old new = IsTestRefused rom text frames old new (TestScript fault)
+IsTestServed rom text frames (Err Memory) old new = IsTestRefused rom text frames old new TestMemory
+IsTestServed rom text frames (Err Output) old new = IsTestRefused rom text frames old new TestOutput
+IsTestServed rom text frames (Err fault) old new = ⊥
+
 -- why a battery file is not taken for this cartridge
 abbrev pub IsBatteryFault : (rom : List ℕ) → Fault → Type 0
 IsBatteryFault rom Memory = ⊤
@@ -176,8 +193,18 @@ IsPairFault File = ⊤
 IsPairFault (Device fault) = ⊤
 IsPairFault fault = ⊥
 
--- its line on standard error; None for a fault of the cartridge, of a save file, of a script, of a line of the input, of a recording, for a
--- battery file of another length, or of a game that is too large for its file or damaged, whose text no definition gives
+-- why a recording is not taken for that of a game
+abbrev pub IsNotBelonging : Fault → Type 0
+IsNotBelonging Memory = ⊤
+IsNotBelonging (Session why) = ⊤
+IsNotBelonging (Recording why) = ⊤
+IsNotBelonging (Behind count) = ⊤
+IsNotBelonging (Ahead count) = ⊤
+IsNotBelonging Differ = ⊤
+IsNotBelonging fault = ⊥
+
+-- its line on standard error; None for a fault of the cartridge, of a script, of a line of the input, or with a number, and of a game that
+-- is damaged, whose text no definition gives
 abbrev pub line_of : Fault → Option (List ℕ)
 line_of (Cart fault) = None
 line_of Memory = Some (codes "gbkeep: no memory\n")
@@ -185,7 +212,8 @@ line_of File = Some (codes "gbkeep: file failed\n")
 line_of Output = Some (codes "gbkeep: output failed\n")
 line_of Address = Some (codes "gbkeep: address\n")
 line_of Word = Some (codes "gbkeep: a word is not text\n")
-line_of (Device fault) = None
+line_of (Device FailedDevice) = Some (codes "gbkeep: device failed\n")
+line_of (Device (SizeNotSectors size)) = None
 line_of (Script fault) = None
 line_of (Session GameMemory) = Some (codes "gbkeep: no memory\n")
 line_of (Session GameDevice) = Some (codes "gbkeep: device failed\n")
@@ -200,9 +228,18 @@ line_of (Session (GameTooSmall needed)) = None
 line_of (Session (GameDamaged damage)) = None
 line_of (Line number) = None
 line_of Input = Some (codes "gbkeep: input failed\n")
-line_of (Recording fault) = None
+line_of (Recording TapeMemory) = Some (codes "gbkeep: no memory\n")
+line_of (Recording TapeDevice) = Some (codes "gbkeep: device failed\n")
+line_of (Recording TapeTooSmall) = Some (codes "gbkeep: too small, 2 sectors needed\n")
+line_of (Recording TapeNotBlank) = Some (codes "gbkeep: not blank\n")
+line_of (Recording TapeNoRecording) = Some (codes "gbkeep: no recording\n")
+line_of (Recording TapeOtherCartridge) = Some (codes "gbkeep: other cartridge\n")
+line_of (Recording TapeFull) = Some (codes "gbkeep: recording full\n")
+line_of (Recording TapeBroken) = Some (codes "gbkeep: broken, open it again\n")
 line_of (Behind count) = None
+line_of (Ahead count) = None
 line_of Differ = Some (codes "gbkeep: machines differ\n")
+line_of RecordedGame = Some (codes "gbkeep: recorded game: play it by record\n")
 line_of TestFailed = Some (codes "gbkeep: test failed\n")
 line_of TestUndecided = Some (codes "gbkeep: test undecided\n")
 line_of NoBattery = Some (codes "gbkeep: no battery\n")
@@ -212,6 +249,14 @@ line_of (BatteryLength found needed) = None
 abbrev pub HasLine : Option (List ℕ) → Option (List ℕ) → Option (List ℕ) → Type 0
 HasLine None old new = ⊤
 HasLine (Some line) old new = Appends old new line ⊎ AppendsProperPrefix old new line
+
+abbrev pub warning_line : List ℕ
+warning_line = codes "gbkeep: warning: other emulators write battery files of this name\n"
+
+-- what goes to standard error where a request was done
+abbrev pub HasWarned : (is_due : Bool) → Text → Type 0
+HasWarned false errors = IsUnwritten errors
+HasWarned true errors = HasLine (Some warning_line) errors.before errors.since
 
 -- where words are not understood, nothing goes to the output
 abbrev pub KeepsAtMisuse : Option (List ℕ) → Option (List ℕ) → ℕ → Type 0
@@ -225,11 +270,12 @@ IsRefused request File old new = HasAddress request × Keeps old new
 IsRefused request Output old new = HasAddress request × IsOutputRefused request old new
 IsRefused request Address old new = (¬ (HasAddress request)) × Keeps old new
 IsRefused request (Device fault) old new = HasDevice request × Keeps old new
-IsRefused request (Script fault) old new = HasScript request × Keeps old new × ((script : List ℕ) × IsScriptRefused script fault)
+IsRefused request (Script fault) old new = HasScript request × Keeps old new × ((text : List ℕ) × IsScriptOf request text × IsScriptRefused text fault)
 IsRefused request (Session fault) old new = IsGameRefused request fault old new
 IsRefused request (Recording fault) old new = IsRecordingRefused request fault old new
 IsRefused request (Behind count) old new = IsCompared request old new
 IsRefused request Differ old new = IsCompared request old new
+IsRefused request RecordedGame old new = GivesInputs request × Keeps old new
 IsRefused request TestFailed old new = IsTestDecided request Failed old new
 IsRefused request TestUndecided old new = IsTestDecided request Undecided old new
 IsRefused request NoBattery old new = IsWithoutBattery request old new
@@ -250,6 +296,7 @@ IsStreamRefused (Device fault) input output = IsUnread input × IsUnwritten outp
 IsStreamRefused (Session why) input output = IsStreamStopped why input output
 IsStreamRefused (Line number) input output = IsStreamedTo (WrongLine number) input output
 IsStreamRefused Input input output = IsStreamedTo FailedRead input output
+IsStreamRefused RecordedGame input output = IsUnread input × IsUnwritten output
 IsStreamRefused fault input output = ⊥
 
 -- a stream was done or refused
@@ -268,6 +315,8 @@ IsRecordRefused (Line number) input output = IsRecordedTo (WrongLine number) inp
 IsRecordRefused Input input output = IsRecordedTo FailedRead input output
 IsRecordRefused (Recording fault) input output = IsRecordStopped GameDevice input output
 IsRecordRefused (Behind count) input output = IsUnread input × IsUnwritten output × ((rom : List ℕ) × IsAccepted rom)
+IsRecordRefused (Ahead count) input output = IsUnread input × IsUnwritten output × ((rom : List ℕ) × IsAccepted rom)
+IsRecordRefused Differ input output = IsUnread input × IsUnwritten output × ((rom : List ℕ) × IsAccepted rom)
 IsRecordRefused fault input output = ⊥
 
 -- a recorded play was done or refused
@@ -373,6 +422,11 @@ IsFulfilled (Ok (Command request)) input output = IsDoneReading request input ou
 IsFulfilled (Ok (Help text)) input output = IsUnread input
 IsFulfilled asked input output = ⊥
 
+-- standard error has nothing, or the warning of a name
+abbrev pub IsWarned : Result Asked Fault → (errors : Text) → Type 0
+IsWarned (Ok (Command request)) errors = HasWarned (makes_battery_name request) errors
+IsWarned asked errors = IsUnwritten errors
+
 -- this fault is why it was not done
 abbrev pub IsFaultOf : Result Asked Fault → Fault → (input output : Text) → Type 0
 IsFaultOf (Ok (Command request)) fault input output = IsRefusedReading request fault input output
@@ -388,7 +442,7 @@ misuse_line (Err fault) = line_of fault
 
 -- The program ended with this status on what was asked for.
 pub record HasEnded (asked : Result Asked Fault) (run : Exchange) (status : ℕ) : Type 0 where
-  pub done : status ≡ 0 → IsFulfilled asked run.input run.output × IsUnwritten run.errors
+  pub done : status ≡ 0 → IsFulfilled asked run.input run.output × IsWarned asked run.errors
   pub refused : status ≡ 1 →
       (fault : Fault) × (status_of fault ≡ 1) × IsFaultOf asked fault run.input run.output × HasLine (line_of fault) run.errors.before run.errors.since
   pub misuse : (status ≡ 2) ↔ IsMisuse asked

@@ -1,5 +1,6 @@
 -- What a request wants of a ROM, and when the program has done it.
-use Rattle.std.specs.Prelude.{◌≡◌, ◌⊎◌, ◌≤◌, ◌++◌, ℕ, List, [], length, codes, decimal, true, false, Option, None, Some, unwrap_or, IsOk, All}
+use Rattle.std.specs.Prelude.{◌≡◌, ◌⊎◌, ◌≤◌, ◌++◌, ℕ, List, [], length, codes, decimal, Bool, true, false, ◌==◌, ◌||◌, Option, None, Some, unwrap_or, IsOk, All}
+use Rattle.std.specs.List.{ends_with}
 use Rattle.std.specs.Str.Parse.{IsNumeral, digits_value}
 use Rattle.std.specs.Borrow.{Bor}
 use Rattle.std.specs.Io.KnownBytes.{Appends, Keeps}
@@ -124,6 +125,11 @@ IsCutShort moves why old new = Keeps old new ⊎ ((count saved : ℕ) × HasTold
 abbrev pub OfAScript : (List Move → Type 0) → Type 0
 OfAScript P = (script : List ℕ) × IsOk (moves_of script) × P (moves_in script)
 
+-- the text of the script that a test is given: none where it names none
+abbrev pub IsGiven : Option (Bor (List ℕ)) → (text : List ℕ) → Type 0
+IsGiven None text = text ≡ []
+IsGiven (Some path) text = Unit {0}
+
 -- It was done on this ROM; what reads the input has words of its own below. What goes out of a recording is stated where its device is a value, by `recorded_lines`.
 abbrev pub IsDoneOn : List ℕ → Request → Option (List ℕ) → Option (List ℕ) → Type 0
 IsDoneOn rom (Play cart save script) old new = IsAccepted rom × OfAScript (λ moves. IsReported moves old new)
@@ -137,7 +143,7 @@ IsDoneOn rom (New cart save sectors) old new =
 IsDoneOn rom (NewRecording cart recording sectors) old new = IsAccepted rom × (2 ≤ sectors) × Appends old new (printed (NewRecording cart recording sectors) rom)
 IsDoneOn rom (Recorded cart recording) old new = IsAccepted rom
 IsDoneOn rom (Verify cart save recording) old new = IsAccepted rom × ((count : ℕ) × Appends old new (agree_line count))
-IsDoneOn rom (Test cart frames script) old new = (moves : List ℕ) × IsTested rom moves frames old new Passed
+IsDoneOn rom (Test cart frames script) old new = (text : List ℕ) × IsGiven script text × IsTested rom text frames old new Passed
 IsDoneOn rom (Show cart save) old new = IsAccepted rom × OfALook rom (Appends old new)
 IsDoneOn rom (Export cart save out) old new = IsAccepted rom × (has_battery rom ≡ true) × ((count : ℕ) × Appends old new (exported_line count))
 IsDoneOn rom (Import cart battery save sectors) old new = IsAccepted rom × IsBatteryTaken rom
@@ -172,6 +178,26 @@ HasScript (Frame cart save out) = Unit {0}
 HasScript (Test cart frames script) = Unit {0}
 HasScript request = ⊥
 
+-- other emulators keep a battery file under such a name
+abbrev pub is_battery_name : List ℕ → Bool
+is_battery_name name = ends_with (λ one other. one == other) name (codes ".sav") || ends_with (λ one other. one == other) name (codes ".srm")
+
+-- it makes a SAVE of such a name
+abbrev pub makes_battery_name : Request → Bool
+makes_battery_name (New cart save sectors) = is_battery_name save.now
+makes_battery_name (Import cart battery save sectors) = is_battery_name save.now
+makes_battery_name request = false
+
+-- this is the text of the script that it names, or of none
+abbrev pub IsScriptOf : Request → (text : List ℕ) → Type 0
+IsScriptOf (Test cart frames script) text = IsGiven script text
+IsScriptOf request text = Unit {0}
+
+-- it gives a game inputs, and reads none of its lines from the input
+abbrev pub GivesInputs : Request → Type 0
+GivesInputs (Play cart save script) = Unit {0}
+GivesInputs request = ⊥
+
 -- why no game is begun or taken up to be traced, and then nothing went out; or why a play ended, and then its report was cut short
 abbrev pub IsGameRefused : Request → SessionError → Option (List ℕ) → Option (List ℕ) → Type 0
 IsGameRefused (New cart save sectors) why old new =
@@ -195,7 +221,7 @@ IsRecordingRefused request why old new = ⊥
 
 -- a test was run, all of its text went out, and this is its verdict
 abbrev pub IsTestDecided : Request → Verdict → Option (List ℕ) → Option (List ℕ) → Type 0
-IsTestDecided (Test cart frames script) verdict old new = (rom moves : List ℕ) × IsTested rom moves frames old new verdict
+IsTestDecided (Test cart frames script) verdict old new = (rom text : List ℕ) × IsGiven script text × IsTested rom text frames old new verdict
 IsTestDecided request verdict old new = ⊥
 
 -- the game and its recording were compared on a ROM that is accepted, and nothing went out
@@ -228,7 +254,7 @@ IsOutputRefused (Frame cart save out) old new = (rom : List ℕ) × IsAccepted r
 IsOutputRefused (Trace cart save count) old new = (rom : List ℕ) × IsAccepted rom × OfATrace rom count (AppendsProperPrefix old new)
 IsOutputRefused (NewRecording cart recording sectors) old new =
     (rom : List ℕ) × IsAccepted rom × (2 ≤ sectors) × AppendsProperPrefix old new (printed (NewRecording cart recording sectors) rom)
-IsOutputRefused (Test cart frames script) old new = (rom moves : List ℕ) × IsCutOff rom moves frames old new
+IsOutputRefused (Test cart frames script) old new = (rom text : List ℕ) × IsGiven script text × IsCutOff rom text frames old new
 IsOutputRefused (Recorded cart recording) old new = (rom : List ℕ) × IsAccepted rom
 IsOutputRefused (Verify cart save recording) old new = (rom : List ℕ) × IsAccepted rom × ((count : ℕ) × AppendsProperPrefix old new (agree_line count))
 IsOutputRefused (Show cart save) old new = (rom : List ℕ) × IsAccepted rom × OfALook rom (AppendsProperPrefix old new)

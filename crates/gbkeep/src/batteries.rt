@@ -4,26 +4,27 @@ ghost use Rattle.std.specs.Prelude.{◌≡◌, length, IfErr, IfSome, OnErr, OnO
 ghost use Rattle.std.specs.Io.KnownBytes.{Appends};
 ghost use Rattle.exact_text.specs.Written.{AppendsProperPrefix};
 ghost use Rattle.sector_device.specs.FileDevice.{file_disk};
-ghost use Rattle.gbkeep.specs.Beginning.{IsUnbegun, begun_line};
+ghost use Rattle.cartridge.specs.Header.{ram_length_of};
+ghost use Rattle.snapshot.specs.Encoding.{snapshot_length};
+ghost use Rattle.session.specs.Found.{IsNewGameCause};
 ghost use Rattle.gbkeep.specs.Program.{IsBatteryFault, IsServed};
 ghost use Rattle.gbkeep.specs.Request.{IsBatteryTaken, exported_line};
 
-use crate::begin::begin_game_from;
-use crate::error::BeginError;
+use crate::begun::tell_begun;
 use crate::fault::Fault;
-use crate::files::{MOST_BATTERY, MOST_ROM, durable_file, file_bytes};
+use crate::files::{MOST_BATTERY, MOST_ROM, file_bytes};
 use crate::games::sectors_or;
-use crate::interrupted::{Beginning, new_file};
+use crate::making::{MakingDevice, durable_file, new_device};
+use crate::marks::unmark;
 use arrayvec::ArrayString;
 use battery_files::{export_battery, machine_with_battery};
 use cartridge::Cartridge;
 use command_line::Request;
 use exact_text::{OutputFailed, write_whole};
 use sector_device::FileDevice;
-use session::{SessionError, sectors_needed};
+use session::{Session, SessionError, new_game_from, sectors_needed};
 use std::alloc::Global;
 use std::fmt::Write as FormatWrite;
-use std::fs;
 use std::fs::File;
 use std::io::Write;
 use std::path::Path;
@@ -74,9 +75,9 @@ fn write_exported<W: Write>(out: &mut W, count: u64) -> Result<(), OutputFailed>
     }
 }
 
-/// Makes a file of so many sectors, or of as many as the game needs, and begins a game in it with the RAM of a battery file, also where an
-/// interrupted `import` of the same words left its file. Where that fails once the file is made, the file is taken away again. A game that is
-/// begun stays, also where its line can't be written.
+/// Makes a file of so many sectors, or of as many as the game needs, and begins a game in it with the RAM of a battery file; the file gets
+/// its name once the game is begun. Where that fails no file is left behind. A game that is begun stays, also where its line can't be
+/// written.
 pub(crate) fn import<R: Files<File = File> + AllocGlobal, O: Write>(
     rt: &R,
     cart: &str,
@@ -98,15 +99,16 @@ pub(crate) fn import<R: Files<File = File> + AllocGlobal, O: Write>(
     if sectors < need {
         return Err(Fault::Session(SessionError::TooSmall { need }));
     }
-    let beginning = Beginning::Battery(battery.as_slice());
-    let device = new_file(rt, save, sectors, &cartridge, beginning)?;
-    match begin_import(rt.alloc(), device, &cartridge, battery.as_slice(), out) {
-        Ok(()) => Ok(()),
-        Err(BeginError::Session(why)) => {
-            let _ = fs::remove_file(rt, save);
+    let MakingDevice { making, device } = new_device(rt, save, sectors)?;
+    match begin_import(rt.alloc(), device, &cartridge, battery.as_slice()) {
+        Ok(_session) => {
+            unmark(rt, save);
+            tell_begun(rt, making, out)
+        }
+        Err(why) => {
+            making.give_up(rt);
             Err(Fault::Session(why))
         }
-        Err(BeginError::Output) => Err(Fault::Output),
     }
 }
 
@@ -121,22 +123,20 @@ fn taken(alloc: Global, cartridge: &Cartridge, battery: &[u8]) -> Result<(), Fau
     }
 }
 
-/// Begins a game with the RAM of a battery file on a device, and tells of it.
-fn begin_import<W: Write>(
+/// Begins a game with the RAM of a battery file on a device.
+fn begin_import(
     alloc: Global,
     device: FileDevice,
     cartridge: &Cartridge,
     battery: &[u8],
-    out: &mut W,
-) -> Result<(), BeginError>
-    ensures written { OnOk result (Appends (W.contents out.old) (W.contents out.new) begun_line) }
-    ensures cause { IfErr result (IsUnbegun cartridge.now (length (file_disk device).sectors) (W.contents out.old) (W.contents out.new)) }
+) -> Result<Session<FileDevice>, SessionError>
+    ensures cause { IfErr result (IsNewGameCause (snapshot_length (ram_length_of cartridge.now)) (length (file_disk device).sectors)) }
 {
     let Ok(machine) = machine_with_battery(alloc, cartridge, battery) else {
-        return Err(BeginError::Session(SessionError::Memory));
+        return Err(SessionError::Memory);
     };
-    match begin_game_from(alloc, device, cartridge, machine, out) {
-        Ok(_) => Ok(()),
+    match new_game_from(alloc, device, cartridge, machine) {
+        Ok(session) => Ok(session),
         Err(refused) => Err(refused.why),
     }
 }

@@ -20,25 +20,6 @@ pub enum TextError {
     Output,
 }
 
-/// Why `begin_game` did not do all of it.
-#[derive(Clone, Copy, Debug, PartialEq, Eq, Error)]
-pub enum BeginError {
-    /// The game could not be begun.
-    #[error(transparent)]
-    Session(SessionError),
-    /// The game is begun, and its line could not be written: a proper prefix of it went out.
-    #[error("output failed")]
-    Output,
-}
-
-/// A refusal that hands the device back.
-#[derive(Drop)]
-pub struct BeginRefused<D: SectorDevice> {
-    pub why: BeginError,
-    /// With the new game, where only its line could not be written; else as `new_game` left it.
-    pub device: D,
-}
-
 /// Why `play_to_picture` did not do all of it.
 #[derive(Clone, Copy, Debug, PartialEq, Eq, Error)]
 pub enum PlayError {

@@ -52,8 +52,12 @@ pub(crate) enum Fault {
     Recording(RecordingFault),
     /// The recording has fewer inputs than the game: so many.
     Behind(u64),
+    /// The recording has too many inputs beyond those of the game: so many in all.
+    Ahead(u64),
     /// The game is not the one after the recorded inputs.
     Differ,
+    /// The game is recorded, so that only `record` may give it inputs.
+    RecordedGame,
     /// A test ROM says that it has failed.
     TestFailed,
     /// It says neither that nor that it has passed.
@@ -166,6 +170,7 @@ impl From<VerifyLineError> for Fault {
             VerifyLineError::Verify(VerifyError::Save(why)) => Fault::Session(why),
             VerifyLineError::Verify(VerifyError::Recording(why)) => Fault::Recording(why),
             VerifyLineError::Verify(VerifyError::Behind(count)) => Fault::Behind(count),
+            VerifyLineError::Verify(VerifyError::Ahead(count)) => Fault::Ahead(count),
             VerifyLineError::Verify(VerifyError::Memory) => Fault::Memory,
             VerifyLineError::Verify(VerifyError::Differ) => Fault::Differ,
             VerifyLineError::Output => Fault::Output,
@@ -272,14 +277,16 @@ pub(crate) fn report<E: Write>(fault: Fault, err: &mut E) -> u8
         Fault::Output => write_line("gbkeep: output failed\n", err),
         Fault::Address => write_line("gbkeep: address\n", err),
         Fault::Word => write_line("gbkeep: a word is not text\n", err),
-        Fault::Device(why) => write_text_line(why, err),
+        Fault::Device(why) => write_device_line(why, err),
         Fault::Script(why) => write_text_line(why, err),
         Fault::Session(why) => write_session_line(why, err),
         Fault::Line(number) => write_number_line(number, err),
         Fault::Input => write_line("gbkeep: input failed\n", err),
-        Fault::Recording(why) => write_text_line(why, err),
+        Fault::Recording(why) => write_recording_line(why, err),
         Fault::Behind(count) => write_behind_line(count, err),
+        Fault::Ahead(count) => write_ahead_line(count, err),
         Fault::Differ => write_line("gbkeep: machines differ\n", err),
+        Fault::RecordedGame => write_line("gbkeep: recorded game: play it by record\n", err),
         Fault::TestFailed => write_line("gbkeep: test failed\n", err),
         Fault::TestUndecided => write_line("gbkeep: test undecided\n", err),
         Fault::NoBattery => write_line("gbkeep: no battery\n", err),
@@ -306,6 +313,30 @@ fn write_session_line<E: Write>(fault: SessionError, err: &mut E)
     }
 }
 
+fn write_device_line<E: Write>(fault: DeviceFault, err: &mut E)
+    ensures { HasLine (line_of (Fault.Device fault)) (E.contents err.old) (E.contents err.new) }
+{
+    match fault {
+        DeviceFault::Device => write_line("gbkeep: device failed\n", err),
+        DeviceFault::SizeNotSectors(_) => write_text_line(fault, err),
+    }
+}
+
+fn write_recording_line<E: Write>(fault: RecordingFault, err: &mut E)
+    ensures { HasLine (line_of (Fault.Recording fault)) (E.contents err.old) (E.contents err.new) }
+{
+    match fault {
+        RecordingFault::Memory => write_line("gbkeep: no memory\n", err),
+        RecordingFault::Device => write_line("gbkeep: device failed\n", err),
+        RecordingFault::TooSmall => write_line("gbkeep: too small, 2 sectors needed\n", err),
+        RecordingFault::NotBlank => write_line("gbkeep: not blank\n", err),
+        RecordingFault::NoRecording => write_line("gbkeep: no recording\n", err),
+        RecordingFault::OtherCartridge => write_line("gbkeep: other cartridge\n", err),
+        RecordingFault::Full => write_line("gbkeep: recording full\n", err),
+        RecordingFault::Broken => write_line("gbkeep: broken, open it again\n", err),
+    }
+}
+
 fn write_text_line<T: Display + Copy, E: Write>(fault: T, err: &mut E) {
     let _ = writeln!(err, "gbkeep: {fault}");
 }
@@ -318,6 +349,10 @@ fn write_behind_line<E: Write>(count: u64, err: &mut E) {
     let _ = writeln!(err, "gbkeep: recording behind, {count} inputs");
 }
 
+fn write_ahead_line<E: Write>(count: u64, err: &mut E) {
+    let _ = writeln!(err, "gbkeep: recording ahead, {count} inputs");
+}
+
 fn write_length_line<E: Write>(found: u64, needed: u64, err: &mut E) {
     let _ = writeln!(err, "gbkeep: battery length {found}, {needed} needed");
 }
@@ -326,7 +361,7 @@ fn write_cart_line<E: Write>(fault: CartError, err: &mut E) {
     let _ = writeln!(err, "gbkeep: {fault}");
 }
 
-fn write_line<E: Write>(line: &str, err: &mut E)
+pub(crate) fn write_line<E: Write>(line: &str, err: &mut E)
     ensures { HasLine (Some line.now) (E.contents err.old) (E.contents err.new) }
 {
     let _ = write_whole(err, line.as_bytes());

@@ -4,9 +4,8 @@ ghost use Rattle.std.specs.Prelude.{◌≡◌, ◌⊎◌, IfErr};
 
 use crate::fault::Fault;
 use std::fs::{self, File, OpenOptions, TryLockError};
-use std::io::{self, ErrorKind, Read, Write};
-use std::os::unix::fs::{FileTypeExt, MetadataExt};
-use std::path::Path;
+use std::io::{self, ErrorKind, Read};
+use std::os::unix::fs::{FileExt, FileTypeExt, MetadataExt};
 use std::rt::Files;
 
 /// A ROM file is read up to this many bytes and one.
@@ -48,8 +47,11 @@ pub(crate) fn not_a_pipe<R: Files<File = File>>(rt: &R, path: &str) -> Result<()
     }
 }
 
-/// Opens the file of a picture: makes it, or empties it. Refused as it was is a file that is one of those to be kept, by whatever name, or
-/// that another open file holds.
+/// How a plain PGM begins.
+const PICTURE: [u8; 2] = *b"P2";
+
+/// Opens the file of a picture: makes it, or empties it. Refused as it was is a file that is one of those to be kept, by whatever name,
+/// that another open file holds, or that has anything else than a picture.
 pub(crate) fn emptied_file<R: Files<File = File>>(
     rt: &R,
     path: &str,
@@ -65,7 +67,11 @@ fn emptied<R: Files<File = File>>(rt: &R, path: &str, kept: [&str; 2]) -> io::Re
     if fs::metadata(rt, path).is_ok_and(|found| found.file_type().is_fifo()) {
         return Err(ErrorKind::InvalidInput.into());
     }
-    let file = OpenOptions::new().write(true).create(true).open(rt, path)?;
+    let file = OpenOptions::new()
+        .read(true)
+        .write(true)
+        .create(true)
+        .open(rt, path)?;
     let found = file.metadata()?;
     for other in kept {
         let other = fs::metadata(rt, other)?;
@@ -78,47 +84,12 @@ fn emptied<R: Files<File = File>>(rt: &R, path: &str, kept: [&str; 2]) -> io::Re
     }
     // a pipe or a terminal has no length
     if found.len() > 0 {
+        let mut first = [0; 2];
+        file.read_exact_at(&mut first, 0)?;
+        if first != PICTURE {
+            return Err(ErrorKind::AlreadyExists.into());
+        }
         file.set_len(0)?;
     }
     Ok(file)
-}
-
-/// Makes a file of these bytes, and makes it and its entry in its folder durable. Nothing may stand at the path. Where that fails once the
-/// file is made, it is taken away again.
-pub(crate) fn durable_file<R: Files<File = File>>(
-    rt: &R,
-    path: &str,
-    bytes: &[u8],
-) -> Result<(), Fault>
-    ensures { IfErr result (λ fault. fault ≡ Fault.File) }
-{
-    let Ok(mut file) = OpenOptions::new()
-        .write(true)
-        .create_new(true)
-        .open(rt, path)
-    else {
-        return Err(Fault::File);
-    };
-    match fill_durably(rt, &mut file, path, bytes) {
-        Ok(()) => Ok(()),
-        Err(_) => {
-            let _ = fs::remove_file(rt, path);
-            Err(Fault::File)
-        }
-    }
-}
-
-fn fill_durably<R: Files<File = File>>(
-    rt: &R,
-    file: &mut File,
-    path: &str,
-    bytes: &[u8],
-) -> io::Result<()> {
-    file.write_all(bytes)?;
-    file.sync_all()?;
-    let folder = match Path::new(path).parent() {
-        Some(folder) if !folder.as_str().is_empty() => folder,
-        _ => Path::new("."),
-    };
-    File::open(rt, folder)?.sync_all()
 }

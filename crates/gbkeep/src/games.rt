@@ -3,28 +3,26 @@
 ghost use Rattle.std.specs.Prelude.{◌≡◌, unwrap_or};
 ghost use Rattle.gbkeep.specs.Program.{IsServed, IsStreamServed};
 
-use crate::begin::begin_game;
+use crate::begun::tell_begun;
 use crate::drawing::play_to_picture;
-use crate::error::BeginError;
 use crate::fault::Fault;
 use crate::files::{MOST_ROM, MOST_SCRIPT, emptied_file, file_bytes, not_a_pipe};
-use crate::interrupted::{Beginning, new_file};
+use crate::making::{MakingDevice, new_device};
+use crate::marks::{unless_recorded, unmark};
 use crate::streams::stream_play;
 use crate::trace::trace_lines;
 use cartridge::Cartridge;
 use command_line::Request;
 use save_lines::show_lines;
 use sector_device::FileDevice;
-use session::{SessionError, sectors_needed};
-use std::fs;
+use session::{SessionError, new_game, sectors_needed};
 use std::fs::File;
 use std::io::{Read, Write};
 use std::path::Path;
 use std::rt::Files;
 
-/// Makes a file of so many sectors, or of as many as the game needs, and begins a game in it, also where an interrupted `new` of the same
-/// words left its file. Where that fails once the file is made, the file is taken away again. A game that is begun stays, also where its
-/// line can't be written.
+/// Makes a file of so many sectors, or of as many as the game needs, and begins a game in it; the file gets its name once the game is
+/// begun. Where that fails no file is left behind. A game that is begun stays, also where its line can't be written.
 pub(crate) fn new<R: Files<File = File> + AllocGlobal, O: Write>(
     rt: &R,
     cart: &str,
@@ -41,16 +39,16 @@ pub(crate) fn new<R: Files<File = File> + AllocGlobal, O: Write>(
     if sectors < need {
         return Err(Fault::Session(SessionError::TooSmall { need }));
     }
-    let device = new_file(rt, save, sectors, &cartridge, Beginning::PowerOn)?;
-    match begin_game(rt.alloc(), device, &cartridge, out) {
-        Ok(_) => Ok(()),
-        Err(refused) => match refused.why {
-            BeginError::Session(why) => {
-                let _ = fs::remove_file(rt, save);
-                Err(Fault::Session(why))
-            }
-            BeginError::Output => Err(Fault::Output),
-        },
+    let MakingDevice { making, device } = new_device(rt, save, sectors)?;
+    match new_game(rt.alloc(), device, &cartridge) {
+        Ok(_session) => {
+            unmark(rt, save);
+            tell_begun(rt, making, out)
+        }
+        Err(refused) => {
+            making.give_up(rt);
+            Err(Fault::Session(refused.why))
+        }
     }
 }
 
@@ -64,7 +62,8 @@ pub(crate) fn sectors_or(sectors: Option<u32>, need: u64) -> u64
     }
 }
 
-/// Plays a script, with the report on `out`: each line goes out as it is written, so that one of a save comes only after the save.
+/// Plays a script, with the report on `out`: each line goes out as it is written, so that one of a save comes only after the save. A game
+/// that is recorded is refused.
 pub(crate) fn play<R: Files<File = File> + AllocGlobal, O: Write>(
     rt: &R,
     cart: &str,
@@ -77,6 +76,7 @@ pub(crate) fn play<R: Files<File = File> + AllocGlobal, O: Write>(
     let rom = file_bytes(rt, cart, MOST_ROM)?;
     not_a_pipe(rt, script)?;
     let device = FileDevice::attach(rt, Path::new(save))?;
+    unless_recorded(rt, save)?;
     let script = file_bytes(rt, script, MOST_SCRIPT)?;
     match play_to_picture(
         rt.alloc(),
@@ -92,7 +92,7 @@ pub(crate) fn play<R: Files<File = File> + AllocGlobal, O: Write>(
 }
 
 /// Plays an empty script, with the report on `out`, and writes the picture to a file, which is made or emptied before. It is refused where
-/// it is the save file or the cartridge, by whatever name.
+/// it is the save file or the cartridge, by whatever name, or has anything else than a picture.
 pub(crate) fn frame<R: Files<File = File> + AllocGlobal, O: Write>(
     rt: &R,
     cart: &str,
@@ -146,7 +146,8 @@ pub(crate) fn trace<R: Files<File = File> + AllocGlobal, O: Write>(
     }
 }
 
-/// Takes up the game in a file and obeys the lines of the input as they come, with all answers on `out`: each goes out as it is written.
+/// Takes up the game in a file and obeys the lines of the input as they come, with all answers on `out`: each goes out as it is written. A
+/// game that is recorded is refused.
 pub(crate) fn stream<R: Files<File = File> + AllocGlobal, I: Read, O: Write>(
     rt: &R,
     cart: &str,
@@ -158,6 +159,7 @@ pub(crate) fn stream<R: Files<File = File> + AllocGlobal, I: Read, O: Write>(
 {
     let rom = file_bytes(rt, cart, MOST_ROM)?;
     let device = FileDevice::attach(rt, Path::new(save))?;
+    unless_recorded(rt, save)?;
     match stream_play(rt.alloc(), device, rom, input, out) {
         Ok(_) => Ok(()),
         Err(refused) => Err(Fault::from(refused.why)),

@@ -5,7 +5,7 @@
 #![tactic(auto)]
 
 mod batteries;
-mod begin;
+mod begun;
 mod debugs;
 mod drawing;
 pub mod error;
@@ -13,8 +13,9 @@ mod fault;
 mod files;
 mod games;
 mod info;
-mod interrupted;
 mod listing;
+mod making;
+mod marks;
 pub mod program;
 mod recordings;
 mod stepping;
@@ -23,11 +24,9 @@ mod testing;
 mod trace;
 mod words;
 
-pub use begin::{begin_game, begin_game_from};
 pub use drawing::{play_and_draw, play_to_picture};
 pub use error::{
-    BeginError, BeginRefused, PlayError, PlayRefused, StreamPlayError, StreamPlayRefused,
-    TextError, TraceError, TraceRefused,
+    PlayError, PlayRefused, StreamPlayError, StreamPlayRefused, TextError, TraceError, TraceRefused,
 };
 pub use info::info_lines;
 pub use listing::list_lines;

@@ -1,11 +1,12 @@
 //! The program: words in, files and lines out.
 
 ghost use Rattle.std.specs.Prelude.{◌≡◌, ◌≤◌, ◌⊎◌, IfErr, map};
-ghost use Rattle.gbkeep.specs.Program.{Ends, EndsOnSome, HasEnded, IsPossible, IsServed, IsServedReading, KeepsAtMisuse};
+ghost use Rattle.gbkeep.specs.Request.{is_battery_name, makes_battery_name};
+ghost use Rattle.gbkeep.specs.Program.{Ends, EndsOnSome, HasEnded, HasWarned, IsPossible, IsServed, IsServedReading, KeepsAtMisuse};
 
 use crate::batteries::{export, import};
 use crate::debugs::debug;
-use crate::fault::{DONE, Fault, NOT_UNDERSTOOD, report};
+use crate::fault::{DONE, Fault, NOT_UNDERSTOOD, report, write_line};
 use crate::files::{MOST_ROM, file_bytes};
 use crate::games::{frame, new, play, show, stream, trace};
 use crate::info::info_lines;
@@ -94,7 +95,10 @@ fn answer<R: Files<File = File> + AllocGlobal, I: Read, O: Write, E: Write>(
 {
     match asked {
         Ok(Asked::Command(request)) => match serve(rt, request, input, out) {
-            Ok(()) => DONE,
+            Ok(()) => {
+                warn(request, err);
+                DONE
+            }
             Err(fault) => report(fault, err),
         },
         Ok(Asked::Help(text)) => match write_help(text, out) {
@@ -108,6 +112,34 @@ fn answer<R: Files<File = File> + AllocGlobal, I: Read, O: Write, E: Write>(
         Ok(Asked::OutOfRange) => NOT_UNDERSTOOD,
         Err(fault) => report(fault, err),
     }
+}
+
+/// Warns of a SAVE that another emulator takes for its battery file.
+fn warn<E: Write>(request: Request<'_>, err: &mut E)
+    ensures { HasWarned (makes_battery_name request.entry) (record { before = E.contents err.old; since = E.contents err.new }) }
+{
+    match request {
+        Request::New { save, .. } => warn_of(save, err),
+        Request::Import { save, .. } => warn_of(save, err),
+        _ => {}
+    }
+}
+
+fn warn_of<E: Write>(save: &str, err: &mut E)
+    ensures { HasWarned (is_battery_name save.now) (record { before = E.contents err.old; since = E.contents err.new }) }
+{
+    if is_battery_name(save.as_bytes()) {
+        write_line(
+            "gbkeep: warning: other emulators write battery files of this name\n",
+            err,
+        );
+    }
+}
+
+fn is_battery_name(name: &[u8]) -> bool
+    ensures { result ≡ is_battery_name name.now }
+{
+    name.ends_with(b".sav") || name.ends_with(b".srm")
 }
 
 fn write_help<O: Write>(text: Error, out: &mut O) -> Result<(), Fault>

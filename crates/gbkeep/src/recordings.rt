@@ -1,17 +1,21 @@
 //! Recordings in files.
 
 ghost use Rattle.std.specs.Prelude.{IfErr};
-ghost use Rattle.gbkeep.specs.Program.{IsServed, IsRecordServed, IsPairFault};
+ghost use Rattle.gbkeep.specs.Program.{IsServed, IsRecordServed, IsPairFault, IsNotBelonging};
 
+use crate::begun::tell_begun;
 use crate::fault::Fault;
 use crate::files::{MOST_ROM, file_bytes};
-use crate::interrupted::blank_file;
+use crate::making::{MakingDevice, new_device};
+use crate::marks::mark;
 use cartridge::Cartridge;
 use command_line::Request;
 use recorded_play::record as record_play;
-use recording::RecordingFault;
-use recording_lines::{BeginRecordingError, begin_recording, recorded_lines, verify_line};
+use recording::{RecordingFault, create_recording};
+use recording_lines::{VerifyLineError, recorded_lines, verify_line};
+use replaying::{Limits, verify as verify_within};
 use sector_device::{DeviceFault, FileDevice};
+use std::alloc::Global;
 use std::fs::{self, File};
 use std::io::{Read, Write};
 use std::os::unix::fs::MetadataExt;
@@ -21,8 +25,15 @@ use std::rt::Files;
 /// The fewest sectors of a recording: one for its head, and one for inputs.
 const FEWEST_SECTORS: u32 = 2;
 
-/// Makes a file of so many sectors, and an empty recording in it. Where that fails once the file is made, the file is taken away again. A
-/// recording that is begun stays, also where its line can't be written.
+/// What `record` looks at before it takes a game up. A power cut leaves the recording ahead by what one save holds, at most; and to replay
+/// more inputs than these would take longer than a second.
+const LIMITS: Limits = Limits {
+    beyond: 3_200,
+    replayed: 20_000,
+};
+
+/// Makes a file of so many sectors, and an empty recording in it; the file gets its name once it is one. Where that fails no file is left
+/// behind. A recording that is begun stays, also where its line can't be written.
 pub(crate) fn new_recording<R: Files<File = File> + AllocGlobal, O: Write>(
     rt: &R,
     cart: &str,
@@ -37,21 +48,19 @@ pub(crate) fn new_recording<R: Files<File = File> + AllocGlobal, O: Write>(
     if sectors < FEWEST_SECTORS {
         return Err(Fault::Recording(RecordingFault::TooSmall));
     }
-    let device = blank_file(rt, recording, u64::from(sectors))?;
-    match begin_recording(rt.alloc(), device, &cartridge, out) {
-        Ok(_) => Ok(()),
-        Err(refused) => match refused.why {
-            BeginRecordingError::Recording(why) => {
-                let _ = fs::remove_file(rt, recording);
-                Err(Fault::Recording(why))
-            }
-            BeginRecordingError::Output => Err(Fault::Output),
-        },
+    let MakingDevice { making, device } = new_device(rt, recording, u64::from(sectors))?;
+    match create_recording(rt.alloc(), device, cartridge.digest()) {
+        Ok(_recording) => tell_begun(rt, making, out),
+        Err(refused) => {
+            making.give_up(rt);
+            Err(Fault::Recording(refused.why))
+        }
     }
 }
 
 /// Takes up the game in a file with its recording in another one, and obeys the lines of the input as they come, with all answers on
-/// `out`. Each save writes the recording first.
+/// `out`. Each save writes the recording first. A recording that can't be that of the game is refused before either is written to, and the
+/// game is marked as recorded before it is given anything.
 pub(crate) fn record<R: Files<File = File> + AllocGlobal, I: Read, O: Write>(
     rt: &R,
     cart: &str,
@@ -65,6 +74,11 @@ pub(crate) fn record<R: Files<File = File> + AllocGlobal, I: Read, O: Write>(
     let rom = file_bytes(rt, cart, MOST_ROM)?;
     let pair = game_and_recording(rt, save, recording)?;
     let cartridge = Cartridge::read(rom)?;
+    let pair = match belonging(rt.alloc(), pair, &cartridge) {
+        Ok(pair) => pair,
+        Err(fault) => return Err(fault),
+    };
+    mark(rt, save, recording)?;
     match record_play(
         rt.alloc(),
         pair.save,
@@ -75,6 +89,20 @@ pub(crate) fn record<R: Files<File = File> + AllocGlobal, I: Read, O: Write>(
     ) {
         Ok(_) => Ok(()),
         Err(refused) => Err(Fault::from(refused.why)),
+    }
+}
+
+/// A game and a recording that can be its own.
+fn belonging(alloc: Global, pair: Pair, cartridge: &Cartridge) -> Result<Pair, Fault>
+    ensures { IfErr result IsNotBelonging }
+{
+    let found = verify_within(alloc, pair.save, pair.recording, cartridge, Some(LIMITS));
+    match found.answer {
+        Ok(_) => Ok(Pair {
+            save: found.save,
+            recording: found.recording,
+        }),
+        Err(why) => Err(Fault::from(VerifyLineError::Verify(why))),
     }
 }
 

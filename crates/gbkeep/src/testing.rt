@@ -1,6 +1,6 @@
 //! Test ROMs in files.
 
-ghost use Rattle.gbkeep.specs.Program.{IsServed};
+ghost use Rattle.gbkeep.specs.Program.{IsServed, IsTestServed};
 
 use crate::fault::Fault;
 use crate::files::{MOST_ROM, MOST_SCRIPT, file_bytes};
@@ -21,11 +21,26 @@ pub(crate) fn test<R: Files<File = File> + AllocGlobal, O: Write>(
     ensures { IsServed (Request.Test cart.entry frames script.entry) result (O.contents out.old) (O.contents out.new) }
 {
     let rom = file_bytes(rt, cart, MOST_ROM)?;
-    let script = match script {
-        Some(path) => file_bytes(rt, path, MOST_SCRIPT)?,
-        None => Vec::new(rt.alloc()),
-    };
-    match run_test(rt.alloc(), rom, script.as_slice(), frames, out) {
+    match script {
+        None => test_with(rt, rom, b"", frames, out),
+        Some(path) => {
+            let script = file_bytes(rt, path, MOST_SCRIPT)?;
+            test_with(rt, rom, script.as_slice(), frames, out)
+        }
+    }
+}
+
+/// Runs a test ROM with the moves of this script first.
+fn test_with<R: AllocGlobal, O: Write>(
+    rt: &R,
+    rom: Vec<u8>,
+    script: &[u8],
+    frames: u32,
+    out: &mut O,
+) -> Result<(), Fault>
+    ensures { IsTestServed rom.items script.now frames result (O.contents out.old) (O.contents out.new) }
+{
+    match run_test(rt.alloc(), rom, script, frames, out) {
         Ok(Verdict::Passed) => Ok(()),
         Ok(Verdict::Failed) => Err(Fault::TestFailed),
         Ok(Verdict::Undecided) => Err(Fault::TestUndecided),

@@ -19,11 +19,12 @@ use session::{Session, SessionError};
 use std::io::Write;
 
 /// Writes what is unsaved to the recording, and only when that is synced saves the session. The
-/// answer is the count of all inputs, which both devices then have. With nothing unsaved it makes no
-/// device call.
+/// answer is the count of all inputs, which both devices then have. With nothing unsaved the body makes
+/// no device call; no clause says so.
 ///
-/// Refusals: `Recording` with `Full`, which changes nothing, or `Device`; then `Session` with
-/// `GenerationsUsedUp` or `Device`: the recording has the inputs then, and the SAVE those that it had.
+/// Refusals: `Recording` with `Full`, at which the body writes nothing (no clause says so), or `Device`;
+/// then `Session` with `GenerationsUsedUp` or `Device`: each image of the recording then has at least
+/// the inputs that any image of the SAVE stands for.
 pub fn save_both<D: SectorDevice, E: SectorDevice>(
     session: &mut Session<D>,
     recording: &mut Recording<E>,

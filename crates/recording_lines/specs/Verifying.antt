@@ -1,10 +1,10 @@
 -- What `verify_line` writes, and when it refuses.
-use Rattle.std.specs.Prelude.{◌≡◌, ℕ, List, ◌++◌, codes, decimal, Option, Some}
+use Rattle.std.specs.Prelude.{◌≡◌, ℕ, List, ◌++◌, codes, decimal, Option, None, Some}
 use Rattle.std.specs.Io.KnownBytes.{Appends, Keeps}
 use Rattle.exact_text.specs.Written.{AppendsProperPrefix}
 use Rattle.cartridge.specs.Accepted.{IsAccepted, refusal_of}
 use Rattle.sector_device.specs.DiskState.{DiskState}
-use Rattle.replaying.specs.Verifying.{IsVerified, IsVerifyCause, save_faults_after, recording_faults_after}
+use Rattle.replaying.specs.Verifying.{IsVerified, IsVerifyCause, IsOfVerifying, save_faults_after, recording_faults_after}
 use Rattle.recording_lines.specs.declared.error.VerifyLineError.{VerifyLineError}
 use Rattle.recording_lines.specs.declared.error.VerifyLineError.TheVariants.{Cart, Verify, Output}
 
@@ -26,7 +26,7 @@ pub record IsUnwritten (rom : List ℕ) (save recording : DiskState) (before sin
 abbrev pub IsLineCause : (rom : List ℕ) → (save recording : DiskState) → (before since : Option (List ℕ)) → VerifyLineError → Type 0
 IsLineCause rom save recording before since (Cart fault) = (refusal_of rom ≡ Some fault) × Keeps before since
 IsLineCause rom save recording before since (Verify why) =
-    IsAccepted rom × Keeps before since × (save.honest → recording.honest → IsVerifyCause rom save recording why)
+    IsAccepted rom × Keeps before since × IsOfVerifying None why × (save.honest → recording.honest → IsVerifyCause None rom save recording why)
 IsLineCause rom save recording before since Output = IsAccepted rom × IsUnwritten rom save recording before since
 
 -- the count of failed calls of the game's device after an answer

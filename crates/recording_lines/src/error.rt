@@ -1,29 +1,10 @@
-//! Why a recording is not begun, not written, or not compared.
+//! Why a recording is not written, or not compared.
 
 use cartridge::CartError;
 use recording::RecordingFault;
 use replaying::VerifyError;
 use sector_device::SectorDevice;
 use thiserror::Error;
-
-/// Why `begin_recording` did not do all of it.
-#[derive(Clone, Copy, Debug, PartialEq, Eq, Error)]
-pub enum BeginRecordingError {
-    /// The recording could not be created.
-    #[error(transparent)]
-    Recording(RecordingFault),
-    /// The recording is begun, and its line could not be written: a proper prefix of it went out.
-    #[error("output failed")]
-    Output,
-}
-
-/// A refusal that hands the device back.
-#[derive(Drop)]
-pub struct BeginRecordingRefused<D: SectorDevice> {
-    pub why: BeginRecordingError,
-    /// With the new recording, where only its line could not be written.
-    pub device: D,
-}
 
 /// Why `recorded_lines` did not write all of its text.
 #[derive(Clone, Copy, Debug, PartialEq, Eq, Error)]

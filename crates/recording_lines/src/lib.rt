@@ -1,17 +1,14 @@
-//! Recordings from ROM bytes and devices to lines: a recording is begun, written as a script, and compared with the game beside it.
+//! Recordings from ROM bytes and devices to lines: a recording is written as a script, and compared with the game beside it.
 //!
 //! What a recording holds is defined in `recording`, what it says of a game in `replaying`.
 #![tactic(auto)]
 
-mod beginning;
 mod error;
 mod recorded;
 mod verifying;
 
-pub use beginning::begin_recording;
 pub use error::{
-    BeginRecordingError, BeginRecordingRefused, ScriptLinesError, ScriptLinesRefused,
-    VerifyLineError,
+    ScriptLinesError, ScriptLinesRefused, VerifyLineError,
 };
 pub use recorded::recorded_lines;
 pub use verifying::{Compared, verify_line};

@@ -56,7 +56,7 @@ pub fn verify_line<S: SectorDevice, D: SectorDevice, W: Write>(
             recording,
         },
     };
-    let verified = verify(alloc, save, recording, &cartridge);
+    let verified = verify(alloc, save, recording, &cartridge, None);
     let count = match verified.answer {
         Ok(count) => count,
         Err(why) => return Compared {

@@ -1,5 +1,5 @@
 -- Whether a SAVE and a recording agree, as `verify` answers it.
-use Rattle.std.specs.Prelude.{◌≡◌, ◌≢◌, ◌≤◌, ◌<◌, ℕ, List, length, take, Some, ⊤}
+use Rattle.std.specs.Prelude.{◌≡◌, ◌≢◌, ◌≤◌, ◌<◌, ◌+◌, ℕ, List, length, take, Option, None, Some, ⊤}
 use Rattle.sha2.specs.Sha256.{sha256}
 use Rattle.machine.specs.Machine.{after, start}
 use Rattle.sector_device.specs.DiskState.{DiskState}
@@ -12,8 +12,10 @@ use Rattle.session.specs.Found.{IsLookCause}
 use Rattle.session.specs.Inputs.{inputs_of}
 use Rattle.session.specs.Stands.{Position, stands}
 use Rattle.replaying.specs.Agreeing.{IsRecorded}
+use Rattle.replaying.specs.Replayed.{IsBeyond, LeadsUpTo}
 use Rattle.replaying.specs.declared.error.VerifyError.{VerifyError}
-use Rattle.replaying.specs.declared.error.VerifyError.TheVariants.{Save, Recording, Behind, Memory, Differ}
+use Rattle.replaying.specs.declared.error.VerifyError.TheVariants.{Save, Recording, Behind, Ahead, Memory, Differ}
+use Rattle.replaying.specs.declared.verifying.Limits.{Limits}
 
 -- the SAVE stands for a machine after so many inputs, and the recording holds them and leads to this machine
 pub record IsVerified (rom : List ℕ) (save recording : List (List ℕ)) (count : ℕ) : Type 0 where
@@ -30,20 +32,34 @@ pub record AreFound (rom : List ℕ) (save recording : List (List ℕ)) (P : Pos
   pub recorded_is : recorded (sha256 rom) recording ≡ Some entries
   pub holds : P at entries
 
+-- within limits: the recording holds the inputs of the SAVE, and not too many beyond them; and where they are no more than are replayed, it
+-- leads to this machine
+abbrev pub IsVerifiedWithin : (limits : Option Limits) → (rom : List ℕ) → (save recording : List (List ℕ)) → (count : ℕ) → Type 0
+IsVerifiedWithin None rom save recording count = IsVerified rom save recording count
+IsVerifiedWithin (Some limits) rom save recording count =
+    AreFound rom save recording (λ at entries. (at.count ≡ count) × LeadsUpTo limits rom entries at.count at.machine)
+
 -- why a SAVE is not verified; nothing is said of running out of memory
-abbrev pub IsVerifyCause : (rom : List ℕ) → (save recording : DiskState) → VerifyError → Type 0
-IsVerifyCause rom save recording (Save why) = IsLookCause rom (content save.sectors) why
-IsVerifyCause rom save recording (Recording why) = ((at : Position) × (stands rom (content save.sectors) ≡ Some at)) × IsOpenCause why (sha256 rom) recording
-IsVerifyCause rom save recording (Behind count) = AreFound rom save.sectors recording.sectors (λ at entries. (count ≡ length entries) × (count < at.count))
-IsVerifyCause rom save recording Memory = ⊤
-IsVerifyCause rom save recording Differ =
+abbrev pub IsVerifyCause : (limits : Option Limits) → (rom : List ℕ) → (save recording : DiskState) → VerifyError → Type 0
+IsVerifyCause limits rom save recording (Save why) = IsLookCause rom (content save.sectors) why
+IsVerifyCause limits rom save recording (Recording why) = ((at : Position) × (stands rom (content save.sectors) ≡ Some at)) × IsOpenCause why (sha256 rom) recording
+IsVerifyCause limits rom save recording (Behind count) = AreFound rom save.sectors recording.sectors (λ at entries. (count ≡ length entries) × (count < at.count))
+IsVerifyCause limits rom save recording (Ahead count) = AreFound rom save.sectors recording.sectors (λ at entries. (count ≡ length entries) × IsBeyond limits count at.count)
+IsVerifyCause limits rom save recording Memory = ⊤
+IsVerifyCause limits rom save recording Differ =
     AreFound rom save.sectors recording.sectors (λ at entries. (at.count ≤ length entries) × (at.machine ≢ after (start rom) (inputs_of (take at.count entries))))
+
+-- a recording is ahead only where there are limits
+abbrev pub IsOfVerifying : (limits : Option Limits) → VerifyError → Type 0
+IsOfVerifying None (Ahead count) = ⊥
+IsOfVerifying limits why = ⊤
 
 -- the count of failed calls of the SAVE's device after an answer
 abbrev pub save_faults_after : VerifyError → ℕ → ℕ
 save_faults_after (Save why) faults = faults_after_session why faults
 save_faults_after (Recording why) faults = faults
 save_faults_after (Behind count) faults = faults
+save_faults_after (Ahead count) faults = faults
 save_faults_after Memory faults = faults
 save_faults_after Differ faults = faults
 
@@ -52,5 +68,6 @@ abbrev pub recording_faults_after : VerifyError → ℕ → ℕ
 recording_faults_after (Save why) faults = faults
 recording_faults_after (Recording why) faults = faults_after_recording why faults
 recording_faults_after (Behind count) faults = faults
+recording_faults_after (Ahead count) faults = faults
 recording_faults_after Memory faults = faults
 recording_faults_after Differ faults = faults

@@ -30,6 +30,9 @@ pub enum VerifyError {
     /// The recording has fewer inputs than the SAVE: so many.
     #[error("recording behind, {0} inputs")]
     Behind(u64),
+    /// The recording has more inputs than it may have beyond those of the SAVE: so many in all.
+    #[error("recording ahead, {0} inputs")]
+    Ahead(u64),
     /// Memory for a second machine was refused.
     #[error("no memory")]
     Memory,

@@ -1,7 +1,8 @@
 //! A recording read back: as a script, and against the SAVE beside which it was made.
 //!
 //! `write_recorded` writes the inputs of a recording as the lines of a script that asks for them
-//! again, and `verify` replays them from power-on and compares the machine with that of the SAVE.
+//! again, and `verify` replays them from power-on and compares the machine with that of the SAVE, all of
+//! them or within limits.
 #![tactic(auto)]
 
 mod error;
@@ -14,5 +15,5 @@ mod writing;
 
 pub use error::{VerifyError, WriteRecordedError};
 pub use laws::the_script_gives_the_inputs_back;
-pub use verifying::{Verified, verify};
+pub use verifying::{Limits, Verified, verify};
 pub use writing::write_recorded;

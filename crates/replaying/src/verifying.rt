@@ -13,8 +13,8 @@ ghost use Rattle.recording.specs.Accessors.{device_of, is_broken, count_of};
 ghost use Rattle.session.specs.Inputs.{inputs_of};
 ghost use Rattle.session.specs.Resting.{IsOfItsRom};
 ghost use Rattle.session.specs.Accessors.{machine_of_look, count_of_look};
-ghost use Rattle.replaying.specs.Replayed.{LeadsTo, IsCompareCause, IsOfComparing};
-ghost use Rattle.replaying.specs.Verifying.{IsVerified, IsVerifyCause, save_faults_after, recording_faults_after};
+ghost use Rattle.replaying.specs.Replayed.{LeadsTo, LeadsWithin, IsCompareCause, IsCompareCauseWithin, IsOfComparing};
+ghost use Rattle.replaying.specs.Verifying.{IsVerifiedWithin, IsVerifyCause, IsOfVerifying, save_faults_after, recording_faults_after};
 
 use crate::error::VerifyError;
 use crate::replay::replay;
@@ -25,6 +25,15 @@ use sector_device::SectorDevice;
 use session::{Look, look_at};
 use snapshot::encode;
 use std::alloc::Global;
+
+/// How far a recording and its SAVE may be apart, and up to where they are compared.
+#[derive(Clone, Copy, Debug, PartialEq, Eq)]
+pub struct Limits {
+    /// As many inputs the recording may have beyond those of the SAVE.
+    pub beyond: u64,
+    /// The machines of a SAVE with more inputs are not compared.
+    pub replayed: u64,
+}
 
 /// What `verify` found, and both devices.
 #[derive(Drop)]
@@ -90,7 +99,7 @@ fn compare<S: SectorDevice, D: SectorDevice>(
         LeadsTo cartridge.now (inputs (entries (D.disk (device_of recording.old)).sectors)) (count_of_look look.now) (machine_of_look look.now)) }
     ensures cause { IfErr result (λ why. (D.disk (device_of recording.old)).honest →
         IsCompareCause cartridge.now (inputs (entries (D.disk (device_of recording.old)).sectors)) (count_of_look look.now) (machine_of_look look.now) why) }
-    ensures kind { IfErr result IsOfComparing }
+    ensures kind { IfErr result (IsOfComparing None) }
     ensures looked { (D.disk (device_of recording.old)).honest → HasLooked (D.disk (device_of recording.old)) (D.disk (device_of recording.new)) }
     ensures answered { HasAnswered recording_faults_after (D.disk (device_of recording.old)) (D.disk (device_of recording.new)) result }
 {
@@ -109,22 +118,61 @@ fn compare<S: SectorDevice, D: SectorDevice>(
     }
 }
 
+/// `compare`, within limits where there are any.
+fn compare_within<S: SectorDevice, D: SectorDevice>(
+    alloc: Global,
+    look: &Look<S>,
+    recording: &mut Recording<D>,
+    cartridge: &Cartridge,
+    limits: Option<Limits>,
+) -> Result<u64, VerifyError>
+    requires whole { is_broken recording.old ≡ false }
+    requires of { IsMachineOf cartridge.now (machine_of_look look.now) }
+    requires counted { (D.disk (device_of recording.old)).honest →
+        count_of recording.old ≡ length (inputs (entries (D.disk (device_of recording.old)).sectors)) }
+
+    ensures count { IfOk result (λ count. count ≡ count_of_look look.now) }
+    ensures leads { IfOk result (λ _. (D.disk (device_of recording.old)).honest →
+        LeadsWithin limits cartridge.now (inputs (entries (D.disk (device_of recording.old)).sectors)) (count_of_look look.now) (machine_of_look look.now)) }
+    ensures cause { IfErr result (λ why. (D.disk (device_of recording.old)).honest →
+        IsCompareCauseWithin limits cartridge.now (inputs (entries (D.disk (device_of recording.old)).sectors)) (count_of_look look.now) (machine_of_look look.now) why) }
+    ensures kind { IfErr result (IsOfComparing limits) }
+    ensures looked { (D.disk (device_of recording.old)).honest → HasLooked (D.disk (device_of recording.old)) (D.disk (device_of recording.new)) }
+    ensures answered { HasAnswered recording_faults_after (D.disk (device_of recording.old)) (D.disk (device_of recording.new)) result }
+{
+    let Some(limits) = limits else {
+        return compare(alloc, look, recording, cartridge);
+    };
+    let count = look.count();
+    let recorded = recording.input_count();
+    if recorded > count && recorded - count > limits.beyond {
+        return Err(VerifyError::Ahead(recorded));
+    }
+    if recorded >= count && count > limits.replayed {
+        return Ok(count);
+    }
+    compare(alloc, look, recording, cartridge)
+}
+
 /// Compares a SAVE with the recording beside which it was made: replays from power-on as many
-/// inputs of the recording as the SAVE has, and compares the machines. Nothing is written.
+/// inputs of the recording as the SAVE has, and compares the machines. Nothing is written. With
+/// limits a recording that is too far beyond the SAVE is refused, and the machines of a long play are not compared.
 ///
 /// Refusals, in this order: those of the look at the SAVE (`Save`); those of opening the recording
-/// (`Recording`); `Behind`, if it has fewer inputs than the SAVE; `Memory` for a machine;
+/// (`Recording`); `Behind`, if it has fewer inputs than the SAVE; `Ahead`; `Memory` for a machine;
 /// `Recording(Device)` while reading it; `Memory` for a snapshot; `Differ`.
 pub fn verify<S: SectorDevice, D: SectorDevice>(
     alloc: Global,
     save: S,
     recording: D,
     cartridge: &Cartridge,
+    limits: Option<Limits>,
 ) -> Verified<S, D>
     ensures ok { IfOk result.answer (λ count. (S.disk save).honest → (D.disk recording).honest →
-        IsVerified cartridge.now (S.disk save).sectors (D.disk recording).sectors count) }
+        IsVerifiedWithin limits cartridge.now (S.disk save).sectors (D.disk recording).sectors count) }
     ensures cause { IfErr result.answer (λ why. (S.disk save).honest → (D.disk recording).honest →
-        IsVerifyCause cartridge.now (S.disk save) (D.disk recording) why) }
+        IsVerifyCause limits cartridge.now (S.disk save) (D.disk recording) why) }
+    ensures kind { IfErr result.answer (IsOfVerifying limits) }
     ensures looked_save { (S.disk save).honest → HasLooked (S.disk save) (S.disk result.save) }
     ensures looked_recording { (D.disk recording).honest → HasLooked (D.disk recording) (D.disk result.recording) }
     ensures answered_save { HasAnswered save_faults_after (S.disk save) (S.disk result.save) result.answer }
@@ -146,7 +194,7 @@ pub fn verify<S: SectorDevice, D: SectorDevice>(
             recording: refused.device,
         },
     };
-    let answer = compare(alloc, &look, &mut recording, cartridge);
+    let answer = compare_within(alloc, &look, &mut recording, cartridge, limits);
     Verified {
         answer,
         save: look.into_device(),

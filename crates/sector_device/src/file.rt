@@ -52,8 +52,8 @@ impl FileDevice {
     /// Makes a file of zero sectors, and makes it and its folder's entry durable. Every sector is written, so that a file system that
     /// has no room for them all refuses the file and not a later write.
     ///
-    /// Nothing may stand at the path but an empty file that nobody holds, as a call that was cut short leaves it. Any fault is `Device`,
-    /// and then no file is left behind where that can be helped. `held` is what the file then holds, whatever the caller takes for it.
+    /// Nothing may stand at the path. Any fault is `Device`, and then no file is left behind where that can be helped. `held` is what the
+    /// file then holds, whatever the caller takes for it.
     pub fn create<R: Files<File = File> + AllocGlobal>(
         rt: &R,
         path: Path<'_>,
@@ -143,12 +143,12 @@ impl FileDevice {
         kept
     }
 
-    /// Syncs the file and notes it; answers whether what was written is durable.
+    /// Syncs the file and notes it; answers whether what was written is durable, in a file that somebody can find again.
     fn sync_file(&mut self) -> bool
         ensures history { self.new.history ≡ with_call (Sync result) self.old.history }
         ensures faults { self.new.faults ≡ self.old.faults }
     {
-        let done = !self.unsure && self.file.sync_all().is_ok();
+        let done = is_kept(self.unsure, &self.file, self.sectors.len());
         self.unsure = !done;
         self.history.note_sync(done);
         done
@@ -163,35 +163,14 @@ impl FileDevice {
     }
 }
 
-/// A file that is locked, empty and named by this path: a new one, or one that a call which was cut short left there.
+/// A new file, locked.
 fn claimed_file<R: Files<File = File>>(rt: &R, path: &str) -> io::Result<File> {
-    let file = match File::create_new(rt, path) {
-        Err(fault) if fault.kind() == ErrorKind::AlreadyExists => plain_file(rt, path)?,
-        made => made?,
-    };
+    let file = File::create_new(rt, path)?;
     if let Err(fault) = lock_file(&file) {
-        // a file that is held belongs to whoever holds it
-        if fault.kind() != ErrorKind::WouldBlock && file.metadata()?.len() == 0 {
-            let _ = fs::remove_file(rt, path);
-        }
+        let _ = fs::remove_file(rt, path);
         return Err(fault);
     }
-    // before it was locked it may have been filled, or taken away
-    let (held, named) = (file.metadata()?, fs::symlink_metadata(rt, path)?);
-    if held.len() == 0 && held.dev() == named.dev() && held.ino() == named.ino() {
-        Ok(file)
-    } else {
-        Err(ErrorKind::AlreadyExists.into())
-    }
-}
-
-/// Opens a file that is neither a link nor anything but a file.
-fn plain_file<R: Files<File = File>>(rt: &R, path: &str) -> io::Result<File> {
-    if fs::symlink_metadata(rt, path)?.is_file() {
-        OpenOptions::new().read(true).write(true).open(rt, path)
-    } else {
-        Err(ErrorKind::AlreadyExists.into())
-    }
+    Ok(file)
 }
 
 /// Fills an empty file with zero sectors, makes it durable and its entry in its folder too, and gives these sectors.
@@ -242,13 +221,30 @@ fn lock_file(file: &File) -> io::Result<()> {
     }
 }
 
-/// The file, locked and synced, and its size.
+/// Syncs a file, if no sync of it has failed, and answers whether it then has a name still, and the length of so many sectors: it has not
+/// where another file was put in its place, or it was removed or cut short.
+fn is_kept(unsure: bool, file: &File, sectors: usize) -> bool {
+    !unsure
+        && file.sync_all().is_ok()
+        && file.metadata().is_ok_and(|found| found.nlink() > 0
+            && is_of_sectors(found.len(), sectors))
+}
+
+/// Whether so many bytes are so many sectors.
+fn is_of_sectors(bytes: u64, sectors: usize) -> bool {
+    bytes % 512 == 0 && bytes / 512 == sectors as u64
+}
+
+/// The file, locked and synced, and its size. One that lost its name before it was locked is refused.
 fn old_file<R: Files<File = File>>(rt: &R, path: &str) -> io::Result<(File, u64)> {
     let file = OpenOptions::new().read(true).write(true).open(rt, path)?;
     lock_file(&file)?;
     file.sync_all()?;
-    let size = file.metadata()?.len();
-    Ok((file, size))
+    let found = file.metadata()?;
+    if found.nlink() == 0 {
+        return Err(ErrorKind::NotFound.into());
+    }
+    Ok((file, found.len()))
 }
 
 /// The first sectors of a file, so many; None where it can't be read or there is no memory.

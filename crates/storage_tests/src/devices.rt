@@ -177,18 +177,34 @@ fn a_file_of_too_many_sectors_is_refused(rt: HostRuntime) {
 }
 
 #[test]
-fn an_empty_file_that_nobody_holds_is_made_a_device(rt: HostRuntime) {
+fn a_file_that_is_there_is_not_taken(rt: HostRuntime) {
     let path = "empty.save";
-    fs::write(&rt, path, "").or_stop(&rt);
-    let mut device = FileDevice::create(&rt, Path::new(path), 3).or_stop(&rt);
-    same!(rt; three(&rt, &mut device).or_stop(&rt), [0, 0, 0]);
-    same!(rt; fs::metadata(&rt, path).or_stop(&rt).len(), 1536);
     fs::write(&rt, path, "").or_stop(&rt);
     same!(rt;
         FileDevice::create(&rt, Path::new(path), 3).err(),
         Some(DeviceFault::Device)
     );
     same!(rt; fs::metadata(&rt, path).or_stop(&rt).len(), 0);
+    fs::remove_file(&rt, path).or_stop(&rt);
+}
+
+/// What is written to a file that no name leads to, or that was cut short, can't be found again: a sync of it is no sync.
+#[test]
+fn a_file_that_is_gone_keeps_nothing(rt: HostRuntime) {
+    let path = "gone.save";
+    let mut device = FileDevice::create(&rt, Path::new(path), 3).or_stop(&rt);
+    put(&rt, &mut device, 1, 7).or_stop(&rt);
+    device.sync().or_stop(&rt);
+    fs::remove_file(&rt, path).or_stop(&rt);
+    put(&rt, &mut device, 1, 8).or_stop(&rt);
+    same!(rt; device.sync(), Err(DeviceFault::Device));
+    same!(rt; device.sync(), Err(DeviceFault::Device));
+    drop(device);
+    let mut device = FileDevice::create(&rt, Path::new(path), 3).or_stop(&rt);
+    let other = OpenOptions::new().write(true).open(&rt, path).or_stop(&rt);
+    other.set_len(700).or_stop(&rt);
+    put(&rt, &mut device, 0, 7).or_stop(&rt);
+    same!(rt; device.sync(), Err(DeviceFault::Device));
     fs::remove_file(&rt, path).or_stop(&rt);
 }
 

@@ -1,6 +1,6 @@
 //! Why a test ended.
 
-ghost use Rattle.std.specs.Prelude.{◌≡◌};
+ghost use Rattle.std.specs.Prelude.{◌≡◌, ◌≤◌};
 ghost use Rattle.test_run.specs.Ends.{end_of, is_idle, is_still, is_in_place, jumps_to_itself, jumps_by, jumps_at};
 
 use machine::{Machine, Memory, Processor, ProcessorState};
@@ -49,7 +49,7 @@ fn jumps_to_itself(processor: &Processor<Bus>) -> bool
     ensures { result ≡ jumps_to_itself processor.now }
 {
     let pc = processor.registers.pc;
-    if !is_still(&processor.state) || !is_in_place(pc) {
+    if !is_still(&processor.state) {
         return false;
     }
     jumps_by(&processor.memory, pc) || jumps_at(&processor.memory, pc)
@@ -67,25 +67,28 @@ fn is_still(state: &ProcessorState) -> bool
         || state.halt_bug)
 }
 
-/// Whether three bytes from there lie in ROM, in WRAM or in HRAM.
-fn is_in_place(pc: u16) -> bool
-    ensures { result ≡ is_in_place pc }
+/// Whether so many bytes from there lie in ROM, in WRAM or in HRAM.
+fn is_in_place(pc: u16, bytes: u16) -> bool
+    requires { bytes ≤ 3 }
+    ensures { result ≡ is_in_place pc bytes }
 {
-    pc < 0x7ffe || (pc >= 0xc000 && pc < 0xdffe) || (pc >= 0xff80 && pc < 0xfffd)
+    let (first, end) = (u32::from(pc), u32::from(pc) + u32::from(bytes));
+    end <= 0x8000 || (first >= 0xc000 && end <= 0xe000) || (first >= 0xff80 && end <= 0xffff)
 }
 
-/// Whether there is a `JR` to itself.
+/// Whether there is a `JR` to itself, both bytes of it in place.
 fn jumps_by(memory: &Bus, pc: u16) -> bool
     ensures { result ≡ jumps_by memory.now pc }
 {
-    memory.peek(pc) == JUMP_BY && memory.peek(pc.wrapping_add(1)) == BACK
+    is_in_place(pc, 2) && memory.peek(pc) == JUMP_BY && memory.peek(pc.wrapping_add(1)) == BACK
 }
 
-/// Whether there is a `JP` to itself.
+/// Whether there is a `JP` to itself, all three bytes of it in place.
 fn jumps_at(memory: &Bus, pc: u16) -> bool
     ensures { result ≡ jumps_at memory.now pc }
 {
-    memory.peek(pc) == JUMP_TO
+    is_in_place(pc, 3)
+        && memory.peek(pc) == JUMP_TO
         && memory.peek(pc.wrapping_add(1)) == (pc % 256) as u8
         && memory.peek(pc.wrapping_add(2)) == (pc / 256) as u8
 }

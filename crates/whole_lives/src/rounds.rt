@@ -32,7 +32,8 @@ pub struct Round {
 pub struct RoundEnd {
     /// The count at which the game was resumed; `None` if the round was cut before that.
     pub resumed: Option<u64>,
-    /// The greatest count known to be saved so far, in all rounds.
+    /// A count of inputs that every image which the cut may leave has: the body gives the greatest that was
+    /// acknowledged so far, in all rounds, which no clause says.
     pub saved: u64,
 }
 

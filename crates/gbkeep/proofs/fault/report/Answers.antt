@@ -1,5 +1,5 @@
 use Rattle.gbkeep.proofs.fault.report.Goals as goal
-use Rattle.gbkeep.proofs.fault.report.Goals.{in-Cart, in-Memory, in-File, in-Output, in-Address, in-Word, in-Device, in-Script, in-Session, in-Line, in-Input, in-Recording, in-Behind, in-Differ, in-TestFailed, in-TestUndecided, in-NoBattery, in-BatteryLength}
+use Rattle.gbkeep.proofs.fault.report.Goals.{in-Cart, in-Memory, in-File, in-Output, in-Address, in-Word, in-Device, in-Script, in-Session, in-Line, in-Input, in-Recording, in-Behind, in-Ahead, in-Differ, in-RecordedGame, in-TestFailed, in-TestUndecided, in-NoBattery, in-BatteryLength}
 
 pub returns-clause-line : goal.returns-clause-line
 returns-clause-line g c =
@@ -10,14 +10,16 @@ returns-clause-line g c =
       | in-Output w ↦ rw (w.in-Output.is, w.err-is) w.write_line-in-Output.ensures
       | in-Address w ↦ rw (w.in-Address.is, w.err-is) w.write_line-in-Address.ensures
       | in-Word w ↦ rw (w.in-Word.is, w.err-is) w.write_line-in-Word.ensures
-      | in-Device w ↦ rw w.in-Device.is tt
+      | in-Device w ↦ rw (w.in-Device.is, w.err-is) w.write_device_line.ensures
       | in-Script w ↦ rw w.in-Script.is tt
       | in-Session w ↦ rw (w.in-Session.is, w.err-is) w.write_session_line.ensures
       | in-Line w ↦ rw w.in-Line.is tt
       | in-Input w ↦ rw (w.in-Input.is, w.err-is) w.write_line-in-Input.ensures
-      | in-Recording w ↦ rw w.in-Recording.is tt
+      | in-Recording w ↦ rw (w.in-Recording.is, w.err-is) w.write_recording_line.ensures
       | in-Behind w ↦ rw w.in-Behind.is tt
+      | in-Ahead w ↦ rw w.in-Ahead.is tt
       | in-Differ w ↦ rw (w.in-Differ.is, w.err-is) w.write_line-in-Differ.ensures
+      | in-RecordedGame w ↦ rw (w.in-RecordedGame.is, w.err-is) w.write_line-in-RecordedGame.ensures
       | in-TestFailed w ↦ rw (w.in-TestFailed.is, w.err-is) w.write_line-in-TestFailed.ensures
       | in-TestUndecided w ↦ rw (w.in-TestUndecided.is, w.err-is) w.write_line-in-TestUndecided.ensures
       | in-NoBattery w ↦ rw (w.in-NoBattery.is, w.err-is) w.write_line-in-NoBattery.ensures

@@ -13,5 +13,5 @@ pub returns : goal.returns
 returns g c =
     let rom = c.in_ok-rom.rom.items in
     subst (λ (fault : Fault). IsRefused (Frame c.args.cart c.args.save c.args.picture) fault (g.O.Write.contents c.args.out.now) (g.O.Write.contents c.play_to_picture.new.report)) (sym c.from.ensures)
-    (empty_refused (Frame c.args.cart c.args.save c.args.picture) rom _ _ _ _ _ c.in-Err.refused.why refl tt tt
+    (empty_refused (Frame c.args.cart c.args.save c.args.picture) rom _ _ _ _ _ c.in-Err.refused.why refl tt tt tt
     (λ fault accepted cut. (rom, accepted, cut)) (λ accepted report. (rom, accepted, report)) c.in-Err.ensures.cause)

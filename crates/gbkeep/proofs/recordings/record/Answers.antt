@@ -2,17 +2,21 @@ use Rattle.std.proofs.Common.{◌≡◌, List, ℕ, refl, subst, sym}
 use Rattle.cartridge.specs.Accepted.{IsAccepted}
 use Rattle.gbkeep.specs.Program.{IsRecordRefused}
 use Rattle.gbkeep.specs.declared.fault.Fault.{Fault}
-use Rattle.gbkeep.proofs.RecordTexts.{recorded_to, record_refused}
+use Rattle.gbkeep.proofs.RecordTexts.{not_belonging, recorded_to, record_refused}
 use Rattle.gbkeep.proofs.recordings.record.Goals as goal
 
 accepted_as : (rom image : List ℕ) → image ≡ rom → IsAccepted rom → IsAccepted image
 accepted_as rom image is accepted = subst (λ (r : List ℕ). IsAccepted r) (sym is) accepted
 
-pub returns-in-Ok : goal.returns-in-Ok
-returns-in-Ok g c =
-    recorded_to c.in_ok-cartridge.cartridge (accepted_as _ _ c.in_ok-cartridge.ensures.image (c.in_ok-cartridge.ensures.accepted.0 refl)) _ _ _ _ _ _ _ _ _ c.in-Ok.ensures.recorded
+pub returns-in-Ok-record_play : goal.returns-in-Ok-record_play
+returns-in-Ok-record_play g c =
+    recorded_to c.in_ok-cartridge.cartridge (accepted_as _ _ c.in_ok-cartridge.ensures.image (c.in_ok-cartridge.ensures.accepted.0 refl)) _ _ _ _ _ _ _ _ _ c.in-Ok-record_play.ensures.recorded
+
+pub returns-in-Err : goal.returns-in-Err
+returns-in-Err g c =
+    not_belonging c.in_ok-cartridge.cartridge (accepted_as _ _ c.in_ok-cartridge.ensures.image (c.in_ok-cartridge.ensures.accepted.0 refl)) (g.I.Read.remaining c.args.input.now) (g.O.Write.contents c.args.out.now) c.in-Err.fault c.in-Err.ensures
 
 pub returns : goal.returns
 returns g c =
     subst (λ (fault : Fault). IsRecordRefused fault (record { before = g.I.Read.remaining c.args.input.now; since = g.I.Read.remaining c.record.new.input }) (record { before = g.O.Write.contents c.args.out.now; since = g.O.Write.contents c.record.new.out })) (sym c.from.ensures)
-    (record_refused c.in_ok-cartridge.cartridge (accepted_as _ _ c.in_ok-cartridge.ensures.image (c.in_ok-cartridge.ensures.accepted.0 refl)) _ _ _ _ _ _ _ _ c.in-Err.refused.why c.in-Err.ensures.refused)
+    (record_refused c.in_ok-cartridge.cartridge (accepted_as _ _ c.in_ok-cartridge.ensures.image (c.in_ok-cartridge.ensures.accepted.0 refl)) _ _ _ _ _ _ _ _ c.in-Err-record_play.refused.why c.in-Err-record_play.ensures.refused)

@@ -8,7 +8,7 @@ invariant_of-self c =
     let self = c.args.self.now in
     let h = self.history in
     let h' = c.note_sync.new.self in
-    let call = Sync c.if-not-self.done in
+    let call = Sync c.is_kept-done.result in
     let more = c.note_sync.ensures in
     let found : h'.found ≡ h.found = same_found h h' call more in
     record {

@@ -1,5 +1,5 @@
 use Rattle.std.proofs.Common.{[]}
-use Rattle.gbkeep.proofs.interrupted.created_file.Given as goal
+use Rattle.gbkeep.proofs.making.new_device.Given as goal
 
 abbrev pub ghost-create : goal.ghost-create
 ghost-create g a = []

@@ -1,5 +1,0 @@
-use Rattle.std.proofs.Common.{[]}
-use Rattle.gbkeep.proofs.interrupted.clear_interrupted.Given as goal
-
-abbrev pub ghost-attach : goal.ghost-attach
-ghost-attach g a = []
