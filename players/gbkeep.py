@@ -2,7 +2,7 @@
 
     from gbkeep import A, START, Game
 
-    with Game('examples/demo/demo.gb', 'bin/example.sav') as game:
+    with Game('examples/demo/demo.gb', 'bin/example.gbkeep') as game:
         game.frames(START, 4)
         game.frames(A, 60)
         picture = game.picture()

@@ -146,6 +146,31 @@ def of_new(rnd, seed):
             return hostile.differs('injected', seed, 'the new behind %s: %r' % (what, again))
 
 
+def of_import(rnd, seed):
+    """An `import` whose sync fails takes away only what nobody else was given: as long as it holds its file no other program takes up a game there."""
+    rom = bytearray(hostile.random_rom(rnd))
+    rom[0x147], rom[0x149] = 0x03, 0x02
+    put(hostile.CART, bytes(rom))
+    battery = os.path.join(hostile.ROOM, 'some.bat')
+    put(battery, bytes(8192))
+    words = ['import', hostile.CART, battery, hostile.SAVE]
+    hostile.gone(hostile.SAVE)
+    _, last = calls_of(words, b'').get('fsync', (0, 0))
+    number = rnd.randint(1, max(last, 1))
+    hostile.gone(hostile.SAVE)
+    # what is taken away is taken away late, so that the other program comes first
+    slow = subprocess.Popen(['strace', '-f', '-qq', '-o', '/dev/null', '-e', 'trace=fsync,unlink', '-e', 'inject=fsync:error=EIO:when=%d' % number,
+                             '-e', 'inject=unlink:delay_enter=300000', hostile.GB, *words], stdout=subprocess.PIPE, stderr=subprocess.PIPE)
+    told = b''
+    while slow.poll() is None:
+        out = subprocess.run([hostile.GB, 'stream', hostile.CART, hostile.SAVE], input=b'frames 01 60\nsave\n', capture_output=True, timeout=20).stdout
+        told = out if b'saved' in out else told
+    slow.communicate()
+    if told and not os.path.exists(hostile.SAVE):
+        hostile.differs('injected', seed, 'import with sync %d of %d refused: another program was told %r, and SAVE is gone' % (number, last, told))
+    hostile.parts()
+
+
 def short_writes(rnd, seed):
     """A write of SAVE that takes half of what it is given is gone on with."""
     compiler = shutil.which('cc')
@@ -182,5 +207,5 @@ def no_locks(rnd, seed):
 
 
 def injected(rnd, seed):
-    for what in (of_a_game, of_new, of_a_game, short_writes, no_locks):
+    for what in (of_a_game, of_new, of_import, of_a_game, short_writes, no_locks):
         what(rnd, seed)

@@ -7,8 +7,6 @@ mod error;
 mod recorded;
 mod verifying;
 
-pub use error::{
-    ScriptLinesError, ScriptLinesRefused, VerifyLineError,
-};
+pub use error::{ScriptLinesError, ScriptLinesRefused, VerifyLineError};
 pub use recorded::recorded_lines;
 pub use verifying::{Compared, verify_line};
