@@ -1,5 +1,5 @@
 -- What giving a machine the first inputs of a recording makes of it; a reader needs none of this.
-use Rattle.std.specs.Prelude.{◌≡◌, ◌≢◌, ◌≤◌, ◌<◌, ◌+◌, ◌-◌, ℕ, List, length, take, Option, None, Some, ⊤}
+use Rattle.std.specs.Prelude.{◌≡◌, ◌≢◌, ◌≤◌, ◌<◌, ◌-◌, ℕ, List, length, take, Option, None, Some, ⊤}
 use Rattle.machine.specs.Machine.{MachineState, after, start}
 use Rattle.machine.specs.declared.input.Input.{Input}
 use Rattle.input_entries.specs.declared.Entry.{Entry}
@@ -8,6 +8,7 @@ use Rattle.session.specs.Inputs.{inputs_of}
 use Rattle.replaying.specs.declared.error.VerifyError.{VerifyError}
 use Rattle.replaying.specs.declared.error.VerifyError.TheVariants.{Save, Recording, Behind, Ahead, Memory, Differ}
 use Rattle.replaying.specs.declared.verifying.Limits.{Limits}
+use Rattle.replaying.specs.Within.{IsBeyond, LeadsUpTo}
 
 -- it was given some inputs
 pub record HasPlayed (old now : MachineState) : Type 0 where
@@ -24,21 +25,10 @@ pub record LeadsTo (rom : List ℕ) (entries : List Entry) (count : ℕ) (machin
   pub enough : count ≤ length entries
   pub machine_is : machine ≡ after (start rom) (inputs_of (take count entries))
 
--- The recording has these inputs, and not too many beyond them; and where there are no more than are replayed, the machine is the one after
--- them.
-pub record LeadsUpTo (limits : Limits) (rom : List ℕ) (entries : List Entry) (count : ℕ) (machine : MachineState) : Type 0 where
-  pub enough : count ≤ length entries
-  pub near : length entries ≤ count + limits.beyond
-  pub machine_is : count ≤ limits.replayed → machine ≡ after (start rom) (inputs_of (take count entries))
-
+-- it leads there, within limits where there are any
 abbrev pub LeadsWithin : (limits : Option Limits) → (rom : List ℕ) → (entries : List Entry) → (count : ℕ) → MachineState → Type 0
 LeadsWithin None rom entries count machine = LeadsTo rom entries count machine
 LeadsWithin (Some limits) rom entries count machine = LeadsUpTo limits rom entries count machine
-
--- the recording has so many inputs, more than it may have beyond so many
-abbrev pub IsBeyond : (limits : Option Limits) → (recorded count : ℕ) → Type 0
-IsBeyond None recorded count = ⊥
-IsBeyond (Some limits) recorded count = count + limits.beyond < recorded
 
 -- why it is not found to lead there
 abbrev pub IsCompareCause : (rom : List ℕ) → (entries : List Entry) → (count : ℕ) → MachineState → VerifyError → Type 0

@@ -12,7 +12,7 @@ use Rattle.session.specs.Found.{IsLookCause}
 use Rattle.session.specs.Inputs.{inputs_of}
 use Rattle.session.specs.Stands.{Position, stands}
 use Rattle.replaying.specs.Agreeing.{IsRecorded}
-use Rattle.replaying.specs.Replayed.{IsBeyond, LeadsUpTo}
+use Rattle.replaying.specs.Within.{IsBeyond, LeadsUpTo}
 use Rattle.replaying.specs.declared.error.VerifyError.{VerifyError}
 use Rattle.replaying.specs.declared.error.VerifyError.TheVariants.{Save, Recording, Behind, Ahead, Memory, Differ}
 use Rattle.replaying.specs.declared.verifying.Limits.{Limits}
