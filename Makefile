@@ -144,10 +144,12 @@ test:
 	python3 -B scripts/front_door.py $(PROGRAM)/out/gbkeep_program
 	python3 -B players/test_players.py $(PROGRAM)/out/gbkeep_program
 	python3 -B players/test_slots.py $(PROGRAM)/out/gbkeep_program
+	python3 -B players/test_window_parts.py
 	if [ -e $(LIBRETRO)/libretro.h ]; then $(MAKE) bin/gbkeep_libretro.so && \
 	python3 -B players/libretro/test_libretro.py $(PROGRAM)/out/gbkeep_program bin/gbkeep_libretro.so && \
 	CC="$(CC)" LIBRETRO="$(LIBRETRO)" python3 -B players/libretro/test_garbage.py 10; else echo 'there is no libretro.h: the core was not tried'; fi
 	python3 -B scripts/second_storage/hostile.py $(PROGRAM)/out/gbkeep_program 4 1
+	python3 -B scripts/second_machine/compare.py $(PROGRAM)/out/gbkeep_program tests 1 5
 	python3 -B scripts/second_storage/traced.py $(PROGRAM)/out/gbkeep_program 2 1 crates/failed_syncs/out/failed_syncs
 	python3 -B examples/demo/check.py $(PROGRAM)/out/gbkeep_program
 	python3 -B examples/test_roms/check.py

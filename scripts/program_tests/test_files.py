@@ -125,6 +125,40 @@ def umask():
     return mask
 
 
+def with_stack(room, words, given, kibibytes):
+    """Runs a command with so small a stack."""
+    def limit():
+        resource.setrlimit(resource.RLIMIT_CORE, (0, 0))
+        resource.setrlimit(resource.RLIMIT_STACK, (kibibytes * 1024, kibibytes * 1024))
+    room.runs += 1
+    done = subprocess.run([room.program, *words.split()], input=given.encode(), capture_output=True, cwd=room.folder, timeout=SECONDS, preexec_fn=limit)
+    return done.returncode, done.stdout, done.stderr
+
+
+def test_a_small_stack_loses_nothing(room):
+    """With 256 KiB each command does what it does with more. With less a command may end by a signal, and what was saved stays."""
+    cartridge(room)
+    room.write('one.script', 'frames 01 60\n')
+    room.done('new game.gb game.gbkeep', 'begun 0\n')
+    room.done('play game.gb game.gbkeep one.script', 'resumed 0\nsaved 60\n')
+    copy(room, 'game.gbkeep', 'kept.gbkeep')
+    lines = 'until 1000 FFFF\nregisters\nhistory 5\nframes 00 2\npicture\nstate\n'
+    commands = (('debug game.gb game.gbkeep', lines), ('stream game.gb game.gbkeep', 'frame 01\npicture\n'), ('play game.gb game.gbkeep one.script', ''),
+                ('frame game.gb game.gbkeep out.pgm', ''), ('trace game.gb game.gbkeep 5', ''), ('show game.gb game.gbkeep', ''))
+    for words, given in commands:
+        copy(room, 'kept.gbkeep', 'game.gbkeep')
+        wanted = room.run(words, given)
+        room.expect(f'{words}: the status with the stack that is usual', wanted[0], 0)
+        for kibibytes in (256, 240, 224, 200, 160, 128, 96, 64):
+            copy(room, 'kept.gbkeep', 'game.gbkeep')
+            got = with_stack(room, words, given, kibibytes)
+            is_cut = got[0] < 0 and wanted[1].startswith(got[1]) and kibibytes < 256
+            room.expect(f'{words} with {kibibytes} KiB of stack', got if not is_cut else wanted, wanted)
+            counts = [int(line.split()[1]) for line in got[1].split(b'\n') if line.startswith((b'resumed ', b'saved '))]
+            held = room.printed('show game.gb game.gbkeep').split()[1]
+            room.expect(f'{words} with {kibibytes} KiB of stack: what was told is there', int(held) >= max(counts, default=60), True)
+
+
 def test_a_refused_command_leaves_no_file(room):
     battery_cartridge(room)
     room.rom('small.gb', LOOP)

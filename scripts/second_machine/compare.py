@@ -10,9 +10,10 @@ script of frames and seconds, trace of 1,024 steps, line by line; 200 of them at
 tiles and objects that change within frames, by buttons and the clock; after each of some scripts of frames, buttons and seconds the whole
 picture of `frame`), features (the same over longer scripts, then `trace`, on programs of feature_roms.py, which use every unusual feature of the
 machine again and again), debug (lines of `debug` on random programs, on programs that draw and on those of feature_roms.py: steps, places, opcodes, frames,
-seconds, registers, histories, listings, memory, what is sent, pictures and digests of the whole machine). The status is 1 where anything differs."""
+seconds, registers, histories, listings, memory, what is sent, pictures and digests of the whole machine), tests (`test` of programs that send words and
+come to an end in many ways and places, with scripts and without). The status is 1 where anything differs."""
 import os, random, shutil, subprocess, sys, tempfile, time
-import debug_lines, feature_roms, reference as ref
+import debug_lines, feature_roms, reference as ref, test_lines
 
 GB = os.path.abspath(sys.argv[1]) if len(sys.argv) > 1 else ''
 ROOM = tempfile.mkdtemp(prefix='compare-')
@@ -1034,6 +1035,25 @@ def compare_debug(kind, seed, rom, rnd):
         report(kind, seed, 'status %d, err %r, behind the answers %r' % (code, err, out[at:at + 300]))
 
 
+def compare_tests(kind, seed, rom, rnd):
+    """A test of a ROM, with a script or without one."""
+    with open(TMP, 'wb') as f: f.write(rom)
+    stats['roms'] += 1
+    script, moves = ROOM + '/script', moves_for(rnd)
+    lines = ['%s %s' % (move[0], move[1] if move[0] == 'seconds' else '%02X %d' % move[1:]) for move in moves]
+    with open(script, 'w') as f: f.write('\n'.join(lines + ['save'] * (rnd.random() < 0.3)))
+    frames = rnd.choice([1, 2, 3, 5, 8])
+    with_script = rnd.random() < 0.5
+    test = test_lines.Test(rom, frames, moves if with_script else [])
+    want = test.answer()
+    got = gb('test', TMP, str(frames), *([script] if with_script else []))
+    stats['bytes'] += len(want[1])
+    name = '%s %s' % (test.why or 'frames', test.verdict())
+    cov[name] = cov.get(name, 0) + 1
+    if got != want:
+        report(kind, seed, 'test of %d frames, %r: want %r got %r' % (frames, lines if with_script else None, want, got))
+
+
 def run(kind, first, seconds, most):
     start = time.time()
     seed = first
@@ -1061,6 +1081,8 @@ def run(kind, first, seconds, most):
             if compare_frames(kind, seed, rom, rnd, 30): compare_trace(kind, seed, rom, rnd)
         elif kind == 'debug':
             compare_debug(kind, seed, debug_rom(rnd), rnd)
+        elif kind == 'tests':
+            compare_tests(kind, seed, test_lines.rom_of(rnd) if rnd.random() < 0.9 else prog_rom(rnd), rnd)
         elif kind == 'refuse':
             compare_texts(kind, seed, refuse_rom(rnd), rnd)
         elif kind == 'list':
@@ -1082,7 +1104,7 @@ def run(kind, first, seconds, most):
 def main(words):
     if len(words) == 1:
         first = int(time.time())
-        for kind in ('raw', 'prog', 'proglong', 'refuse', 'list', 'trace', 'frames', 'features', 'debug'):
+        for kind in ('raw', 'prog', 'proglong', 'refuse', 'list', 'trace', 'frames', 'features', 'debug', 'tests'):
             run(kind, first, float(words[0]), 10**9)
     elif len(words) == 3 and words[2] == 'show':
         run(words[0], int(words[1]), 1e9, 1)

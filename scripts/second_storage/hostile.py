@@ -7,7 +7,8 @@ usage: hostile.py GBKEEP SECONDS [SEED]       each kind for so many seconds, fro
 Kinds: saves (random games, damaged in random places), scripts (random scripts, some of them wrong), bytes (arbitrary bytes as ROM,
 save file and script), kills (a play is killed at a random moment, and taken up again), holds (a save file that another process
 holds), places (no plain file, no room or no leave where one is wanted), pipes (an output that nobody reads to its end, or that has no
-room), shrinks (a save file that another process cuts while it is played), names (OUT is SAVE or CART by another name), closed (a standard
+room), shrinks (a save file that another process cuts, removes or replaces while it is played), names (OUT is SAVE or CART by another name, or another
+file that is no picture; a SAVE with the name of a battery file), closed (a standard
 stream is closed, also in a root without /dev), streams (lines as they come, whole, in pieces, wrong ones, pictures, and a kill), injected (a
 system call fails, is cut short, or is the last; needs strace), recordings (a game with its recording, damaged, full, of another ROM, ahead, behind,
 killed), batteries (battery files that are taken and written, and what `show` prints), debugs (lines of `debug`, right and wrong, from power-on and over
@@ -620,6 +621,88 @@ def shrinks(rnd, seed):
     status, out, err = gbkeep('play', CART, SAVE, SCRIPT)
     if (status, err) != (0, b'') and (status != 1 or out or not err.startswith(b'gbkeep: ') or err.count(b'\n') != 1):
         differs('shrinks', seed, 'the next one: %r' % ((status, out, err),))
+    no_longer_named(rnd, seed)
+
+
+def no_longer_named(rnd, seed):
+    """A save file that loses its name or its length while it is open: no `saved` is told from then on, and it has what was told before."""
+    cart, image = a_game(rnd)
+    aside, other, before = SAVE + '.aside', SAVE + '.other', count_of(image, cart)
+    gone(aside)
+    how = rnd.choice(('removed', 'replaced', 'lengthened', 'shortened', 'moved'))
+    play = subprocess.Popen([GB, 'stream', CART, SAVE], stdin=subprocess.PIPE, stdout=subprocess.PIPE, stderr=subprocess.PIPE)
+    play.stdin.write(b'frames 01 %d\nsave\n' % rnd.choice([1, 60, 3199]))
+    play.stdin.flush()
+    play.stdout.readline()
+    told = int(play.stdout.readline().split()[1])
+    if how == 'removed':
+        os.link(SAVE, aside), os.unlink(SAVE), os.rename(aside, other), os.unlink(other)
+    elif how == 'replaced':
+        put(other, image)
+        os.rename(other, SAVE)
+    elif how == 'moved':
+        os.rename(SAVE, aside)
+    else:
+        os.truncate(SAVE, len(image) + (512 if how == 'lengthened' else -512))
+    out, err = play.communicate(b'frames 02 %d\nsave\n' % rnd.choice([1, 60, 3199]), timeout=10)
+    want = (0, b'') if how == 'moved' else (1, line('device failed'))
+    if (play.returncode, err) != want or (out != b'') != (how == 'moved'):
+        differs('shrinks', seed, 'a save file that is %s: %r' % (how, (play.returncode, out, err)))
+    if how == 'lengthened':
+        os.truncate(SAVE, len(image))
+    left = {'moved': aside, 'lengthened': SAVE}.get(how)
+    if left and count_of(get(left), cart) < max([told] + [int(one.split()[1]) for one in out.split(b'\n')[:-1]]):
+        differs('shrinks', seed, 'a save file that is %s has not what was told' % how)
+    gone(aside)
+
+
+def is_emptied(old):
+    """Whether `frame` takes the place of such a file: one that is empty, or begins as a plain picture does."""
+    return old == b'' or old.startswith(b'P2')
+
+
+def drawn_over(rnd, seed):
+    """OUT is a file with something in it: a picture takes the place of a picture, or of nothing, alone."""
+    cart, image = a_game(rnd)
+    put(SCRIPT, b'frame 00\n')
+    gbkeep('play', CART, SAVE, SCRIPT)
+    image = get(SAVE)
+    gone(OUT)
+    status, first, err = gbkeep('frame', CART, SAVE, OUT)
+    if status:
+        return          # a game whose generations are used up
+    picture = get(OUT)
+    for old in (b'', b'P2', b'P2\n1 1\n1\n0\n', picture + rnd.randbytes(99), b'P', b'p2\n', b'P5\n160 144\n3\n', b' P2', b'P1\n', image[:rnd.choice([1, 2, 512, len(image)])],
+                rnd.randbytes(rnd.choice([1, 2, 3, 512])), b'GBKPROOT', get(CART)[:rnd.choice([1, 2, 0x8000])]):
+        put(OUT, old)
+        put(SAVE, image)
+        got = gbkeep('frame', CART, SAVE, OUT)
+        if is_emptied(old):
+            if got[0] or got[2] or get(OUT) != picture:
+                differs('names', seed, 'OUT with %r is not drawn over: %r' % (old[:12], got))
+        elif got != (1, b'', line('file failed')) or get(OUT) != old or get(SAVE) != image:
+            differs('names', seed, 'OUT with %r: %r, and it has %r' % (old[:12], got, get(OUT)[:12]))
+    gone(OUT)
+
+
+WARNING = b'gbkeep: warning: other emulators write battery files of this name\n'
+
+
+def warned(rnd, seed):
+    """`new` warns of a name that other emulators take for their battery file, and makes the same file."""
+    rom = random_rom(rnd)
+    put(CART, rom)
+    files = []
+    for name in ('one', 'one.sav', 'two.srm', 'one.SAV', '.sav', 'sav', 'one.sav.x', 'one.sa', 'srm.', 'one..srm'):
+        path = os.path.join(ROOM, name)
+        gone(path)
+        status, out, err = gbkeep('new', CART, path)
+        if (status, out, err) != (0, b'begun 0\n', WARNING if name.endswith(('.sav', '.srm')) else b''):
+            differs('names', seed, 'new of %s: %r' % (name, (status, out, err)))
+        files.append(get(path))
+        gone(path)
+    if len(set(files)) != 1:
+        differs('names', seed, 'new makes another file for another name')
 
 
 def names(rnd, seed):
@@ -637,6 +720,8 @@ def names(rnd, seed):
             if get(CART) != rom:
                 return differs('names', seed, 'CART is lost by OUT %s' % path)
     gone(soft), gone(hard)
+    drawn_over(rnd, seed)
+    warned(rnd, seed)
 
 
 def closed(rnd, seed):

@@ -21,9 +21,13 @@ HasReadMore MoreRead old new since = length old < length new
 HasReadMore NoMore old new since = (new ≡ old) × IsAtEnd since
 HasReadMore MoreFailed old new since = new ≡ old
 
--- a whole line is there or more than `most` bytes, or there is no newline
+-- a whole line is there, or more than `most` bytes
+abbrev pub IsLineThere : (most : ℕ) → (unread : List ℕ) → Type 0
+IsLineThere most unread = (most < length unread) ⊎ (position_or_len (λ byte. byte == 10) unread < length unread)
+
+-- so it is, or there is no newline
 abbrev pub IsFilled : Filled → (most : ℕ) → (unread : List ℕ) → Option (List ℕ) → Type 0
-IsFilled LineThere most unread since = (most < length unread) ⊎ (position_or_len (λ byte. byte == 10) unread < length unread)
+IsFilled LineThere most unread since = IsLineThere most unread
 IsFilled EndMet most unread since = (position_or_len (λ byte. byte == 10) unread ≡ length unread) × IsAtEnd since
 IsFilled FillFailed most unread since = position_or_len (λ byte. byte == 10) unread ≡ length unread
 

@@ -2,7 +2,7 @@
 ghost use Rattle.std.specs.Prelude.{◌≡◌, ◌≤◌, ◌<◌, ◌==◌, [], length, drop};
 ghost use Rattle.std.specs.List.{position, position_or_len};
 ghost use Rattle.std.specs.Io.KnownBytes.{Consumes};
-ghost use Rattle.input_lines.specs.Reading.{left_of, HasReadMore, IsFilled};
+ghost use Rattle.input_lines.specs.Reading.{left_of, HasReadMore, IsFilled, IsLineThere};
 
 use arrayvec::ArrayVec;
 use std::io::Read;
@@ -66,12 +66,13 @@ pub(crate) fn read_more<R: Read>(unread: &mut Unread, input: &mut R) -> More
 }
 
 /// Reads until a whole line is there, or more than `most` bytes, the most that a line may have. Up
-/// to 896 bytes are read at once, and nothing is read if that much is there from the start. What was
+/// to 896 bytes are read at once, and nothing is read if that much is there at first. What was
 /// read stays in `unread`, also where the input ends or fails.
 pub fn fill<R: Read>(unread: &mut Unread, input: &mut R, most: usize) -> Filled
     requires { most ≤ 128 }
     ensures left { Consumes (left_of unread.old.items (R.remaining input.old)) (left_of unread.new.items (R.remaining input.new)) [] }
     ensures filled { IsFilled result most unread.new.items (R.remaining input.new) }
+    ensures nothing { IsLineThere most unread.old.items → (unread.new ≡ unread.old) × (input.new ≡ input.old) }
 {
     'filling: while unread.len() <= most && line_length(unread.as_slice()) == unread.len() {
         match read_more(unread, input) {

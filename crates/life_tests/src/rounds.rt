@@ -44,6 +44,21 @@ fn a_round_with_no_calls_does_nothing(rt: HostRuntime) {
     same!(rt; ends(&rt, rt.alloc(), &FIVE_SAVED, 0), (end, 0));
 }
 
+/// A resume makes 161 calls, and a save two more: with one call less its sync is not made.
+#[test]
+fn a_round_has_exactly_its_calls(rt: HostRuntime) {
+    let whole = RoundEnd {
+        resumed: Some(0),
+        saved: 5,
+    };
+    same!(rt; ends(&rt, rt.alloc(), &FIVE_SAVED, 163), (whole, 5));
+    let cut = RoundEnd {
+        resumed: Some(0),
+        saved: 0,
+    };
+    same!(rt; ends(&rt, rt.alloc(), &FIVE_SAVED, 162), (cut, 0));
+}
+
 /// Saves 40 alternating frames, and then 80 more.
 fn two_saves(alloc: Global) -> Result<Vec<Move>, Fail> {
     let mut moves = Vec::new(alloc);

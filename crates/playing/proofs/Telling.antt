@@ -1,12 +1,14 @@
 -- A report that is cut short, and why.
-use Rattle.std.proofs.Common.{◌≡◌, ℕ, ◌≤◌, List, [], ◌∷◌, ◌++◌, Option, None, Some, take, refl, sym, ap, ◌∙◌, subst, append_assoc, arith}
+use Rattle.std.proofs.Common.{◌≡◌, ◌⊎◌, inl, inr, ⊎_elim, ℕ, ◌≤◌, List, [], ◌∷◌, ◌++◌, Option, None, Some, take, refl, sym, ap, ◌∙◌, subst, append_assoc, arith}
 use Rattle.std.specs.List.{All}
 use Rattle.std.specs.Io.KnownBytes.{Appends, Keeps}
 use Rattle.std.proofs.lemmas.List.Elements.{All-nil, All-append, All-weaker}
 use Rattle.exact_text.specs.Written.{AppendsProperPrefix}
 use Rattle.exact_text.proofs.Writes.{appends_nothing, appends_twice}
 use Rattle.session.specs.declared.error.SessionError.{SessionError}
-use Rattle.session.specs.declared.error.SessionError.TheVariants.{Output}
+use Rattle.session.specs.declared.error.SessionError.TheVariants.{Memory, Output}
+use Rattle.sector_device.specs.DiskState.{DiskState}
+use Rattle.playing.specs.Played.{IsAsItWas}
 use Rattle.playing.specs.Report.{Line, texts, IsPart, HasTold}
 use Rattle.playing.proofs.ReportLaws.{texts_append}
 
@@ -79,3 +81,8 @@ told_nothing why saved lines old other = record {
 pub keeps_same : (a : Option (List ℕ)) → Keeps a a
 keeps_same None = tt
 keeps_same (Some bytes) = refl
+
+-- a device of which no call was made is as it was
+pub memory_at : {D : Type 0} (disk : D → DiskState) {why : SessionError} {old now : D} {P : Type 0} → (why ≡ Memory → (now ≡ old) ⊎ P) → why ≡ Memory → IsAsItWas (disk old) (disk now) ⊎ P
+memory_at disk memory is =
+    ⊎_elim (λ same. inl (ap (λ d. (disk d).sectors) same, ap (λ d. (disk d).moment) same, ap (λ d. (disk d).faults) same)) (λ other. inr other) (memory is)

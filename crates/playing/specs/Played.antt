@@ -13,7 +13,7 @@ use Rattle.session.specs.Calls.{CanBeTakenUp, IsAtRest, StandsAsBefore}
 use Rattle.session.specs.Found.{IsResumeCause}
 use Rattle.session.specs.Inputs.{inputs_of}
 use Rattle.session.specs.declared.error.SessionError.{SessionError}
-use Rattle.session.specs.declared.error.SessionError.TheVariants.{Device, GenerationsUsedUp, CountFull, Output}
+use Rattle.session.specs.declared.error.SessionError.TheVariants.{Memory, Device, GenerationsUsedUp, CountFull, Output}
 use Rattle.session.specs.Stands.{Position, stands}
 use Rattle.playing.specs.Report.{inputs_of_moves, report_lines, HasTold}
 
@@ -73,6 +73,10 @@ pub record HasReached (rom : List ℕ) (old : DiskState) (count : ℕ) (machine 
 
 -- ---- a play that is refused
 
+-- no call was made of the device: reads give the same, no time passed, and no call failed
+abbrev pub IsAsItWas : (old now : DiskState) → Type 0
+IsAsItWas old now = (now.sectors ≡ old.sectors) × (now.moment ≡ old.moment) × (now.faults ≡ old.faults)
+
 -- It was not taken up.
 pub record IsNotTakenUp (rom : List ℕ) (old now : DiskState) (why : SessionError) (before since : Option (List ℕ)) : Type 0 where
   -- the first reason that holds
@@ -83,6 +87,8 @@ pub record IsNotTakenUp (rom : List ℕ) (old now : DiskState) (why : SessionErr
   pub images : old.honest → HoldsSince old now (StandsAsBefore rom old)
   -- and unless a call failed it is one that stood before
   pub untouched : (why ≡ Device) ⊎ (old.honest → HoldsSince old now old.image)
+  -- where memory was refused, no call was made, or no other reason holds
+  pub memory : why ≡ Memory → IsAsItWas old now ⊎ (old.honest → CanBeTakenUp rom old)
   -- where a call failed, nothing was written, or no other reason holds
   pub failed : why ≡ Device → old.honest → HasLooked old now ⊎ CanBeTakenUp rom old
 

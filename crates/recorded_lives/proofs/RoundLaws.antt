@@ -2,6 +2,7 @@
 use Rattle.std.proofs.Common.{◌≡◌, ◌⊎◌, inl, inr, ⊎_elim, ℕ, ◌+◌, ◌-◌, ◌≤◌, List, [], ◌∷◌, ◌++◌, length, take, drop, Option, Some, Bool, true, false, refl, sym, ap, ◌∙◌, subst, arith, length-append, length-drop, append-nil, append_assoc}
 use Rattle.std.proofs.Math.Seq.{take-append-add}
 use Rattle.std.proofs.lemmas.List.{length-map, take_all, take-append-drop}
+use Rattle.std.proofs.lemmas.List.Elements.{All-nil}
 use Rattle.std.specs.Io.KnownBytes.{Keeps}
 use Rattle.sha2.specs.Sha256.{sha256}
 use Rattle.machine.specs.Machine.{MachineState, start, after}
@@ -20,7 +21,7 @@ use Rattle.session.specs.declared.error.SessionError.TheVariants.{Device}
 use Rattle.playing.specs.Played.{Reaches}
 use Rattle.playing.specs.Report.{Line, texts, IsPart}
 use Rattle.input_lines.specs.Newlines.{joined}
-use Rattle.streaming.specs.Orders.{orders_of}
+use Rattle.streaming.specs.Orders.{orders_of, IsRight}
 use Rattle.input_lines.specs.Reading.{ReadsLines}
 use Rattle.streaming.specs.Reading.{ReadsTo}
 use Rattle.streaming.specs.Answers.{inputs_of_orders, stream_lines}
@@ -130,6 +131,7 @@ module _ (rom : List ℕ) (save recording now_save now_recording : MemoryState) 
         round = record {
           unread = text;
           lines_are = inl refl;
+          right = All-nil IsRight;
           untold = stream_lines (end_of rom first.recorded) [];
           told_are = refl;
           report_is = refl;
@@ -250,6 +252,7 @@ module _ (rom : List ℕ) (save recording now_save now_recording : MemoryState) 
               round = record {
                 unread = read.rest;
                 lines_are = read.begins_so;
+                right = by.right;
                 untold = [];
                 told_are = sym (append-nil told);
                 report_is = by.answered ∙ ap (λ (p : Position). texts (stream_lines p orders)) (behind_is by.at by.more taken);
@@ -323,6 +326,7 @@ module _ (rom : List ℕ) (save recording now_save now_recording : MemoryState) 
                 round = record {
                   unread = by.unread ++ unread;
                   lines_are = begins by.lines by.unread text unread by.read;
+                  right = by.right;
                   untold = untold;
                   told_are = ap (λ (p : Position). stream_lines p orders) (sym (behind_is by.at by.more taken)) ∙ by.told.lines_are;
                   report_is = refl;

@@ -5,7 +5,7 @@ use Rattle.machine.specs.declared.input.Input.{Input}
 use Rattle.session.specs.Stands.{Position}
 use Rattle.playing.specs.Report.{Line, texts}
 use Rattle.input_lines.specs.Newlines.{joined}
-use Rattle.streaming.specs.Orders.{orders_of}
+use Rattle.streaming.specs.Orders.{orders_of, IsRight}
 use Rattle.streaming.specs.Answers.{inputs_of_orders, stream_lines}
 
 -- what both files hold: the position that the SAVE stands for, and the inputs that are recorded
@@ -59,6 +59,8 @@ pub record IsWhole (round : Played) (unread : List ℕ) (untold : List Line) (la
 pub record IsRound (rom : List ℕ) (round : Played) (first last : Files) : Type 0 where
   pub unread : List ℕ
   pub lines_are : Begins round.lines unread round.text
+  -- none of them is wrong
+  pub right : All IsRight round.lines
   -- it told the first of what a stream of these lines tells that goes on after all that is recorded
   pub untold : List Line
   pub told_are : stream_lines (end_of rom first.recorded) (orders_of round.lines) ≡ round.told ++ untold

@@ -3,7 +3,8 @@ ghost use Rattle.std.specs.Prelude.{◌≡◌, ◌+◌, ◌∷◌, [], List, ℕ
 ghost use Rattle.machine.specs.declared.input.Input.{Input as GivenInput};
 ghost use Rattle.sector_device.specs.Runs.{HoldsSince};
 ghost use Rattle.recording.specs.Accessors.{device_of as device_of_recording, is_broken as is_broken_recording};
-ghost use Rattle.session.specs.Accessors.{device_of, pending_of, acknowledged_of, is_broken};
+ghost use Rattle.recording.specs.declared.fault.RecordingFault.TheVariants.{Full};
+ghost use Rattle.session.specs.Accessors.{device_of, pending_of, acknowledged_of, is_broken, IsUnchanged};
 ghost use Rattle.script.specs.declared.moves.Move.TheVariants.{Save};
 ghost use Rattle.streaming.specs.declared.order.Order.TheVariants.{Make};
 ghost use Rattle.replaying.specs.Agreeing.{Agrees};
@@ -19,11 +20,10 @@ use session::{Session, SessionError};
 use std::io::Write;
 
 /// Writes what is unsaved to the recording, and only when that is synced saves the session. The
-/// answer is the count of all inputs, which both devices then have. With nothing unsaved the body makes
-/// no device call; no clause says so.
+/// answer is the count of all inputs, which both devices then have. With nothing unsaved it makes no
+/// device call.
 ///
-/// Refusals: `Recording` with `Full`, at which the body writes nothing (no clause says so), or `Device`;
-/// then `Session` with `GenerationsUsedUp` or `Device`: each image of the recording then has at least
+/// Refusals: `Recording` with `Full`, with no device call made, or `Device`; then `Session` with `GenerationsUsedUp` or `Device`: each image of the recording then has at least
 /// the inputs that any image of the SAVE stands for.
 pub fn save_both<D: SectorDevice, E: SectorDevice>(
     session: &mut Session<D>,
@@ -40,6 +40,9 @@ pub fn save_both<D: SectorDevice, E: SectorDevice>(
     ensures halts { IfErr result (λ why. Halts
         (game (D.disk (device_of session.old)) (E.disk (device_of_recording recording.old)) session.old)
         (game (D.disk (device_of session.new)) (E.disk (device_of_recording recording.new)) session.new) [] why) }
+    ensures nothing { pending_of session.old ≡ [] → (recording.new ≡ recording.old) × IsUnchanged session.old session.new }
+    ensures full { IfErr result (λ why. why ≡ RecordError.Recording Full →
+        (recording.new ≡ recording.old) × (session.new ≡ session.old)) }
     ensures no_output { IfErr result (λ why. ¬ (why ≡ RecordError.Session SessionError.Output)) }
 
     // At each moment: first the recording alone moves, then the SAVE alone.

@@ -91,6 +91,26 @@ fn what_only_the_recording_has_is_taken_up(rt: HostRuntime) {
     );
 }
 
+/// Of the SAVE a resume makes 161 calls, and a save two more: with one call less its sync is not made.
+#[test]
+fn a_round_has_exactly_its_calls_of_the_save(rt: HostRuntime) {
+    let alloc = rt.alloc();
+    let cartridge = cartridge_of(alloc, b'A').or_stop(&rt);
+    for (calls, report, whole, count) in [
+        (162, b"resumed 0\n".as_slice(), false, 0),
+        (163, b"resumed 0\nsaved 1\n".as_slice(), true, 1),
+    ] {
+        lives_as(
+            &rt,
+            alloc,
+            &cartridge,
+            &[(b"seconds 3\n".as_slice(), calls, 1000, NONE)],
+            &[(report, whole)],
+            (count, 1),
+        );
+    }
+}
+
 /// The recording's device gets so many calls up to the sync of a first save.
 const CALLS_TO_THE_SYNC: u64 = 11;
 

@@ -7,3 +7,4 @@ pub mod Looking
 pub mod ReadingBack
 pub mod Replayed
 pub mod Verdicts
+mod NewFiles

@@ -1,11 +1,17 @@
--- The law of scripts, which a public function states.
-use Rattle.std.specs.Prelude.{◌≡◌, ◌<◌, ◌^◌, ℕ, List, Ok}
+-- Laws of scripts and of new files, which public functions state.
+use Rattle.std.specs.Prelude.{◌≡◌, ◌<◌, ◌^◌, ℕ, List, [], Ok, Some}
 use Rattle.std.specs.List.{All}
+use Rattle.sha2.specs.Sha256.{sha256}
+use Rattle.machine.specs.Machine.{start}
 use Rattle.machine.specs.declared.input.Input.{Input}
 use Rattle.machine.specs.declared.input.Input.TheVariants.{Frame, Seconds}
 use Rattle.script.specs.Script.{lines_of, moves_from}
 use Rattle.script.specs.declared.moves.Move.{Move}
+use Rattle.recording.specs.Recorded.{recorded}
+use Rattle.log_format.specs.Content.{content}
+use Rattle.session.specs.Stands.{stands}
 use Rattle.playing.specs.Report.{inputs_of_moves}
+use Rattle.replaying.specs.Agreeing.{Agrees}
 use Rattle.replaying.specs.Script.{script_of}
 
 -- its buttons are a byte, its seconds a `u32`
@@ -17,3 +23,9 @@ HasWidth (Seconds seconds) = seconds < 2 ^ 32
 abbrev pub TheScriptGivesTheInputsBack : Type 0
 TheScriptGivesTheInputsBack =
     (inputs : List Input) → All HasWidth inputs → (moves : List Move) × (moves_from 1 (lines_of (script_of inputs)) ≡ Ok moves) × (inputs_of_moves moves ≡ inputs)
+
+-- an image that stands for a new game, with the machine at power-on, and an image of an empty recording agree
+abbrev pub NewFilesAgree : Type 0
+NewFilesAgree =
+    (rom : List ℕ) (save recording : List (List ℕ)) → stands rom (content save) ≡ Some (record { count = 0; machine = start rom })
+    → recorded (sha256 rom) recording ≡ Some [] → Agrees rom save recording

@@ -14,6 +14,6 @@ mod verifying;
 mod writing;
 
 pub use error::{VerifyError, WriteRecordedError};
-pub use laws::the_script_gives_the_inputs_back;
+pub use laws::{new_files_agree, the_script_gives_the_inputs_back};
 pub use verifying::{Limits, Verified, verify};
 pub use writing::write_recorded;

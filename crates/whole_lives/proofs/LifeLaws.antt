@@ -1,5 +1,5 @@
 -- Lives, and one round more.
-use Rattle.std.proofs.Common.{◌≡◌, ℕ, zero, suc, ◌+◌, ◌<◌, ◌≤◌, List, [], ◌∷◌, ◌++◌, length, take, get_or, Option, Some, None, refl, sym, ap, ◌∙◌, subst, arith, length-append}
+use Rattle.std.proofs.Common.{◌≡◌, ◌⊎◌, inl, inr, ⊎_elim, ℕ, zero, suc, ◌+◌, ◌<◌, ◌≤◌, List, [], ◌∷◌, ◌++◌, length, take, get_or, Option, Some, None, refl, sym, ap, ◌∙◌, subst, arith, length-append}
 use Rattle.std.specs.List.{All}
 use Rattle.std.specs.Prelude.{slice_get}
 use Rattle.std.proofs.Math.Seq.{take-suc}
@@ -19,7 +19,7 @@ use Rattle.session.proofs.StandsLaws.{after_append, after_none}
 use Rattle.whole_lives.proofs.RoundLaws.{stood_before, stands_here}
 use Rattle.whole_lives.specs.Lives.{inputs_of_round, IsRoundBy, IsRound, IsLife, HasLived, LeavesLife, LeavesSomeLife}
 use Rattle.whole_lives.specs.Laws.{survivors_of, survivors, IsTakenUpFrom, NeverFalls, NoLifeLosesWhatWasSaved}
-use Rattle.whole_lives.specs.Refusals.{IsFresh, IsLast, IsLifeStop}
+use Rattle.whole_lives.specs.Refusals.{IsFresh, IsLast, IsLifeStop, IsStanding, IsOutOfMemory}
 use Rattle.whole_lives.specs.Rounds.{LeavesRound, IsRoundRefusal}
 use Rattle.whole_lives.specs.declared.rounds.Round.{Round}
 use Rattle.whole_lives.specs.declared.rounds.RoundEnd.{RoundEnd}
@@ -122,6 +122,17 @@ life_untaken rom old now rounds left Output refusal not = refusal
 
 pub resume_not_full : (rom : List ℕ) (sectors : List (List ℕ)) (why : SessionError) → IsResumeCause rom (generation_in sectors) (content sectors) why → why ≡ CountFull → ⊥
 resume_not_full rom sectors why cause is = subst (λ (w : SessionError). IsResumeCause rom (generation_in sectors) (content sectors) w) is cause
+
+-- what was recorded before these rounds, or nothing
+recorded_at : (rounds : List Round) (first last : MemoryState) → IsLast rounds first last → (last.recorded ≡ first.recorded) ⊎ (last.recorded ≡ [])
+recorded_at [] first last is = inl (ap (λ (m : MemoryState). m.recorded) is)
+recorded_at (round ∷ rounds) first last is = inr is.recorded
+
+-- memory was refused behind these rounds
+pub out_of_memory : (rom : List ℕ) (rounds : List Round) (first last left : MemoryState) → IsLast rounds first last → IsOutOfMemory rom last left → IsOutOfMemory rom first left
+out_of_memory rom rounds first last left is (inl same) =
+    ⊎_elim (λ first_is. inl (same ∙ first_is)) (λ none. inr (inl (same ∙ none))) (recorded_at rounds first last is)
+out_of_memory rom rounds first last left is (inr rest) = inr rest
 
 -- ---- what is kept in a life
 

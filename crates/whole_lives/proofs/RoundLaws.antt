@@ -11,7 +11,7 @@ use Rattle.sector_device.specs.Runs.{HoldsSince}
 use Rattle.sector_device.specs.declared.memory.MemoryDevice.{MemoryDevice}
 use Rattle.log_format.specs.Content.{content, generation_in}
 use Rattle.input_entries.specs.declared.Entry.{Entry}
-use Rattle.session.specs.Calls.{StandsAsBefore, faults_after}
+use Rattle.session.specs.Calls.{CanBeTakenUp, StandsAsBefore, faults_after}
 use Rattle.session.specs.Stands.{Position, stands}
 use Rattle.session.specs.declared.error.SessionError.{SessionError}
 use Rattle.session.specs.declared.error.SessionError.TheVariants.{Memory, Device, NoSession, TooSmall, OtherCartridge, Damaged, GenerationsUsedUp, Broken, SaveFirst, CountFull, Output}
@@ -19,7 +19,7 @@ use Rattle.session.specs.Found.{IsResumeCause}
 use Rattle.playing.specs.Played.{IsPlayed, Stopped, IsStop}
 use Rattle.playing.proofs.PlayLaws.{reaches_here}
 use Rattle.whole_lives.specs.Lives.{StandsFor, EachStands}
-use Rattle.whole_lives.specs.Refusals.{IsSoundStop, CountsLifeFaults}
+use Rattle.whole_lives.specs.Refusals.{IsStanding, IsSoundStop, CountsLifeFaults}
 use Rattle.whole_lives.specs.Rounds.{Leaves, LeavesRound, IsRoundRefusal}
 use Rattle.whole_lives.specs.declared.rounds.RoundEnd.{RoundEnd}
 
@@ -228,3 +228,26 @@ moves_sound_stop (Damaged d) all now other stop = stop
 moves_sound_stop Broken all now other stop = stop
 moves_sound_stop SaveFirst all now other stop = stop
 moves_sound_stop Output all now other stop = other refl
+
+-- ---- memory
+
+-- where memory was refused as a game was taken up: nothing was recorded, or what is left stands for a game
+pub no_memory_to_resume : (rom : List ℕ) (old left : MemoryDevice) (why : SessionError) → why ≡ Memory
+    → (why ≡ Memory → (left ≡ old) ⊎ ((memory_disk (memory old)).honest → CanBeTakenUp rom (memory_disk (memory old))))
+    → (why ≡ Device) ⊎ ((memory_disk (memory old)).honest → (memory_disk (memory left)).sectors ≡ (memory_disk (memory old)).sectors)
+    → ((memory left).recorded ≡ (memory old).recorded) ⊎ IsStanding rom (memory left)
+no_memory_to_resume rom old left why is found kept =
+    let stays : (memory_disk (memory left)).sectors ≡ (memory_disk (memory old)).sectors =
+    ⊎_elim (λ (device : why ≡ Device). let no : Device ≡ Memory = sym device ∙ is in absurd (cc)) (λ same. same tt) kept in
+    ⊎_elim
+    (λ (same : left ≡ old). inl (ap (λ (d : MemoryDevice). (memory d).recorded) same))
+    (λ can. inr ((can tt).from, ap (λ (s : List (List ℕ)). stands rom (content s)) stays ∙ (can tt).stood))
+    (found is)
+
+-- the same device
+pub memory_moved : (rom : List ℕ) (first old new : MemoryDevice) → new ≡ old → ((memory old).recorded ≡ (memory first).recorded) ⊎ IsStanding rom (memory old)
+    → ((memory new).recorded ≡ (memory first).recorded) ⊎ IsStanding rom (memory new)
+memory_moved rom first old new same held = subst (λ (d : MemoryDevice). ((memory d).recorded ≡ (memory first).recorded) ⊎ IsStanding rom (memory d)) (sym same) held
+
+pub no_memory_stops_moves : (why : SessionError) (all : ℕ) (now : DiskState) → IsStop why all now → why ≡ Memory → ⊥
+no_memory_stops_moves why all now stop is = subst (λ (w : SessionError). IsStop w all now) is stop

@@ -1,5 +1,5 @@
 -- Why a life is refused.
-use Rattle.std.specs.Prelude.{◌≡◌, ◌⊎◌, ◌≤◌, ◌<◌, ◌+◌, ◌-◌, ◌^◌, ℕ, List, [], ◌∷◌, length, take, slice_get, false, Some, None, ⊤}
+use Rattle.std.specs.Prelude.{◌≡◌, ◌⊎◌, ◌≤◌, ◌<◌, ◌+◌, ◌-◌, ◌^◌, ℕ, List, [], ◌∷◌, length, take, slice_get, false, true, Some, None, ⊤}
 use Rattle.sector_device.specs.DiskState.{DiskState, next_count}
 use Rattle.sector_device.specs.Looking.{HasLooked}
 use Rattle.sector_device.specs.Memory.{MemoryState, memory_disk}
@@ -7,7 +7,7 @@ use Rattle.sector_device.specs.Runs.{HoldsSince}
 use Rattle.log_format.specs.Content.{content, generation_in}
 use Rattle.session.specs.Calls.{CanBeTakenUp, StandsAsBefore}
 use Rattle.session.specs.Found.{IsResumeCause}
-use Rattle.session.specs.Stands.{Position}
+use Rattle.session.specs.Stands.{Position, stands}
 use Rattle.session.specs.declared.error.SessionError.{SessionError}
 use Rattle.session.specs.declared.error.SessionError.TheVariants.{Memory, Device, NoSession, TooSmall, OtherCartridge, Damaged, GenerationsUsedUp, CountFull}
 use Rattle.whole_lives.specs.Lives.{HasLived, LeavesLife, inputs_of_round}
@@ -26,7 +26,7 @@ pub record IsUncountable (rom : List ℕ) (old : DiskState) (rounds : List Round
   pub past : 2 ^ 64 ≤ from.count + length (inputs_of_round round)
 
 -- Why a life ends before its rounds do, by the sectors that reads then give: what refuses the game that they hold, generations that are
--- used up, or inputs that can't be counted. Nothing is said of running out of memory, and of a failed call that it is counted.
+-- used up, or inputs that can't be counted. Of running out of memory `IsOutOfMemory` speaks, and of a failed call that it is counted.
 abbrev pub IsLifeStop : (rom : List ℕ) → (old : DiskState) → List Round → (left : List (List ℕ)) → SessionError → Type 0
 IsLifeStop rom old rounds left Memory = ⊤
 IsLifeStop rom old rounds left Device = ⊤
@@ -37,6 +37,15 @@ IsLifeStop rom old rounds left (Damaged damage) = IsResumeCause rom (generation_
 IsLifeStop rom old rounds left GenerationsUsedUp = generation_in left ≡ 2 ^ 64 - 1
 IsLifeStop rom old rounds left CountFull = IsUncountable rom old rounds
 IsLifeStop rom old rounds left why = ⊥
+
+-- what reads give stands for a position
+abbrev pub IsStanding : (rom : List ℕ) → MemoryState → Type 0
+IsStanding rom now = (position : Position) × (stands rom (content (memory_disk now).sectors) ≡ Some position)
+
+-- Where memory was refused: nothing was recorded since the device was given, or since the last cut; or a fuse had failed a call; or what
+-- is left stands for a game.
+abbrev pub IsOutOfMemory : (rom : List ℕ) → (first left : MemoryState) → Type 0
+IsOutOfMemory rom first left = (left.recorded ≡ first.recorded) ⊎ (left.recorded ≡ []) ⊎ (left.blown ≡ true) ⊎ IsStanding rom left
 
 -- where each image stands for a position, nothing that is found refuses it
 abbrev pub IsSoundStop : SessionError → Type 0

@@ -5,7 +5,7 @@ ghost use Rattle.sector_device.specs.MemoryDevice.{memory};
 ghost use Rattle.session.specs.Calls.{IsAtRest};
 ghost use Rattle.session.specs.Accessors.{device_of, machine_of, rom_of, pending_of, acknowledged_of, is_broken};
 ghost use Rattle.whole_lives.specs.Lives.{HasLived, LeavesLife, LeavesSomeLife, EachStands};
-ghost use Rattle.whole_lives.specs.Refusals.{IsByNoFuse, IsLast, IsLifeStop, IsSoundStop, CountsLifeFaults};
+ghost use Rattle.whole_lives.specs.Refusals.{IsByNoFuse, IsLast, IsLifeStop, IsOutOfMemory, IsSoundStop, CountsLifeFaults};
 
 use crate::rounds::{Lived, Round, RoundEnd, one_round};
 use cartridge::Cartridge;
@@ -26,6 +26,8 @@ fn live_rounds(
         LeavesSomeLife cartridge.now (memory_disk (memory device)) (memory_disk (memory refused.device)) rounds.now) }
     ensures cause { IfErr result (λ refused.
         IsLifeStop cartridge.now (memory_disk (memory device)) rounds.now (memory_disk (memory refused.device)).sectors refused.why) }
+    ensures memory { IfErr result (λ refused. refused.why ≡ SessionError.Memory →
+        IsOutOfMemory cartridge.now (memory device) (memory refused.device)) }
     ensures stand { IfOk result (λ r. EachStands cartridge.now (memory_disk (memory device)) → EachStands cartridge.now (memory_disk (memory r.0))) }
     ensures sound { IfErr result (λ refused. EachStands cartridge.now (memory_disk (memory device)) → IsSoundStop refused.why) }
     ensures kept { IfErr result (λ refused. EachStands cartridge.now (memory_disk (memory device)) →
@@ -86,6 +88,8 @@ pub fn live(
         LeavesSomeLife cartridge.now (memory_disk (memory device)) (memory_disk (memory refused.device)) rounds.now) }
     ensures cause { IfErr result (λ refused.
         IsLifeStop cartridge.now (memory_disk (memory device)) rounds.now (memory_disk (memory refused.device)).sectors refused.why) }
+    ensures memory { IfErr result (λ refused. refused.why ≡ SessionError.Memory →
+        IsOutOfMemory cartridge.now (memory device) (memory refused.device)) }
     ensures sound { IfErr result (λ refused. EachStands cartridge.now (memory_disk (memory device)) → IsSoundStop refused.why) }
     ensures kept { IfErr result (λ refused. EachStands cartridge.now (memory_disk (memory device)) →
         EachStands cartridge.now (memory_disk (memory refused.device))) }

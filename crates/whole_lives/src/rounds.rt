@@ -4,7 +4,7 @@ ghost use Rattle.playing.specs.Report.{inputs_of_moves};
 ghost use Rattle.sector_device.specs.Memory.{memory_disk, image_of};
 ghost use Rattle.sector_device.specs.MemoryDevice.{memory, IsNewMemory};
 ghost use Rattle.whole_lives.specs.Lives.{inputs_of_round, EachStands};
-ghost use Rattle.whole_lives.specs.Refusals.{IsFresh, IsSoundStop, CountsLifeFaults};
+ghost use Rattle.whole_lives.specs.Refusals.{IsFresh, IsStanding, IsOutOfMemory, IsSoundStop, CountsLifeFaults};
 ghost use Rattle.whole_lives.specs.Rounds.{LeavesRound, IsCutRound, IsRoundRefusal};
 ghost use Rattle.whole_lives.specs.declared.rounds.RoundEnd.{RoundEnd};
 
@@ -86,6 +86,9 @@ fn play_until_blown(
     ensures cause { IfErr result (λ refused.
         IsRoundRefusal cartridge.now (memory_disk (memory device)) (inputs_of_moves moves.now) (memory_disk (memory refused.device)).sectors
         refused.why) }
+    ensures ended { IfOk result (λ r. ((memory r.0).blown ≡ true) ⊎ IsStanding cartridge.now (memory r.0)) }
+    ensures memory { IfErr result (λ refused. refused.why ≡ SessionError.Memory →
+        ((memory refused.device).recorded ≡ (memory device).recorded) ⊎ IsStanding cartridge.now (memory refused.device)) }
     ensures stand { IfOk result (λ r. EachStands cartridge.now (memory_disk (memory device)) → EachStands cartridge.now (memory_disk (memory r.0))) }
     ensures sound { IfErr result (λ refused. EachStands cartridge.now (memory_disk (memory device)) → IsSoundStop refused.why) }
     ensures kept { IfErr result (λ refused. EachStands cartridge.now (memory_disk (memory device)) →
@@ -154,6 +157,8 @@ pub(crate) fn one_round(
     ensures cause { IfErr result (λ refused.
         IsRoundRefusal cartridge.now (memory_disk (memory device)) (inputs_of_round round.now) (memory_disk (memory refused.device)).sectors
         refused.why) }
+    ensures memory { IfErr result (λ refused. refused.why ≡ SessionError.Memory →
+        IsOutOfMemory cartridge.now (memory device) (memory refused.device)) }
     ensures stand { IfOk result (λ r. EachStands cartridge.now (memory_disk (memory device)) → EachStands cartridge.now (memory_disk (memory r.0))) }
     ensures sound { IfErr result (λ refused. EachStands cartridge.now (memory_disk (memory device)) → IsSoundStop refused.why) }
     ensures kept { IfErr result (λ refused. EachStands cartridge.now (memory_disk (memory device)) →

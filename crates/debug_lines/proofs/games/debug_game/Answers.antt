@@ -6,7 +6,7 @@ use Rattle.session.specs.Stands.{Position}
 use Rattle.session.specs.Accessors.{acknowledged_of, device_of, machine_of}
 use Rattle.session.specs.declared.session.Counts.{Counts}
 use Rattle.session.proofs.Answering.{answered_otherwise}
-use Rattle.playing.proofs.Telling.{keeps_same}
+use Rattle.playing.proofs.Telling.{keeps_same, memory_at}
 use Rattle.debugging.specs.Debugged.{Exchange}
 use Rattle.debug_lines.specs.Debugging.{HasDebugged, IsDebugGameCause, faults_after_debug}
 use Rattle.debug_lines.proofs.Begun.{debugged_as, game_cause, lines_only, not_debugged_as, not_taken_up, taken_up}
@@ -46,7 +46,7 @@ returns-in-Err-resume-clause-cause g c =
     let refused = c.in-Err-resume.ensures in
     not_taken_up c.args.rom.items c.in-Ok.cartridge (g.D.SectorDevice.disk c.args.device) (g.D.SectorDevice.disk c.in-Err-resume.refused.device) c.in-Err-resume.refused.why
     (g.R.Read.remaining c.args.input.now) (g.W.Write.contents c.args.out.now) c.in-Ok.ensures.image (c.in-Ok.ensures.accepted.0 refl)
-    (record { cause = refused.cause; report = keeps_same (g.W.Write.contents c.args.out.now); images = refused.images; untouched = refused.untouched; failed = refused.failed })
+    (record { cause = refused.cause; report = keeps_same (g.W.Write.contents c.args.out.now); images = refused.images; untouched = refused.untouched; memory = memory_at (g.D.SectorDevice.disk) refused.memory; failed = refused.failed })
 
 pub returns-clause-answered : goal.returns-clause-answered
 returns-clause-answered g c =

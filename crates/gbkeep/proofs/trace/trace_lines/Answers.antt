@@ -13,7 +13,7 @@ use Rattle.sector_device.specs.DiskState.{HasAnswered}
 use Rattle.session.proofs.Answering.{answered_error, answered_otherwise, answered_refusal, answered_value}
 use Rattle.gbkeep.specs.Tracing.{faults_after_trace}
 use Rattle.gbkeep.proofs.Traces.{not_taken_up, text_only}
-use Rattle.playing.proofs.Telling.{keeps_same}
+use Rattle.playing.proofs.Telling.{keeps_same, memory_at}
 use Rattle.gbkeep.proofs.trace.trace_lines.Goals as goal
 
 pub returns-in-Ok-written-clause-traced : goal.returns-in-Ok-written-clause-traced
@@ -51,7 +51,7 @@ returns-in-Err-resume-clause-cause g c =
     let refused = c.in-Err-resume.ensures in
     not_taken_up c.args.rom.items c.in-Ok.cartridge c.args.count (g.D.SectorDevice.disk c.args.device) (g.D.SectorDevice.disk c.in-Err-resume.refused.device) c.in-Err-resume.refused.why
     (g.W.Write.contents c.args.out.now) c.in-Ok.ensures.image (c.in-Ok.ensures.accepted.0 refl)
-    (record { cause = refused.cause; report = keeps_same (g.W.Write.contents c.args.out.now); images = refused.images; untouched = refused.untouched; failed = refused.failed })
+    (record { cause = refused.cause; report = keeps_same (g.W.Write.contents c.args.out.now); images = refused.images; untouched = refused.untouched; memory = memory_at (g.D.SectorDevice.disk) refused.memory; failed = refused.failed })
 
 pub returns-in-Err-clause-answered : goal.returns-in-Err-clause-answered
 returns-in-Err-clause-answered g c = answered_refusal (λ n. refl)

@@ -9,7 +9,7 @@ use Rattle.session.proofs.Answering.{answered_both, answered_refused}
 use Rattle.session.proofs.Beginnings.{since_then}
 use Rattle.playing.specs.Played.{IsPlayed, IsStop, PlayImage, HasStopped}
 use Rattle.playing.specs.Report.{inputs_of_moves}
-use Rattle.playing.proofs.Telling.{keeps_same}
+use Rattle.playing.proofs.Telling.{keeps_same, memory_at}
 use Rattle.playing.proofs.PlayLaws.{begun_played, all_saved}
 use Rattle.playing.proofs.played.play.Goals as goal
 
@@ -44,7 +44,7 @@ returns-in-Ok-play_on-clause-images g c = λ honest.
 
 pub returns-in-Err-clause-refused : goal.returns-in-Err-clause-refused
 returns-in-Err-clause-refused g c =
-    inl (record { cause = c.in-Err.ensures.cause; report = keeps_same (g.W.Write.contents c.args.report.now); images = c.in-Err.ensures.images; untouched = c.in-Err.ensures.untouched; failed = c.in-Err.ensures.failed })
+    inl (record { cause = c.in-Err.ensures.cause; report = keeps_same (g.W.Write.contents c.args.report.now); images = c.in-Err.ensures.images; untouched = c.in-Err.ensures.untouched; memory = memory_at (g.D.SectorDevice.disk) c.in-Err.ensures.memory; failed = c.in-Err.ensures.failed })
 
 pub returns-in-Err-play_on-clause-refused : goal.returns-in-Err-play_on-clause-refused
 returns-in-Err-play_on-clause-refused g c =

@@ -2,7 +2,7 @@ use Rattle.std.proofs.Common.{Err, inl, inr, refl, sym, subst}
 use Rattle.sector_device.specs.DiskState.{HasAnswered}
 use Rattle.session.specs.Calls.{faults_after}
 use Rattle.session.specs.Accessors.{device_of}
-use Rattle.playing.proofs.Telling.{keeps_same}
+use Rattle.playing.proofs.Telling.{keeps_same, memory_at}
 use Rattle.playing.specs.Making.{place}
 use Rattle.streaming.specs.Obeying.{Streams}
 use Rattle.streaming.specs.Streamed.{HasStreamed, HasStopped, faults_after_stream}
@@ -14,7 +14,7 @@ use Rattle.streaming.proofs.streamed.stream.Goals as goal
 
 pub returns-in-Err-clause-refused : goal.returns-in-Err-clause-refused
 returns-in-Err-clause-refused g c =
-    inl (record { cause = c.in-Err.ensures.cause; report = keeps_same (g.W.Write.contents c.args.out.now); images = c.in-Err.ensures.images; untouched = c.in-Err.ensures.untouched; failed = c.in-Err.ensures.failed }, refl)
+    inl (record { cause = c.in-Err.ensures.cause; report = keeps_same (g.W.Write.contents c.args.out.now); images = c.in-Err.ensures.images; untouched = c.in-Err.ensures.untouched; memory = memory_at (g.D.SectorDevice.disk) c.in-Err.ensures.memory; failed = c.in-Err.ensures.failed }, refl)
 
 pub returns-in-Ok-Whole-clause-streamed : goal.returns-in-Ok-Whole-clause-streamed
 returns-in-Ok-Whole-clause-streamed g c =

@@ -8,7 +8,7 @@ use Rattle.whole_lives.specs.Refusals.{IsLast}
 use Rattle.whole_lives.specs.Rounds.{LeavesRound, IsRoundRefusal}
 use Rattle.whole_lives.specs.declared.rounds.Round.{Round}
 use Rattle.whole_lives.specs.declared.rounds.RoundEnd.{RoundEnd}
-use Rattle.whole_lives.proofs.LifeLaws.{known_behind, known_push, last_behind, lived_nothing, lived_next, life_refused}
+use Rattle.whole_lives.proofs.LifeLaws.{known_behind, known_push, last_behind, lived_nothing, lived_next, life_refused, out_of_memory}
 use Rattle.whole_lives.proofs.lives.live_rounds.Goals as goal
 
 pub returns-in_default-clause-left : goal.returns-in_default-clause-left
@@ -75,3 +75,8 @@ returns-in-Err-clause-cause c =
     let left = (memory_disk (memory c.in-Err.refused.device)).sectors in
     life_refused rom (memory_disk (memory c.args.device)) before rounds i (get_or rounds i c.round-item.result) c.loop-round.ends.items left c.in-Err.refused.why (slice_get-get_or rounds i c.round-item.result c.loop-round-test.true) c.loop-round.invariant.lived
     (subst (λ (round : Round). IsRoundRefusal rom before (inputs_of_round round) left c.in-Err.refused.why) c.round-item.is c.in-Err.ensures.cause)
+
+pub returns-in-Err-clause-memory : goal.returns-in-Err-clause-memory
+returns-in-Err-clause-memory c = λ memory_is.
+    out_of_memory c.args.cartridge.now (take c.loop-round.round-index c.args.rounds.now) (memory c.args.device) (memory c.loop-round.left) (memory c.in-Err.refused.device) c.loop-round.invariant.last
+    (c.in-Err.ensures.memory memory_is)

@@ -1,10 +1,11 @@
-use Rattle.std.proofs.Common.{List, sym, ap, ◌∙◌, subst}
+use Rattle.std.proofs.Common.{◌≡◌, ◌⊎◌, true, inl, inr, ⊎_elim, List, sym, ap, ◌∙◌, subst}
 use Rattle.script.specs.declared.moves.Move.{Move}
 use Rattle.sector_device.specs.Memory.{memory_disk, image_of}
 use Rattle.sector_device.specs.MemoryDevice.{memory}
 use Rattle.sector_device.specs.declared.memory.MemoryDevice.{MemoryDevice}
 use Rattle.playing.specs.Report.{inputs_of_moves}
 use Rattle.whole_lives.specs.Lives.{inputs_of_round}
+use Rattle.whole_lives.specs.Refusals.{IsOutOfMemory, IsStanding}
 use Rattle.whole_lives.specs.Rounds.{LeavesRound, IsRoundRefusal}
 use Rattle.whole_lives.proofs.RoundLaws.{round_fused, round_cut, cut_image, each_moved, each_fused, refusal_fused}
 use Rattle.whole_lives.proofs.rounds.one_round.Goals as goal
@@ -91,3 +92,13 @@ returns-in-Ok-cut-clause-fresh c = record {
   fails_in = ap (λ m. m.fails_in) c.in-Ok-cut.ensures.image;
   recorded = ap (λ m. m.recorded) c.in-Ok-cut.ensures.image;
 }
+
+pub returns-in-Err-clause-memory : goal.returns-in-Err-clause-memory
+returns-in-Err-clause-memory c = λ memory_is.
+    ⊎_elim (λ same. inl (same ∙ ap (λ m. m.recorded) c.with_fuse-device.ensures)) (λ stands. inr (inr (inr stands))) (c.in-Err.ensures.memory memory_is)
+
+pub returns-in-Err-cut-clause-memory : goal.returns-in-Err-cut-clause-memory
+returns-in-Err-cut-clause-memory c = λ memory_is.
+    let rom = c.args.cartridge.now in
+    subst (λ (d : MemoryDevice). IsOutOfMemory rom (memory c.args.device) (memory d)) (sym c.in-Err-cut.ensures.refused.1)
+    (⊎_elim (λ blown. inr (inr (inl blown))) (λ stands. inr (inr (inr stands))) c.in-Ok.ensures.ended)

@@ -11,11 +11,11 @@ use Rattle.session.proofs.Beginnings.{if_ok, if_err}
 use Rattle.playing.specs.Played.{IsPlayed}
 use Rattle.playing.specs.Report.{inputs_of_moves}
 use Rattle.playing.proofs.PlayLaws.{begun_played}
-use Rattle.whole_lives.specs.Refusals.{IsSoundStop, CountsLifeFaults}
+use Rattle.whole_lives.specs.Refusals.{IsStanding, IsSoundStop, CountsLifeFaults}
 use Rattle.whole_lives.specs.Rounds.{Leaves, LeavesRound, IsRoundRefusal}
 use Rattle.whole_lives.specs.declared.rounds.RoundEnd.{RoundEnd}
 use Rattle.whole_lives.proofs.CauseLaws.{sound_stop}
-use Rattle.whole_lives.proofs.RoundLaws.{round_missed, round_moved, round_ended, each_before, each_left, each_moved, leaves_played, leaves_stopped, least_after, counts_refusal, moves_refuse, resume_refuses, moves_sound_stop, stands_here, reads}
+use Rattle.whole_lives.proofs.RoundLaws.{round_missed, round_moved, round_ended, each_before, each_left, each_moved, leaves_played, leaves_stopped, least_after, counts_refusal, moves_refuse, resume_refuses, moves_sound_stop, no_memory_to_resume, memory_moved, no_memory_stops_moves, stands_here, reads}
 use Rattle.whole_lives.proofs.rounds.play_until_blown.Goals as goal
 
 -- ---- not taken up
@@ -87,6 +87,16 @@ returns-in-Ok-made-clause-stand c = λ each.
     let left : Leaves rom (memory_disk (memory (device_of now))) (acknowledged_of now) from inputs =
     leaves_played rom (memory_disk (memory (device_of now))) (acknowledged_of now) (pending_of now) (machine_of now) from inputs (c.in-Ok-made.ensures.made.going rom from [] begun).played in
     each_moved rom (device_of now) c.into_device-device.result c.into_device-device.ensures.device (each_left rom (memory_disk (memory (device_of now))) (acknowledged_of now) from inputs left)
+
+pub returns-in-Ok-made-clause-ended : goal.returns-in-Ok-made-clause-ended
+returns-in-Ok-made-clause-ended c =
+    let rom = c.args.cartridge.now in
+    let s = c.in-Ok.session in
+    let from : Position = record { count = acknowledged_of s; machine = machine_of s } in
+    let begun : IsPlayed rom (memory_disk (memory (device_of s))) (acknowledged_of s) (pending_of s) (machine_of s) from [] =
+    begun_played rom (memory_disk (memory (device_of s))) (acknowledged_of s) (pending_of s) (machine_of s) tt c.in-Ok.ensures.begun.2 c.in-Ok.ensures.begun.0 (c.in-Ok.ensures.rests tt) in
+    let played = (c.in-Ok-made.ensures.made.going rom from [] begun).played in
+    inr (subst (λ (d : MemoryDevice). IsStanding rom (memory d)) (sym c.into_device-device.ensures.device) (_, played.stands_is))
 
 -- ---- stopped
 
@@ -220,3 +230,23 @@ returns-in-Err-made-clause-kept c =
     leaves_stopped rom (memory_disk (memory (device_of s))) (memory_disk (memory (device_of now))) (acknowledged_of now) from inputs (c.in-Err-made.ensures.stopped.stopped rom from [] begun) in
     if_err c.ended_by-in-Err-made.result c.ended_by-in-Err-made.ensures.refused
     (λ r is each. each_moved rom (device_of now) r.device (is.0 ∙ c.into_device-device.ensures.device) (each_left rom (memory_disk (memory (device_of now))) (acknowledged_of now) from inputs left))
+
+pub returns-in-Err-clause-ended : goal.returns-in-Err-clause-ended
+returns-in-Err-clause-ended c = if_ok c.ended_by.result c.ended_by.ensures.ended (λ r is. inl (ap (λ (d : MemoryDevice). d.blown) is.0 ∙ is.3))
+
+pub returns-in-Err-made-clause-ended : goal.returns-in-Err-made-clause-ended
+returns-in-Err-made-clause-ended c =
+    if_ok c.ended_by-in-Err-made.result c.ended_by-in-Err-made.ensures.ended (λ r is. inl (ap (λ (d : MemoryDevice). d.blown) is.0 ∙ is.3))
+
+pub returns-in-Err-clause-memory : goal.returns-in-Err-clause-memory
+returns-in-Err-clause-memory c =
+    let rom = c.args.cartridge.now in
+    if_err c.ended_by.result c.ended_by.ensures.refused
+    (λ r is memory.
+    memory_moved rom c.args.device c.in-Err.refused.device r.device is.0
+    (no_memory_to_resume rom c.args.device c.in-Err.refused.device c.in-Err.refused.why (sym is.1 ∙ memory) c.in-Err.ensures.memory c.in-Err.ensures.kept))
+
+pub returns-in-Err-made-clause-memory : goal.returns-in-Err-made-clause-memory
+returns-in-Err-made-clause-memory c =
+    if_err c.ended_by-in-Err-made.result c.ended_by-in-Err-made.ensures.refused
+    (λ r is memory. absurd (no_memory_stops_moves c.in-Err-made.why _ _ c.in-Err-made.ensures.stopped.cause (sym is.1 ∙ memory)))
