@@ -6,8 +6,8 @@ SOURCES := crates.txt $(shell find crates -name out -prune -o -type f \( -name '
 
 help:
 	@echo 'To have it:'
-	@echo '  make build           proves the program and leaves it at bin/gbkeep, with a line a crate (from nothing: 20 minutes on two idle'
-	@echo '                       processors; 82 minutes, of 88 processor minutes, were seen on four busy ones)'
+	@echo '  make build           proves the program and leaves it at bin/gbkeep, with a line a crate (from nothing: about an hour of processor time,'
+	@echo '                       as many crates at once as there are processors and 2.5 GB of memory for each, or JOBS=N)'
 	@echo '  make demo            plays a minute of examples/demo and leaves bin/demo.gbkeep, bin/demo.pgm and bin/demo.png (a second)'
 	@echo '  make play            plays a cartridge in a window (CART=examples/demo/demo.gb SAVE=NAME.gbkeep; without SAVE, the game is kept in'
 	@echo '                       ~/.local/share/gbkeep; needs python3-pygame)'
@@ -38,9 +38,7 @@ run:
 	@cd $(PROGRAM) && $(RT) try -- $(ARGS)
 
 bin/gbkeep: $(SOURCES)
-	@RT=$(RT) python3 -B scripts/build.py
-	mkdir -p bin
-	cp $(PROGRAM)/out/gbkeep_program $@
+	@RT=$(RT) JOBS=$(JOBS) python3 -B scripts/build.py
 
 build: bin/gbkeep
 

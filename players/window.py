@@ -48,6 +48,9 @@ try:
     os.environ.setdefault('SDL_FRAMEBUFFER_ACCELERATION', '0')
     import pygame
 except ImportError:
+    if set(sys.argv[1:]) & {'-h', '--help'}:
+        print(__doc__)
+        sys.exit(0)
     sys.exit("window.py: pygame is missing: install Debian's package python3-pygame, and start it by that Python (/usr/bin/python3)")
 
 from window_keys import BUTTONS, Pads, WrongKeys, keys_of, lines_of

@@ -1,6 +1,6 @@
-mod Cut
-mod Record
-mod Calls
+pub mod Cut
+pub mod Record
+pub mod Calls
 mod Images
 mod Files
 pub mod Runs
