@@ -13,6 +13,8 @@ help:
 	@echo '                       ~/.local/share/gbkeep; needs python3-pygame)'
 	@echo '  make install         puts program, window, tools, man page and completion below PREFIX (PREFIX=$(PREFIX))'
 	@echo '  make libretro        leaves bin/gbkeep_libretro.so, a core for RetroArch and its kind (needs a C compiler and retroarch-dev)'
+	@echo '  make library         proves the library for C, and leaves bin/libgbkeep.a, bin/libgbkeep.so, bin/gbkeep.h and bin/gbkeep.pc (needs a C'
+	@echo '                       compiler)'
 	@echo '  make dist            leaves a tarball and Debian packages in dist (needs dpkg-deb)'
 	@echo '  make run             tries the program on a small ROM before any proof (a minute, each time; about 50 frames a second;'
 	@echo '                       ARGS="info data/rom.gb": on other words, over files of $(PROGRAM))'
@@ -29,6 +31,7 @@ help:
 	@echo '  make strace          compares each write and sync of the save file with a second writer (needs strace)'
 	@echo '  make memory          refuses each allocation in turn (20 seconds once both programs are built; needs a C compiler)'
 	@echo '  make test-window     plays the demo by real keys in a window of its own and kills it (two minutes; needs xvfb, xdotool, python3-pygame)'
+	@echo '  make test-library    plays by the library from C and from Python, under the sanitizers, and cuts it at each call (a minute)'
 	@echo '  make test-libretro   plays the demo by the core, kills it at each point, and gives it a program that answers garbage (two minutes; needs'
 	@echo '                       what make libretro needs, and a compiler with the sanitizers)'
 
@@ -116,6 +119,14 @@ bin/gbkeep_libretro.so: players/libretro/gbkeep_libretro.c players/libretro/faul
 
 libretro: bin/gbkeep_libretro.so
 
+library: bin/libgbkeep.so
+
+bin/libgbkeep.so: $(SOURCES) $(wildcard library/*) scripts/library.py players/faults.py
+	RT=$(RT) python3 -B scripts/library.py
+
+test-library: bin/gbkeep bin/libgbkeep.so
+	python3 -B library/test_library.py bin/gbkeep
+
 dist: bin/gbkeep
 	RT=$(RT) python3 -B scripts/dist.py
 
@@ -159,4 +170,4 @@ test:
 	python3 -B scripts/second_storage/refused_memory.py $(PROGRAM)/out/gbkeep_program crates/refused_memory/out/refused_memory
 	RT=$(RT) python3 -B scripts/dist.py passed $(PROGRAM)/out/gbkeep_program
 
-.PHONY: help build demo play install libretro dist run check edits test bench compare hostile fuzz strace memory test-window test-libretro
+.PHONY: help build demo play install libretro dist run check edits test bench compare hostile fuzz strace memory test-window test-libretro library test-library

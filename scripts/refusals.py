@@ -13,6 +13,8 @@ import sys
 from pathlib import Path
 
 PROGRAMS = {'bench', 'gbkeep_program', 'refused_memory'}
+# a call that answers what another one answers, and nothing else
+HANDS_ON = {('embedding', 'Game::input'): ('session', 'Session::input')}
 
 
 def is_library(crate):
@@ -147,6 +149,7 @@ class Sources:
         self.tests = {f'{path.stem}::{name}' for crate in self.crates if crate.endswith('_tests') for path, text in self.texts[crate].items()
                       for name in re.findall(r'#\[test\]\nfn (\w+)', text)}
         self.tests |= {f'program::{name}' for path in Path('scripts/program_tests').glob('test_*.py') for name in re.findall(r'^def test_(\w+)', path.read_text(), re.M)}
+        self.tests |= {f'library::{name}' for name in re.findall(r'^    def test_(\w+)', Path('library/test_library.py').read_text(), re.M)}
         parts = [parts_of(self.texts, crate) for crate in self.crates]
         enums = {name: variants for one, _ in parts for name, variants in one.items()}
         specs = {crate: ''.join(definitions_in(path.read_text()) for path in sorted((Path('crates') / crate / 'specs').glob('*.antt'))) for crate in self.crates}
@@ -185,7 +188,7 @@ def named(refusals):
 
 def wanted_of(key, known):
     """Which refusals a row has to name itself: those that are possible, or that the body names, but for those of the call that it points to."""
-    call = known.calls[key]
+    call = known.calls[HANDS_ON.get(key, key)]
     if key == ('whole_lives', 'live') or call.can is None and not call.order and not call.variants & HOLDS_OTHERS:
         return None
     wanted = (call.can if call.can is not None else set(call.order) or call.variants) - HOLDS_OTHERS

@@ -1,0 +1,3 @@
+pub mod MachineBox
+pub mod SessionBox
+pub mod Values

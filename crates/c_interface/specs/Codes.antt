@@ -1,0 +1,94 @@
+-- The numbers that refusals have in C.
+use Rattle.std.specs.Prelude.{◌≡◌, ℕ, List, ⊤, ◌⊎◌, Some}
+use Rattle.cartridge.specs.Accepted.{refusal_of}
+use Rattle.cartridge.specs.declared.error.CartError.{CartError}
+use Rattle.cartridge.specs.declared.error.CartError.TheVariants.{Length, Kind, RamCode, TooManyBanks}
+use Rattle.snapshot.specs.Legal.{IsLegalSnapshot}
+use Rattle.snapshot.specs.declared.error.SnapError.{SnapError}
+use Rattle.snapshot.specs.declared.error.SnapError.TheVariants.{SnapLength, Field, Memory as NoRoom}
+use Rattle.session.specs.declared.error.Damage.{Damage}
+use Rattle.session.specs.declared.error.Damage.TheVariants as damage
+use Rattle.session.specs.declared.error.SessionError.{SessionError}
+use Rattle.session.specs.declared.error.SessionError.TheVariants as session
+use Rattle.embedding.specs.declared.error.GameError.{GameError}
+use Rattle.embedding.specs.declared.error.GameError.TheVariants as game
+use Rattle.embedding.specs.Orders.{IsNewCause, IsRestoreCause}
+use Rattle.embedding.specs.declared.error.ConsoleError.{ConsoleError}
+use Rattle.embedding.specs.declared.error.ConsoleError.TheVariants.{Memory, Cart, Snapshot}
+
+-- done
+abbrev pub done : ℕ
+done = 0
+
+-- want of memory
+abbrev pub no_memory : ℕ
+no_memory = 1
+
+-- rom length, cartridge type, ram code, too many banks
+abbrev pub cart_code : CartError → ℕ
+cart_code (Length n) = 2
+cart_code (Kind n) = 3
+cart_code (RamCode n) = 4
+cart_code (TooManyBanks n) = 5
+
+-- damaged snapshot
+abbrev pub snapshot_code : SnapError → ℕ
+snapshot_code NoRoom = 1
+snapshot_code (SnapLength n) = 6
+snapshot_code (Field n) = 6
+
+abbrev pub console_code : ConsoleError → ℕ
+console_code Memory = 1
+console_code (Cart fault) = cart_code fault
+console_code (Snapshot fault) = snapshot_code fault
+
+-- damaged count, snapshot, entry
+abbrev pub damage_code : Damage → ℕ
+damage_code damage.Count = 11
+damage_code (damage.Snapshot fault) = 6
+damage_code (damage.Entry at) = 12
+
+-- no memory, device failed, no session, too small, other cartridge, damaged .., generations used up, broken, save first, count full, output failed
+abbrev pub session_code : SessionError → ℕ
+session_code session.Memory = 1
+session_code session.Device = 7
+session_code session.NoSession = 8
+session_code (session.TooSmall needed) = 9
+session_code session.OtherCartridge = 10
+session_code (session.Damaged what) = damage_code what
+session_code session.GenerationsUsedUp = 13
+session_code session.Broken = 16
+session_code session.SaveFirst = 15
+session_code session.CountFull = 14
+session_code session.Output = 19
+
+abbrev pub game_code : GameError → ℕ
+game_code game.Memory = 1
+game_code (game.Cart fault) = cart_code fault
+game_code (game.Size bytes) = 17
+game_code (game.Session fault) = session_code fault
+
+-- ---- kinds of calls
+
+abbrev pub no_call : ℕ
+no_call = 0
+
+abbrev pub a_write : ℕ
+a_write = 1
+
+abbrev pub a_sync : ℕ
+a_sync = 2
+
+-- ---- which refusals there are
+
+-- done, or the code of a reason that holds
+pub record HasCode (code : ℕ) (Cause : ConsoleError → Type 0) : Type 0 where
+  pub why : ConsoleError
+  pub cause : Cause why
+  pub is : code ≡ console_code why
+
+abbrev pub IsMadeCode : (rom : List ℕ) → ℕ → Type 0
+IsMadeCode rom code = (code ≡ done) ⊎ HasCode code (IsNewCause rom)
+
+abbrev pub IsRestoredCode : (rom bytes : List ℕ) → ℕ → Type 0
+IsRestoredCode rom bytes code = (code ≡ done) ⊎ HasCode code (IsRestoreCause rom bytes)

@@ -1,0 +1,302 @@
+//! The exports of a session.
+
+ghost use Rattle.std.specs.Prelude.{◌≡◌, ◌++◌, ◌∷◌, ◌+◌, ◌⊎◌, [], length, take, slice_get, Some, None, true, false};
+ghost use Rattle.cartridge.specs.Header.{ram_length_of};
+ghost use Rattle.machine.specs.Machine.{start, applied, picture_rows};
+ghost use Rattle.machine.specs.declared.input.Input.TheVariants.{Frame, Seconds};
+ghost use Rattle.snapshot.specs.Encoding.{encoded, snapshot_length};
+ghost use Rattle.log_format.specs.Content.{content, need};
+ghost use Rattle.sector_device.specs.Runs.{HoldsSince};
+ghost use Rattle.session.specs.Accessors.{device_of, machine_of, rom_of, pending_of, acknowledged_of, is_broken, IsUnchanged};
+ghost use Rattle.session.specs.Calls.{IsAtRest};
+ghost use Rattle.session.specs.Inputs.{entry_of, inputs_of};
+ghost use Rattle.session.specs.Stands.{stands, StandsWithin};
+ghost use Rattle.embedding.specs.Orders.{shades_of};
+ghost use Rattle.embedding.specs.Games.{IsFrom};
+ghost use Rattle.embedding.specs.HostDevices.{calls_of, host_disk};
+ghost use Rattle.embedding.specs.declared.host_device.Call.TheVariants.{Write, Sync};
+ghost use Rattle.c_interface.specs.Codes.{done, no_call, a_write, a_sync};
+
+use crate::codes::{DONE, NO_MEMORY, game_code, session_code};
+use crate::session_handle::SessionHandle;
+use embedding::{Call, Game, sectors_of};
+use machine::Input;
+use std::alloc::Global;
+
+/// The kind of a call that there is not.
+const NO_CALL: u32 = 0;
+
+const WRITE: u32 = 1;
+
+const SYNC: u32 = 2;
+
+/// The kind of a call; of a write, its sector and its bytes are written.
+fn written(call: Call, sector: &mut u64, bytes: &mut [u8]) -> u32
+    requires { length bytes.old ≡ 512 }
+    ensures write { result ≡ a_write → call ≡ Write sector.new bytes.new }
+    ensures sync { result ≡ a_sync → call ≡ Sync }
+    ensures kinds { (result ≡ a_write) ⊎ (result ≡ a_sync) }
+{
+    match call {
+        Call::Write { at, bytes: content } => {
+            *sector = at;
+            bytes.copy_from_slice(&content);
+            WRITE
+        }
+        Call::Sync => SYNC,
+    }
+}
+
+/// Tells how many sectors a game of this image needs.
+#[unsafe(no_mangle)]
+pub extern "C" fn gbkeep_needed_session(alloc: Global, rom: &[u8], sectors: &mut u64) -> u32
+    ensures { result ≡ done → sectors.new ≡ need (snapshot_length (ram_length_of rom.now)) }
+{
+    match sectors_of(alloc, rom) {
+        Ok(needed) => {
+            *sectors = needed;
+            DONE
+        }
+        Err(why) => game_code(why),
+    }
+}
+
+/// Begins a game at power-on on a device of so many zero sectors. A refusal leaves no handle in `out`.
+#[unsafe(no_mangle)]
+pub extern "C" fn gbkeep_begin_session(
+    alloc: Global,
+    rom: &[u8],
+    sectors: usize,
+    out: &mut SessionHandle,
+) -> u32
+    ensures held { result ≡ done → out.new.held ≡ true }
+    ensures begun { result ≡ done → (acknowledged_of out.new.value.session ≡ 0) × (pending_of out.new.value.session ≡ []) × (is_broken out.new.value.session ≡ false) }
+    ensures machine { result ≡ done → (machine_of out.new.value.session ≡ start rom.now) × (rom_of out.new.value.session ≡ rom.now) }
+    ensures rests { result ≡ done → IsAtRest rom.now (host_disk (device_of out.new.value.session)) 0 [] (start rom.now) }
+    ensures step { result ≡ done → out.new.value.in_step ≡ true }
+    ensures first { result ≡ done → out.new.value.handed ≡ 0 }
+{
+    let game = match Game::begin(alloc, rom, sectors) {
+        Ok(game) => game,
+        Err(why) => return game_code(why),
+    };
+    let Ok(held) = Box::new(alloc, game) else {
+        return NO_MEMORY;
+    };
+    *out = SessionHandle::of(held);
+    DONE
+}
+
+/// Takes up the game that an image stands for. A refusal leaves no handle in `out`.
+#[unsafe(no_mangle)]
+pub extern "C" fn gbkeep_resume_session(
+    alloc: Global,
+    rom: &[u8],
+    image: &[u8],
+    out: &mut SessionHandle,
+) -> u32
+    ensures held { result ≡ done → out.new.held ≡ true }
+    ensures begun { result ≡ done → (pending_of out.new.value.session ≡ []) × (is_broken out.new.value.session ≡ false) × (rom_of out.new.value.session ≡ rom.now) }
+    ensures rests { result ≡ done → IsAtRest rom.now (host_disk (device_of out.new.value.session)) (acknowledged_of out.new.value.session) []
+        (machine_of out.new.value.session) }
+    ensures step { result ≡ done → out.new.value.in_step ≡ true }
+    ensures from { result ≡ done → IsFrom rom.now image.now (acknowledged_of out.new.value.session) (machine_of out.new.value.session) }
+{
+    let game = match Game::resume(alloc, rom, image) {
+        Ok(game) => game,
+        Err(why) => return game_code(why),
+    };
+    let Ok(held) = Box::new(alloc, game) else {
+        return NO_MEMORY;
+    };
+    *out = SessionHandle::of(held);
+    DONE
+}
+
+/// Frees a session. What is unsaved is lost.
+#[unsafe(no_mangle)]
+pub extern "C" fn gbkeep_free_session(session: SessionHandle)
+    requires held { session.held ≡ true }
+{
+    drop(session.into_box());
+}
+
+/// Gives a frame with these buttons. A refusal changes nothing.
+#[unsafe(no_mangle)]
+pub extern "C" fn gbkeep_play_session(
+    session: SessionHandle,
+    buttons: u8,
+    out: &mut SessionHandle,
+) -> u32
+    requires held { session.held ≡ true }
+    ensures held { out.new.held ≡ true }
+    ensures machine { result ≡ done → machine_of out.new.value.session ≡ applied (Frame buttons) (machine_of session.value.session) }
+    ensures pending { result ≡ done → pending_of out.new.value.session ≡ pending_of session.value.session ++ entry_of (Frame buttons) ∷ [] }
+    ensures refused { ¬ (result ≡ done) → IsUnchanged session.value.session out.new.value.session }
+    ensures noted { out.new.value.noted.items ≡ session.value.noted.items }
+    ensures handed { out.new.value.handed ≡ session.value.handed }
+{
+    let mut game = session.into_box();
+    let code = match game.input(Input::Frame(buttons)) {
+        Ok(()) => DONE,
+        Err(why) => session_code(why),
+    };
+    *out = SessionHandle::of(game);
+    code
+}
+
+/// Gives seconds of the clock, as one input. A refusal changes nothing.
+#[unsafe(no_mangle)]
+pub extern "C" fn gbkeep_wait_session(
+    session: SessionHandle,
+    seconds: u32,
+    out: &mut SessionHandle,
+) -> u32
+    requires held { session.held ≡ true }
+    ensures held { out.new.held ≡ true }
+    ensures machine { result ≡ done → machine_of out.new.value.session ≡ applied (Seconds seconds) (machine_of session.value.session) }
+    ensures pending { result ≡ done → pending_of out.new.value.session ≡ pending_of session.value.session ++ entry_of (Seconds seconds) ∷ [] }
+    ensures refused { ¬ (result ≡ done) → IsUnchanged session.value.session out.new.value.session }
+    ensures noted { out.new.value.noted.items ≡ session.value.noted.items }
+    ensures handed { out.new.value.handed ≡ session.value.handed }
+{
+    let mut game = session.into_box();
+    let code = match game.input(Input::Seconds(seconds)) {
+        Ok(()) => DONE,
+        Err(why) => session_code(why),
+    };
+    *out = SessionHandle::of(game);
+    code
+}
+
+/// Saves what is pending, and tells the count of all inputs. The calls that make it sure are then among those to be handed out.
+#[unsafe(no_mangle)]
+pub extern "C" fn gbkeep_save_session(
+    session: SessionHandle,
+    saved: &mut u64,
+    out: &mut SessionHandle,
+) -> u32
+    requires held { session.held ≡ true }
+    ensures held { out.new.held ≡ true }
+    ensures grows { take (length session.value.noted.items) out.new.value.noted.items ≡ session.value.noted.items }
+    ensures handed { out.new.value.handed ≡ session.value.handed }
+    ensures step { result ≡ done → out.new.value.noted.items ≡ calls_of (device_of out.new.value.session) }
+    ensures all { result ≡ done → (saved.new ≡ acknowledged_of session.value.session + length (pending_of session.value.session)) ×
+        (acknowledged_of out.new.value.session ≡ saved.new) × (pending_of out.new.value.session ≡ []) }
+    ensures rests { result ≡ done → IsAtRest (rom_of session.value.session) (host_disk (device_of out.new.value.session)) saved.new []
+        (machine_of session.value.session) }
+    ensures images { is_broken session.value.session ≡ false → HoldsSince (host_disk (device_of session.value.session)) (host_disk (device_of out.new.value.session))
+        (StandsWithin (rom_of session.value.session) (stands (rom_of session.value.session) (content (host_disk (device_of session.value.session)).sectors))
+        (inputs_of (pending_of session.value.session))) }
+    ensures machine { (machine_of out.new.value.session ≡ machine_of session.value.session) × (rom_of out.new.value.session ≡ rom_of session.value.session) }
+{
+    let mut game = session.into_box();
+    let code = match game.save() {
+        Ok(all) => {
+            *saved = all;
+            DONE
+        }
+        Err(why) => game_code(why),
+    };
+    *out = SessionHandle::of(game);
+    code
+}
+
+/// Hands out the next call: its kind, and of a write its sector and its 512 bytes.
+#[unsafe(no_mangle)]
+pub extern "C" fn gbkeep_next_session(
+    session: SessionHandle,
+    sector: &mut u64,
+    bytes: &mut [u8],
+    out: &mut SessionHandle,
+) -> u32
+    requires held { session.held ≡ true }
+    requires room { length bytes.old ≡ 512 }
+    ensures held { out.new.held ≡ true }
+    ensures none { result ≡ no_call → (slice_get session.value.noted.items session.value.handed ≡ None) × (out.new.value.handed ≡ session.value.handed) }
+    ensures write { result ≡ a_write → slice_get session.value.noted.items session.value.handed ≡ Some (Write sector.new bytes.new) }
+    ensures sync { result ≡ a_sync → slice_get session.value.noted.items session.value.handed ≡ Some Sync }
+    ensures handed { ¬ (result ≡ no_call) → out.new.value.handed ≡ session.value.handed + 1 }
+    ensures noted { out.new.value.noted.items ≡ session.value.noted.items }
+    ensures session { out.new.value.session ≡ session.value.session }
+{
+    let mut game = session.into_box();
+    let kind = match game.next_call() {
+        Some(call) => written(call, sector, bytes),
+        None => NO_CALL,
+    };
+    *out = SessionHandle::of(game);
+    kind
+}
+
+/// Tells how many inputs there are, saved and unsaved.
+#[unsafe(no_mangle)]
+pub extern "C" fn gbkeep_count_session(session: SessionHandle, out: &mut SessionHandle) -> u64
+    requires held { session.held ≡ true }
+    ensures held { out.new.held ≡ true }
+    ensures count { result ≡ acknowledged_of session.value.session + length (pending_of session.value.session) }
+    ensures session { out.new.value.session ≡ session.value.session }
+    ensures noted { out.new.value.noted.items ≡ session.value.noted.items }
+    ensures handed { out.new.value.handed ≡ session.value.handed }
+{
+    let game = session.into_box();
+    let count = game.count();
+    *out = SessionHandle::of(game);
+    count
+}
+
+/// Writes the picture into 23,040 bytes.
+#[unsafe(no_mangle)]
+pub extern "C" fn gbkeep_draw_session(
+    session: SessionHandle,
+    shades: &mut [u8],
+    out: &mut SessionHandle,
+)
+    requires held { session.held ≡ true }
+    requires room { length shades.old ≡ 23040 }
+    ensures held { out.new.held ≡ true }
+    ensures shades { shades.new ≡ shades_of (picture_rows (machine_of session.value.session)) }
+    ensures session { out.new.value.session ≡ session.value.session }
+    ensures noted { out.new.value.noted.items ≡ session.value.noted.items }
+    ensures handed { out.new.value.handed ≡ session.value.handed }
+{
+    let mut game = session.into_box();
+    game.picture(shades);
+    *out = SessionHandle::of(game);
+}
+
+/// How many bytes a state has.
+#[unsafe(no_mangle)]
+pub extern "C" fn gbkeep_measure_session(session: SessionHandle, out: &mut SessionHandle) -> usize
+    requires held { session.held ≡ true }
+    ensures held { out.new.held ≡ true }
+    ensures length { result ≡ snapshot_length (length (machine_of session.value.session).processor.memory.banks.ram) }
+    ensures session { out.new.value.session ≡ session.value.session }
+    ensures noted { out.new.value.noted.items ≡ session.value.noted.items }
+    ensures handed { out.new.value.handed ≡ session.value.handed }
+{
+    let game = session.into_box();
+    let bytes = game.state_length();
+    *out = SessionHandle::of(game);
+    bytes
+}
+
+/// Writes the state.
+#[unsafe(no_mangle)]
+pub extern "C" fn gbkeep_keep_session(
+    session: SessionHandle,
+    bytes: &mut [u8],
+    out: &mut SessionHandle,
+)
+    requires held { session.held ≡ true }
+    requires room { length bytes.old ≡ snapshot_length (length (machine_of session.value.session).processor.memory.banks.ram) }
+    ensures held { out.new.held ≡ true }
+    ensures state { bytes.new ≡ encoded (machine_of session.value.session) }
+    ensures session { out.new.value.session ≡ session.value.session }
+    ensures noted { out.new.value.noted.items ≡ session.value.noted.items }
+    ensures handed { out.new.value.handed ≡ session.value.handed }
+{
+    let mut game = session.into_box();
+    game.state(bytes);
+    *out = SessionHandle::of(game);
+}

@@ -1,0 +1,7 @@
+use Rattle.std.proofs.Common.{◌≡◌, ◌-◌, replicate}
+use Rattle.machine.specs.Machine.{after}
+use Rattle.machine.specs.declared.input.Input.TheVariants.{Frame}
+use Rattle.embedding.proofs.console.play_frames.Given as goal
+
+abbrev pub invariant-loop-i : goal.invariant-loop-i
+invariant-loop-i l = after l.machine (replicate (l.count - l._i) (Frame l.buttons)) ≡ after l.initial.machine (replicate l.count (Frame l.buttons))

@@ -1,0 +1,4 @@
+pub mod Calls
+pub mod Games
+pub mod HostDevices
+pub mod Orders

@@ -1,0 +1,43 @@
+-- What a console makes of its machine, and the bytes that it gives.
+use Rattle.std.specs.Prelude.{◌≡◌, ℕ, ◌+◌, ◌-◌, ◌/◌, ◌%◌, List, [], map, slice_index, slice_index_or, if◌then◌else◌, Some, ⊤}
+use Rattle.std.specs.List.{range_with_len}
+use Rattle.cartridge.specs.Accepted.{IsAccepted, refusal_of}
+use Rattle.memory_map.specs.Bus.{peeked}
+use Rattle.machine.specs.Machine.{MachineState, start}
+use Rattle.snapshot.specs.Legal.{IsRefusal}
+use Rattle.battery_files.specs.Battery.{has_battery, battery_of}
+use Rattle.battery_files.specs.Importing.{start_with}
+use Rattle.embedding.specs.declared.error.ConsoleError.{ConsoleError}
+use Rattle.embedding.specs.declared.error.ConsoleError.TheVariants.{Memory, Cart, Snapshot}
+
+-- ---- the picture
+
+-- 144 rows of 160 shades, row by row, with 0 the darkest: where a shade is 3, the byte is 0
+unfoldable pub shades_of : List (List ℕ) → List ℕ
+shades_of rows = map (λ k. 3 - slice_index (slice_index_or rows (k / 160) []) (k % 160)) (range_with_len 0 23040)
+
+-- ---- memory
+
+-- what reading these addresses gives if neither a mode nor a copy closes anything; after FFFF comes 0000
+abbrev pub bytes_from : MachineState → (address count : ℕ) → List ℕ
+bytes_from m address count = map (λ k. peeked m.processor.memory ((address + k) % 65536)) (range_with_len 0 count)
+
+-- ---- the power switch
+
+-- off and on again: what the battery keeps, the RAM and the clocks, is as it was, and all else as at power-on
+abbrev pub powered : (rom : List ℕ) → MachineState → MachineState
+powered rom m = if has_battery rom then start_with rom (battery_of m) else start rom
+
+-- ---- refusals
+
+-- why an image gives no console: the first rule of a cartridge that it breaks, or want of memory
+abbrev pub IsNewCause : (rom : List ℕ) → ConsoleError → Type 0
+IsNewCause rom Memory = ⊤
+IsNewCause rom (Cart fault) = refusal_of rom ≡ Some fault
+IsNewCause rom (Snapshot fault) = ⊥
+
+-- why bytes give no machine of the cartridge
+abbrev pub IsRestoreCause : (rom bytes : List ℕ) → ConsoleError → Type 0
+IsRestoreCause rom bytes Memory = ⊥
+IsRestoreCause rom bytes (Cart fault) = ⊥
+IsRestoreCause rom bytes (Snapshot fault) = IsRefusal rom bytes fault

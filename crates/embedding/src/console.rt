@@ -1,0 +1,180 @@
+//! A machine that obeys orders over bytes.
+
+ghost use Rattle.std.specs.Prelude.{◌≡◌, length, replicate, IfOk, IfErr, OnOk, OnErr};
+ghost use Rattle.cartridge.specs.Accepted.{IsAccepted};
+ghost use Rattle.machine.specs.Machine.{start, after, picture_rows, seconds_passed};
+ghost use Rattle.machine.specs.declared.input.Input.TheVariants.{Frame};
+ghost use Rattle.snapshot.specs.Encoding.{encoded, snapshot_length};
+ghost use Rattle.snapshot.specs.Legal.{IsMachineOf};
+ghost use Rattle.session.specs.Resting.{IsOfItsRom, own_prop};
+ghost use Rattle.embedding.specs.Orders.{shades_of, bytes_from, powered, IsNewCause, IsRestoreCause};
+ghost use Rattle.embedding.specs.declared.error.ConsoleError.TheVariants.{Memory};
+
+use crate::error::ConsoleError;
+use crate::shades::write_shades;
+use battery_files::{battery_of, has_battery, machine_with_battery};
+use cartridge::Cartridge;
+use machine::{Input, Machine};
+use session::machine_at_power_on;
+use snapshot::{decode, encode};
+use std::alloc::{AllocError, Global};
+
+/// A machine, and the cartridge that is in it.
+///
+/// `new`, `power` and `restore` take memory; no other call does.
+#[derive(Drop)]
+pub struct Console {
+    cartridge: Cartridge,
+    machine: Machine,
+    ghost rom: { machine.processor.memory.banks.rom ≡ cartridge },
+    ghost own: { IsOfItsRom machine } by { own_prop machine },
+}
+
+/// A copy of an image.
+fn copied(alloc: Global, rom: &[u8]) -> Result<Vec<u8>, AllocError>
+    ensures { IfOk result (λ copy. copy.items ≡ rom.now) }
+{
+    rom.to_vec(alloc)
+}
+
+/// Plays `count` frames with these buttons.
+fn play_frames(machine: &mut Machine, buttons: u8, count: u32)
+    ensures { machine.new ≡ after machine.old (replicate count (Frame buttons)) }
+{
+    for _i in 0..count {
+        machine.frame(buttons);
+    }
+}
+
+/// The machine after its power was switched off and on.
+fn machine_after_power(
+    alloc: Global,
+    cartridge: &Cartridge,
+    machine: &Machine,
+) -> Result<Machine, AllocError>
+    requires rom { machine.now.processor.memory.banks.rom ≡ cartridge.now }
+    requires own { IsOfItsRom machine.now }
+    ensures machine { IfOk result (λ m. m ≡ powered cartridge.now machine.now) }
+    ensures of { IfOk result (λ m. IsMachineOf cartridge.now m) }
+{
+    if !has_battery(cartridge) {
+        return machine_at_power_on(alloc, cartridge);
+    }
+    let battery = battery_of(alloc, machine)?;
+    match machine_with_battery(alloc, cartridge, &battery) {
+        Ok(machine) => Ok(machine),
+        Err(_) => Err(AllocError),
+    }
+}
+
+impl Console {
+    /// The machine of this image at power-on. The image is copied.
+    ///
+    /// Refusals, in this order: `Memory` for the copy; `Cart` with the first rule that the image breaks; `Memory` for the machine.
+    pub fn new(alloc: Global, rom: &[u8]) -> Result<Console, ConsoleError>
+        ensures rom { IfOk result (λ c. c.cartridge ≡ rom.now) }
+        ensures machine { IfOk result (λ c. c.machine ≡ start rom.now) }
+        ensures accepted { IfOk result (λ c. IsAccepted rom.now) }
+        ensures cause { IfErr result (IsNewCause rom.now) }
+    {
+        let Ok(image) = copied(alloc, rom) else {
+            return Err(ConsoleError::Memory);
+        };
+        let cartridge = match Cartridge::read(image) {
+            Ok(cartridge) => cartridge,
+            Err(why) => return Err(ConsoleError::Cart(why)),
+        };
+        let Ok(machine) = machine_at_power_on(alloc, &cartridge) else {
+            return Err(ConsoleError::Memory);
+        };
+        Ok(Console { cartridge, machine })
+    }
+
+    /// Plays `count` frames with these buttons: Right, Left, Up, Down, A, B, Select, Start as bits 0 to 7, 1 for pressed.
+    pub fn frames(&mut self, buttons: u8, count: u32)
+        ensures machine { self.new.machine ≡ after self.old.machine (replicate count (Frame buttons)) }
+        ensures cartridge { self.new.cartridge ≡ self.old.cartridge }
+    {
+        play_frames(&mut self.machine, buttons, count);
+    }
+
+    /// Lets this many seconds pass on the clock of MBC3; without a clock nothing changes.
+    pub fn seconds(&mut self, seconds: u32)
+        ensures machine { self.new.machine ≡ seconds_passed seconds self.old.machine }
+        ensures cartridge { self.new.cartridge ≡ self.old.cartridge }
+    {
+        self.machine.apply(Input::Seconds(seconds));
+    }
+
+    /// Switches the power off and on. The RAM of a cartridge with a battery stays, and its clock goes on; of one without, everything begins
+    /// anew. Refused with `Memory` alone.
+    pub fn power(&mut self, alloc: Global) -> Result<(), ConsoleError>
+        ensures machine { OnOk result (self.new.machine ≡ powered self.old.cartridge self.old.machine) }
+        ensures cartridge { self.new.cartridge ≡ self.old.cartridge }
+        ensures refused { OnErr result (self.new.machine ≡ self.old.machine) }
+        ensures cause { IfErr result (λ why. why ≡ Memory) }
+    {
+        let Ok(machine) = machine_after_power(alloc, &self.cartridge, &self.machine) else {
+            return Err(ConsoleError::Memory);
+        };
+        self.machine = machine;
+        Ok(())
+    }
+
+    /// Writes the picture: a shade a byte, 0 the darkest and 3 the lightest, row by row. Condition: there are 23,040 bytes.
+    pub fn picture(&mut self, shades: &mut [u8])
+        requires { length shades.old ≡ 23040 }
+        ensures shades { shades.new ≡ shades_of (picture_rows self.old.machine) }
+        ensures machine { self.new.machine ≡ self.old.machine }
+        ensures cartridge { self.new.cartridge ≡ self.old.cartridge }
+    {
+        self.machine.draw_late();
+        write_shades(self.machine.picture(), shades);
+    }
+
+    /// The bytes of a state: 22,607, and those of the cartridge's RAM.
+    pub fn state_length(&self) -> usize
+        ensures length { result ≡ snapshot_length (length self.now.machine.processor.memory.banks.ram) }
+    {
+        snapshot::length(self.cartridge.ram_length())
+    }
+
+    /// Writes the state: the snapshot of the machine. Condition: there are as many bytes as `state_length` says.
+    pub fn state(&mut self, bytes: &mut [u8])
+        requires { length bytes.old ≡ snapshot_length (length self.old.machine.processor.memory.banks.ram) }
+        ensures state { bytes.new ≡ encoded self.old.machine }
+        ensures machine { self.new.machine ≡ self.old.machine }
+        ensures cartridge { self.new.cartridge ≡ self.old.cartridge }
+    {
+        self.machine.draw_late();
+        encode(&self.machine, bytes);
+    }
+
+    /// Takes the machine whose state this is.
+    ///
+    /// Refused with the first of these that holds: bytes that are no state of this cartridge; `Memory`.
+    pub fn restore(&mut self, alloc: Global, bytes: &[u8]) -> Result<(), ConsoleError>
+        ensures state { OnOk result (encoded self.new.machine ≡ bytes.now) }
+        ensures of { OnOk result (IsMachineOf self.old.cartridge self.new.machine) }
+        ensures cartridge { self.new.cartridge ≡ self.old.cartridge }
+        ensures refused { OnErr result (self.new.machine ≡ self.old.machine) }
+        ensures cause { IfErr result (IsRestoreCause self.old.cartridge bytes.now) }
+    {
+        match decode(alloc, bytes, &self.cartridge) {
+            Ok(machine) => {
+                self.machine = machine;
+                Ok(())
+            }
+            Err(why) => Err(ConsoleError::Snapshot(why)),
+        }
+    }
+
+    /// Writes what the program would read from `address` on if nothing closed a memory to it; after FFFF comes 0000.
+    pub fn memory(&self, address: u16, bytes: &mut [u8])
+        ensures { bytes.new ≡ bytes_from self.now.machine address (length bytes.old) }
+    {
+        for k in 0..bytes.len() {
+            bytes[k] = self.machine.peek(((address as usize + k) % 65_536) as u16);
+        }
+    }
+}

@@ -1,0 +1,37 @@
+//! Why an order was refused.
+
+use cartridge::CartError;
+use session::SessionError;
+use snapshot::SnapError;
+use thiserror::Error;
+
+/// Why an order of a console was refused. A refusal leaves the console as it was.
+#[derive(Clone, Copy, Debug, PartialEq, Eq, Error)]
+pub enum ConsoleError {
+    /// Memory was refused.
+    #[error("no memory")]
+    Memory,
+    /// The image is not an accepted cartridge: the first rule that it breaks.
+    #[error("{0}")]
+    Cart(CartError),
+    /// The bytes are no legal snapshot of this cartridge, or there is no memory for the machine.
+    #[error("{0}")]
+    Snapshot(SnapError),
+}
+
+/// Why an order of a game was refused.
+#[derive(Clone, Copy, Debug, PartialEq, Eq, Error)]
+pub enum GameError {
+    /// Memory was refused.
+    #[error("no memory")]
+    Memory,
+    /// The image is not an accepted cartridge: the first rule that it breaks.
+    #[error("{0}")]
+    Cart(CartError),
+    /// The device's image has this many bytes, which are not whole sectors.
+    #[error("device size {0}")]
+    Size(u64),
+    /// The session refused it.
+    #[error("{0}")]
+    Session(SessionError),
+}

@@ -1,0 +1,311 @@
+//! A game whose disk is the host's: it hands out the calls that the host has to make.
+
+ghost use Rattle.std.specs.Prelude.{◌≡◌, ◌≤◌, ◌<◌, ◌+◌, ◌*◌, ◌++◌, ◌∷◌, [], true, false, ℕ, length, take, slice_get, slice_range, Some, None, Ok, IfOk, IfErr, IfSome, IfNone, OnOk, OnErr};
+ghost use Rattle.cartridge.specs.Accepted.{IsAccepted, refusal_of};
+ghost use Rattle.cartridge.specs.Header.{ram_length_of};
+ghost use Rattle.machine.specs.Machine.{start, applied, picture_rows};
+ghost use Rattle.snapshot.specs.Encoding.{encoded, snapshot_length};
+ghost use Rattle.sector_device.specs.DiskState.{sector_at};
+ghost use Rattle.sector_device.specs.Runs.{HoldsSince};
+ghost use Rattle.log_format.specs.Content.{content, need};
+ghost use Rattle.session.specs.Accessors.{device_of, machine_of, rom_of, pending_of, acknowledged_of, is_broken, IsUnchanged};
+ghost use Rattle.session.specs.Calls.{IsAtRest, input_answer};
+ghost use Rattle.session.specs.Inputs.{entry_of, inputs_of};
+ghost use Rattle.session.specs.Stands.{stands, StandsWithin};
+ghost use Rattle.embedding.specs.Orders.{shades_of};
+ghost use Rattle.embedding.specs.Games.{IsFrom};
+ghost use Rattle.embedding.specs.HostDevices.{calls_of, count_of, host_disk};
+
+use crate::error::GameError;
+use crate::host_device::{Call, HostDevice};
+use crate::shades::write_shades;
+use cartridge::Cartridge;
+use machine::{Input, Region};
+use sector_device::SectorDevice;
+use session::{Session, SessionError, new_game, resume, sectors_needed};
+use snapshot::encode;
+use std::alloc::Global;
+
+/// A game, the calls that its device noted, and how many of them were handed out.
+///
+/// While `in_step` holds, what was noted is what the device noted: it is then the order in which the host makes the calls. What was noted
+/// only grows, and `next_call` hands out each call once, in order.
+#[derive(Drop)]
+pub struct Game {
+    session: Session<HostDevice>,
+    noted: Vec<Call>,
+    handed: usize,
+    in_step: bool,
+    ghost within: { handed ≤ length noted.items },
+    ghost step: { in_step ≡ true → noted.items ≡ calls_of (device_of session) },
+}
+
+/// The cartridge in a copy of an image.
+fn read_cartridge(alloc: Global, rom: &[u8]) -> Result<Cartridge, GameError>
+    ensures image { IfOk result (λ c. c ≡ rom.now) }
+{
+    let Ok(image) = rom.to_vec(alloc) else {
+        return Err(GameError::Memory);
+    };
+    match Cartridge::read(image) {
+        Ok(cartridge) => Ok(cartridge),
+        Err(why) => Err(GameError::Cart(why)),
+    }
+}
+
+/// How many sectors a game of this image needs.
+///
+/// Refusals: `Memory`, `Cart`.
+pub fn sectors_of(alloc: Global, rom: &[u8]) -> Result<u64, GameError>
+    ensures { IfOk result (λ sectors. sectors ≡ need (snapshot_length (ram_length_of rom.now))) }
+{
+    let cartridge = match read_cartridge(alloc, rom) {
+        Ok(cartridge) => cartridge,
+        Err(why) => return Err(why),
+    };
+    Ok(sectors_needed(&cartridge))
+}
+
+/// Whether the second list begins with the first.
+fn begins(first: &[Call], all: &[Call]) -> bool
+    ensures { result ≡ true → take (length first.now) all.now ≡ first.now }
+{
+    if all.len() < first.len() {
+        return false;
+    }
+    first == &all[..first.len()]
+}
+
+/// Adds the calls that are beyond those noted; false where there is no memory for them.
+fn note_more(noted: &mut Vec<Call>, all: &[Call]) -> bool
+    requires { take (length noted.old.items) all.now ≡ noted.old.items }
+    ensures done { result ≡ true → noted.new.items ≡ all.now }
+    ensures failed { result ≡ false → noted.new.items ≡ noted.old.items }
+{
+    let from = noted.len();
+    noted.extend_from_slice(&all[from..]).is_ok()
+}
+
+/// Writes the sectors of an image to a device of as many sectors, and syncs.
+fn write_image(device: &mut HostDevice, image: &[u8]) -> Result<(), GameError>
+    requires { length image.now ≡ 512 * count_of device.old }
+    ensures sectors { OnOk result ((k : ℕ) → k < count_of device.old →
+        sector_at (host_disk device.new).sectors k ≡ slice_range image.now (512 * k) (512 * k + 512)) }
+    ensures count { count_of device.new ≡ count_of device.old }
+{
+    let mut sector = [0; 512];
+    for at in 0..device.count() {
+        let from = 512 * at as usize;
+        sector.copy_from_slice(&image[from..from + 512]);
+        if let Err(_) = device.write(at, &sector) {
+            return Err(GameError::Memory);
+        }
+    }
+    match device.sync() {
+        Ok(()) => Ok(()),
+        Err(_) => Err(GameError::Memory),
+    }
+}
+
+impl Game {
+    // A game with a session that was begun, of which so many calls are none that the host has to make.
+    fn of(alloc: Global, session: Session<HostDevice>, handed: usize) -> Result<Game, GameError>
+        requires { handed ≤ length (calls_of (device_of session)) }
+        ensures session { IfOk result (λ g. g.session ≡ session) }
+        ensures step { IfOk result (λ g. g.in_step ≡ true) }
+        ensures handed { IfOk result (λ g. g.handed ≡ handed) }
+    {
+        let Ok(noted) = session.device().calls().to_vec(alloc) else {
+            return Err(GameError::Memory);
+        };
+        Ok(Game {
+            session,
+            noted,
+            handed,
+            in_step: true,
+        })
+    }
+
+    // A game with a session that was taken up, once so many calls were noted, of which the host has to make none.
+    fn taken_up(
+        alloc: Global,
+        session: Session<HostDevice>,
+        written: usize,
+    ) -> Result<Game, GameError>
+        ensures session { IfOk result (λ g. g.session ≡ session) }
+        ensures step { IfOk result (λ g. g.in_step ≡ true) }
+        ensures handed { IfOk result (λ g. g.handed ≡ written) }
+    {
+        if session.device().calls().len() < written {
+            return Err(GameError::Session(SessionError::Broken));
+        }
+        Game::of(alloc, session, written)
+    }
+
+    /// Begins a game at power-on on a device of so many zero sectors. The calls that begin it are the first that the host has to make.
+    ///
+    /// Refusals: `Memory`; `Cart`; `Session` with `TooSmall`.
+    pub fn begin(alloc: Global, rom: &[u8], sectors: usize) -> Result<Game, GameError>
+        ensures begun { IfOk result (λ g. (acknowledged_of g.session ≡ 0) × (pending_of g.session ≡ []) × (is_broken g.session ≡ false)) }
+        ensures machine { IfOk result (λ g. (machine_of g.session ≡ start rom.now) × (rom_of g.session ≡ rom.now)) }
+        ensures rests { IfOk result (λ g. IsAtRest rom.now (host_disk (device_of g.session)) 0 [] (start rom.now)) }
+        ensures step { IfOk result (λ g. g.in_step ≡ true) }
+        ensures first { IfOk result (λ g. g.handed ≡ 0) }
+    {
+        let cartridge = match read_cartridge(alloc, rom) {
+            Ok(cartridge) => cartridge,
+            Err(why) => return Err(why),
+        };
+        let Ok(device) = HostDevice::new(alloc, sectors) else {
+            return Err(GameError::Memory);
+        };
+        match new_game(alloc, device, &cartridge) {
+            Ok(session) => Game::of(alloc, session, 0),
+            Err(refused) => Err(GameError::Session(refused.why)),
+        }
+    }
+
+    /// Gives the machine one input, which is not saved yet.
+    ///
+    /// Refusals, none of which changes anything: those of `Session::input`.
+    pub fn input(&mut self, input: Input) -> Result<(), SessionError>
+        ensures answer { result ≡ input_answer (is_broken self.old.session) (length (pending_of self.old.session))
+            (acknowledged_of self.old.session + length (pending_of self.old.session)) }
+        ensures machine { OnOk result (machine_of self.new.session ≡ applied input (machine_of self.old.session)) }
+        ensures pending { OnOk result (pending_of self.new.session ≡ pending_of self.old.session ++ entry_of input ∷ []) }
+        ensures refused { OnErr result (IsUnchanged self.old.session self.new.session) }
+        ensures device { device_of self.new.session ≡ device_of self.old.session }
+        ensures noted { self.new.noted.items ≡ self.old.noted.items }
+        ensures handed { self.new.handed ≡ self.old.handed }
+        ensures step { self.new.in_step ≡ self.old.in_step }
+        ensures kept { (acknowledged_of self.new.session ≡ acknowledged_of self.old.session) × (rom_of self.new.session ≡ rom_of self.old.session) }
+    {
+        self.session.input(input)
+    }
+
+    /// Saves what is pending. At `Ok` the calls that were noted end with the sync that makes it sure: once the host has made them all, no power
+    /// cut loses any of the inputs. The answer is the count of all inputs.
+    ///
+    /// Refusals: those of `Session::save`; `Memory`, where there is none for the notes: what was saved is told by the next save.
+    pub fn save(&mut self) -> Result<u64, GameError>
+        // the calls that the host has to make: more of them, and those that it has by now stay
+        ensures grows { take (length self.old.noted.items) self.new.noted.items ≡ self.old.noted.items }
+        ensures handed { self.new.handed ≡ self.old.handed }
+
+        // at Ok they are those of the device, which rests at all inputs
+        ensures step { IfOk result (λ all. self.new.noted.items ≡ calls_of (device_of self.new.session)) }
+        ensures all { IfOk result (λ all. (all ≡ acknowledged_of self.old.session + length (pending_of self.old.session)) ×
+            (acknowledged_of self.new.session ≡ all) × (pending_of self.new.session ≡ [])) }
+        ensures rests { IfOk result (λ all. IsAtRest (rom_of self.old.session) (host_disk (device_of self.new.session)) all [] (machine_of self.old.session)) }
+
+        // at each moment the device stands for a prefix of the inputs that has all that were told before
+        ensures images { is_broken self.old.session ≡ false → HoldsSince (host_disk (device_of self.old.session)) (host_disk (device_of self.new.session))
+            (StandsWithin (rom_of self.old.session) (stands (rom_of self.old.session) (content (host_disk (device_of self.old.session)).sectors))
+            (inputs_of (pending_of self.old.session))) }
+        ensures stood { is_broken self.old.session ≡ false → IsAtRest (rom_of self.old.session) (host_disk (device_of self.old.session))
+            (acknowledged_of self.old.session) (pending_of self.old.session) (machine_of self.old.session) }
+        ensures machine { (machine_of self.new.session ≡ machine_of self.old.session) × (rom_of self.new.session ≡ rom_of self.old.session) }
+    {
+        let saved = self.session.save();
+        self.in_step = false;
+        if !begins(&self.noted, self.session.device().calls()) {
+            return Err(GameError::Session(SessionError::Broken));
+        }
+        if !note_more(&mut self.noted, self.session.device().calls()) {
+            return Err(GameError::Memory);
+        }
+        self.in_step = true;
+        match saved {
+            Ok(all) => Ok(all),
+            Err(why) => Err(GameError::Session(why)),
+        }
+    }
+
+    /// The next call that the host has to make, if there is one that was not handed out.
+    pub fn next_call(&mut self) -> Option<Call>
+        ensures call { result ≡ slice_get self.old.noted.items self.old.handed }
+        ensures handed { IfSome result (λ call. self.new.handed ≡ self.old.handed + 1) }
+        ensures none { IfNone result (self.new.handed ≡ self.old.handed) }
+        ensures noted { self.new.noted.items ≡ self.old.noted.items }
+        ensures session { self.new.session ≡ self.old.session }
+        ensures step { self.new.in_step ≡ self.old.in_step }
+    {
+        if self.handed == self.noted.len() {
+            return None;
+        }
+        let call = self.noted[self.handed];
+        self.handed += 1;
+        Some(call)
+    }
+
+    /// How many inputs there are, saved and unsaved.
+    pub fn count(&self) -> u64
+        ensures { result ≡ acknowledged_of self.now.session + length (pending_of self.now.session) }
+    {
+        self.session.counts().all
+    }
+
+    /// Writes the picture, as `Console::picture` does. Condition: there are 23,040 bytes.
+    pub fn picture(&mut self, shades: &mut [u8])
+        requires { length shades.old ≡ 23040 }
+        ensures shades { shades.new ≡ shades_of (picture_rows (machine_of self.old.session)) }
+        ensures session { self.new.session ≡ self.old.session }
+        ensures noted { self.new.noted.items ≡ self.old.noted.items }
+        ensures handed { self.new.handed ≡ self.old.handed }
+        ensures step { self.new.in_step ≡ self.old.in_step }
+    {
+        self.session.draw_late();
+        write_shades(self.session.machine().picture(), shades);
+    }
+
+    /// The bytes of a state: 22,607, and those of the cartridge's RAM.
+    pub fn state_length(&self) -> usize
+        ensures length { result ≡ snapshot_length (length (machine_of self.now.session).processor.memory.banks.ram) }
+    {
+        let machine = self.session.machine();
+        snapshot::length(machine.region(Region::CartRam).len())
+    }
+
+    /// Writes the state: the snapshot of the machine. Condition: there are as many bytes as `state_length` says.
+    pub fn state(&mut self, bytes: &mut [u8])
+        requires { length bytes.old ≡ snapshot_length (length (machine_of self.old.session).processor.memory.banks.ram) }
+        ensures state { bytes.new ≡ encoded (machine_of self.old.session) }
+        ensures session { self.new.session ≡ self.old.session }
+        ensures noted { self.new.noted.items ≡ self.old.noted.items }
+        ensures handed { self.new.handed ≡ self.old.handed }
+        ensures step { self.new.in_step ≡ self.old.in_step }
+    {
+        self.session.draw_late();
+        encode(self.session.machine(), bytes);
+    }
+
+    /// Takes up the game that an image of a device stands for. The calls that begin its new generation are the first that the host has to make,
+    /// on a device that holds the image.
+    ///
+    /// Refusals: `Size` for an image that is not whole sectors; `Memory`; `Cart`; `Session` with those of `resume`.
+    pub fn resume(alloc: Global, rom: &[u8], image: &[u8]) -> Result<Game, GameError>
+        ensures begun { IfOk result (λ g. (pending_of g.session ≡ []) × (is_broken g.session ≡ false) × (rom_of g.session ≡ rom.now)) }
+        ensures rests { IfOk result (λ g. IsAtRest rom.now (host_disk (device_of g.session)) (acknowledged_of g.session) [] (machine_of g.session)) }
+        ensures step { IfOk result (λ g. g.in_step ≡ true) }
+        ensures from { IfOk result (λ g. IsFrom rom.now image.now (acknowledged_of g.session) (machine_of g.session)) }
+    {
+        if image.len() % 512 != 0 {
+            return Err(GameError::Size(image.len() as u64));
+        }
+        let cartridge = match read_cartridge(alloc, rom) {
+            Ok(cartridge) => cartridge,
+            Err(why) => return Err(why),
+        };
+        let Ok(mut device) = HostDevice::new(alloc, image.len() / 512) else {
+            return Err(GameError::Memory);
+        };
+        if let Err(why) = write_image(&mut device, image) {
+            return Err(why);
+        }
+        let written = device.calls().len();
+        match resume(alloc, device, &cartridge) {
+            Ok(session) => Game::taken_up(alloc, session, written),
+            Err(refused) => Err(GameError::Session(refused.why)),
+        }
+    }
+}

@@ -1,0 +1,16 @@
+//! A machine, and a game that survives power cuts, for a host program: they obey orders over bytes, and say what they did by bytes.
+//!
+//! What an order makes of a machine is defined in `specs/Orders.antt`. A game hands out the calls that the host has to make on its disk;
+//! `specs/Calls.antt` says which disk they lead to.
+#![tactic(auto)]
+
+mod console;
+mod error;
+mod game;
+mod host_device;
+mod shades;
+
+pub use console::Console;
+pub use error::{ConsoleError, GameError};
+pub use game::{Game, sectors_of};
+pub use host_device::{Call, HostDevice};

@@ -1,0 +1,252 @@
+"""Tests of libgbkeep as it is built: in C by examples/library/play.c, killed at each call, and in Python.
+
+usage: test_library.py GBKEEP [LIBRARY]     LIBRARY: a folder with libgbkeep.a, libgbkeep.so and gbkeep.h (bin of the clone)
+
+CC names the C compiler. Where it has the sanitizers, play.c is built with them."""
+import os
+import random
+import shutil
+import subprocess
+import sys
+import tempfile
+import unittest
+from pathlib import Path
+
+HERE = Path(__file__).resolve().parent
+TOP = HERE.parent
+sys.path[:0] = [str(HERE), str(TOP / 'scripts/second_storage'), str(TOP / 'players')]
+import save_files
+
+PROGRAM, LIBRARY = 'bin/gbkeep', TOP / 'bin'
+DEMO = TOP / 'examples/demo/demo.gb'
+ROM = DEMO.read_bytes()
+SCRIPT = b'frames 00 40\nframes 80 4\nsave\nframes 11 30\nsave\nseconds 7\nframe 10\nsave\nframes 01 90\n'
+SECTOR = 512
+CART = save_files.Cartridge(ROM)
+
+
+
+def run(*words, **how):
+    how.setdefault('timeout', 120)
+    return subprocess.run([str(word) for word in words], stdout=subprocess.PIPE, stderr=subprocess.PIPE, **how)
+
+
+def lines_of(result):
+    return result.stdout.decode().splitlines()
+
+
+class InFolder(unittest.TestCase):
+    def setUp(self):
+        self.folder = Path(tempfile.mkdtemp())
+        self.addCleanup(shutil.rmtree, self.folder)
+        self.script = self.folder / 'script'
+        self.script.write_bytes(SCRIPT)
+
+    def gbkeep(self, *words, status=0):
+        result = run(PROGRAM, *words)
+        self.assertEqual((result.returncode, result.stderr), (status, b'') if status == 0 else (status, result.stderr))
+        return lines_of(result)
+
+    def picture_of(self, save):
+        """The picture that the program draws of a save file, as shades."""
+        out = self.folder / 'picture.pgm'
+        out.unlink(missing_ok=True)
+        self.gbkeep('frame', DEMO, save, out)
+        from gbkeep import Picture
+        return Picture(out.read_bytes()).shades
+
+
+class Playing(InFolder):
+    """examples/library/play.c: a SAVE is a SAVE."""
+    @classmethod
+    def setUpClass(cls):
+        cls.built = tempfile.mkdtemp()
+        cls.addClassCleanup(shutil.rmtree, cls.built)
+        cls.play = Path(cls.built) / 'play'
+        compiler = os.environ.get('CC', 'cc')
+        base = [compiler, '-std=c11', '-O1', '-g', '-Wall', '-Wextra', f'-I{LIBRARY}', TOP / 'examples/library/play.c', LIBRARY / 'libgbkeep.a', '-o', cls.play]
+        checked = run(*base, '-fsanitize=address,undefined', '-fno-sanitize-recover=all')
+        if checked.returncode != 0:
+            plain = run(*base)
+            if plain.returncode != 0:
+                raise AssertionError(plain.stderr.decode())
+
+    def c(self, save, *more, status=0, script=None):
+        result = run(self.play, DEMO, save, script or self.script, *more)
+        self.assertEqual(result.returncode, status, result.stderr)
+        self.assertEqual(result.stderr, b'')
+        return lines_of(result)
+
+    def test_a_new_game_is_the_program_s_byte_by_byte(self):
+        ours, theirs = self.folder / 'ours', self.folder / 'theirs'
+        printed = self.c(ours)
+        sectors = ours.stat().st_size // SECTOR
+        self.assertEqual(self.gbkeep('new', DEMO, theirs, sectors), ['begun 0'])
+        # the program takes the new game up, by a checkpoint of its own, so it is taken up here too
+        self.assertEqual(printed[0], 'begun 0')
+        self.assertEqual(printed[1:], self.gbkeep('play', DEMO, theirs, self.script)[1:])
+        self.assertEqual(self.picture_of(ours), self.picture_of(theirs))
+
+    def test_it_goes_on_where_the_program_stopped_and_the_other_way_round(self):
+        ours, theirs = self.folder / 'ours', self.folder / 'theirs'
+        self.gbkeep('new', DEMO, theirs)
+        shutil.copy(theirs, ours)
+        for turn in range(4):
+            self.assertEqual(self.c(ours) if turn % 2 == 0 else self.gbkeep('play', DEMO, ours, self.script), self.gbkeep('play', DEMO, theirs, self.script))
+            self.assertEqual(ours.read_bytes(), theirs.read_bytes())
+
+    def test_what_is_left_at_each_call_stands_for_what_was_told(self):
+        start = self.folder / 'start'
+        self.gbkeep('new', DEMO, start)
+        whole = self.folder / 'whole'
+        shutil.copy(start, whole)
+        self.assertEqual(self.c(whole)[0], 'resumed 0')
+        seen = set()
+        for calls in range(200):
+            save = self.folder / 'save'
+            shutil.copy(start, save)
+            result = run(self.play, DEMO, save, self.script, calls)
+            told = [int(line.split()[1]) for line in lines_of(result)]
+            count, _, _ = save_files.looked_at(save.read_bytes(), CART)
+            self.assertGreaterEqual(count, max(told, default=0))
+            seen.add(count)
+            if result.returncode == 0:
+                self.assertEqual(save.read_bytes(), whole.read_bytes())
+                break
+            self.assertEqual(result.returncode, 137)
+            # and the program goes on with it
+            self.assertEqual(self.gbkeep('play', DEMO, save, self.script)[0], f'resumed {count}')
+        else:
+            self.fail('200 calls were not enough')
+        self.assertGreater(len(seen), 3)
+
+    def test_what_is_refused_is_a_line(self):
+        for content in (b'', bytes(SECTOR), bytes(200 * SECTOR), bytes(1000)):
+            save = self.folder / 'bad'
+            save.write_bytes(content)
+            result = run(self.play, DEMO, save, self.script)
+            self.assertEqual((result.returncode, result.stderr.count(b'\n')), (1, 1), result.stderr)
+            self.assertEqual(save.read_bytes(), content)
+        result = run(self.play, self.script, self.folder / 'new', self.script)
+        self.assertEqual((result.returncode, result.stderr.startswith(b'play: rom length: ')), (1, True), result.stderr)
+
+
+class InPython(InFolder):
+    def test_a_machine_plays_as_the_program_does(self):
+        from gbkeep_library import Machine, Refused
+        save = self.folder / 'save'
+        self.gbkeep('new', DEMO, save)
+        self.gbkeep('play', DEMO, save, self.script)
+        with Machine(ROM) as machine:
+            start = machine.state()
+            machine.frames(0, 40)
+            machine.frames(0x80, 4)
+            machine.frames(0x11, 30)
+            machine.seconds(7)
+            machine.frames(0x10)
+            machine.frames(0x01, 90)
+            self.assertEqual(machine.picture().shades, self.picture_of(save))
+            # the machine of the save file is that of its snapshot, after the inputs of its log
+            state, shades = machine.state(), machine.picture().shades
+            machine.frames(0, 5)
+            self.assertNotEqual(machine.state(), state)
+            machine.restore(state)
+            self.assertEqual((machine.state(), machine.picture().shades), (state, shades))
+            for damaged in (b'', state[:-1], state + b'\0', b'X' + state[1:], bytes(len(state))):
+                with self.assertRaises(Refused):
+                    machine.restore(damaged)
+                self.assertEqual(machine.state(), state)
+            machine.restore(start)
+            self.assertEqual(machine.state(), start)
+            self.assertEqual(machine.memory(0x0100, 80), ROM[0x0100:0x0150])
+            self.assertEqual(machine.memory(0xffff, 3)[1:], ROM[:2])
+            machine.restore(state)
+            machine.power()
+            self.assertEqual(machine.memory(0, 0x4000), ROM[:0x4000])
+            ram = CART.ram
+            self.assertEqual(machine.state()[:len(start) - ram], start[:len(start) - ram])
+            self.assertEqual(machine.state()[len(start) - ram:], state[len(start) - ram:] if ROM[0x147] in (3, 6, 9, 15, 16, 19, 27, 30) else start[len(start) - ram:])
+        with self.assertRaises(Refused):
+            machine.frames(0)
+        for rom in (b'', bytes(100), bytes(32768 + 1), b'\xff' * 32768):
+            with self.assertRaises(Refused):
+                Machine(rom)
+
+    def test_a_session_s_state_is_that_of_a_machine_with_its_inputs(self):
+        from gbkeep_library import Machine, Refused, Session
+        with Machine(ROM) as machine, Session(ROM) as session:
+            for buttons, count in ((0, 10), (0x80, 5), (0x01, 30)):
+                machine.frames(buttons, count)
+                session.frames(buttons, count)
+            machine.seconds(3)
+            session.seconds(3)
+            self.assertEqual((session.state(), session.picture().shades, session.count()), (machine.state(), machine.picture().shades, 46))
+            session.frames(0, 3200 - 46)
+            with self.assertRaises(Refused) as refused:
+                session.frames(0)
+            self.assertEqual((refused.exception.code, session.count()), (15, 3200))
+            self.assertEqual(session.save(), 3200)
+            session.frames(0)
+            self.assertEqual(session.count(), 3201)
+        with self.assertRaises(Refused):
+            Session(ROM, sectors=3)
+        with self.assertRaises(Refused):
+            Session(ROM, bytes(1000))
+
+    def test_each_prefix_of_the_calls_and_each_subset_stands_for_what_was_told(self):
+        from gbkeep_library import Machine, Session
+        chance = random.Random(1)
+        cart = CART
+        # a new game; then it is taken up again from what the calls left
+        image, given, told = None, 0, 0
+        for life in range(3):
+            session = Session(ROM) if image is None else Session(ROM, image)
+            self.assertEqual(session.count(), given)
+            from gbkeep_library import sectors_needed
+            disk = bytearray(SECTOR * sectors_needed(ROM)) if image is None else bytearray(image)
+            synced, behind, begun = bytes(disk), [], image is not None
+            for save in range(12):
+                if save:
+                    session.frames(chance.randrange(256), chance.randrange(1, 400))
+                    now = session.save()
+                else:
+                    now = given
+                for call in session.calls():
+                    if call.bytes is None:
+                        synced, behind = bytes(disk), []
+                    else:
+                        disk[call.sector * SECTOR:(call.sector + 1) * SECTOR] = call.bytes
+                        behind.append(call)
+                    for _ in range(3):
+                        left = bytearray(synced)
+                        for write in behind:
+                            if chance.random() < 0.5:
+                                left[write.sector * SECTOR:(write.sector + 1) * SECTOR] = write.bytes
+                        try:
+                            count, _, _ = save_files.looked_at(left, cart)
+                        except save_files.Refused:
+                            self.assertFalse(begun)
+                            continue
+                        self.assertTrue(told <= count <= now, (told, count, now))
+                # the calls of a save end with a sync, and what it left is all of it
+                self.assertEqual(behind, [])
+                begun, told = True, now
+                self.assertEqual(save_files.looked_at(disk, cart)[0], told)
+            # taken up again, it is the same machine
+            with Session(ROM, bytes(disk)) as again:
+                self.assertEqual((again.state(), again.count()), (session.state(), told))
+            session.close()
+            image, given = bytes(disk), told
+
+
+if __name__ == '__main__':
+    if not 2 <= len(sys.argv) <= 3:
+        sys.exit('usage: test_library.py GBKEEP [LIBRARY]')
+    PROGRAM = os.path.abspath(sys.argv[1])
+    if len(sys.argv) == 3:
+        LIBRARY = Path(sys.argv[2]).resolve()
+    for needed in (PROGRAM, LIBRARY / 'libgbkeep.a', LIBRARY / 'libgbkeep.so'):
+        if not Path(needed).exists():
+            sys.exit(f'test_library.py: {needed} is not there')
+    os.environ['GBKEEP_LIBRARY'] = str(LIBRARY / 'libgbkeep.so')
+    unittest.main(argv=sys.argv[:1])
