@@ -7,7 +7,8 @@ Of the demo cartridge: the processor time of so many frames, each with its pictu
 as many pictures of one machine. The ratio is the first by the sum of the others. Then, of 3,000 saves of two frames each: the wall time of `stream`, and of
 `record`, which writes and syncs one file more. Then of `recorded`, of 2,000,000 inputs. Of a busy loop: the processor time of `test`, of 36,000 frames, and of
 `stream`, of the same frames. Of the loop of `bench steps`: the processor time of `debug`, of `until` with eight addresses that the loop does not meet; and,
-where valgrind is there, the host's instructions of such a step, which stand beside those of `run_until`, and of a step of `until-op`."""
+where valgrind is there, the host's instructions of such a step, which stand beside those of `run_until`, and of a step of `until-op`, `until-write` and
+`until-read`."""
 import os
 import re
 import shutil
@@ -129,8 +130,9 @@ def main():
         spent = min(processor_seconds([gbkeep, 'debug', loop], until(steps)) for _ in range(3))
         print('debug, until of %d steps: %.2f s, %.1f ns a step' % (steps, spent, 1e9 * spent / steps))
         if shutil.which('valgrind'):
-            counts = [step_instructions(gbkeep, loop, line) for line in (until, lambda many: b'until-op %d 40\n' % many)]
-            print('debug: %.0f instructions a step of until, %.0f of until-op' % tuple(counts))
+            lines = (until, lambda many: b'until-op %d 40\n' % many, lambda many: b'until-write %d C000 CFFF\n' % many, lambda many: b'until-read %d C000\n' % many)
+            counts = [step_instructions(gbkeep, loop, line) for line in lines]
+            print('debug: %.0f instructions a step of until, %.0f of until-op, %.0f of until-write, %.0f of until-read' % tuple(counts))
     return 0
 
 

@@ -472,6 +472,59 @@ history 1
     room.done('debug debug.wake.gb', 'stopped 010C\n010C 40     LD B,B\n', 'until-op 1100 40\nstep 1\n')
 
 
+# pushes 1234, pops it, writes 00 where 00 stands, adds one to it, and with that starts a copy of page 01 to OAM
+ACCESSES = '3102c0 013412 c5 d1 2100d0 3600 34 7e ea46ff 00 18fd'
+# halts until the timer's interrupt
+INTERRUPTED = 'af e00f 3e04 e0ff 3e05 e007 fb 76'
+# calls 4000 in bank 2, then in bank 3, for ever
+BANKED = '3e02 ea0020 cd0040 3e03 ea0020 cd0040 18ee'
+
+
+def test_a_run_stops_before_an_access(room):
+    room.rom('access.gb', ACCESSES)
+    for line, answer in {
+        # both bytes of a push and of a pop, and each address of a span
+        'until-write 99 C001': 'stopped 0106', 'until-write 99 C000': 'stopped 0106', 'until-write 99 A000 C000': 'stopped 0106',
+        'until-write 99 C001 FFFF': 'stopped 0106', 'until-read 99 C000': 'stopped 0107', 'until-read 99 c001': 'stopped 0107',
+        # a byte that stays the same is written, and one that is read is not
+        'until-write 99 D000': 'stopped 010B', 'until-read 99 D000': 'stopped 010D', 'until-change 99 D000': 'stopped 010E',
+        # the copy begins in the step that starts it, and its last byte is the third M-cycle of a jump
+        'until-write 99 FF46': 'stopped 010F', 'until-write 99 FE00': 'stopped 010F', 'until-write 99 FE03': 'stopped 010F',
+        'until-write 99 FE04': 'stopped 0112', 'until-write 999 FE9F': 'stopped 0113', 'until-write 999 FEA0': 'limit 0112',
+        # its source is read, and the bytes of an instruction are not
+        'until-read 99 0100': 'stopped 010F', 'until-read 99 0104': 'stopped 0112', 'until-read 999 019F': 'stopped 0113',
+        'until-read 99 0000 00FF': 'limit 0112', 'until-read 99 0200 BFFF': 'limit 0112',
+        # an echo has its own address
+        'until-write 99 F000': 'limit 0112', 'until-change 99 F000': 'stopped 010E',
+        # the last step of a run is not looked behind
+        'until-write 6 D000': 'stopped 010B', 'until-write 5 D000': 'limit 010B', 'until-change 8 D000': 'stopped 010E',
+        'until-change 7 D000': 'limit 010E', 'until-read 1 C000': 'limit 0103',
+        # the first step is made whatever it accesses
+        'until 9 10B\nuntil-write 99 D000\nuntil-write 99 D000': 'stopped 010B\nstopped 010D\nlimit 0112',
+        'until 9 10D\nuntil-read 99 D000\nuntil-read 99 D000': 'stopped 010D\nstopped 010E\nlimit 0113',
+    }.items():
+        room.done('debug access.gb', answer + '\n', line + '\n')
+    room.rom('interrupted.gb', INTERRUPTED)
+    for address in ('FFFC', 'FFFD'):
+        room.done('debug interrupted.gb', 'stopped 010D\ninterrupt 50\n', f'until-write 2000 {address}\nstep 1\n')
+    room.done('debug interrupted.gb', 'stopped 0050\n', 'until-change 2000 FFFC\n')
+
+
+def test_a_place_has_a_bank(room):
+    rom = bytearray(0x10000)
+    code = bytes.fromhex(BANKED)
+    rom[0x100:0x100 + len(code)], rom[0x147] = code, 1
+    for bank in (1, 2, 3):
+        rom[0x4000 * bank] = 0xc9
+    room.write('banked.gb', bytes(rom))
+    room.done('debug banked.gb', 'bank 0001\nbank 0000\nbank 0000\nbank 0000\n', 'bank 4000\nbank 3FFF\nbank A000\nbank FFFF\n')
+    room.done('debug banked.gb', 'stopped 4000\nbank 0002\nstopped 4000\nbank 0003\n', 'until 99 4000\nbank 7fff\nuntil 99 4000\nbank 4000\n')
+    room.done('debug banked.gb', 'stopped 4000\nbank 0003\nhistory 1\n010D CD0040 CALL 4000\n', 'until 99 3:4000\nbank 4000\nhistory 1\n')
+    room.done('debug banked.gb', 'stopped 4000\nbank 0003\n', 'until 99 1:4000 003:4000 2:4001\nbank 4000\n')
+    room.done('debug banked.gb', 'stopped 4000\nbank 0002\n', 'until 99 1:4000 3:108 2:4000\nbank 4000\n')
+    room.done('debug banked.gb', 'stopped 0108\nlimit 0108\nwrong 3\nwrong 4\n', 'until 99 0:108\nuntil 9 1:4000\nuntil 9 1000:4000\nbank 1:4000\n')
+
+
 def test_a_game_keeps_nothing_of_a_debugger(room):
     room.rom('debugged.gb', SENDS, {0: 0xab, 0x147: 0x10})
     room.rom('debugged.other.gb', SENDS)

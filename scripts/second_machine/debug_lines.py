@@ -1,18 +1,30 @@
 """The lines of `gbkeep debug`, read and answered by the second machine: what each asks for, and each byte of the answer. Written from docs/COMMANDS.md,
 docs/SNAPSHOT.md and docs/MACHINE.md, by somebody who had read of the code what its calls promise. debug_lines.py --check compares its own parts."""
-import collections, hashlib, random, re, sys
+import collections, copy, hashlib, random, re, sys
 import reference as ref
 
 MOST_LINE, MOST_SENT, MOST_HISTORY = 128, 65536, 1024
 COUNT, HEX = rb'([0-9]{1,10})', rb'[0-9A-Fa-f]'
 ADDRESS, BYTE = rb'(' + HEX + rb'{1,4})', rb'(' + HEX + rb'{2})'
+SPAN = rb'(' + HEX + rb'{1,4}(?: ' + HEX + rb'{1,4})?)'
 
 
 def steps(word): return within(word, 1, 4294967295)
 def room(word): return within(word, 1, 65536)
 def byte(word): return int(word, 16)
 def address(word): return int(word, 16)
-def addresses(words): return [int(word, 16) for word in words.split()]
+
+
+def places(words):
+    """Banks and addresses: None is each bank."""
+    parts = [word.split(b':') for word in words.split()]
+    return [(int(part[0], 16) if len(part) == 2 else None, int(part[-1], 16)) for part in parts]
+
+
+def span(words):
+    """A first and a last address; None where the last is below the first."""
+    both = [int(word, 16) for word in words.split()]
+    return (both[0], both[-1]) if both[0] <= both[-1] else None
 
 
 def within(word, low, high):
@@ -23,8 +35,12 @@ def within(word, low, high):
 # the form of each line, and what reads its words
 FORMS = [(re.compile(form), name, readers) for form, name, readers in (
     (rb'step ' + COUNT, 'step', (steps,)),
-    (rb'until ' + COUNT + rb'((?: ' + HEX + rb'{1,4}){1,16})', 'until', (steps, addresses)),
+    (rb'until ' + COUNT + rb'((?: (?:' + HEX + rb'{1,3}:)?' + HEX + rb'{1,4}){1,16})', 'until', (steps, places)),
     (rb'until-op ' + COUNT + b' ' + BYTE, 'until-op', (steps, byte)),
+    (rb'until-change ' + COUNT + b' ' + ADDRESS, 'until-change', (steps, address)),
+    (rb'until-write ' + COUNT + b' ' + SPAN, 'until-write', (steps, span)),
+    (rb'until-read ' + COUNT + b' ' + SPAN, 'until-read', (steps, span)),
+    (rb'bank ' + ADDRESS, 'bank', (address,)),
     (rb'frame ' + BYTE, 'frame', (byte,)),
     (rb'frames ' + BYTE + b' ' + COUNT, 'frames', (byte, lambda word: within(word, 1, 1000000))),
     (rb'seconds ' + COUNT, 'seconds', (lambda word: within(word, 0, 4294967295),)),
@@ -126,6 +142,25 @@ class Debugger:
             there = made < limit and is_there()
         return '%s %04X\n' % ('stopped' if there else 'limit', self.m.pc)
 
+    def is_at(self, places):
+        """PC is one of these, and its bank is mapped."""
+        return any(address == self.m.pc and bank in (None, self.m.bank_at(address)) for bank, address in places)
+
+    def until_access(self, limit, first, last, is_write):
+        """Up to the step that accesses one of these addresses: a first run counts the steps before it, and a second one makes them."""
+        m = self.m
+        before = {name: copy.deepcopy(value) for name, value in vars(m).items() if name not in ('ops', 'rom')}
+        m.step()
+        made = 1
+        while made < limit and not any(first <= at <= last for at in m.accesses()[is_write]):
+            made += 1
+        for name, value in before.items():
+            if name == 'r': m.r[:] = value      # the operations hold this list
+            else: setattr(m, name, value)
+        for _ in range(made):
+            self.step()
+        return '%s %04X\n' % ('stopped' if made < limit else 'limit', m.pc)
+
     def memory(self, at, count):
         rows = []
         for first in range(0, count, 16):
@@ -156,8 +191,13 @@ class Debugger:
         """Does what an order asks for, and gives its answer."""
         m = self.m
         if name == 'step': return ''.join(self.step() for _ in range(words[0]))
-        if name == 'until': return self.until(words[0], lambda: m.pc in words[1])
+        if name == 'until': return self.until(words[0], lambda: self.is_at(words[1]))
         if name == 'until-op': return self.until(words[0], lambda: self.is_before(words[1]))
+        if name == 'until-change':
+            byte = m.read(words[1], peek=True)
+            return self.until(words[0], lambda: m.read(words[1], peek=True) != byte)
+        if name in ('until-write', 'until-read'): return self.until_access(words[0], *words[1], name == 'until-write')
+        if name == 'bank': return 'bank %04X\n' % m.bank_at(words[0])
         if name == 'frame': return self.frames(words[0], 1)
         if name == 'frames': return self.frames(*words)
         if name == 'seconds':
@@ -192,6 +232,11 @@ class Debugger:
 
 WRONG = [b'step', b'step 0', b'step 4294967296', b'step 00000000001', b'step -1', b'step +1', b'step 1 1', b'step 0x1', b'step 1 ', b' step 1', b'step  1',
          b'Step 1', b'step\t1', b'step 1\r', b'step 99999999999999999999', b'until', b'until 1', b'until 1 ', b'until 0 100', b'until 4294967296 100',
+         b'until 1 :100', b'until 1 1:', b'until 1 1:2:3', b'until 1 1000:100', b'until 1 1:10000', b'until 1 g:1', b'until 1 1 :', b'until 1 1: 1',
+         b'until 1 ' + b' '.join([b'0:0'] * 17), b'until-change', b'until-change 1', b'until-change 0 1', b'until-change 1 10000', b'until-change 1 1 1',
+         b'until-change 1 1:1', b'until-write', b'until-write 1', b'until-write 0 1', b'until-write 1 10000', b'until-write 1 1 0', b'until-write 1 1 1 1',
+         b'until-write 1 FFFF 0', b'until-write 1 1 ', b'until-write 4294967296 1 1', b'until-write 1 0 10000', b'until-read 1 8000 7fff', b'until-read 1 1:1',
+         b'until-read', b'until-read 1 1 1 ', b'until-Read 1 1', b'bank', b'bank 10000', b'bank 1 1', b'bank 1:1', b'bank g',
          b'until 1 10000', b'until 1 100 ', b'until 1  100', b'until 1 100 g', b'until 1 ' + b' '.join([b'0'] * 17), b'until-op 1', b'until-op 1 4',
          b'until-op 1 040', b'until-op 1 GG', b'until-op 0 40', b'until-op 1 40 41', b'until_op 1 40', b'frame', b'frame 1', b'frame 1G', b'frames 00 0',
          b'frames 00 1000001', b'frames 00', b'frame 00 1', b'seconds', b'seconds -1', b'seconds 4294967296', b'registers ', b'registers 1', b'Registers',
@@ -222,15 +267,26 @@ def a_line(rnd, most, seen):
 
     def count(high): return rnd.choice(['%d', '%d', '%05d', '%010d']) % rnd.randrange(1, high + 1)
 
-    choice = rnd.randrange(14)
+    def banked(): return rnd.choice(['', '', '%X:' % rnd.choice([0, 1, 1, 2, 3, rnd.randrange(512)])]) + place()
+
+    def spanned():
+        first = int(place(), 16)
+        last = min(first + rnd.choice([0, 1, 15, 255, rnd.randrange(65536)]), 0xFFFF)
+        return rnd.choice(['%04X %04x' % (first, last), '%X' % first])
+
+    choice = rnd.randrange(20)
     if choice < 2: return 'step ' + count(most // 4 + 1)
-    if choice < 4: return 'until %s %s' % (count(most), ' '.join(place() for _ in range(rnd.choice([1, 1, 2, 3, 16]))))
+    if choice < 4: return 'until %s %s' % (count(most), ' '.join(banked() for _ in range(rnd.choice([1, 1, 2, 3, 12]))))
     if choice < 6: return 'until-op %s %02x' % (count(most), rnd.choice([0x40, rnd.choice(opcodes), rnd.choice(opcodes), rnd.randrange(256)]))
     if choice == 6: return rnd.choice(['frame %02X', 'frames %02x 1']) % rnd.choice([0, 0, 1, 0x80, 0xFF, rnd.randrange(256)])
     if choice == 7: return 'seconds %d' % rnd.choice([0, 1, 59, 60, 3600, 86400, 44236800, 4294967295, rnd.randrange(200000)])
     if choice == 8: return 'history ' + rnd.choice(['1', '3', '1024', '65536', count(100)])
     if choice == 9: return 'list %s %s' % (place(), count(rnd.choice([1, 20, 300])))
     if choice == 10: return 'memory %s %s' % (place(), rnd.choice(['1', '16', '17', count(300), count(300), '65536']))
+    if choice == 11: return 'bank ' + place()
+    if choice == 12: return 'until-change %s %s' % (count(most), place())
+    if choice < 15: return 'until-write %s %s' % (count(most), spanned())
+    if choice < 17: return 'until-read %s %s' % (count(most), spanned())
     return rnd.choice(['registers', 'serial', 'state', 'state'] + ['picture'] * (rnd.random() < 0.2))
 
 
@@ -270,6 +326,10 @@ def check():
             if not least <= len(word) <= most or not all(one in b'0123456789abcdefABCDEF' for one in word): raise ValueError
             return int(word, 16)
 
+        def banked(word):
+            bank, colon, address = word.rpartition(b':')
+            return hexes(bank, 1, 3) if colon else None, hexes(address, 1, 4)
+
         name, rest = words[0], words[1:]
         try:
             if name in (b'registers', b'serial', b'picture', b'state') and not rest: return (name.decode(),)
@@ -277,7 +337,12 @@ def check():
             if name == b'history' and len(rest) == 1: return 'history', number(rest[0], 1, 2 ** 16)
             if name in (b'list', b'memory') and len(rest) == 2: return name.decode(), hexes(rest[0], 1, 4), number(rest[1], 1, 2 ** 16)
             if name == b'until-op' and len(rest) == 2: return 'until-op', number(rest[0], 1, 2 ** 32 - 1), hexes(rest[1], 2, 2)
-            if name == b'until' and 2 <= len(rest) <= 17: return 'until', number(rest[0], 1, 2 ** 32 - 1), [hexes(word, 1, 4) for word in rest[1:]]
+            if name == b'until' and 2 <= len(rest) <= 17: return 'until', number(rest[0], 1, 2 ** 32 - 1), [banked(word) for word in rest[1:]]
+            if name == b'until-change' and len(rest) == 2: return 'until-change', number(rest[0], 1, 2 ** 32 - 1), hexes(rest[1], 1, 4)
+            if name in (b'until-write', b'until-read') and 2 <= len(rest) <= 3:
+                first, last = hexes(rest[1], 1, 4), hexes(rest[-1], 1, 4)
+                return (name.decode(), number(rest[0], 1, 2 ** 32 - 1), (first, last)) if last >= first else None
+            if name == b'bank' and len(rest) == 1: return 'bank', hexes(rest[0], 1, 4)
             if name == b'frame' and len(rest) == 1: return 'frame', hexes(rest[0], 2, 2)
             if name == b'frames' and len(rest) == 2: return 'frames', hexes(rest[0], 2, 2), number(rest[1], 1, 1000000)
             if name == b'seconds' and len(rest) == 1: return 'seconds', number(rest[0], 0, 2 ** 32 - 1)

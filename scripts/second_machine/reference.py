@@ -240,19 +240,23 @@ class Machine:
         self.what = ''
 
     # ---- controller
-    def rom_read(self, a):
-        k = self.kind
-        n = self.banks
+    def rom_bank(self, a):
+        """The number of the bank at an address of ROM."""
         if a < 0x4000:
-            b = 0
-            if k == 'MBC1' and self.mode1:
-                b = self.upper * 32
-        else:
-            a -= 0x4000
-            if k == 'none': b = 1
-            elif k == 'MBC1': b = self.upper * 32 + self.lower
-            else: b = self.bank
-        return self.rom[(b % n) * 16384 + a]
+            b = self.upper * 32 if self.kind == 'MBC1' and self.mode1 else 0
+        elif self.kind == 'none': b = 1
+        elif self.kind == 'MBC1': b = self.upper * 32 + self.lower
+        else: b = self.bank
+        return b % self.banks
+
+    def rom_read(self, a):
+        return self.rom[self.rom_bank(a) * 16384 + a % 16384]
+
+    def bank_at(self, a):
+        """The number of the bank at an address; 0 where there is none, as where the cartridge's RAM is shut or shows its clock."""
+        if a < 0x8000: return self.rom_bank(a)
+        place = self.cram_place(a) if 0xA000 <= a < 0xC000 else None
+        return place // 8192 if isinstance(place, int) else 0
 
     def rom_write(self, a, v):
         k = self.kind
@@ -675,6 +679,39 @@ class Machine:
         b = [self.read((pc + i) & 0xFFFF) for i in places]
         self.step()
         return self.what + '\n' if self.what else list_line(pc, b)
+
+    def accesses(self):
+        """Makes a step; gives the addresses that it read, beside the instruction's own bytes, and those that it wrote, with what a copy to OAM did in
+        its M-cycles."""
+        read, written = set(), set()
+        own = [True]        # the opcode, which is read first, or another byte of the instruction
+
+        def noted_read(a, peek=False):
+            if peek:        # only a copy looks so
+                read.add(a)
+                written.add(0xFE00 + self.copied)
+            elif not own[0]: read.add(a)
+            own[0] = False
+            return Machine.read(self, a, peek)
+
+        def noted_write(a, v):
+            written.add(a)
+            Machine.write(self, a, v)
+
+        def noted_div():
+            written.add(0xFF04)
+            Machine.div_write(self)
+
+        def own_byte():
+            own[0] = True
+            return Machine.n8(self)
+
+        self.read, self.write, self.div_write, self.n8 = noted_read, noted_write, noted_div, own_byte
+        try:
+            self.step()
+        finally:
+            del self.read, self.write, self.div_write, self.n8
+        return read, written
 
     def n8(self):
         v = self.read(self.pc)

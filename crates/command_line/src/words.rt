@@ -31,8 +31,11 @@ const STREAM_LINES: &str = "Lines of the standard input:
 
 const DEBUG_LINES: &str = "Lines of the standard input, each answered before the next is read:
   step N            the next N steps, a line each
-  until N ADDR..    up to N steps, to one of 1 to 16 addresses
+  until N PLACE..   up to N steps, to one of 1 to 16 places: ADDR, or BANK:ADDR
   until-op N XX     up to N steps, to an instruction with the opcode XX
+  until-change N ADDR        up to N steps, until the byte at ADDR is another
+  until-write N ADDR [LAST]  up to N steps, to one that writes ADDR, or up to LAST
+  until-read N ADDR [LAST]   up to N steps, to one that reads it
   frame BB          one frame with the buttons BB, as in a script
   frames BB N       N such frames, 1 to 1,000,000
   seconds N         N seconds pass on the cartridge's clock
@@ -40,6 +43,7 @@ const DEBUG_LINES: &str = "Lines of the standard input, each answered before the
   history N         the last N instructions, at most 1,024
   list ADDR N       N instructions from ADDR on
   memory ADDR N     N bytes from ADDR on
+  bank ADDR         the number of the bank that is mapped at ADDR
   serial            the bytes that were sent since the last serial
   picture           the picture as plain PGM, 46,093 bytes
   state             the SHA-256 of the machine's snapshot";

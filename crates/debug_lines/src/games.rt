@@ -84,7 +84,7 @@ fn debug_machine<R: Read, W: Write>(
     let Some(copy) = copy_of(alloc, machine, cartridge) else {
         return Err(DebugGameError::Memory);
     };
-    let debugger = match LineDebugger::new(alloc, copy) {
+    let debugger = match LineDebugger::new(alloc, copy, cartridge) {
         Ok(debugger) => debugger,
         Err(_) => return Err(DebugGameError::Memory),
     };

@@ -17,6 +17,7 @@ use std::io::{Read, Write};
 /// Debugs a cartridge from power-on, as `LineDebugger` obeys its lines.
 ///
 /// Refusals, in this order: what is wrong with the image; no memory, both with nothing read and nothing written; why the debugger stopped.
+#[tactic(auto, unfolding(bank_controllers::specs::CartridgeState::cartridge_at_power_on))]
 pub fn debug_rom<R: Read, W: Write>(
     alloc: Global,
     rom: Vec<u8>,
@@ -37,7 +38,7 @@ pub fn debug_rom<R: Read, W: Write>(
         Ok(machine) => machine,
         Err(_) => return Err(DebugRomError::Memory),
     };
-    let debugger = match LineDebugger::new(alloc, machine) {
+    let debugger = match LineDebugger::new(alloc, machine, &cartridge) {
         Ok(debugger) => debugger,
         Err(_) => return Err(DebugRomError::Memory),
     };

@@ -149,6 +149,9 @@ again : {X : Type 0} (f : X → X) (n : ℕ) (x : X) → f (iterate f n x) ≡ i
 again f zero x = refl
 again f (suc n) x = again f n (f x)
 
+pub once_more : {X : Type 0} (f : X → X) (n : ℕ) (x : X) → f (iterate f n x) ≡ iterate f (n + 1) x
+once_more f n x = again f n x ∙ ap (λ (k : ℕ). iterate f k x) (sym (add-one n))
+
 -- one frame more
 pub and_frame : (buttons n : ℕ) (r now after : RunState) → now ≡ after_frames n buttons r → after ≡ after_frame buttons now → after ≡ after_frames (n + 1) buttons r
 and_frame buttons n r now after so_far frame =

@@ -1,5 +1,5 @@
--- No order changes the length of cartridge RAM.
-use Rattle.std.proofs.Common.{◌≡◌, ◌∙◌, ℕ, zero, suc, Bool, true, false, List, [], ◌∷◌, length, Option, None, Some, refl}
+-- No order changes the ROM, or the length of cartridge RAM.
+use Rattle.std.proofs.Common.{◌≡◌, ◌∙◌, ℕ, zero, suc, Bool, true, false, List, [], ◌∷◌, length, Option, None, Some, ap, sym}
 use Rattle.std.specs.Prelude.{◌==◌, if◌then◌else◌}
 use Rattle.bank_controllers.specs.CartridgeState.{IsSameCartridge}
 use Rattle.bank_controllers.proofs.Same.{same_itself, same_then, seconds-same}
@@ -7,62 +7,91 @@ use Rattle.sm83_processor.proofs.KeptBySteps.{by_step}
 use Rattle.sm83_processor.specs.Steps.{step_of, after_steps}
 use Rattle.sm83_processor.specs.declared.processor.Processor.{Processor}
 use Rattle.memory_map.specs.State.{BusState}
-use Rattle.memory_map.specs.Bus as bus
 use Rattle.memory_map.specs.BusRules.{bus_rules}
 use Rattle.machine.specs.declared.input.Input.TheVariants.{Frame}
 use Rattle.machine.specs.Machine.{after}
 use Rattle.machine.proofs.KeptByInputs.{bus_keeps, by_inputs}
 use Rattle.debugging.specs.declared.order.Order.{Order}
-use Rattle.debugging.specs.declared.order.Order.TheVariants.{Frames, Seconds, Step, Until, UntilOpcode, Registers, History, List as Listing, Memory, Serial, Picture, State}
+use Rattle.debugging.specs.declared.order.Order.TheVariants.{Frames, Seconds, Step, Until, UntilOpcode, UntilChange, UntilWrite, UntilRead, Registers, History, List as Listing, Memory, Bank, Serial, Picture, State}
 use Rattle.debugging.specs.Orders.{order_of}
+use Rattle.debugging.specs.Quiet.{HasRom}
 use Rattle.debugging.specs.Run.{RunState, after_frame, after_frames, after_steps_of, processor_of}
-use Rattle.debugging.specs.Answers.{after_asked, after_line, after_lines, after_order}
+use Rattle.debugging.specs.Answers.{after_asked, after_line, after_order}
 
 abbrev pub ram_length : RunState → ℕ
 ram_length r = length (processor_of r).memory.banks.ram
+
+abbrev pub rom_length : RunState → ℕ
+rom_length r = length (processor_of r).memory.banks.rom
+
+-- the cartridge of another run is the same
+abbrev IsKept : RunState → RunState → Type 0
+IsKept old new = IsSameCartridge (processor_of old).memory.banks (processor_of new).memory.banks
 
 by_steps : (n : ℕ) (p : Processor BusState) → IsSameCartridge p.memory.banks (after_steps bus_rules n p).memory.banks
 unfolding after_steps
 by_steps zero p = same_itself p.memory.banks
 by_steps (suc n) p = same_then _ _ _ (by_step bus_rules (λ old new. IsSameCartridge old.banks new.banks) bus_keeps p) (by_steps n (step_of bus_rules p).after)
 
-steps_keep : (n : ℕ) (r : RunState) → ram_length (after_steps_of n r) ≡ ram_length r
-steps_keep n r = (by_steps n (processor_of r)).ram_length
+itself : (r : RunState) → IsKept r r
+itself r = same_itself (processor_of r).memory.banks
 
-frame_keeps : (buttons : ℕ) (r : RunState) → ram_length (after_frame buttons r) ≡ ram_length r
+steps_keep : (n : ℕ) (r : RunState) → IsKept r (after_steps_of n r)
+steps_keep n r = by_steps n (processor_of r)
+
+frame_keeps : (buttons : ℕ) (r : RunState) → IsKept r (after_frame buttons r)
 unfolding after
-frame_keeps buttons r = (by_inputs r.debugger.machine (Frame buttons ∷ [])).ram_length
+frame_keeps buttons r = by_inputs r.debugger.machine (Frame buttons ∷ [])
 
-frames_keep : (times buttons : ℕ) (r : RunState) → ram_length (after_frames times buttons r) ≡ ram_length r
-frames_keep zero buttons r = refl
-frames_keep (suc n) buttons r = frames_keep n buttons (after_frame buttons r) ∙ frame_keeps buttons r
+frames_keep : (times buttons : ℕ) (r : RunState) → IsKept r (after_frames times buttons r)
+frames_keep zero buttons r = itself r
+frames_keep (suc n) buttons r = same_then _ _ _ (frame_keeps buttons r) (frames_keep n buttons (after_frame buttons r))
 
-order_keeps : (order : Order) (r : RunState) → ram_length (after_order order r) ≡ ram_length r
+order_keeps : (order : Order) (r : RunState) → IsKept r (after_order order r)
 order_keeps (Frames buttons times) r = frames_keep times buttons r
-order_keeps (Seconds n) r = (seconds-same n (processor_of r).memory.banks).ram_length
+order_keeps (Seconds n) r = seconds-same n (processor_of r).memory.banks
 order_keeps (Step n) r = steps_keep n r
-order_keeps (Until limit addresses) r = steps_keep _ r
+order_keeps (Until limit places) r = steps_keep _ r
 order_keeps (UntilOpcode limit opcode) r = steps_keep _ r
-order_keeps Registers r = refl
-order_keeps (History n) r = refl
-order_keeps (Listing address n) r = refl
-order_keeps (Memory address n) r = refl
-order_keeps Serial r = refl
-order_keeps Picture r = refl
-order_keeps State r = refl
+order_keeps (UntilChange limit address) r = steps_keep _ r
+order_keeps (UntilWrite limit span) r = steps_keep _ r
+order_keeps (UntilRead limit span) r = steps_keep _ r
+order_keeps Registers r = itself r
+order_keeps (History n) r = itself r
+order_keeps (Listing address n) r = itself r
+order_keeps (Memory address n) r = itself r
+order_keeps (Bank address) r = itself r
+order_keeps Serial r = itself r
+order_keeps Picture r = itself r
+order_keeps State r = itself r
 
-asked_keeps : (asked : Option Order) (r : RunState) → ram_length (after_asked asked r) ≡ ram_length r
-asked_keeps None r = refl
+asked_keeps : (asked : Option Order) (r : RunState) → IsKept r (after_asked asked r)
+asked_keeps None r = itself r
 asked_keeps (Some order) r = order_keeps order r
 
-either_keeps : (b : Bool) (r x : RunState) → ram_length x ≡ ram_length r → ram_length (if b then r else x) ≡ ram_length r
-either_keeps true r x kept = refl
+either_keeps : (b : Bool) (r x : RunState) → IsKept r x → IsKept r (if b then r else x)
+either_keeps true r x kept = itself r
 either_keeps false r x kept = kept
 
-pub line_keeps : (line : List ℕ) (r : RunState) → ram_length (after_line line r) ≡ ram_length r
-line_keeps line r = either_keeps (length line == 0) r (after_asked (order_of line) r) (asked_keeps (order_of line) r)
+line_kept : (line : List ℕ) (r : RunState) → IsKept r (after_line line r)
+line_kept line r = either_keeps (length line == 0) r (after_asked (order_of line) r) (asked_keeps (order_of line) r)
 
-pub lines_keep : (lines : List (List ℕ)) (r : RunState) → ram_length (after_lines lines r) ≡ ram_length r
-unfolding after_lines
-lines_keep [] r = refl
-lines_keep (line ∷ lines) r = lines_keep lines (after_line line r) ∙ line_keeps line r
+pub line_keeps : (line : List ℕ) (r : RunState) → ram_length (after_line line r) ≡ ram_length r
+line_keeps line r = (line_kept line r).ram_length
+
+pub line_keeps_rom : (line : List ℕ) (r : RunState) → rom_length (after_line line r) ≡ rom_length r
+line_keeps_rom line r = ap length (line_kept line r).rom
+
+-- ---- the ROM
+
+pub rom_kept : (rom : ℕ) (old new : RunState) → HasRom rom (processor_of old).memory → rom_length new ≡ rom_length old → HasRom rom (processor_of new).memory
+rom_kept rom old new has same = record { size = has.size ∙ sym same; least = has.least }
+
+-- of a processor some steps on
+pub rom_after : (rom n : ℕ) (p q : Processor BusState) → HasRom rom p.memory → q ≡ after_steps bus_rules n p → HasRom rom q.memory
+rom_after rom n p q has run =
+    record { size = has.size ∙ sym (ap (λ (x : Processor BusState). length x.memory.banks.rom) run ∙ ap length (by_steps n p).rom); least = has.least }
+
+-- of a run some steps on
+pub rom_of_run : (rom n : ℕ) (old now : RunState) → HasRom rom (processor_of old).memory → now ≡ after_steps_of n old → HasRom rom (processor_of now).memory
+rom_of_run rom n old now has run = rom_after rom n (processor_of old) (processor_of now) has (ap processor_of run)

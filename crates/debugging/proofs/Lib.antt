@@ -1,4 +1,6 @@
 pub mod Words
+pub mod Stopping
+pub mod Copies
 pub mod Frames
 pub mod Places
 pub mod Opcodes

@@ -18,8 +18,8 @@ use Rattle.debugger.specs.Run.{HasMet, HasRun, IsStop}
 use Rattle.debugger.specs.declared.stop.Stop.{Stop}
 use Rattle.debugger.specs.declared.stop.Stop.TheVariants.{Break, Limit}
 use Rattle.debugger.proofs.Histories.{keep_last-all, keep_last-again, not_begun, runs}
-use Rattle.debugging.specs.Quiet.{IsQuietFor, Makes, MakesIn, StopsBefore, StopsIn}
-use Rattle.debugging.specs.Run.{RunState, after_steps_of, is_at, most_sent, processor_of, steps_before, steps_up_to}
+use Rattle.debugging.specs.Quiet.{IsQuietFor, Makes, MakesIn, StopsBefore, StopsIn, has_pc}
+use Rattle.debugging.specs.Run.{RunState, after_steps_of, most_sent, processor_of, steps_before, steps_up_to}
 use Rattle.debugging.proofs.Places.{before_elsewhere, before_none, before_there, made}
 
 -- ---- bytes
@@ -95,15 +95,15 @@ tells x y e = grind (arith, nat_tests)
 itself : (x : ℕ) → (x == x) ≡ true
 itself x = grind (arith, nat_tests)
 
-pub at_some : (addresses : List ℕ) (p : Processor BusState) → Contains addresses p.registers.pc → is_at addresses p ≡ true
+pub at_some : (addresses : List ℕ) (p : Processor BusState) → Contains addresses p.registers.pc → has_pc addresses p ≡ true
 at_some addresses p there =
     let pc = p.registers.pc in
     list_any_at (λ (address : ℕ). address == pc) addresses there.0 pc there.1 (ap (λ (address : ℕ). address == pc) there.2 ∙ itself pc)
 
-pub at_none : (addresses : List ℕ) (p : Processor BusState) → ¬ (Contains addresses p.registers.pc) → is_at addresses p ≡ false
-at_none addresses p none = go (is_at addresses p) refl
+pub at_none : (addresses : List ℕ) (p : Processor BusState) → ¬ (Contains addresses p.registers.pc) → has_pc addresses p ≡ false
+at_none addresses p none = go (has_pc addresses p) refl
   where
-    go : (b : Bool) → is_at addresses p ≡ b → is_at addresses p ≡ false
+    go : (b : Bool) → has_pc addresses p ≡ b → has_pc addresses p ≡ false
     go true e = absurd (none (Contains-from_any tells p.registers.pc addresses e))
     go false e = e
 
@@ -118,7 +118,7 @@ one_made is_there old new run = record { some = omega arith; past = λ k some le
 
 -- a debugger's run, in which no transfer can end
 pub quiet_made : (addresses : List ℕ) (n k : ℕ) (r : RunState) (d : DebuggerState) → IsQuietFor k (processor_of r) → 0 < n → n ≤ k → length r.sent ≤ most_sent
-    → HasRun addresses n r.debugger d → Makes (is_at addresses) n r (record { debugger = d; sent = r.sent })
+    → HasRun addresses n r.debugger d → Makes (has_pc addresses) n r (record { debugger = d; sent = r.sent })
 quiet_made addresses n k r d quiet some few kept ran = record {
   some = some;
   past = λ j some less. at_none addresses (after_steps bus_rules j (processor_of r)) (ran.past j some less);
@@ -126,7 +126,7 @@ quiet_made addresses n k r d quiet some few kept ran = record {
 }
 
 quiet_stops : (addresses : List ℕ) (limit k pc : ℕ) (r : RunState) (d : DebuggerState) → IsQuietFor k (processor_of r) → (m : ℕ) → length r.sent ≤ most_sent
-    → m ≤ k → m ≤ limit → HasMet addresses m pc r.debugger d → StopsBefore (is_at addresses) limit r (record { debugger = d; sent = r.sent })
+    → m ≤ k → m ≤ limit → HasMet addresses m pc r.debugger d → StopsBefore (has_pc addresses) limit r (record { debugger = d; sent = r.sent })
 quiet_stops addresses limit k pc r d quiet m kept within few met = record {
   steps = met.steps;
   made = quiet_made addresses met.steps k r d quiet met.some (omega (arith, met.due, within)) kept met.ran;
@@ -151,16 +151,16 @@ module _ (limit : ℕ) (r inside : RunState) (d : DebuggerState) (same : inside 
 
   -- up to an address
   pub until_made : (addresses : List ℕ) (stop : Stop) → 0 < limit → IsStop addresses limit inside.debugger d stop → stop ≡ Limit
-      → Makes (is_at addresses) limit r (record { debugger = d; sent = inside.sent })
+      → Makes (has_pc addresses) limit r (record { debugger = d; sent = inside.sent })
   until_made addresses stop some ran is =
-      subst (λ (x : RunState). Makes (is_at addresses) limit x (record { debugger = d; sent = inside.sent })) same
+      subst (λ (x : RunState). Makes (has_pc addresses) limit x (record { debugger = d; sent = inside.sent })) same
       (quiet_made addresses limit limit inside d quiet_here some (omega arith) kept (subst (IsStop addresses limit inside.debugger d) is ran))
 
   pub until_stops : (addresses : List ℕ) (stop : Stop) (pc : ℕ) → IsStop addresses limit inside.debugger d stop → stop ≡ Break pc
-      → StopsBefore (is_at addresses) limit r (record { debugger = d; sent = inside.sent })
+      → StopsBefore (has_pc addresses) limit r (record { debugger = d; sent = inside.sent })
   until_stops addresses stop pc ran is =
       let met : HasMet addresses limit pc inside.debugger d = subst (IsStop addresses limit inside.debugger d) is ran in
-      subst (λ (x : RunState). StopsBefore (is_at addresses) limit x (record { debugger = d; sent = inside.sent })) same
+      subst (λ (x : RunState). StopsBefore (has_pc addresses) limit x (record { debugger = d; sent = inside.sent })) same
       (quiet_stops addresses limit limit pc inside d quiet_here limit kept (omega arith) (omega arith) met)
 
   -- up to any place

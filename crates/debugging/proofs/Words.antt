@@ -1,16 +1,17 @@
--- The words of a line: addresses, one after another.
-use Rattle.std.proofs.Common.{◌≡◌, ℕ, ◌+◌, ◌^◌, ◌<◌, ◌≤◌, ◌++◌, ◌&&◌, Bool, true, false, List, [], ◌∷◌, length, Option, None, Some, Bor, MatchOption, ap, sym, length-append, refl, ◌∙◌, if◌then◌else◌, arith, lit<, append_assoc, append-nil}
+-- The words of a line: places, one after another.
+use Rattle.std.proofs.Common.{◌≡◌, ℕ, ◌+◌, ◌^◌, ◌<◌, ◌≤◌, ◌++◌, ◌&&◌, Bool, true, false, List, [], ◌∷◌, length, Option, None, Some, is_some, Bor, MatchOption, ap, sym, length-append, refl, ◌∙◌, if◌then◌else◌, arith, lit<, append_assoc, append-nil}
 use Rattle.std.proofs.Math.Nat.{pow-le-pow_right}
 use Rattle.std.specs.Prelude.{IfSome, ◌==◌, codes, nat_le}
 use Rattle.std.specs.Str.{bytes_eq}
 use Rattle.script.proofs.Words.{split_begins}
 use Rattle.std.specs.Char.{is_digit}
-use Rattle.std.specs.List.{list_all}
+use Rattle.std.specs.List.{list_all, slice_split}
 use Rattle.std.specs.Str.Parse.{AllDigits, digits_value}
 use Rattle.std.proofs.lemmas.Bool.{ltb-true, le-leb, lt-leb}
 use Rattle.std.proofs.lemmas.Int.Digits.{digits_value-lt}
 use Rattle.script.specs.Line.{words_of}
-use Rattle.debugging.specs.Orders.{address_of, addresses_of, both, order_of_words, places_of}
+use Rattle.debugging.specs.declared.order.Place.{Place}
+use Rattle.debugging.specs.Orders.{place_by, place_of, all_places, both, order_of_words, places_of}
 use Rattle.debugging.specs.Words.{words_after}
 
 -- ---- an address
@@ -37,26 +38,26 @@ pub digit_read : (t : Bool) (value digit : ℕ) → Some digit ≡ (if t then So
 digit_read true value digit e = (refl, cc)
 digit_read false value digit e = cc
 
--- ---- addresses
+-- ---- places
 
--- addresses that were read, and then the rest, if it is read
-abbrev pub onto : List ℕ → Option (List ℕ) → Option (List ℕ)
+-- places that were read, and then the rest, if it is read
+abbrev pub onto : List Place → Option (List Place) → Option (List Place)
 onto first None = None
 onto first (Some rest) = Some (first ++ rest)
 
-pub onto_none : (rest : Option (List ℕ)) → onto [] rest ≡ rest
+pub onto_none : (rest : Option (List Place)) → onto [] rest ≡ rest
 onto_none None = refl
 onto_none (Some rest) = refl
 
-pub onto_more : (first : List ℕ) (address : ℕ) (rest : Option (List ℕ)) → onto first (both (Some address) rest) ≡ onto (first ++ address ∷ []) rest
-onto_more first address None = refl
-onto_more first address (Some rest) = ap Some (sym (append_assoc first (address ∷ []) rest))
+pub onto_more : (first : List Place) (place : Place) (rest : Option (List Place)) → onto first (both (Some place) rest) ≡ onto (first ++ place ∷ []) rest
+onto_more first place None = refl
+onto_more first place (Some rest) = ap Some (sym (append_assoc first (place ∷ []) rest))
 
-pub none_on : (first : List ℕ) (rest : Option (List ℕ)) → onto first (both None rest) ≡ None
+pub none_on : (first : List Place) (rest : Option (List Place)) → onto first (both None rest) ≡ None
 none_on first None = refl
 none_on first (Some rest) = refl
 
-pub onto_end : (first : List ℕ) → onto first (Some []) ≡ Some first
+pub onto_end : (first : List Place) → onto first (Some []) ≡ Some first
 onto_end first = ap Some (append-nil first)
 
 -- how a text is cut at its first space
@@ -72,78 +73,95 @@ abbrev pub bytes_left : Option (Bor (List ℕ)) → ℕ
 bytes_left None = 0
 bytes_left (Some text) = length text.now + 1
 
--- of the words of a text those are read that give these addresses, and the others are left
-pub record HasRead (text : List ℕ) (rest : Option (Bor (List ℕ))) (addresses : List ℕ) : Type 0 where
-  pub read : addresses_of (words_of text) ≡ onto addresses (addresses_of (words_after rest))
-  pub count : length (words_of text) ≡ length addresses + length (words_after rest)
-  pub some : 1 ≤ length addresses + bytes_left rest
+-- of the words of a text those are read that give these places, and the others are left
+pub record HasRead (text : List ℕ) (rest : Option (Bor (List ℕ))) (places : List Place) : Type 0 where
+  pub read : all_places (words_of text) ≡ onto places (all_places (words_after rest))
+  pub count : length (words_of text) ≡ length places + length (words_after rest)
+  pub some : 1 ≤ length places + bytes_left rest
 
 -- all of them were read
-pub all_read : (text : List ℕ) (rest : Option (Bor (List ℕ))) (addresses : List ℕ) → HasRead text rest addresses → rest ≡ None → length addresses ≤ 16
-    → Some addresses ≡ places_of (words_of text)
-all_read text None addresses has none most =
-    let same : length (words_of text) ≡ length addresses = omega (arith, has.count) in
+pub all_read : (text : List ℕ) (rest : Option (Bor (List ℕ))) (places : List Place) → HasRead text rest places → rest ≡ None → length places ≤ 16
+    → Some places ≡ places_of (words_of text)
+all_read text None places has none most =
+    let same : length (words_of text) ≡ length places = omega (arith, has.count) in
     let low : nat_le 1 (length (words_of text)) ≡ true = le-leb _ _ (omega (arith, same, has.some)) in
     let high : nat_le (length (words_of text)) 16 ≡ true = le-leb _ _ (omega (arith, same, most)) in
-    rw (low, high) (sym (has.read ∙ onto_end addresses))
-all_read text (Some after) addresses has none most = absurd (cc)
+    rw (low, high) (sym (has.read ∙ onto_end places))
+all_read text (Some after) places has none most = absurd (cc)
 
-pub some_left : (text word : List ℕ) (rest after : Option (Bor (List ℕ))) (here : Bor (List ℕ)) (addresses : List ℕ) → HasRead text rest addresses → rest ≡ Some here
+pub some_left : (text word : List ℕ) (rest after : Option (Bor (List ℕ))) (here : Bor (List ℕ)) (places : List Place) → HasRead text rest places → rest ≡ Some here
     → IsCutAt here.now word after
-    → (addresses_of (words_of text) ≡ onto addresses (both (address_of word) (addresses_of (words_after after)))) × (length (words_of text) ≡ length addresses + 1 + length (words_after after))
-some_left text word None after here addresses has is cut = absurd (cc)
-some_left text word (Some other) after here addresses has is cut =
+    → (all_places (words_of text) ≡ onto places (both (place_of word) (all_places (words_after after)))) × (length (words_of text) ≡ length places + 1 + length (words_after after))
+some_left text word None after here places has is cut = absurd (cc)
+some_left text word (Some other) after here places has is cut =
     let same : other ≡ here = cc in
     let words : words_of other.now ≡ word ∷ words_after after = ap (λ (t : Bor (List ℕ)). words_of t.now) same ∙ words_cut here.now word after cut in
-    (has.read ∙ ap (λ (ws : List (List ℕ)). onto addresses (addresses_of ws)) words, has.count ∙ ap (λ (ws : List (List ℕ)). length addresses + length ws) words ∙ omega arith)
+    (has.read ∙ ap (λ (ws : List (List ℕ)). onto places (all_places ws)) words, has.count ∙ ap (λ (ws : List (List ℕ)). length places + length ws) words ∙ omega arith)
 
-pub one_more : (text word : List ℕ) (rest after : Option (Bor (List ℕ))) (here : Bor (List ℕ)) (addresses more : List ℕ) (address : ℕ) → HasRead text rest addresses → rest ≡ Some here
-    → IsCutAt here.now word after → Some address ≡ address_of word → more ≡ addresses ++ address ∷ [] → HasRead text after more
-one_more text word rest after here addresses more address has is cut read added =
-    let left = some_left text word rest after here addresses has is cut in
+pub one_more : (text word : List ℕ) (rest after : Option (Bor (List ℕ))) (here : Bor (List ℕ)) (places more : List Place) (place : Place) → HasRead text rest places → rest ≡ Some here
+    → IsCutAt here.now word after → Some place ≡ place_of word → more ≡ places ++ place ∷ [] → HasRead text after more
+one_more text word rest after here places more place has is cut read added =
+    let left = some_left text word rest after here places has is cut in
     record {
-      read = left.0 ∙ ap (λ (o : Option ℕ). onto addresses (both o (addresses_of (words_after after)))) (sym read) ∙ onto_more addresses address (addresses_of (words_after after))
-          ∙ ap (λ (xs : List ℕ). onto xs (addresses_of (words_after after))) (sym added);
-      count = left.1 ∙ ap (λ (n : ℕ). n + length (words_after after)) (sym (length-append addresses (address ∷ [])) ∙ ap length (sym added));
-      some = omega (arith, ap length added, length-append addresses (address ∷ []));
+      read = left.0 ∙ ap (λ (o : Option Place). onto places (both o (all_places (words_after after)))) (sym read) ∙ onto_more places place (all_places (words_after after))
+          ∙ ap (λ (xs : List Place). onto xs (all_places (words_after after))) (sym added);
+      count = left.1 ∙ ap (λ (n : ℕ). n + length (words_after after)) (sym (length-append places (place ∷ [])) ∙ ap length (sym added));
+      some = omega (arith, ap length added, length-append places (place ∷ []));
     }
 
-none_of : (b : Bool) (o : Option (List ℕ)) → None ≡ (if b && false then o else None)
+none_of : (b : Bool) (o : Option (List Place)) → None ≡ (if b && false then o else None)
 none_of true o = refl
 none_of false o = refl
 
-none_placed : (b : Bool) (o : Option (List ℕ)) → o ≡ None → None ≡ (if b then o else None)
+none_placed : (b : Bool) (o : Option (List Place)) → o ≡ None → None ≡ (if b then o else None)
 none_placed true o none = sym none
 none_placed false o none = refl
 
--- a word that is no address
-pub none_read : (text word : List ℕ) (rest after : Option (Bor (List ℕ))) (here : Bor (List ℕ)) (addresses : List ℕ) → HasRead text rest addresses → rest ≡ Some here
-    → IsCutAt here.now word after → None ≡ address_of word → None ≡ places_of (words_of text)
-none_read text word rest after here addresses has is cut none =
-    none_placed _ _ ((some_left text word rest after here addresses has is cut).0
-    ∙ ap (λ (o : Option ℕ). onto addresses (both o (addresses_of (words_after after)))) (sym none) ∙ none_on addresses (addresses_of (words_after after)))
+-- a word that is no place
+pub none_read : (text word : List ℕ) (rest after : Option (Bor (List ℕ))) (here : Bor (List ℕ)) (places : List Place) → HasRead text rest places → rest ≡ Some here
+    → IsCutAt here.now word after → None ≡ place_of word → None ≡ places_of (words_of text)
+none_read text word rest after here places has is cut none =
+    none_placed _ _ ((some_left text word rest after here places has is cut).0
+    ∙ ap (λ (o : Option Place). onto places (both o (all_places (words_after after)))) (sym none) ∙ none_on places (all_places (words_after after)))
 
 -- more than sixteen
-pub too_many : (text word : List ℕ) (rest after : Option (Bor (List ℕ))) (here : Bor (List ℕ)) (addresses : List ℕ) → HasRead text rest addresses → rest ≡ Some here
-    → IsCutAt here.now word after → 16 ≤ length addresses → None ≡ places_of (words_of text)
-too_many text word rest after here addresses has is cut full =
-    let left = some_left text word rest after here addresses has is cut in
+pub too_many : (text word : List ℕ) (rest after : Option (Bor (List ℕ))) (here : Bor (List ℕ)) (places : List Place) → HasRead text rest places → rest ≡ Some here
+    → IsCutAt here.now word after → 16 ≤ length places → None ≡ places_of (words_of text)
+too_many text word rest after here places has is cut full =
+    let left = some_left text word rest after here places has is cut in
     let high : nat_le (length (words_of text)) 16 ≡ false = lt-leb _ _ (omega (arith, left.1, full)) in
-    rw high (none_of (nat_le 1 (length (words_of text))) (addresses_of (words_of text)))
+    rw high (none_of (nat_le 1 (length (words_of text))) (all_places (words_of text)))
 
 pub bytes_fall : (here : Bor (List ℕ)) (after : Option (Bor (List ℕ))) → IfSome after (λ rest. length rest.now < length here.now) → bytes_left after < bytes_left (Some here)
 bytes_fall here None less = omega arith
 bytes_fall here (Some rest) less = omega (arith, less)
 
+-- ---- a place of too many parts
+
+-- how a text is cut at its first colon
+abbrev IsParted : List ℕ → List ℕ → Option (Bor (List ℕ)) → Type 0
+IsParted text part rest =
+    MatchOption rest (slice_split (λ byte. byte == 58) text ≡ part ∷ []) (λ after. slice_split (λ byte. byte == 58) text ≡ part ∷ slice_split (λ byte. byte == 58) after.now)
+
+pub too_many_parts : (text first second : List ℕ) (a b : Option (Bor (List ℕ))) (x : Bor (List ℕ)) → IsParted text first a → a ≡ Some x → IsParted x.now second b
+    → true ≡ is_some b → None ≡ place_of text
+too_many_parts text first second a None x p ea q more = absurd (cc)
+too_many_parts text first second a (Some y) x p ea q more =
+    let one = rw ea at p in
+    let rest = split_begins (λ byte. byte == 58) y.now in
+    let parts : slice_split (λ byte. byte == 58) text ≡ first ∷ second ∷ rest.0 ∷ rest.1 = rw (one, q, rest.2) refl in
+    sym (ap place_by parts)
+
 -- ---- a line of too many words
 
-pub too_many_words : (line name word other : List ℕ) (a b c : Option (Bor (List ℕ))) (x y z : Bor (List ℕ)) →
-    IsCutAt line name a → a ≡ Some x → IsCutAt x.now word b → b ≡ Some y → IsCutAt y.now other c → c ≡ Some z → bytes_eq name (codes "until") ≡ false
-    → None ≡ order_of_words (words_of line)
-too_many_words line name word other a b c x y z p ea q eb r ec differs =
+pub too_many_words : (line name word other last : List ℕ) (a b c d : Option (Bor (List ℕ))) (x y z t : Bor (List ℕ)) →
+    IsCutAt line name a → a ≡ Some x → IsCutAt x.now word b → b ≡ Some y → IsCutAt y.now other c → c ≡ Some z → IsCutAt z.now last d → d ≡ Some t
+    → bytes_eq name (codes "until") ≡ false → None ≡ order_of_words (words_of line)
+too_many_words line name word other last a b c d x y z t p ea q eb r ec s ed differs =
     let one = rw ea at p in
     let two = rw eb at q in
     let three = rw ec at r in
-    let more = split_begins (λ byte. byte == 32) z.now in
-    let words : words_of line ≡ name ∷ word ∷ other ∷ more.0 ∷ more.1 = rw (one, two, three, more.2) refl in
+    let four = rw ed at s in
+    let more = split_begins (λ byte. byte == 32) t.now in
+    let words : words_of line ≡ name ∷ word ∷ other ∷ last ∷ more.0 ∷ more.1 = rw (one, two, three, four, more.2) refl in
     rw (words, differs) refl

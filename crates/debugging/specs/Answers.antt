@@ -7,6 +7,7 @@ use Rattle.circular_buffer.specs.Buffer.{keep_last}
 use Rattle.exact_text.specs.Hex.{byte_text, word_text}
 use Rattle.picture_unit.specs.Pgm.{picture_text}
 use Rattle.memory_map.specs.State.{BusState}
+use Rattle.memory_map.specs.Bus.{peeked}
 use Rattle.memory_map.specs.BusRules.{bus_rules}
 use Rattle.sm83_processor.specs.declared.processor.Processor.{Processor}
 use Rattle.sm83_processor.specs.declared.step.Executed.{Executed}
@@ -16,9 +17,13 @@ use Rattle.debugger.specs.Listing.{byte_after, lines_from}
 use Rattle.debugger.specs.Registers.{register_line}
 use Rattle.debugger.specs.Report.{line_seen, step_lines}
 use Rattle.debugging.specs.declared.order.Order.{Order}
-use Rattle.debugging.specs.declared.order.Order.TheVariants.{Frames, Seconds, Step, Until, UntilOpcode, Registers, History, List as Listing, Memory, Serial, Picture, State}
+use Rattle.debugging.specs.declared.order.Order.TheVariants.{Frames, Seconds, Step, Until, UntilOpcode, UntilChange, UntilWrite, UntilRead, Registers, History, List as Listing, Memory, Bank, Serial, Picture, State}
 use Rattle.debugging.specs.Orders.{order_of}
-use Rattle.debugging.specs.Run.{RunState, processor_of, after_steps_of, steps_up_to, is_at, is_before, after_frames, after_seconds}
+use Rattle.debugging.specs.declared.order.Place.{Place}
+use Rattle.debugging.specs.declared.order.Span.{Span}
+use Rattle.debugging.specs.Banks.{bank_at}
+use Rattle.debugging.specs.Accesses.{is_reading, is_writing}
+use Rattle.debugging.specs.Run.{RunState, processor_of, after_steps_of, steps_up_to, is_at, is_before, is_changed, after_frames, after_seconds}
 
 -- ---- texts
 
@@ -52,6 +57,10 @@ abbrev pub memory_text : MachineState → ℕ → ℕ → List ℕ
 memory_text m address n =
     full_lines m address (n / 16) ++ (if n % 16 == 0 then [] else memory_line m ((address + n / 16 * 16) % 65536) (n % 16))
 
+-- a bank in four digits
+abbrev pub bank_line : ℕ → List ℕ
+bank_line bank = codes "bank " ++ (word_text bank ++ codes "\n")
+
 -- how many bytes, then the bytes, and a newline
 abbrev pub serial_text : List ℕ → List ℕ
 serial_text sent = count_line (codes "serial") (length sent) ++ (sent ++ codes "\n")
@@ -67,22 +76,36 @@ state_text m = digest_line (sha256 (encoded m))
 -- ---- orders
 
 -- how many steps an order makes
-abbrev pub until_steps : ℕ → List ℕ → RunState → ℕ
-until_steps limit addresses r = steps_up_to (is_at addresses) limit (processor_of r)
+abbrev pub until_steps : ℕ → List Place → RunState → ℕ
+until_steps limit places r = steps_up_to (is_at places) limit (processor_of r)
 
 abbrev pub until_opcode_steps : ℕ → ℕ → RunState → ℕ
 until_opcode_steps limit opcode r = steps_up_to (is_before opcode) limit (processor_of r)
+
+-- the byte that is shown as the order begins
+abbrev pub until_change_steps : ℕ → ℕ → RunState → ℕ
+until_change_steps limit address r = steps_up_to (is_changed address (peeked (processor_of r).memory address)) limit (processor_of r)
+
+abbrev pub until_write_steps : ℕ → Span → RunState → ℕ
+until_write_steps limit span r = steps_up_to (is_writing span) limit (processor_of r)
+
+abbrev pub until_read_steps : ℕ → Span → RunState → ℕ
+until_read_steps limit span r = steps_up_to (is_reading span) limit (processor_of r)
 
 abbrev pub after_order : Order → RunState → RunState
 after_order (Frames buttons times) r = after_frames times buttons r
 after_order (Seconds n) r = after_seconds n r
 after_order (Step n) r = after_steps_of n r
-after_order (Until limit addresses) r = after_steps_of (until_steps limit addresses.items r) r
+after_order (Until limit places) r = after_steps_of (until_steps limit places.items r) r
 after_order (UntilOpcode limit opcode) r = after_steps_of (until_opcode_steps limit opcode r) r
+after_order (UntilChange limit address) r = after_steps_of (until_change_steps limit address r) r
+after_order (UntilWrite limit span) r = after_steps_of (until_write_steps limit span r) r
+after_order (UntilRead limit span) r = after_steps_of (until_read_steps limit span r) r
 after_order Registers r = r
 after_order (History n) r = r
 after_order (Listing address n) r = r
 after_order (Memory address n) r = r
+after_order (Bank address) r = r
 after_order Serial r = record r { sent = [] }
 after_order Picture r = r
 after_order State r = r
@@ -92,12 +115,16 @@ abbrev pub answer_from : Order → (old new : RunState) → List ℕ
 answer_from (Frames buttons times) old new = codes "done\n"
 answer_from (Seconds n) old new = codes "done\n"
 answer_from (Step n) old new = step_lines bus_rules n (processor_of old)
-answer_from (Until limit addresses) old new = place_text (nat_lt (until_steps limit addresses.items old) limit) (processor_of new)
+answer_from (Until limit places) old new = place_text (nat_lt (until_steps limit places.items old) limit) (processor_of new)
 answer_from (UntilOpcode limit opcode) old new = place_text (nat_lt (until_opcode_steps limit opcode old) limit) (processor_of new)
+answer_from (UntilChange limit address) old new = place_text (nat_lt (until_change_steps limit address old) limit) (processor_of new)
+answer_from (UntilWrite limit span) old new = place_text (nat_lt (until_write_steps limit span old) limit) (processor_of new)
+answer_from (UntilRead limit span) old new = place_text (nat_lt (until_read_steps limit span old) limit) (processor_of new)
 answer_from Registers old new = register_line (processor_of old)
 answer_from (History n) old new = history_text n old.debugger.history
 answer_from (Listing address n) old new = lines_from old.debugger.machine address n
 answer_from (Memory address n) old new = memory_text old.debugger.machine address n
+answer_from (Bank address) old new = bank_line (bank_at (processor_of old).memory address)
 answer_from Serial old new = serial_text old.sent
 answer_from Picture old new = picture_text (picture_rows old.debugger.machine)
 answer_from State old new = state_text old.debugger.machine

@@ -1,4 +1,6 @@
 pub mod Orders
+pub mod Banks
+pub mod Accesses
 pub mod Run
 pub mod Answers
 pub mod Debugged

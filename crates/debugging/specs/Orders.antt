@@ -1,34 +1,54 @@
 -- What a line asks a debugger for: a move of a script but no save, or one of the words below. Words are separated by exactly one space.
-use Rattle.std.specs.Prelude.{ℕ, ◌&&◌, Bool, List, [], ◌∷◌, codes, length, nat_le, if◌then◌else◌, Option, None, Some}
+use Rattle.std.specs.Prelude.{ℕ, ◌&&◌, ◌==◌, Bool, List, [], ◌∷◌, codes, length, nat_le, if◌then◌else◌, Option, None, Some}
 use Rattle.std.specs.Char.{is_digit}
-use Rattle.std.specs.List.{list_all}
+use Rattle.std.specs.List.{list_all, slice_split}
 use Rattle.std.specs.Option.{option_map}
 use Rattle.std.specs.Str.{bytes_eq}
 use Rattle.std.specs.Str.Parse.{digits_value}
 use Rattle.script.specs.declared.moves.Move.{Move}
 use Rattle.script.specs.declared.moves.Move.TheVariants.{Frames as FramesMove, Seconds as SecondsMove, Save}
 use Rattle.script.specs.Line.{byte_of, count_of, move_of_line, words_of}
+use Rattle.debugging.specs.declared.order.Place.{Place}
+use Rattle.debugging.specs.declared.order.Span.{Span}
 use Rattle.debugging.specs.declared.order.Order.{Order}
-use Rattle.debugging.specs.declared.order.Order.TheVariants.{Frames, Seconds, Step, Until, UntilOpcode, Registers, History, List as Listing, Memory, Serial, Picture, State}
+use Rattle.debugging.specs.declared.order.Order.TheVariants.{Frames, Seconds, Step, Until, UntilOpcode, UntilChange, UntilWrite, UntilRead, Registers, History, List as Listing, Memory, Bank, Serial, Picture, State}
 
 -- ---- words
 
--- one to four hexadecimal digits, in either case
-abbrev pub is_address : List ℕ → Bool
-is_address word = nat_le 1 (length word) && nat_le (length word) 4 && list_all (λ byte. is_digit byte 16) word
+-- one hexadecimal digit to so many, in either case
+abbrev pub is_hex : (most : ℕ) → List ℕ → Bool
+is_hex most word = nat_le 1 (length word) && nat_le (length word) most && list_all (λ byte. is_digit byte 16) word
+
+abbrev pub hex_of : (most : ℕ) → List ℕ → Option ℕ
+hex_of most word = if is_hex most word then Some (digits_value 16 word) else None
 
 abbrev pub address_of : List ℕ → Option ℕ
-address_of word = if is_address word then Some (digits_value 16 word) else None
+address_of word = hex_of 4 word
+
+-- a place in one bank, where both words were read
+abbrev pub place_in : Option ℕ → Option ℕ → Option Place
+place_in (Some bank) (Some address) = Some (record { address = address; bank = Some bank })
+place_in bank address = None
+
+-- ADDR, in whichever bank, or BANK:ADDR
+abbrev pub place_by : List (List ℕ) → Option Place
+place_by (word ∷ []) = option_map (λ address. record { address = address; bank = None }) (address_of word)
+place_by (bank ∷ word ∷ []) = place_in (hex_of 3 bank) (address_of word)
+place_by words = None
+
+-- a colon is 58
+abbrev pub place_of : List ℕ → Option Place
+place_of word = place_by (slice_split (λ byte. byte == 58) word)
 
 -- a first item and the rest, where both were read
-abbrev pub both : Option ℕ → Option (List ℕ) → Option (List ℕ)
+abbrev pub both : Option Place → Option (List Place) → Option (List Place)
 both (Some first) (Some rest) = Some (first ∷ rest)
 both first rest = None
 
--- the addresses that these words write, all of them
-abbrev pub addresses_of : List (List ℕ) → Option (List ℕ)
-addresses_of [] = Some []
-addresses_of (word ∷ words) = both (address_of word) (addresses_of words)
+-- the places that these words write, all of them
+abbrev pub all_places : List (List ℕ) → Option (List Place)
+all_places [] = Some []
+all_places (word ∷ words) = both (place_of word) (all_places words)
 
 -- a count of steps
 abbrev pub steps_of : List ℕ → Option ℕ
@@ -40,14 +60,23 @@ room_of word = count_of 1 65536 word
 
 -- ---- orders
 
+-- from a first address to a last one that is not below it
+abbrev pub span_of : Option ℕ → Option ℕ → Option Span
+span_of (Some first) (Some last) = if nat_le first last then Some (record { first = first; last = last }) else None
+span_of first last = None
+
+abbrev pub with_span : (ℕ → Span → Order) → Option ℕ → Option Span → Option Order
+with_span order (Some steps) (Some span) = Some (order steps span)
+with_span order steps span = None
+
 -- an order of two words, where both were read
 abbrev pub with_two : (ℕ → ℕ → Order) → Option ℕ → Option ℕ → Option Order
 with_two order (Some first) (Some second) = Some (order first second)
 with_two order first second = None
 
-abbrev pub until_of : Option (List ℕ) → Option ℕ → Option Order
-until_of (Some addresses) (Some steps) = Some (Until steps (record { items = addresses }))
-until_of (Some addresses) None = None
+abbrev pub until_of : Option (List Place) → Option ℕ → Option Order
+until_of (Some places) (Some steps) = Some (Until steps (record { items = places }))
+until_of (Some places) None = None
 until_of None steps = None
 
 -- a move but a save
@@ -64,30 +93,40 @@ order_of_one name =
     else (if bytes_eq name (codes "picture") then Some Picture
     else (if bytes_eq name (codes "state") then Some State else None)))
 
--- `step N`, `history N`
+-- `step N`, `history N`, `bank ADDR`
 abbrev pub order_of_two : List ℕ → List ℕ → Option Order
 order_of_two name word =
     if bytes_eq name (codes "step") then option_map Step (steps_of word)
-    else (if bytes_eq name (codes "history") then option_map History (room_of word) else None)
+    else (if bytes_eq name (codes "history") then option_map History (room_of word)
+    else (if bytes_eq name (codes "bank") then option_map Bank (address_of word) else None))
 
--- `list ADDR N`, `memory ADDR N`, `until-op N XX`
+-- `until-write N ADDR LAST`, `until-read N ADDR LAST`
+abbrev pub order_of_span : List ℕ → List ℕ → List ℕ → List ℕ → Option Order
+order_of_span name word first last =
+    if bytes_eq name (codes "until-write") then with_span UntilWrite (steps_of word) (span_of (address_of first) (address_of last))
+    else (if bytes_eq name (codes "until-read") then with_span UntilRead (steps_of word) (span_of (address_of first) (address_of last)) else None)
+
+-- `list ADDR N`, `memory ADDR N`, `until-op N XX`, `until-change N ADDR`; `until-write N ADDR` and `until-read N ADDR` of one address
 abbrev pub order_of_three : List ℕ → List ℕ → List ℕ → Option Order
 order_of_three name word other =
     if bytes_eq name (codes "list") then with_two Listing (address_of word) (room_of other)
     else (if bytes_eq name (codes "memory") then with_two Memory (address_of word) (room_of other)
-    else (if bytes_eq name (codes "until-op") then with_two UntilOpcode (steps_of word) (byte_of other) else None))
+    else (if bytes_eq name (codes "until-op") then with_two UntilOpcode (steps_of word) (byte_of other)
+    else (if bytes_eq name (codes "until-change") then with_two UntilChange (steps_of word) (address_of other)
+    else order_of_span name word other other)))
 
--- one to sixteen addresses
-abbrev pub places_of : List (List ℕ) → Option (List ℕ)
-places_of words = if nat_le 1 (length words) && nat_le (length words) 16 then addresses_of words else None
+-- one to sixteen places
+abbrev pub places_of : List (List ℕ) → Option (List Place)
+places_of words = if nat_le 1 (length words) && nat_le (length words) 16 then all_places words else None
 
--- `until N ADDR..`
+-- `until N PLACE..`
 abbrev pub until_order : List ℕ → List (List ℕ) → Option Order
 until_order count words = until_of (places_of words) (steps_of count)
 
 abbrev pub order_of_few : List ℕ → List ℕ → List (List ℕ) → Option Order
 order_of_few name word [] = order_of_two name word
 order_of_few name word (other ∷ []) = order_of_three name word other
+order_of_few name word (other ∷ last ∷ []) = order_of_span name word other last
 order_of_few name word words = None
 
 abbrev pub order_of_words : List (List ℕ) → Option Order

@@ -1,11 +1,15 @@
 -- Parts of a run, as the code makes them.
-use Rattle.std.specs.Prelude.{◌≡◌, ◌⊎◌, ◌<◌, ◌≤◌, ◌*◌, ◌%◌, ◌==◌, ◌&&◌, ◌||◌, not, ℕ, Bool, true, false}
+use Rattle.std.specs.Prelude.{◌≡◌, ◌⊎◌, ◌<◌, ◌≤◌, ◌*◌, ◌%◌, ◌==◌, ◌&&◌, ◌||◌, not, ℕ, Bool, true, false, List, length}
+use Rattle.std.specs.List.{list_any}
 use Rattle.memory_map.specs.State.{BusState}
 use Rattle.memory_map.specs.BusRules.{bus_rules}
 use Rattle.sm83_processor.specs.Steps.{after_steps}
 use Rattle.sm83_processor.specs.declared.processor.Processor.{Processor}
 use Rattle.debugger.specs.History.{DebuggerState, after_run}
-use Rattle.debugging.specs.Run.{RunState, after_steps_of, processor_of}
+use Rattle.debugging.specs.Run.{RunState, after_steps_of, is_at, is_before, is_changed, processor_of}
+use Rattle.debugging.specs.Accesses.{is_reading, is_writing}
+use Rattle.debugging.specs.declared.run.Aim.{Aim}
+use Rattle.debugging.specs.declared.run.Aim.TheVariants.{Places, Opcode, Changed, Writes, Reads}
 
 -- no transfer can end in so many steps: each takes six M-cycles at most, and a transfer that begins 1,024
 pub record IsQuietFor (steps : ℕ) (p : Processor BusState) : Type 0 where
@@ -36,6 +40,23 @@ pub record StopsIn (is_there : Processor BusState → Bool) (limit : ℕ) (old n
   pub made : MakesIn is_there steps old new
   pub due : steps < limit
   pub there : is_there new.machine.processor ≡ true
+
+-- PC is one of these addresses, in whichever bank
+abbrev pub has_pc : List ℕ → Processor BusState → Bool
+has_pc addresses p = list_any (λ address. address == p.registers.pc) addresses
+
+-- where a run stops
+abbrev pub is_aim : Aim → Processor BusState → Bool
+is_aim (Places places) p = is_at places.items p
+is_aim (Opcode opcode) p = is_before opcode p
+is_aim (Changed address byte) p = is_changed address byte p
+is_aim (Writes span) p = is_writing span p
+is_aim (Reads span) p = is_reading span p
+
+-- the ROM has so many bytes, two banks at least
+pub record HasRom (rom : ℕ) (b : BusState) : Type 0 where
+  pub size : rom ≡ length b.banks.rom
+  pub least : 32768 ≤ rom
 
 -- the processor waits: it is locked, stopped with no button that is looked at, or halted with no interrupt that waits
 abbrev pub is_waiting : Processor BusState → Bool

@@ -1,9 +1,10 @@
 -- How a debugger's machine runs: steps, steps up to a place, frames.
-use Rattle.std.specs.Prelude.{ℕ, zero, suc, ◌+◌, ◌==◌, Bool, false, List, [], ◌++◌, nat_lt, slice_index, if◌then◌else◌}
+use Rattle.std.specs.Prelude.{ℕ, zero, suc, ◌==◌, ◌&&◌, not, Bool, true, false, Option, None, Some, List, [], ◌++◌, nat_lt, slice_index, if◌then◌else◌}
 use Rattle.std.specs.Fn.{iterate}
 use Rattle.std.specs.List.{list_any}
 use Rattle.circular_buffer.specs.Buffer.{keep_last}
 use Rattle.memory_map.specs.State.{BusState}
+use Rattle.memory_map.specs.Bus.{peeked}
 use Rattle.memory_map.specs.BusRules.{bus_rules}
 use Rattle.sm83_processor.specs.Steps.{step_of}
 use Rattle.sm83_processor.specs.declared.processor.Processor.{Processor}
@@ -13,6 +14,8 @@ use Rattle.machine.specs.Machine.{MachineState, cycles_per_frame, frame_played, 
 use Rattle.machine.specs.Sent.{sent_in, sent_in_step}
 use Rattle.machine.specs.Watched.{FrameState, after_step, begun_with}
 use Rattle.debugger.specs.History.{DebuggerState, after_run}
+use Rattle.debugging.specs.declared.order.Place.{Place}
+use Rattle.debugging.specs.Banks.{bank_at}
 
 -- a debugger, and the bytes that its machine sent over the serial port and that were not told yet
 pub record RunState : Type 0 where
@@ -51,9 +54,21 @@ abbrev pub steps_up_to : (Processor BusState → Bool) → ℕ → Processor Bus
 steps_up_to is_there zero p = 0
 steps_up_to is_there (suc n) p = suc (steps_before is_there n (step_of bus_rules p).after)
 
--- PC is one of these addresses
-abbrev pub is_at : List ℕ → Processor BusState → Bool
-is_at addresses p = list_any (λ address. address == p.registers.pc) addresses
+-- the bank that is asked for, if one is
+abbrev pub is_bank : Option ℕ → ℕ → Bool
+is_bank None bank = true
+is_bank (Some asked) bank = asked == bank
+
+-- PC is at this place, and its bank is mapped there
+abbrev pub is_place : Processor BusState → Place → Bool
+is_place p place = place.address == p.registers.pc && is_bank place.bank (bank_at p.memory place.address)
+
+abbrev pub is_at : List Place → Processor BusState → Bool
+is_at places p = list_any (is_place p) places
+
+-- the byte that a look at this address shows is another than this one
+abbrev pub is_changed : (address byte : ℕ) → Processor BusState → Bool
+is_changed address byte p = not (peeked p.memory address == byte)
 
 -- what a step did was to run an instruction with this opcode, and not to wait or to take an interrupt
 abbrev pub has_run : ℕ → StepKind → Bool

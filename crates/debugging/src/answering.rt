@@ -9,8 +9,12 @@ ghost use Rattle.std.specs.List.{flat_map};
 ghost use Rattle.debugger.specs.Registers.{register_line};
 ghost use Rattle.debugger.specs.Report.{line_seen, step_lines};
 ghost use Rattle.debugging.specs.Answers.{after_line, after_order, answer_line, answer_to, count_line, history_text, digest_line, place_text, serial_text, state_text, wrong_line};
+ghost use Rattle.debugging.specs.Answers.{bank_line};
+ghost use Rattle.debugging.specs.Banks.{bank_at};
+ghost use Rattle.debugging.specs.Quiet.{HasRom};
 ghost use Rattle.debugging.specs.Run.{after_steps_of, processor_of};
 
+use crate::banks::bank_at;
 use crate::memory::write_memory;
 use crate::order::{Order, read_order};
 use crate::run::{Run, RunUntil};
@@ -32,15 +36,17 @@ pub(crate) struct Answered {
     pub(crate) written: Result<(), OutputFailed>,
 }
 
-/// Does what a line asks for, and answers it. `snapshot` has room for the machine's.
+/// Does what a line asks for, and answers it. Conditions: the ROM has `rom` bytes, and `snapshot` has room for the machine's.
 pub(crate) fn answer<W: Write>(
     run: Run,
     line: &[u8],
     number: u64,
+    rom: usize,
     snapshot: &mut [u8],
     out: &mut W,
 ) -> Answered
-    requires { length snapshot.old ≡ snapshot_length (length (processor_of run).memory.banks.ram) }
+    requires rom { HasRom rom (processor_of run).memory }
+    requires snapshot { length snapshot.old ≡ snapshot_length (length (processor_of run).memory.banks.ram) }
     ensures run { OnOk result.written (result.run ≡ after_line line.now run) }
     ensures ok { OnOk result.written (Appends (W.contents out.old) (W.contents out.new) (answer_line line.now number run)) }
     ensures err { OnErr result.written (AppendsProperPrefix (W.contents out.old) (W.contents out.new) (answer_line line.now number run)) }
@@ -53,7 +59,7 @@ pub(crate) fn answer<W: Write>(
         };
     }
     match read_order(line) {
-        Some(order) => obey(run, order, snapshot, out),
+        Some(order) => obey(run, order, rom, snapshot, out),
         None => {
             let written = write_wrong(number, out);
             Answered { run, written }
@@ -83,8 +89,9 @@ fn wrong_text(number: u64) -> Option<ArrayString<32>>
 }
 
 /// Does what an order asks for, and answers it.
-fn obey<W: Write>(run: Run, order: Order, snapshot: &mut [u8], out: &mut W) -> Answered
-    requires { length snapshot.old ≡ snapshot_length (length (processor_of run).memory.banks.ram) }
+fn obey<W: Write>(run: Run, order: Order, rom: usize, snapshot: &mut [u8], out: &mut W) -> Answered
+    requires rom { HasRom rom (processor_of run).memory }
+    requires snapshot { length snapshot.old ≡ snapshot_length (length (processor_of run).memory.banks.ram) }
     ensures run { OnOk result.written (result.run ≡ after_order order run) }
     ensures ok { OnOk result.written (Appends (W.contents out.old) (W.contents out.new) (answer_to order run)) }
     ensures err { OnErr result.written (AppendsProperPrefix (W.contents out.old) (W.contents out.new) (answer_to order run)) }
@@ -102,13 +109,28 @@ fn obey<W: Write>(run: Run, order: Order, snapshot: &mut [u8], out: &mut W) -> A
             Answered { run, written }
         }
         Order::Step(count) => write_steps(run, count, out),
-        Order::Until { steps, addresses } => {
-            let RunUntil { run, is_there } = run.run_until(addresses.as_slice(), steps);
+        Order::Until { steps, places } => {
+            let RunUntil { run, is_there } = run.run_until_place(places, rom, steps);
             let written = write_place(is_there, run.processor(), out);
             Answered { run, written }
         }
         Order::UntilOpcode { steps, opcode } => {
-            let RunUntil { run, is_there } = run.run_until_opcode(opcode, steps);
+            let RunUntil { run, is_there } = run.run_until_opcode(opcode, rom, steps);
+            let written = write_place(is_there, run.processor(), out);
+            Answered { run, written }
+        }
+        Order::UntilChange { steps, address } => {
+            let RunUntil { run, is_there } = run.run_until_change(address, rom, steps);
+            let written = write_place(is_there, run.processor(), out);
+            Answered { run, written }
+        }
+        Order::UntilWrite { steps, span } => {
+            let RunUntil { run, is_there } = run.run_until_write(span, rom, steps);
+            let written = write_place(is_there, run.processor(), out);
+            Answered { run, written }
+        }
+        Order::UntilRead { steps, span } => {
+            let RunUntil { run, is_there } = run.run_until_read(span, rom, steps);
             let written = write_place(is_there, run.processor(), out);
             Answered { run, written }
         }
@@ -134,6 +156,10 @@ fn obey<W: Write>(run: Run, order: Order, snapshot: &mut [u8], out: &mut W) -> A
             let written = write_memory(run.debugger().machine(), address, count, out);
             Answered { run, written }
         }
+        Order::Bank(address) => {
+            let written = write_bank(&run, rom, address, out);
+            Answered { run, written }
+        }
         Order::State => {
             let written = write_state(run.debugger().machine(), snapshot, out);
             Answered { run, written }
@@ -147,6 +173,31 @@ fn write_registers<W: Write>(run: &Run, out: &mut W) -> Result<(), OutputFailed>
 {
     let text = register_line(run.processor());
     write_whole(out, text.as_bytes())
+}
+
+/// Writes which bank is mapped at an address. Condition: the ROM has `rom` bytes.
+fn write_bank<W: Write>(
+    run: &Run,
+    rom: usize,
+    address: u16,
+    out: &mut W,
+) -> Result<(), OutputFailed>
+    requires { HasRom rom (processor_of run.now).memory }
+    ensures ok { OnOk result (Appends (W.contents out.old) (W.contents out.new) (bank_line (bank_at (processor_of run.now).memory address))) }
+    ensures err { OnErr result (AppendsProperPrefix (W.contents out.old) (W.contents out.new) (bank_line (bank_at (processor_of run.now).memory address))) }
+{
+    let text = bank_text(bank_at(&run.processor().memory, rom, address));
+    write_whole(out, text.as_bytes())
+}
+
+fn bank_text(bank: u16) -> ArrayString<16>
+    ensures { result.bytes ≡ bank_line bank }
+{
+    let mut text = ArrayString::new();
+    text.push_str("bank ");
+    text.push_str(word_digits(bank).as_str());
+    text.push_str("\n");
+    text
 }
 
 /// Makes so many steps, and writes the line of each.

@@ -5,12 +5,14 @@
 #![tactic(auto)]
 
 mod answering;
+mod banks;
 pub mod error;
 mod memory;
 mod obeying;
 pub mod order;
+mod probe;
 mod run;
 
 pub use error::DebugError;
 pub use obeying::LineDebugger;
-pub use order::{Order, read_order};
+pub use order::{Order, Place, Span, read_order};

@@ -9,6 +9,7 @@ use crate::answering::{answer, write_wrong};
 use crate::error::DebugError;
 use crate::run::Run;
 use arrayvec::ArrayVec;
+use cartridge::Cartridge;
 use input_lines::{NextLine, next_line};
 use machine::Machine;
 use memory_map::Region;
@@ -23,6 +24,8 @@ use std::marker::Model;
 #[derive(Drop)]
 pub struct LineDebugger {
     run: Run,
+    // the bytes of the ROM
+    rom: usize,
     // room for a snapshot of the machine
     snapshot: Vec<u8>,
 }
@@ -30,24 +33,31 @@ pub struct LineDebugger {
 impl Model for LineDebugger {
     ghost use Rattle.std.specs.Prelude.{◌≡◌, length};
     ghost use Rattle.snapshot.specs.Encoding.{snapshot_length};
+    ghost use Rattle.debugging.specs.Quiet.{HasRom};
     ghost use Rattle.debugging.specs.Run.{RunState, processor_of};
 
     ghost Value = { RunState };
 
     ghost view = { λ d. d.run };
 
-    ghost invariant = { λ d. length d.snapshot.items ≡ snapshot_length (length (processor_of d.run).memory.banks.ram) };
+    ghost invariant = { λ d. HasRom d.rom (processor_of d.run).memory × (length d.snapshot.items ≡ snapshot_length (length (processor_of d.run).memory.banks.ram)) };
 }
 
 impl LineDebugger {
-    /// A debugger of this machine, none of whose lines were read yet.
-    pub fn new(alloc: Global, machine: Machine) -> Result<LineDebugger, AllocError>
+    /// A debugger of this machine, none of whose lines were read yet. Condition: it is one of this cartridge.
+    pub fn new(
+        alloc: Global,
+        machine: Machine,
+        cartridge: &Cartridge,
+    ) -> Result<LineDebugger, AllocError>
+        requires { machine.processor.memory.banks.rom ≡ cartridge.now }
         ensures { IfOk result (λ d. d ≡ begun machine) }
     {
+        let rom = cartridge.rom().len();
         let room = length(machine.region(Region::CartRam).len());
         let snapshot = vec![in alloc; 0u8; room]?;
         let run = Run::new(alloc, machine)?;
-        Ok(LineDebugger { run, snapshot })
+        Ok(LineDebugger { run, rom, snapshot })
     }
 
     /// Obeys the lines of an input as they come, each before more is read, with the answer to each on `out`. An empty line is counted and
@@ -57,14 +67,18 @@ impl LineDebugger {
     /// | Line | What is done | Answer |
     /// |---|---|---|
     /// | `step N` | N steps | the line of each: that of the instruction as in a listing, `wait`, or `interrupt` and the vector |
-    /// | `until N ADDR..` | steps up to one of the addresses, of which there are 1 to 16, but at most N; the first is made wherever it begins | `stopped ADDR`, or `limit ADDR` if all N were made, with PC |
+    /// | `until N PLACE..` | steps up to one of the places, of which there are 1 to 16, but at most N; the first is made wherever it begins. A place is `ADDR`, or `BANK:ADDR` where that bank has to be mapped | `stopped ADDR`, or `limit ADDR` if all N were made, with PC |
     /// | `until-op N XX` | steps up to an instruction with this opcode, but at most N | the same |
+    /// | `until-change N ADDR` | steps until the byte at an address is another than before, as nothing closes it, but at most N | the same |
+    /// | `until-write N ADDR [LAST]` | steps up to one that writes an address, or one up to LAST, but at most N | the same |
+    /// | `until-read N ADDR [LAST]` | steps up to one that reads one, but at most N | the same |
     /// | `frame BB`, `frames BB N` | frames with these buttons; the history is empty then | `done` |
     /// | `seconds N` | seconds of the cartridge's clock | `done` |
     /// | `registers` | nothing | the line of registers |
     /// | `history N` | nothing | `history K`, and the lines of the last K instructions that `step` and `until` ran: N of them, if there are as many, of 1,024 at most |
     /// | `list ADDR N` | nothing | N lines |
     /// | `memory ADDR N` | nothing | the bytes, sixteen a line, as nothing closes them |
+    /// | `bank ADDR` | nothing | `bank XXXX`, the number of the bank that is mapped at an address, or 0 |
     /// | `serial` | nothing | `serial K`, K bytes that were sent since the last `serial`, at most the last 65,536, and a newline |
     /// | `picture` | nothing | the picture as plain PGM |
     /// | `state` | nothing | `state` and the SHA-256 of the machine's snapshot |
@@ -78,13 +92,14 @@ impl LineDebugger {
     {
         let LineDebugger {
             mut run,
+            rom,
             mut snapshot,
         } = self;
         let mut unread = ArrayVec::new();
         for number in 1..u64::MAX {
             match next_line(&mut unread, input) {
                 NextLine::Line(line) => {
-                    let answered = answer(run, line.as_slice(), number, &mut snapshot, out);
+                    let answered = answer(run, line.as_slice(), number, rom, &mut snapshot, out);
                     run = answered.run;
                     if answered.written.is_err() {
                         return Err(DebugError::Output);

@@ -1,10 +1,10 @@
 //! What a line asks a debugger for.
 
-ghost use Rattle.std.specs.Prelude.{◌≡◌};
+ghost use Rattle.std.specs.Prelude.{◌≡◌, ◌≤◌, IfSome, ◌<◌, ◌^◌};
 ghost use Rattle.std.specs.Option.{option_map};
 ghost use Rattle.std.specs.Str.{bytes_eq};
 ghost use Rattle.script.specs.Line.{words_of};
-ghost use Rattle.debugging.specs.Orders.{address_of, addresses_of, is_address, order_of, order_of_few, order_of_move, order_of_one, order_of_three, order_of_two, order_of_words, places_of, room_of, steps_of, until_order};
+ghost use Rattle.debugging.specs.Orders.{address_of, hex_of, order_of, order_of_few, order_of_move, order_of_one, order_of_span, order_of_three, order_of_two, order_of_words, place_of, places_of, room_of, span_of, steps_of, until_order};
 ghost use Rattle.debugging.specs.Words.{words_after};
 
 use arrayvec::ArrayVec;
@@ -12,17 +12,39 @@ use script::{Move, cut, digit_in, read_byte, read_count, read_line};
 
 const SPACE: u8 = b' ';
 
+/// What stands between a bank and an address.
+const COLON: u8 = b':';
+
 /// The most bytes of a line.
 const MOST_BYTES: usize = 128;
 
 /// The most digits of an address.
-const MOST_DIGITS: usize = 4;
+const ADDRESS_DIGITS: usize = 4;
+
+/// The most digits of a bank.
+const BANK_DIGITS: usize = 3;
 
 /// The most lines, or bytes, that one order lists.
 const MOST_ROOM: u32 = 65_536;
 
-/// The most addresses at which a run stops.
-pub const MOST_ADDRESSES: usize = 16;
+/// The most places at which a run stops.
+pub const MOST_PLACES: usize = 16;
+
+/// A place at which a run stops.
+#[derive(Clone, Copy, Debug, Default, PartialEq, Eq)]
+pub struct Place {
+    pub address: u16,
+    /// The bank that has to be mapped there; `None`: whichever is.
+    pub bank: Option<u16>,
+}
+
+/// Addresses, from the first to the last of them.
+#[derive(Clone, Copy, Debug, PartialEq, Eq)]
+pub struct Span {
+    pub first: u16,
+    /// Not below the first.
+    pub last: u16,
+}
 
 /// What a line asks for.
 #[derive(Clone, Debug, PartialEq, Eq, Drop)]
@@ -36,15 +58,30 @@ pub enum Order {
     Seconds(u32),
     /// So many steps, with the line of each.
     Step(u32),
-    /// Steps up to one of these addresses, but at most so many.
+    /// Steps up to one of these places, but at most so many.
     Until {
         steps: u32,
-        addresses: ArrayVec<u16, 16>,
+        places: ArrayVec<Place, 16>,
     },
     /// Steps up to an instruction with this opcode, but at most so many.
     UntilOpcode {
         steps: u32,
         opcode: u8,
+    },
+    /// Steps until the byte at an address is another, but at most so many.
+    UntilChange {
+        steps: u32,
+        address: u16,
+    },
+    /// Steps up to one that writes one of these addresses, but at most so many.
+    UntilWrite {
+        steps: u32,
+        span: Span,
+    },
+    /// Steps up to one that reads one of these addresses, but at most so many.
+    UntilRead {
+        steps: u32,
+        span: Span,
     },
     /// The registers.
     Registers,
@@ -60,6 +97,8 @@ pub enum Order {
         address: u16,
         count: u32,
     },
+    /// The bank that is mapped at an address.
+    Bank(u16),
     /// What was sent over the serial port since it was last told.
     Serial,
     /// The picture as it is now.
@@ -107,8 +146,12 @@ fn read_words(line: &[u8]) -> Option<Order>
         return with_one(name, word);
     };
     let (other, rest) = cut(rest, SPACE);
+    let Some(rest) = rest else {
+        return with_two(name, word, other);
+    };
+    let (last, rest) = cut(rest, SPACE);
     match rest {
-        None => with_two(name, word, other),
+        None => with_span(name, word, other, last),
         Some(_) => None,
     }
 }
@@ -148,6 +191,10 @@ fn with_one(name: &[u8], word: &[u8]) -> Option<Order>
         let count = read_room(word)?;
         return Some(Order::History(count));
     }
+    if is_word(name, b"bank") {
+        let address = read_address(word)?;
+        return Some(Order::Bank(address));
+    }
     None
 }
 
@@ -169,33 +216,91 @@ fn with_two(name: &[u8], word: &[u8], other: &[u8]) -> Option<Order>
         let opcode = read_byte(other)?;
         return Some(Order::UntilOpcode { steps, opcode });
     }
+    if is_word(name, b"until-change") {
+        let steps = read_steps(word)?;
+        let address = read_address(other)?;
+        return Some(Order::UntilChange { steps, address });
+    }
+    with_span(name, word, other, other)
+}
+
+/// An order of steps up to an access of some addresses.
+fn with_span(name: &[u8], count: &[u8], first: &[u8], last: &[u8]) -> Option<Order>
+    ensures { result ≡ order_of_span name.now count.now first.now last.now }
+{
+    if is_word(name, b"until-write") {
+        let steps = read_steps(count)?;
+        let span = read_span(first, last)?;
+        return Some(Order::UntilWrite { steps, span });
+    }
+    if is_word(name, b"until-read") {
+        let steps = read_steps(count)?;
+        let span = read_span(first, last)?;
+        return Some(Order::UntilRead { steps, span });
+    }
     None
 }
 
-/// The order of a count of steps and addresses, where there are any.
+/// The addresses from the first to the last, which is not below it.
+fn read_span(first: &[u8], last: &[u8]) -> Option<Span>
+    ensures { result ≡ span_of (address_of first.now) (address_of last.now) }
+{
+    let first = read_address(first)?;
+    let last = read_address(last)?;
+    if first > last {
+        return None;
+    }
+    Some(Span { first, last })
+}
+
+/// The order of a count of steps and places, where there are any.
 fn read_until(count: &[u8], rest: Option<&[u8]>) -> Option<Order>
     ensures { result ≡ until_order count.now (words_after rest.entry) }
 {
-    let addresses = read_addresses(rest?)?;
+    let places = read_places(rest?)?;
     let steps = read_steps(count)?;
-    Some(Order::Until { steps, addresses })
+    Some(Order::Until { steps, places })
 }
 
-/// The addresses that the words write, if they all are addresses and no more than sixteen.
-fn read_addresses(text: &[u8]) -> Option<ArrayVec<u16, 16>>
+/// The places that the words write, if they all are places and no more than sixteen.
+fn read_places(text: &[u8]) -> Option<ArrayVec<Place, 16>>
     ensures { option_map (λ v. v.items) result ≡ places_of (words_of text.now) }
 {
-    let mut addresses = ArrayVec::new();
+    let mut places = ArrayVec::new();
     let mut rest = Some(text);
     while let Some(text) = rest {
         let (word, after) = cut(text, SPACE);
-        let address = read_address(word)?;
-        if addresses.try_push(address).is_err() {
+        let place = read_place(word)?;
+        if places.try_push(place).is_err() {
             return None;
         }
         rest = after;
     }
-    Some(addresses)
+    Some(places)
+}
+
+/// The place of `ADDR` or `BANK:ADDR`.
+fn read_place(word: &[u8]) -> Option<Place>
+    ensures { result ≡ place_of word.now }
+{
+    let (first, rest) = cut(word, COLON);
+    let Some(rest) = rest else {
+        let address = read_address(first)?;
+        return Some(Place {
+            address,
+            bank: None,
+        });
+    };
+    let (second, rest) = cut(rest, COLON);
+    if rest.is_some() {
+        return None;
+    }
+    let bank = read_hex(first, BANK_DIGITS)?;
+    let address = read_address(second)?;
+    Some(Place {
+        address,
+        bank: Some(bank),
+    })
 }
 
 fn read_steps(word: &[u8]) -> Option<u32>
@@ -210,11 +315,18 @@ fn read_room(word: &[u8]) -> Option<u32>
     read_count(word, 1, MOST_ROOM)
 }
 
-/// The address that one to four hexadecimal digits write, in either case.
 fn read_address(word: &[u8]) -> Option<u16>
     ensures { result ≡ address_of word.now }
 {
-    if word.is_empty() || word.len() > MOST_DIGITS {
+    read_hex(word, ADDRESS_DIGITS)
+}
+
+/// The number that one hexadecimal digit to `most` write, in either case. Condition: `most` is 4 at most.
+fn read_hex(word: &[u8], most: usize) -> Option<u16>
+    requires { most ≤ 4 }
+    ensures { result ≡ hex_of most word.now }
+{
+    if word.is_empty() || word.len() > most {
         return None;
     }
     let mut value = 0;

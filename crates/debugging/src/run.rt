@@ -1,14 +1,20 @@
 //! A debugger's machine, run by steps, up to a place, or by frames.
 
-ghost use Rattle.std.specs.Prelude.{◌≡◌, ◌<◌, ◌≤◌, ◌++◌, [], length, true, false, IfOk, nat_lt};
+ghost use Rattle.std.specs.Prelude.{◌≡◌, ◌<◌, ◌≤◌, ◌++◌, [], length, true, false, IfOk, IfSome, nat_lt};
 ghost use Rattle.circular_buffer.specs.Buffer.{keep_last};
 ghost use Rattle.machine.specs.Watched.{byte_list};
 ghost use Rattle.memory_map.specs.BusRules.{bus_rules};
 ghost use Rattle.sm83_processor.specs.Steps.{step_of};
-ghost use Rattle.debugging.specs.Answers.{until_opcode_steps, until_steps};
-ghost use Rattle.debugging.specs.Run.{after_frame, after_frames, after_seconds, after_steps_of, begun, is_at, is_before, processor_of};
-ghost use Rattle.debugging.specs.Quiet.{IsQuietFor, Makes, MakesIn, StopsBefore, StopsIn, is_interrupted, is_next, is_waiting};
+ghost use Rattle.memory_map.specs.State.{BusState};
+ghost use Rattle.sm83_processor.specs.declared.processor.Processor.{Processor};
+ghost use Rattle.debugging.specs.Answers.{until_change_steps, until_opcode_steps, until_read_steps, until_steps, until_write_steps};
+ghost use Rattle.debugging.specs.Run.{after_frame, after_frames, after_seconds, after_steps_of, begun, is_at, is_bank, is_before, is_changed, is_place, processor_of, steps_up_to};
+ghost use Rattle.debugging.specs.Quiet.{HasRom, IsQuietFor, Makes, MakesIn, StopsBefore, StopsIn, has_pc, is_aim, is_interrupted, is_next, is_waiting};
 
+use crate::banks::bank_at;
+use crate::order::{Place, Span};
+use crate::probe::{is_reading, is_writing};
+use arrayvec::ArrayVec;
 use circular_buffer::HeapCircularBuffer;
 use debugger::{Debugger, RunRoom, Stop, WatchedStep};
 use machine::{Executed, Input, Machine, Memory, Processor, Stepped, Watched};
@@ -61,6 +67,21 @@ pub(crate) struct RunStep {
 pub(crate) struct RunUntil {
     pub(crate) run: Run,
     pub(crate) is_there: bool,
+}
+
+/// Where a run stops.
+#[derive(Drop)]
+pub(crate) enum Aim {
+    /// At one of these places.
+    Places(ArrayVec<Place, 16>),
+    /// Before an instruction with this opcode.
+    Opcode(u8),
+    /// Where the byte at an address is another than this.
+    Changed(u16, u8),
+    /// Before a step that writes one of these addresses.
+    Writes(Span),
+    /// Before a step that reads one of these addresses.
+    Reads(Span),
 }
 
 impl Run {
@@ -136,8 +157,8 @@ impl Run {
     fn quiet_until(&mut self, room: &mut RunRoom, addresses: &[u16], limit: u32) -> bool
         requires some { 0 < limit }
         requires quiet { IsQuietFor limit (processor_of self.old) }
-        ensures made { result ≡ false → Makes (is_at addresses.now) limit self.old self.new }
-        ensures there { result ≡ true → StopsBefore (is_at addresses.now) limit self.old self.new }
+        ensures made { result ≡ false → Makes (has_pc addresses.now) limit self.old self.new }
+        ensures there { result ≡ true → StopsBefore (has_pc addresses.now) limit self.old self.new }
     {
         match self.debugger.run_until_in(room, addresses, limit) {
             Stop::Break(_) => true,
@@ -145,20 +166,78 @@ impl Run {
         }
     }
 
-    /// The same up to an instruction with this opcode.
-    fn quiet_until_opcode(&mut self, opcode: u8, limit: u32) -> bool
+    /// The same up to an aim. Condition: the ROM has so many bytes.
+    fn quiet_up_to(&mut self, aim: &Aim, rom: usize, limit: u32) -> bool
+        requires rom { HasRom rom (processor_of self.old).memory }
         requires some { 0 < limit }
         requires quiet { IsQuietFor limit (processor_of self.old) }
-        ensures made { result ≡ false → Makes (is_before opcode) limit self.old self.new }
-        ensures there { result ≡ true → StopsBefore (is_before opcode) limit self.old self.new }
+        ensures made { result ≡ false → Makes (is_aim aim.now) limit self.old self.new }
+        ensures there { result ≡ true → StopsBefore (is_aim aim.now) limit self.old self.new }
     {
-        step_until(&mut self.debugger, opcode, limit)
+        step_up_to(&mut self.debugger, aim, rom, limit)
+    }
+
+    /// Steps up to one of these places, but at most `limit`. The first step is made wherever it begins. Condition: the ROM has so many bytes.
+    pub(crate) fn run_until_place(
+        self,
+        places: ArrayVec<Place, 16>,
+        rom: usize,
+        limit: u32,
+    ) -> RunUntil
+        requires { HasRom rom (processor_of self).memory }
+        ensures run { result.run ≡ after_steps_of (until_steps limit places.items self) self }
+        ensures there { result.is_there ≡ nat_lt (until_steps limit places.items self) limit }
+    {
+        match addresses_of(places.as_slice()) {
+            Some(addresses) => self.run_until(addresses.as_slice(), limit),
+            None => self.run_up_to(&Aim::Places(places), rom, limit),
+        }
+    }
+
+    /// Steps up to an instruction with this opcode, but at most `limit`. The first step is made wherever it begins. Condition: the ROM has so
+    /// many bytes.
+    pub(crate) fn run_until_opcode(self, opcode: u8, rom: usize, limit: u32) -> RunUntil
+        requires { HasRom rom (processor_of self).memory }
+        ensures run { result.run ≡ after_steps_of (until_opcode_steps limit opcode self) self }
+        ensures there { result.is_there ≡ nat_lt (until_opcode_steps limit opcode self) limit }
+    {
+        self.run_up_to(&Aim::Opcode(opcode), rom, limit)
+    }
+
+    /// Steps up to and with the first that leaves another byte at an address, but at most `limit`. Condition: the ROM has so many bytes.
+    pub(crate) fn run_until_change(self, address: u16, rom: usize, limit: u32) -> RunUntil
+        requires { HasRom rom (processor_of self).memory }
+        ensures run { result.run ≡ after_steps_of (until_change_steps limit address self) self }
+        ensures there { result.is_there ≡ nat_lt (until_change_steps limit address self) limit }
+    {
+        let byte = self.debugger.machine().peek(address);
+        self.run_up_to(&Aim::Changed(address, byte), rom, limit)
+    }
+
+    /// Steps up to one that writes one of these addresses, but at most `limit`. The first is made whatever it does. Condition: the ROM has so
+    /// many bytes.
+    pub(crate) fn run_until_write(self, span: Span, rom: usize, limit: u32) -> RunUntil
+        requires { HasRom rom (processor_of self).memory }
+        ensures run { result.run ≡ after_steps_of (until_write_steps limit span self) self }
+        ensures there { result.is_there ≡ nat_lt (until_write_steps limit span self) limit }
+    {
+        self.run_up_to(&Aim::Writes(span), rom, limit)
+    }
+
+    /// Steps up to one that reads one of these addresses, but at most `limit`. The first is made whatever it does. Condition: the ROM has so
+    /// many bytes.
+    pub(crate) fn run_until_read(self, span: Span, rom: usize, limit: u32) -> RunUntil
+        requires { HasRom rom (processor_of self).memory }
+        ensures run { result.run ≡ after_steps_of (until_read_steps limit span self) self }
+        ensures there { result.is_there ≡ nat_lt (until_read_steps limit span self) limit }
+    {
+        self.run_up_to(&Aim::Reads(span), rom, limit)
     }
 
     /// Steps up to one of these addresses, but at most `limit`. The first step is made wherever it begins.
-    pub(crate) fn run_until(self, addresses: &[u16], limit: u32) -> RunUntil
-        ensures run { result.run ≡ after_steps_of (until_steps limit addresses.now self) self }
-        ensures there { result.is_there ≡ nat_lt (until_steps limit addresses.now self) limit }
+    fn run_until(self, addresses: &[u16], limit: u32) -> RunUntil
+        ensures run { result.run ≡ after_steps_of (steps_up_to (has_pc addresses.now) limit (processor_of self)) self }
+        ensures there { result.is_there ≡ nat_lt (steps_up_to (has_pc addresses.now) limit (processor_of self)) limit }
     {
         self.no_step();
         let mut room = RunRoom::new();
@@ -169,7 +248,7 @@ impl Run {
             if quiet == 0 {
                 run = run.step().run;
                 left -= 1;
-                if left > 0 && is_at(addresses, run.processor()) {
+                if left > 0 && has_pc(addresses, run.processor()) {
                     return RunUntil {
                         run,
                         is_there: true,
@@ -184,7 +263,7 @@ impl Run {
                 };
             }
             left -= quiet;
-            if left > 0 && is_at(addresses, run.processor()) {
+            if left > 0 && has_pc(addresses, run.processor()) {
                 return RunUntil {
                     run,
                     is_there: true,
@@ -197,10 +276,11 @@ impl Run {
         }
     }
 
-    /// Steps up to an instruction with this opcode, but at most `limit`. The first step is made wherever it begins.
-    pub(crate) fn run_until_opcode(self, opcode: u8, limit: u32) -> RunUntil
-        ensures run { result.run ≡ after_steps_of (until_opcode_steps limit opcode self) self }
-        ensures there { result.is_there ≡ nat_lt (until_opcode_steps limit opcode self) limit }
+    /// Steps up to an aim, but at most `limit`. The first step is made wherever it begins. Condition: the ROM has so many bytes.
+    fn run_up_to(self, aim: &Aim, rom: usize, limit: u32) -> RunUntil
+        requires { HasRom rom (processor_of self).memory }
+        ensures run { result.run ≡ after_steps_of (steps_up_to (is_aim aim.now) limit (processor_of self)) self }
+        ensures there { result.is_there ≡ nat_lt (steps_up_to (is_aim aim.now) limit (processor_of self)) limit }
     {
         self.no_step();
         let mut run = self;
@@ -210,7 +290,7 @@ impl Run {
             if quiet == 0 {
                 run = run.step().run;
                 left -= 1;
-                if left > 0 && is_before(opcode, run.processor()) {
+                if left > 0 && is_aim(aim, rom, run.processor()) {
                     return RunUntil {
                         run,
                         is_there: true,
@@ -218,14 +298,14 @@ impl Run {
                 }
                 continue;
             }
-            if run.quiet_until_opcode(opcode, quiet) {
+            if run.quiet_up_to(aim, rom, quiet) {
                 return RunUntil {
                     run,
                     is_there: true,
                 };
             }
             left -= quiet;
-            if left > 0 && is_before(opcode, run.processor()) {
+            if left > 0 && is_aim(aim, rom, run.processor()) {
                 return RunUntil {
                     run,
                     is_there: true,
@@ -311,18 +391,19 @@ fn note(sent: &mut HeapCircularBuffer<u8>, byte: Option<u8>)
     }
 }
 
-/// Steps up to an instruction with this opcode, but at most `limit`. The first is made wherever it begins. Returns whether it stopped before
-/// all were made. Condition: `limit` is not 0.
-fn step_until(debugger: &mut Debugger, opcode: u8, limit: u32) -> bool
-    requires { 0 < limit }
-    ensures made { result ≡ false → MakesIn (is_before opcode) limit debugger.old debugger.new }
-    ensures there { result ≡ true → StopsIn (is_before opcode) limit debugger.old debugger.new }
+/// Steps up to an aim, but at most `limit`. The first is made wherever it begins. Returns whether it stopped before all were made.
+/// Conditions: `limit` is not 0, and the ROM has so many bytes.
+fn step_up_to(debugger: &mut Debugger, aim: &Aim, rom: usize, limit: u32) -> bool
+    requires rom { HasRom rom debugger.old.machine.processor.memory }
+    requires some { 0 < limit }
+    ensures made { result ≡ false → MakesIn (is_aim aim.now) limit debugger.old debugger.new }
+    ensures there { result ≡ true → StopsIn (is_aim aim.now) limit debugger.old debugger.new }
 {
     // the history is within its size, so a run of no step leaves it as it is
     let _held = debugger.history_len();
     for _made in 0..limit - 1 {
         let _ = debugger.step();
-        if is_before(opcode, debugger.machine().processor()) {
+        if is_aim(aim, rom, debugger.machine().processor()) {
             return true;
         }
     }
@@ -341,11 +422,63 @@ fn quiet_steps(processor: &Processor<Bus>) -> u32
     ((left - 1) / MOST_CYCLES).min(MOST_QUIET)
 }
 
+/// The addresses of these places, if each of them stands for whichever bank.
+fn addresses_of(places: &[Place]) -> Option<ArrayVec<u16, 16>>
+    ensures { IfSome result (λ addresses. (p : Processor BusState) → is_at places.now p ≡ has_pc addresses.items p) }
+{
+    let mut addresses = ArrayVec::new();
+    for place in places {
+        if place.bank.is_some() || addresses.try_push(place.address).is_err() {
+            return None;
+        }
+    }
+    Some(addresses)
+}
+
 /// Whether PC is one of these addresses.
-fn is_at(addresses: &[u16], processor: &Processor<Bus>) -> bool
-    ensures { result ≡ is_at addresses.now processor.now }
+fn has_pc(addresses: &[u16], processor: &Processor<Bus>) -> bool
+    ensures { result ≡ has_pc addresses.now processor.now }
 {
     addresses.contains(&processor.registers.pc)
+}
+
+/// Whether a run is where it stops. Condition: the ROM has so many bytes.
+fn is_aim(aim: &Aim, rom: usize, processor: &Processor<Bus>) -> bool
+    requires { HasRom rom processor.now.memory }
+    ensures { result ≡ is_aim aim.now processor.now }
+{
+    match aim {
+        Aim::Places(places) => is_at(places.as_slice(), rom, processor),
+        Aim::Opcode(opcode) => is_before(*opcode, processor),
+        Aim::Changed(address, byte) => processor.memory.peek(*address) != *byte,
+        Aim::Writes(span) => is_writing(processor, *span),
+        Aim::Reads(span) => is_reading(processor, *span),
+    }
+}
+
+fn is_at(places: &[Place], rom: usize, processor: &Processor<Bus>) -> bool
+    requires { HasRom rom processor.now.memory }
+    ensures { result ≡ is_at places.now processor.now }
+{
+    for place in places {
+        if is_place(*place, rom, processor) {
+            return true;
+        }
+    }
+    false
+}
+
+fn is_place(place: Place, rom: usize, processor: &Processor<Bus>) -> bool
+    requires { HasRom rom processor.now.memory }
+    ensures { result ≡ is_place processor.now place }
+{
+    if place.address != processor.registers.pc {
+        return false;
+    }
+    match place.bank {
+        None => true,
+        Some(bank) => bank == bank_at(&processor.memory, rom, place.address),
+    }
 }
 
 /// Whether the next step runs an instruction with this opcode.

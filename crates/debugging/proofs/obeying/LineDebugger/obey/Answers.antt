@@ -7,7 +7,7 @@ use Rattle.input_lines.specs.Reading.{left_of}
 use Rattle.debugging.specs.Run.{RunState}
 use Rattle.debugging.specs.Answers.{after_line, answer_line}
 use Rattle.debugging.proofs.Exchanges.{IsObeying, none_obeyed, line_obeyed, line_broken, long_obeyed, long_broken, ended, failed_to_read, all_obeyed}
-use Rattle.debugging.proofs.Kept.{ram_length, line_keeps}
+use Rattle.debugging.proofs.Kept.{ram_length, rom_length, rom_kept, line_keeps, line_keeps_rom}
 use Rattle.debugging.proofs.Parts.{on_err_of, on_ok_of}
 use Rattle.debugging.proofs.obeying.LineDebugger.obey.Goals as goal
 use Rattle.debugging.proofs.obeying.LineDebugger.obey.Goals.{in-Line+else-is_err, in-TooLong+else-is_err-2}
@@ -16,7 +16,8 @@ pub loop-number-init : goal.loop-number-init
 loop-number-init g c = record {
   so_far = subst (λ (r : RunState). IsObeying r c.self.inside.run 1 (g.R.Read.remaining c.args.input.now) (left_of c.new-unread.result.items (g.R.Read.remaining c.args.input.now)) (g.W.Write.contents c.args.out.now) (g.W.Write.contents c.args.out.now))
       c.self.view_is (none_obeyed c.self.inside.run c.new-unread.result.items (g.R.Read.remaining c.args.input.now) (g.W.Write.contents c.args.out.now) c.new-unread.ensures);
-  room = c.self.invariant;
+  rom = c.self.invariant.0;
+  room = c.self.invariant.1;
 }
 
 pub returns-then-is_err-clause-refused : goal.returns-then-is_err-clause-refused
@@ -65,6 +66,7 @@ loop-number-preserved g c =
                 (g.W.Write.contents w.answer-answered.new.out) w.in-Line.ensures moved
                 (subst (λ (line : List ℕ). Appends since (g.W.Write.contents w.answer-answered.new.out) (answer_line line c.loop-number.number c.loop-number.run)) w.as_slice.ensures.value
                 (on_ok_of written w.is_err.ensures.value w.if-is_err.false w.answer-answered.ensures.ok));
+            rom = rom_kept c.self.inside.rom c.loop-number.run w.answer-answered.result.run c.loop-number.invariant.rom (ap rom_length moved ∙ line_keeps_rom w.in-Line.line.items c.loop-number.run);
             room = ap length (with_items_is c.loop-number.snapshot w.answer-answered.new.snapshot (omega (arith, w.answer-answered.ensures.room, ap length w.deref_mut.ensures.value, c.loop-number.snapshot.ok)))
                 ∙ w.answer-answered.ensures.room ∙ ap length w.deref_mut.ensures.value ∙ c.loop-number.invariant.room
                 ∙ ap snapshot_length (sym (ap ram_length moved ∙ line_keeps w.in-Line.line.items c.loop-number.run));
@@ -73,6 +75,7 @@ loop-number-preserved g c =
           rw (w.run-is, w.out-is, w.snapshot-is) (record {
             so_far = long_obeyed c.args.self c.loop-number.run c.loop-number.number unread left before since so_far rest known (g.W.Write.contents w.write_wrong.new.out) w.in-TooLong.ensures
                 (on_ok_of w.write_wrong.result w.is_err-in-TooLong.ensures.value w.if-is_err-2.false w.write_wrong.ensures.ok);
+            rom = c.loop-number.invariant.rom;
             room = c.loop-number.invariant.room;
           })
     ]

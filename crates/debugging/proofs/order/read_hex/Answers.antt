@@ -4,7 +4,7 @@ use Rattle.std.proofs.lemmas.List.Folds.{list_all_more}
 use Rattle.std.proofs.lemmas.Int.Digits.{digits_value_more}
 use Rattle.std.specs.Char.{is_digit}
 use Rattle.debugging.proofs.Words.{three_digits, digit_read}
-use Rattle.debugging.proofs.order.read_address.Goals as goal
+use Rattle.debugging.proofs.order.read_hex.Goals as goal
 
 pub overflow_mul-value : goal.overflow_mul-value
 overflow_mul-value c =

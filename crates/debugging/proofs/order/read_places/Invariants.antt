@@ -1,11 +1,11 @@
 use Rattle.std.proofs.Common.{◌≤◌, length}
 use Rattle.debugging.proofs.Words.{HasRead, bytes_left}
-use Rattle.debugging.proofs.order.read_addresses.Given as goal
+use Rattle.debugging.proofs.order.read_places.Given as goal
 
 abbrev pub invariant-loop-rest : goal.invariant-loop-rest
 invariant-loop-rest l = record {
-  read : HasRead l.text l.rest l.addresses.items;
-  few : length l.addresses.items ≤ 16;
+  read : HasRead l.text l.rest l.places.items;
+  few : length l.places.items ≤ 16;
 }
 
 abbrev pub decreases-loop-rest : goal.decreases-loop-rest
