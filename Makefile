@@ -48,6 +48,10 @@ build: bin/gbkeep
 # each is installed as gbkeep-NAME
 TOOLS := window script rest movie film branch verify png battery
 
+# what testers have: one folder that works alone, from which these two are installed as gbkeep-run-tests and gbkeep-debug
+TESTERS := testers/run.py testers/debug.py
+TESTER_FILES := testers/symbols.py testers/memory_pictures.py $(addprefix players/,faults.py gbkeep.py input_files.py new_files.py png.py script.py tools.py)
+
 install: bin/gbkeep
 	install -D -m 755 bin/gbkeep $(DESTDIR)$(PREFIX)/bin/gbkeep
 	install -D -m 644 docs/gbkeep.1 $(DESTDIR)$(PREFIX)/share/man/man1/gbkeep.1
@@ -57,6 +61,11 @@ install: bin/gbkeep
 	install -m 644 players/faults.py players/gbkeep.py players/timed_game.py players/slots.py players/window_files.py players/window_keys.py $(DESTDIR)$(PREFIX)/share/gbkeep
 	install -m 644 players/input_files.py players/new_files.py players/tools.py scripts/second_storage/save_files.py $(DESTDIR)$(PREFIX)/share/gbkeep
 	for tool in $(TOOLS); do ln -sf ../share/gbkeep/$$tool.py $(DESTDIR)$(PREFIX)/bin/gbkeep-$$tool; done
+	install -d $(DESTDIR)$(PREFIX)/share/gbkeep-testers
+	install -m 755 $(TESTERS) $(DESTDIR)$(PREFIX)/share/gbkeep-testers
+	install -m 644 $(TESTER_FILES) $(DESTDIR)$(PREFIX)/share/gbkeep-testers
+	ln -sf ../share/gbkeep-testers/run.py $(DESTDIR)$(PREFIX)/bin/gbkeep-run-tests
+	ln -sf ../share/gbkeep-testers/debug.py $(DESTDIR)$(PREFIX)/bin/gbkeep-debug
 
 check:
 ifdef CRATE

@@ -187,6 +187,26 @@ def attack_png(room):
     room.refused('a name that steers', 'png.py', 'a\x1b[31m\n.pgm', 'made.png')
 
 
+def attack_lines_of_c(room):
+    """A .cdb beside a cartridge, with names of files that are not beside it, names that steer, and numbers without end."""
+    room.write('lines.gb', room.data('demo.gb'))
+    room.write('secret', 'a secret\n')
+    lines = ('../secret$1', '/etc/passwd$1', '\x1b[31mred.c$1', f'{"x" * 255}$1', '..$1', 'main.c$9999999', f'main.c${NINES}', 'fifo$1', 'folder$1', 'a\0b$1')
+    room.write('lines.cdb', ''.join(f'L:C${one}$0$0:150\n' for one in lines))
+    done = room.run('debug.py', '--do', 'list 0150 1', 'lines.gb')
+    shown = done.stdout.splitlines()
+    room.expect('lines of C', (done.returncode, shown[-1:], done.stderr, b'\x1b' in done.stdout, b'root' in done.stdout), (0, [b'0150 F3     DI'], b'', False, False))
+    room.write('lines.cdb', 'L:C$main.c$1$0$0:zz\n' * 1000)
+    done = room.run('debug.py', '--do', 'list 0150 1', 'lines.gb')
+    room.expect('no lines of C', (done.returncode, done.stdout, done.stderr.count(b'\n')), (0, b'0150 F3     DI\n', 1))
+    room.path('lines.cdb').unlink()
+    os.mkfifo(room.path('lines.cdb'))
+    done = room.run('debug.py', '--do', 'list 0150 1', 'lines.gb')
+    room.expect('a FIFO of lines of C', (done.returncode, done.stdout, done.stderr.count(b'\n')), (0, b'0150 F3     DI\n', 1))
+    room.path('lines.cdb').unlink()
+    room.path('lines.gb').unlink()
+
+
 def attack_debugger(room):
     room.write('demo.sym', '00:0150 Main\n')
     shown = room.command('show', 'demo.gb', 'run.gbkeep').stdout.splitlines()
@@ -198,7 +218,8 @@ def attack_debugger(room):
     for target in ('demo.gb', 'demo.sym', 'run.rec', 'fifo'):
         room.refused(f'a picture of no game over {target}', 'debug.py', '--do', f'picture {target}', 'demo.gb', 'demo.sym')
     for line in (f'step {NINES}', f'until {NINES} 0150', f'memory {NINES} 3', f'list 0150 {NINES}', f'history {NINES}', 'x' * 100_000, 'until \x1b[31m', '\x1b]0;x\x07', f'seconds {NINES}',
-                 'picture a\0b', 'picture ' + 'x' * 5000):
+                 'picture a\0b', 'picture ' + 'x' * 5000, f'until {"f" * 5000}:4000', f'until-change {NINES} C000', f'over {NINES}', f'out {NINES}', 'tiles a\0b', 'map 9800 ' + 'x' * 5000,
+                 f'map {NINES} made.png', 'objects fifo', 'tiles demo.gb', 'map 9c00 run.gbkeep', 'until ' + '0150 ' * 1000):
         room.refused(f'the line {line[:20]!r}', 'debug.py', 'demo.gb', typed=f'{line}\n'.encode(), says='line')
     with open('/dev/zero', 'rb') as zeros:
         room.refused('zeros as lines', 'debug.py', 'demo.gb', typed=zeros)
@@ -206,8 +227,17 @@ def attack_debugger(room):
     room.write('digits.sym', f'{"f" * 5000}:0150 Main\n')
     room.write('steers.sym', '00:0150 \x1b[31mred\n')
     room.write('both.sym', '00:0150 Main\n00:0150 \x1b[31mred\n')
-    for sym in ('fifo', '/dev/zero', 'folder', b'\xff.sym', 'digits.sym', 'steers.sym'):
+    for sym in ('fifo', '/dev/zero', 'folder', b'\xff.sym'):
         room.refused(f'the labels {sym!r}', 'debug.py', 'demo.gb', sym)
+    # none of the formats, and what may not be shown: a warning, and it goes on
+    room.write('bytes.noi', bytes(range(256)) * 1000)
+    room.write('steers.noi', 'DEF \x1b[31mred 0x150\n')
+    room.write('digits.noi', f'DEF _main 0x{"f" * 5000}\n')
+    room.write('steers.map', 'ASxxxx Linker\n     00000150  \x1b[31mred  main\n')
+    for sym in ('digits.sym', 'steers.sym', 'bytes.noi', 'steers.noi', 'digits.noi', 'steers.map', 'demo.gb'):
+        done = room.run('debug.py', '--do', 'list 0150 1', 'demo.gb', sym)
+        room.expect(f'the labels {sym!r}', (done.returncode, done.stdout, done.stderr.count(b'\n'), b'\x1b' in done.stderr), (0, b'0150 F3     DI\n', 1, False))
+    attack_lines_of_c(room)
     done = room.run('debug.py', '--do', 'list 0150 1', 'demo.gb', 'both.sym')
     room.expect('a label that steers', (done.returncode, done.stdout), (0, b'Main:\n0150 F3     DI\n'))
     for cart in ('fifo', '/dev/zero', '/', '.', '', b'\xff.gb'):

@@ -21,6 +21,8 @@ RT = os.environ.get('RT', 'rt')
 GATE, BEGUN = Path('bin/gate_passed'), Path('bin/gate_begun')
 DIST, PROGRAM = Path('dist'), Path('bin/gbkeep')
 CORE, HEADER = Path('bin/gbkeep_libretro.so'), Path('/usr/include/libretro-common/libretro.h')
+# the tools of testers, which have a package of their own
+TESTERS = ('bin/gbkeep-run-tests', 'bin/gbkeep-debug')
 VERSION = re.search(r'VERSION: &str = "(.*)"', Path('crates/command_line/src/words.rt').read_text())[1]
 MAINTAINER = 'gbkeep <gbkeep@localhost>'
 NO_LICENCE = 'No licence is given yet: ask before you copy, change or pass on gbkeep.\n'
@@ -149,8 +151,10 @@ def main():
         page = program / 'usr/share/man/man1/gbkeep.1'
         put(program, 'usr/share/man/man1/gbkeep.1.gz', packed(page.read_bytes()))
         page.unlink()
-        window = parts(whole, Path(room) / 'window', *(f'bin/{path.name}' for path in sorted((whole / 'bin').glob('gbkeep-*'))), 'share/gbkeep')
-        for path in window.glob('usr/share/gbkeep/*.py'):
+        tools = sorted(f'bin/{path.name}' for path in (whole / 'bin').glob('gbkeep-*'))
+        window = parts(whole, Path(room) / 'window', *(tool for tool in tools if tool not in TESTERS), 'share/gbkeep')
+        testers = parts(whole, Path(room) / 'testers', *TESTERS, 'share/gbkeep-testers')
+        for path in [*window.glob('usr/share/gbkeep/*.py'), *testers.glob('usr/share/gbkeep-testers/*.py')]:
             path.write_text(path.read_text().replace('#!/usr/bin/env python3', '#!/usr/bin/python3', 1))
         debian(program, 'gbkeep', date, f'Architecture: {machine}\nDepends: libc6 (>= {libc_needed()})\nSuggests: gbkeep-window\n'
                'Description: Game Boy emulator whose save files survive any power cut\n'
@@ -161,6 +165,10 @@ def main():
                ' gbkeep-window plays a game of gbkeep by keyboard. gbkeep-script reads scripts\n that are easier to write, gbkeep-rest goes on with a'
                ' script where a save file\n stands, gbkeep-movie reads and writes movies of other emulators, gbkeep-film\n makes a film of a script or a recording, gbkeep-branch a new game of the first\n inputs of a recording, gbkeep-verify compares a game with its recording,\n gbkeep-battery carries battery files to other emulators and back, and\n gbkeep-png makes a PNG of a'
                ' picture.\n')
+        debian(testers, 'gbkeep-testers', date, f'Architecture: all\nDepends: gbkeep (= {VERSION}), python3 (>= 3.10)\n'
+               "Description: runner of test ROMs and debugger's prompt for gbkeep\n"
+               ' gbkeep-run-tests runs test ROMs, folders and lists of them on all processors,\n and writes reports for a CI. gbkeep-debug looks inside a ROM or a game by labels\n'
+               ' and lines of C.\n')
         if not core(Path(room) / 'core', machine, date):
             print('without the libretro core: that needs a C compiler and retroarch-dev')
     sums = ''.join(f'{sum_of(path)}  {path.name}\n' for path in sorted(DIST.iterdir()))

@@ -322,13 +322,18 @@ def installed(room):
     status, got = shell(room, 'make install PREFIX=inst')
     wrong = [f'make install: {got}'] if status != 0 else []
     for path in ('bin/gbkeep', 'bin/gbkeep-window', 'bin/gbkeep-script', 'bin/gbkeep-rest', 'bin/gbkeep-movie', 'bin/gbkeep-film', 'bin/gbkeep-branch', 'bin/gbkeep-verify', 'bin/gbkeep-battery',
-                 'share/man/man1/gbkeep.1',
+                 'bin/gbkeep-run-tests', 'bin/gbkeep-debug', 'share/man/man1/gbkeep.1',
                  'share/bash-completion/completions/gbkeep', 'share/gbkeep/gbkeep.py'):
         if not os.path.exists(os.path.join(room, 'inst', path)):
             wrong.append(f'make install leaves no {path}')
     played = shell(room, "printf 'A 3\\n' > few.txt; inst/bin/gbkeep-script play examples/demo/demo.gb few.gbkeep few.txt; inst/bin/gbkeep-rest examples/demo/demo.gb few.gbkeep few.txt")
     if played != (0, 'resumed 0\nsaved 3\nresumed 3\n'):
         wrong.append(f'the installed tools print {played}')
+    # the folder of the testers' tools works alone
+    tested = shell(room, 'cp -r inst/share/gbkeep-testers alone; GBKEEP=bin/gbkeep python3 alone/run.py examples/test_roms/passes.gb; inst/bin/gbkeep-run-tests examples/test_roms/all.txt | tail -1; '
+                   "inst/bin/gbkeep-debug --do 'list start 1' examples/demo/demo.gb")
+    if tested != (0, 'ok   examples/test_roms/passes.gb: passed, pass wanted\n1 as wanted, 0 failed\n3 as wanted, 0 failed\nstart:\n0150 F3     DI\n'):
+        wrong.append(f"the testers' tools print {tested}")
     return wrong
 
 

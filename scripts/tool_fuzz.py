@@ -5,7 +5,7 @@ usage: tool_fuzz.py GBKEEP SECONDS [SEED]     for so many seconds, from a seed t
 
 A run may print what it likes, but it ends within seconds and a gibibyte, with status 0, 1 or 2; what it says on standard error is no traceback and
 steers no terminal, and is one line where it refuses; and of all files only the one that it was asked to write has changed, which was not there, or was
-a file of the same kind. What is damaged: movies (.bk2, .vbm), labels (.sym), pictures (PNG, PGM), lists, scripts, battery files and clocks, SAVE,
+a file of the same kind. What is damaged: movies (.bk2, .vbm), labels (.sym, .noi, .map), lines of C (.cdb), pictures (PNG, PGM), lists, scripts, battery files and clocks, SAVE,
 RECORDING, the time beside SAVE, names, counts, and lines of the debugger. The status is 1 where a run ends in another way; its files are kept."""
 import hashlib
 import os
@@ -37,7 +37,7 @@ PICTURE = b'P2\n160 144\n3\n' + b' '.join([b'3'] * 160 * 144) + b'\n'
 # what a file begins with that may be replaced by one of its kind
 KINDS_OF_FILES = [(b'YUV4MPEG2',), (b'\x89PNG', b'P2'), (b'<testsuite',)]
 WORDS = [b'', b'A', b'A+right', b'wait', b'frame', b'frames', b'seconds', b'save', b'mark', b'include', b'00', b'1f', b'FF', b'0', b'1', b'60', b'1000000', b'4294967295', b'-1', b'+1', b'9' * 30,
-         b'9' * 5000, b'#', b'\t', b'\r', b'\xff', b'\x1b[31m', b'\0', b'x', b'../demo.gb', b'moves.txt', b'fifo', b'/dev/zero', b'wants=pass', b'wants=fail', b'frames=3', b'frames=', b'picture=picture.pgm',
+         b'9' * 5000, b'#', b'\t', b'\r', b'\xff', b'\x1b[31m', b'\0', b'x', b'../demo.gb', b'moves.txt', b'fifo', b'/dev/zero', b'wants=pass', b'wants=fail', b'wants=memory:C000=00', b'wants=memory:', b'wants=memory:C000=00,FFFF=1', b'frames=3', b'frames=', b'picture=picture.pgm',
          b'picture=small.png', b'script=moves.txt', b'demo.gb', b'LogKey:#A|B|', b'|..|', b'|A.|', b'00:0150', b'Main', b'\xd9\xa3', b'\xe2\x80\xae']
 NUMBERS = [0, 1, 2, 0x7f, 0x80, 0xff, 0xffff, 0x7fff_ffff, 0x8000_0000, 0xffff_ffff]
 
@@ -205,6 +205,8 @@ def wrong_with(room: Room, words: list, typed: bytes, writes: set[bytes]) -> str
         return told[-1500:]
     if not all(one.isprintable() or one == '\n' for one in told):
         return f'it steers a terminal: {told!r:.400}'
+    # a file of labels that is none is a warning, and the tool goes on
+    told = re.sub(r'^debug\.py: warning: .*\n', '', told, flags=re.M)
     if done.returncode == 1 and told.count('\n') > 1 or done.returncode == 0 and told:
         return f'status {done.returncode}, and {told.count(chr(10))} lines: {told!r:.400}'
     if changed:
@@ -290,10 +292,16 @@ def lists(rnd, room):
 
 
 def debuggers(rnd, room):
-    room.write('fuzzed.sym', damaged(rnd, b'; a file of labels\n00:0150 Main\n00:0154 Main.loop\n03:4000 Elsewhere\n00:c000 wKeys\n'))
-    names = [b'step', b'until', b'until-op', b'frame', b'frames', b'seconds', b'registers', b'history', b'list', b'memory', b'serial', b'picture', b'state', b'help', b'quit', b'save']
-    typed = b'\n'.join(b' '.join([rnd.choice(names), *(rnd.choice([b'Main', b'0150', b'$156', b'3', b'00', b'wKeys', some_count(rnd)]) for _ in range(rnd.randrange(3)))]) for _ in range(rnd.randrange(6)))
-    if re.search(rb'(step|until|until-op|frames|seconds) [0-9]{6}', typed):
+    room.write('fuzzed.sym', damaged(rnd, rnd.choice([
+        b'; a file of labels\n00:0150 Main\n00:0154 Main.loop\n03:4000 Elsewhere\n00:c000 wKeys\n',
+        b'[labels]\n0000:0150 Main\n0003:4000 Elsewhere\n[definitions]\n00000005 FIVE\n', b'DEF Main 0x150\nDEF Elsewhere 0x34000\nDEF l__CODE 0x3A3\nLOAD game.ihx\n',
+        b'ASxxxx Linker V03.00\n      Value  Global   Global Defined In Module\n     00000150  Main     main\n     00034000  Elsewhere\n'])))
+    if rnd.random() < 0.3:
+        room.write('demo.cdb', damaged(rnd, b'M:main\nL:C$moves.txt$1$0_0$2:150\nL:C$main.c$3$1_0$2:34000\nL:C$../moves.txt$1$1_0$2:154\n'))
+    names = [b'step', b'until', b'until-op', b'frame', b'frames', b'seconds', b'registers', b'history', b'list', b'memory', b'serial', b'picture', b'state', b'help', b'quit', b'save',
+             b'until-write', b'until-read', b'until-change', b'bank', b'over', b'out', b'where', b'tiles', b'map 9800', b'map', b'objects']
+    typed = b'\n'.join(b' '.join([rnd.choice(names), *(rnd.choice([b'Main', b'Elsewhere', b'2:4000', b'0150', b'$156', b'3', b'00', b'wKeys', some_count(rnd)]) for _ in range(rnd.randrange(3)))]) for _ in range(rnd.randrange(6)))
+    if re.search(rb'(step|until|until-op|until-write|until-read|until-change|over|out|frames|seconds) [0-9]{6}', typed):
         typed = b'registers\n'
     typed = damaged(rnd, typed) if rnd.random() < 0.3 else typed
     typed = b'state\n' if re.search(rb'[0-9]{7}', typed) else typed
@@ -303,7 +311,7 @@ def debuggers(rnd, room):
     out, writes = target(rnd, 'made.png')
     if b'\n' not in out and rnd.random() < 0.3:
         typed = b'picture ' + out + b'\n' + typed
-    pictures_of = {os.path.basename(name) for name in re.findall(rb'picture\s+(\S+)', typed)}
+    pictures_of = {os.path.basename(name) for name in re.findall(rb'(?:picture|tiles|objects|map\s+\S+)\s+(\S+)', typed)}
     return [*words, maybe(rnd, 'demo.gb'), maybe(rnd, 'fuzzed.sym')], typed, writes | pictures_of | SAVES
 
 

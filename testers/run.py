@@ -8,12 +8,14 @@ WHAT is a ROM, a folder with ROMs at any depth (*.gb, *.gbc), or a list (*.txt) 
     cpu.gb                              passes by the rule of its suite, within N frames (3,600 if not said)
     cpu.gb frames=600 script=start.script
     fails.gb wants=fail                 also: pass (as if nothing is said), undecided, ended (anything but undecided)
+    counts.gb frames=60 wants=memory:C000=01,C001=2A
     sprites.gb frames=120 picture=sprites.png
 
-The rule of the suites is that of `gbkeep test`: registers at `LD B,B`, or a word over the serial port. A picture is one that `gbkeep frame` writes
-(PGM), or a PNG of 160 by 144 pixels or a multiple, whose greys count: the game is played for so many frames from power-on and then compared. In a
-folder, NAME.script and NAME.pgm or NAME.png beside NAME.gb are taken as script and picture. --bless stores the pictures as they are now: as PNG where
-the name ends in .png. A report and a picture take the place of a report and a picture alone: any other file at their names is left, and said.
+The rule of the suites is that of `gbkeep test`: registers at `LD B,B`, a word over the serial port, or a result in the memory. A picture is one that
+`gbkeep frame` writes (PGM), or a PNG of 160 by 144 pixels or a multiple, whose greys count: the game is played for so many frames from power-on and
+then compared. So are bytes of the memory, by address and value in hexadecimal digits. In a folder, NAME.script and NAME.pgm or NAME.png beside NAME.gb
+are taken as script and picture. --bless stores the pictures as they are now: as PNG where the name ends in .png. A report and a picture take the place
+of a report and a picture alone: any other file at their names is left, and said.
 
 A ROM that fails is told with why it ended, after how many frames, its registers, and the end of what it sent over the serial port: in one line, or on a
 terminal in several. With --out a picture that differs leaves ROM-NUMBER.actual.png and ROM-NUMBER.difference.png in DIR, where red is what differs; NUMBER
@@ -39,13 +41,14 @@ import zlib
 from collections import deque
 from collections.abc import Callable, Iterable, Iterator
 from concurrent.futures import Future, ThreadPoolExecutor, wait
-from dataclasses import dataclass
+from dataclasses import dataclass, replace
 from pathlib import Path
 from typing import IO, Optional
 from xml.sax.saxutils import escape, quoteattr
 
 HERE = Path(__file__).resolve().parent
-sys.path.insert(0, str(HERE.parent / 'players'))
+# behind what lies beside it: where it is installed, that is all
+sys.path.insert(1, str(HERE.parent / 'players'))
 from gbkeep import HEIGHT, PICTURE_HEAD, WIDTH, Game, Refused, ended, find_program, line_of, started
 from input_files import MOST_LINE, PathLike, WrongInput, number, printable, read_bytes, read_text, reason
 from new_files import Unsafe, check_target, new_file
@@ -56,6 +59,8 @@ from tools import Failed, Words, count_word, run_tool
 FRAMES, MOST_FRAMES = 3_600, 1_000_000
 MOST_JOBS, MOST_CASES = 256, 100_000
 MOST_LIST, MOST_PICTURE = 1 << 22, 1 << 24
+# as many bytes of the memory may be wanted of a ROM
+MOST_BYTES = 64
 # a PNG may be so many times as large as the picture, and has so many bytes once it is unpacked
 MOST_SCALE, MOST_UNPACKED = 16, 1 << 24
 # what reports and a picture begin with
@@ -76,6 +81,8 @@ SLOWEST, PROGRESS_SECONDS = 5, 0.5
 PALETTE = bytes((160, 160, 160, 190, 190, 190, 220, 220, 220, 250, 250, 250, 220, 0, 0))
 DIFFERENCE_SCALE = 3
 END_OF_TEST = re.compile(rb'(?:\A|\n)(A=[0-9A-F]{2} [ -~]{1,100})\nframes ([0-9]{1,7})\nended ([a-z]{1,20})\n\Z')
+# where a test leaves its text, up to a byte 0, whose result stands in the memory
+TEXT, MOST_TEXT = 0xa004, 0x1ffc
 END_OF_GAME = re.compile(rb'\n(A=[0-9A-F]{2} [ -~]{1,100})\n\Z')
 
 
@@ -91,6 +98,8 @@ class Case:
     script: Optional[Path] = None
     picture: Optional[Path] = None
     wants: str = 'pass'
+    # bytes that are wanted in the memory, by their addresses
+    memory: tuple[tuple[int, int], ...] = ()
     number: int = 0
 
 
@@ -212,12 +221,30 @@ def case_of(path, line, words, frames):
         elif name in ('script', 'picture') and value:
             setattr(case, name, path.parent / value)
         elif name == 'wants' and value in WANTED:
-            case.wants = value
+            case.wants, case.memory = value, ()
+        elif name == 'wants' and value.startswith('memory:'):
+            case.memory = bytes_wanted(value.removeprefix('memory:'), f"{place}: '{printable(word)}' is not understood")
         else:
             raise WrongList(f"{place}: '{printable(word)}' is not understood")
-    if case.frames == 0 and not case.picture:
+    if case.memory and case.picture:
+        raise WrongList(f'{place}: a ROM has a picture or bytes of the memory')
+    if case.frames == 0 and not case.picture and not case.memory:
         raise WrongList(f'{place}: a ROM that is tested takes 1 frame at least')
     return [case]
+
+
+def bytes_wanted(text: str, wrong: str) -> tuple[tuple[int, int], ...]:
+    """Addresses and values, as C000=01,C001=2A."""
+    pairs = text.split(',')
+    if len(pairs) > MOST_BYTES:
+        raise WrongList(f'{wrong}: it has more than {MOST_BYTES} bytes')
+    found = []
+    for pair in pairs:
+        parts = re.fullmatch('([0-9a-fA-F]{1,4})=([0-9a-fA-F]{2})', pair)
+        if not parts:
+            raise WrongList(f'{wrong}: it takes bytes such as wants=memory:C000=01,C001=2A')
+        found.append((int(parts[1], 16), int(parts[2], 16)))
+    return tuple(found)
 
 
 def files_of(cases: list[Case], words: list[str]) -> list[Path]:
@@ -370,21 +397,53 @@ def played(case: Case, program: str) -> bytes:
         return game.picture().shades
 
 
-def told_by_game(case: Case, program: str) -> Optional[Told]:
-    """What a ROM has told after the moves, if the program says it."""
+def looked_inside(case: Case, program: str, *more: str) -> 'tuple[Tail, Tail, int]':
+    """What `gbkeep debug` answers to the moves and to these lines."""
     with tempfile.TemporaryFile('w+') as lines:
         for move in moves_of(case):
             lines.write(f'frames {move[1]:02x} {move[2]}\n' if move[0] == 'frames' else f'seconds {move[1]}\n')
-        lines.write('serial\nregisters\n')
+        lines.write(''.join(f'{one}\n' for one in more))
         lines.seek(0)
-        try:
-            printed, _, _ = ran([program, 'debug', '--', str(case.rom)], lines, MOST_PRINTED_BY_GAME)
-        except (OSError, Refused, subprocess.TimeoutExpired):
-            return None
-    found = END_OF_GAME.search(printed.data)
+        return ran([program, 'debug', '--', str(case.rom)], lines, MOST_PRINTED_BY_GAME)
+
+
+def told_by_game(case: Case, program: str) -> Optional[Told]:
+    """What a ROM has told after the moves, if the program says it."""
+    try:
+        printed, _, _ = looked_inside(case, program, 'serial', 'registers')
+    except (OSError, Refused, subprocess.TimeoutExpired):
+        return None
+    return told_in(case, printed.data, printed.left_out)
+
+
+def told_in(case: Case, data: bytes, left_out: int) -> Optional[Told]:
+    found = END_OF_GAME.search(data)
     if not found:
         return None
-    return Told('frames', case.frames, found[1].decode(), sent_text(*sent_by_game(printed.data[:found.start()], printed.left_out)))
+    return Told('frames', case.frames, found[1].decode(), sent_text(*sent_by_game(data[:found.start()], left_out)))
+
+
+def remembered(case: Case, program: str) -> Outcome:
+    """Compares bytes of the memory after the moves."""
+    out, err, status = looked_inside(case, program, 'serial', 'registers', *(f'memory {address:04X} 1' for address, _ in case.memory))
+    # the answers to the last lines: an address and a byte each
+    size = len('C000 00\n') * len(case.memory)
+    lines = re.findall('([0-9A-F]{4}) ([0-9A-F]{2})\n', out.data[-size:].decode(errors='replace'))
+    found = [(int(address, 16), int(value, 16)) for address, value in lines]
+    if status != 0 or [address for address, _ in found] != [address for address, _ in case.memory]:
+        return Outcome(case, False, f'not run: {line_of(err.data.decode(errors="replace"), status)}')
+    wrong = [f'{address:04X} has {value:02X}, and {wanted:02X} wanted' for (address, value), (_, wanted) in zip(found, case.memory) if value != wanted]
+    return Outcome(case, not wrong, ', '.join(wrong) or 'memory as wanted', told=told_in(case, out.data[:-size], out.left_out))
+
+
+def text_in_memory(case: Case, frames: int, program: str) -> str:
+    """The text that a test has left in the memory, after so many frames. Empty: the program says none."""
+    try:
+        out, _, _ = looked_inside(replace(case, frames=frames), program, f'memory {TEXT:04X} {MOST_TEXT}')
+    except (OSError, Refused, subprocess.TimeoutExpired):
+        return ''
+    lines = re.findall(b'(?:^|\n)[AB][0-9A-F]{3}((?: [0-9A-F]{2}){1,16})(?=\n)', out.data)
+    return sent_text(bytes.fromhex(b''.join(lines).decode()).partition(b'\0')[0], 0)
 
 
 def sent_by_game(data: bytes, left_out: int) -> tuple[bytes, int]:
@@ -479,7 +538,7 @@ def tried(case: Case, how: How) -> Outcome:
     """What became of a case."""
     start = time.monotonic()
     try:
-        outcome = looked_at(case, how) if case.picture else tested(case, how.program)
+        outcome = looked_at(case, how) if case.picture else remembered(case, how.program) if case.memory else tested(case, how.program)
     except subprocess.TimeoutExpired:
         outcome = Outcome(case, False, f'not run to its end: it took more than {SECONDS} seconds')
     except (OSError, ValueError, Refused, Failed, WrongInput, Unsafe) as error:
@@ -494,7 +553,11 @@ def tested(case: Case, program: str) -> Outcome:
     out, err, status = ran([program, 'test', '--', str(case.rom), str(case.frames)] + ([str(case.script)] if case.script else []))
     line = line_of(err.data.decode(errors='replace'), status)
     verdict = 'passed' if status == 0 else {'gbkeep: test failed': 'failed', 'gbkeep: test undecided': 'undecided'}.get(line, line)
-    return Outcome(case, verdict in WANTED[case.wants], f'{verdict}, {case.wants} wanted', told=told_by_test(out))
+    told = told_by_test(out)
+    is_wanted = verdict in WANTED[case.wants]
+    if told and told.ended == 'memory' and not told.sent and not is_wanted:
+        told.sent = text_in_memory(case, told.frames, program)
+    return Outcome(case, is_wanted, f'{verdict}, {case.wants} wanted', told=told)
 
 
 def told_by_test(printed: Tail) -> Optional[Told]:

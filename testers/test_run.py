@@ -59,6 +59,36 @@ busy:   ldh a, [$ff02]
         jr nz, next
 stay:   jr stay
 '''
+# leaves a status, a signature and a text in RAM of the cartridge, and goes on
+LEAVES = '''
+        org $100
+        nop
+        jp start
+        org $134
+        db "TEST LEAVES"
+        org $147
+        db $03, $00, $02
+        org $150
+start:  di
+        ld sp, $fffe
+        ld a, $0a
+        ld [$0000], a
+        ld a, $80
+        ld [$a000], a
+        ld hl, text
+        ld de, $a001
+        ld b, {size}
+copy:   ld a, [hl+]
+        ld [de], a
+        inc de
+        dec b
+        jr nz, copy
+        ld a, {status}
+        ld [$a000], a
+stay:   nop
+        jr stay
+text:   db {bytes}
+'''
 # prints far more than is kept, and of one ROM more than the memory that a run may use
 TALKS = '''#!/bin/sh
 [ "$1" = --version ] && exit 0
@@ -209,6 +239,46 @@ def test_sent_bytes(room):
 
 
 # ---- pictures
+
+def leaves(room: Room, name: str, status: int, data: bytes) -> Path:
+    """A ROM that leaves this status, and these bytes behind it."""
+    return room.write(name, Assembler().assemble(LEAVES.format(status=status, size=len(data), bytes=', '.join(map(str, data)))))
+
+
+def test_results(room):
+    """A result in the memory, and its text, which is told where the ROM fails and has sent nothing."""
+    text = b'\xde\xb0\x61dmg \x1b\nFailed #3\n\0junk'
+    leaves(room, 'three.gb', 3, text)
+    leaves(room, 'good.gb', 0, text)
+    leaves(room, 'running.gb', 0x80, text)
+    leaves(room, 'other.gb', 0, b'\xde\xb0\x62text\0')
+    status, lines, err = room.tool('--frames', '9', '--junit', 'report.xml', 'three.gb', 'good.gb', 'running.gb', 'other.gb')
+    expect('results', (status, [re.sub('; A=.*IME=0', '', line) for line in lines], err), (1, [
+        'FAIL three.gb: failed, pass wanted; ended memory, frames 1; sent dmg \\x1b\\nFailed #3', 'ok   good.gb: passed, pass wanted',
+        'FAIL running.gb: undecided, pass wanted; ended frames, frames 9', 'FAIL other.gb: undecided, pass wanted; ended frames, frames 9', '1 as wanted, 3 failed'], ''))
+    told = [one.text for one in ElementTree.parse(room.path('report.xml')).iter('system-out')]
+    expect('the text in a report', told, ['dmg \\x1b\nFailed #3\n'])
+
+
+def test_bytes_wanted(room):
+    leaves(room, 'three.gb', 3, b'\xde\xb0\x61\0')
+    room.write('bytes.txt', 'three.gb frames=1 wants=memory:A000=03,a001=dE,FFFF=00\nthree.gb frames=0 wants=memory:A000=FF\nthree.gb frames=2 wants=memory:A000=04,A001=DE,A002=00\n'
+               'prints.gb frames=9 wants=memory:FF00=CF\nprints.gb frames=9 wants=memory:FF00=C0\nnone.gb wants=memory:0=00\nprints.gb wants=memory:0=00 wants=pass\n')
+    status, lines, err = room.tool('bytes.txt')
+    expect('bytes of the memory', (status, [re.sub('A=.*IME=0', 'A=', line) for line in lines], err), (1, [
+        'ok   three.gb: memory as wanted', 'ok   three.gb: memory as wanted', 'FAIL three.gb: A000 has 03, and 04 wanted, A002 has B0, and 00 wanted; ended frames, frames 2; A=',
+        'ok   prints.gb: memory as wanted', 'FAIL prints.gb: FF00 has CF, and C0 wanted; ended frames, frames 9; A=; sent timer: Passed',
+        'FAIL none.gb: not run: gbkeep: file failed', 'ok   prints.gb: passed, pass wanted', '4 as wanted, 3 failed'], ''))
+    many = ','.join(['C000=00'] * 64)
+    room.write('many.txt', f'passes.gb frames=1 wants=memory:{many}\n')
+    expect('64 bytes', room.tool('many.txt')[0], 0)
+    for words, why in ((f'wants=memory:{many},C000=00', 'more than 64 bytes'), ('wants=memory:', 'it takes bytes such as'), ('wants=memory:C000', 'it takes bytes'), ('wants=memory:C000=0', 'it takes bytes'),
+                       ('wants=memory:12345=00', 'it takes bytes'), ('wants=memory:C000=00,', 'it takes bytes'), ('wants=memory:C000=00 picture=one.png', 'a picture or bytes'),
+                       ('wants=memories', 'is not understood')):
+        room.write('wrong.txt', f'passes.gb {words}\n')
+        status, lines, err = room.tool('wrong.txt')
+        expect(f'the error of {words[:30]}', (status, lines, err.startswith('wrong.txt, line 1: '), why in err), (1, [], True, True))
+
 
 def test_pictures(room):
     room.write('list.txt', 'demo.gb frames=3 picture=demo.png\ndemo.gb frames=3 picture=demo.pgm\n')

@@ -20,6 +20,12 @@ def jumps_to_itself(m):
     return code[:2] == [0x18, 0xFE] and stays_in_place(m.pc, 2) or code == [0xC3, m.pc & 255, m.pc >> 8] and stays_in_place(m.pc, 3)
 
 
+def result_of(m):
+    """The result that a test leaves in the memory; None where there is none."""
+    status, *signature = [m.read(0xA000 + i, peek=True) for i in range(4)]
+    return status if signature == [0xDE, 0xB0, 0x61] and status < 0x80 else None
+
+
 class Test:
     """A ROM that is run until it ends: `why`, and after how many `frames`."""
 
@@ -48,9 +54,11 @@ class Test:
             passed += m.cycles - before
         m.overrun = passed - 17556
         self.frames += 1
-        if not m.left and (m.locked or jumps_to_itself(m)):
-            return 'locked' if m.locked else 'loop'
-        return None
+        if m.left:
+            return None
+        if result_of(m) is not None:
+            return 'memory'
+        return 'locked' if m.locked else 'loop' if jumps_to_itself(m) else None
 
     def text(self):
         sent = bytes(self.m.sent)
@@ -62,6 +70,8 @@ class Test:
         sent = bytes(self.m.sent)
         b, c, d, e, h, l = self.m.r[:6]
         sign = SIGNS.get((b, c, d, e, h, l)) if self.why == 'breakpoint' else None
+        if self.why == 'memory':
+            sign = PASSED if result_of(self.m) == 0 else FAILED
         if b'Failed' in sent or sign == FAILED:
             return FAILED
         return PASSED if b'Passed' in sent or sign == PASSED else UNDECIDED
@@ -85,7 +95,16 @@ def sends(rnd, words):
     return code
 
 
-def ends(rnd, rom, at):
+def leaves_result(rnd):
+    """Code that opens the cartridge's RAM, if there is some, and leaves a status there, most often with the signature behind it."""
+    signature = rnd.choice([[0xDE, 0xB0, 0x61]] * 6 + [[0xDE, 0xB0, 0x60], [0xDF, 0xB0, 0x61], [0xDE, 0xB1, 0x61], [0, 0, 0]])
+    code = [0x3E, rnd.choice([0x0A, 0x0A, 0x0A, 0x00]), 0xEA, 0x00, 0x00]
+    for place, byte in enumerate([rnd.choice([0, 0, 1, 0x7F, 0x80, 0x81, 0xFF, rnd.randrange(256)])] + signature):
+        code += [0x3E, byte, 0xEA, place, 0xA0]
+    return code + ([0xAF, 0xEA, 0x00, 0x00] if rnd.random() < 0.2 else [])
+
+
+def ends(rnd, rom):
     """Code that comes to an end, or does not, at a place that is in ROM, WRAM, HRAM or none of them."""
     kind = rnd.choice(['break', 'break', 'loop', 'loop', 'loop', 'locked', 'halt', 'enabled', 'never', 'stop'])
     signs = rnd.choice([[3, 5, 8, 13, 21, 34], [0x42] * 6, [3, 5, 8, 13, 21, 33], [0x42] * 5 + [0x43], [rnd.randrange(256) for _ in range(6)]])
@@ -118,7 +137,9 @@ def rom_of(rnd):
     code = [0x31, 0xF0, 0xDF] + sends(rnd, words)
     for _ in range(rnd.choice([0, 0, 1, 3])):           # until line 144, and then past it
         code += [0xF0, 0x44, 0xFE, 0x90, 0x20, 0xFA, 0xF0, 0x44, 0xFE, 0x91, 0x20, 0xFA]
-    code += ends(rnd, rom, 0x150 + len(code))
+    if rnd.random() < 0.4:
+        code += leaves_result(rnd)
+    code += ends(rnd, rom)
     if rnd.random() < 0.2:
         code += rnd.randbytes(20)
     rom[0x100:0x103] = [0xC3, 0x50, 0x01]

@@ -15,7 +15,7 @@ use Rattle.machine.specs.Machine.{MachineState, seconds_passed}
 use Rattle.machine.specs.Watched.{FrameState, Seen, begun_with, machine_after, seen_in}
 use Rattle.debugger.specs.Registers.{register_line}
 use Rattle.test_run.specs.declared.ends.End.{End}
-use Rattle.test_run.specs.declared.ends.End.TheVariants.{Frames, Locked, Breakpoint, Loop}
+use Rattle.test_run.specs.declared.ends.End.TheVariants.{Frames, Locked, Breakpoint, Loop, Memory}
 use Rattle.test_run.specs.declared.frame.PlayedFrame.{PlayedFrame}
 use Rattle.test_run.specs.declared.run.Ended.{Ended}
 use Rattle.test_run.specs.declared.run.Went.{Went}
@@ -146,6 +146,7 @@ frames_within Breakpoint done limit less = omega (arith, less)
 frames_within Frames done limit less = omega (arith, less)
 frames_within Locked done limit less = omega (arith, less)
 frames_within Loop done limit less = omega (arith, less)
+frames_within (Memory status) done limit less = omega (arith, less)
 
 pub frame_ends : (limit buttons : ℕ) (machine : MachineState) (old new : Progress) (a b : Option (List ℕ)) (played : PlayedFrame) (why : End) (ended : Ended) → old.done < limit
     → HasPlayed (seen_in (begun_with buttons machine)) old.told new.told a b played → played.end ≡ Some why → new.done ≡ frames_with why old.done

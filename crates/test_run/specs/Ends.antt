@@ -1,12 +1,12 @@
--- Where nothing can happen any more.
-use Rattle.std.specs.Prelude.{ℕ, ◌+◌, ◌/◌, ◌%◌, Bool, not, nat_le, ◌==◌, ◌&&◌, ◌||◌, if◌then◌else◌, Option, Some, None}
+-- Where nothing can happen any more, or a result stands in the memory.
+use Rattle.std.specs.Prelude.{ℕ, ◌+◌, ◌/◌, ◌%◌, Bool, not, nat_le, nat_lt, ◌==◌, ◌&&◌, ◌||◌, if◌then◌else◌, Option, Some, None}
 use Rattle.memory_map.specs.State.{BusState}
 use Rattle.memory_map.specs.Bus.{peeked}
 use Rattle.sm83_processor.specs.declared.processor.Processor.{Processor}
 use Rattle.sm83_processor.specs.declared.processor.ProcessorState.{ProcessorState}
 use Rattle.machine.specs.Watched.{Seen}
 use Rattle.test_run.specs.declared.ends.End.{End}
-use Rattle.test_run.specs.declared.ends.End.TheVariants.{Locked, Breakpoint, Loop}
+use Rattle.test_run.specs.declared.ends.End.TheVariants.{Locked, Breakpoint, Loop, Memory}
 
 -- the next step is an instruction, and no interrupt can come
 abbrev pub is_still : ProcessorState → Bool
@@ -32,12 +32,25 @@ jumps_to_itself p =
 abbrev pub is_idle : Processor BusState → Bool
 is_idle p = p.memory.serial.serial.cycles_left == 0
 
--- why a test ends after a frame: nothing can happen any more
+-- the three bytes that stand behind the status of a test
+abbrev pub has_signature : BusState → Bool
+has_signature b = peeked b 0xA001 == 0xDE && peeked b 0xA002 == 0xB0 && peeked b 0xA003 == 0x61
+
+-- the result of a test: a status behind which the signature stands; one of 80 and above is no result
+abbrev pub result_of : BusState → Option ℕ
+result_of b = if has_signature b && nat_lt (peeked b 0xA000) 0x80 then Some (peeked b 0xA000) else None
+
+-- nothing can happen any more
+abbrev pub end_without_result : Processor BusState → Option End
+end_without_result p = if p.state.locked then Some Locked else (if jumps_to_itself p then Some Loop else None)
+
+abbrev pub end_with : Option ℕ → Processor BusState → Option End
+end_with (Some status) p = Some (Memory status)
+end_with None p = end_without_result p
+
+-- why a test ends after a frame: a result stands in the memory, or nothing can happen any more
 abbrev pub end_of : Processor BusState → Option End
-end_of p =
-    if is_idle p
-    then (if p.state.locked then Some Locked else (if jumps_to_itself p then Some Loop else None))
-    else None
+end_of p = if is_idle p then end_with (result_of p.memory) p else None
 
 -- why it ends in a frame or after it
 abbrev pub end_seen : Seen → Option End

@@ -9,7 +9,7 @@ use Rattle.machine.specs.Watched.{Seen, begun_with, machine_after, seen_in}
 use Rattle.memory_map.specs.State.{BusState}
 use Rattle.sm83_processor.specs.declared.processor.Processor.{Processor}
 use Rattle.test_run.specs.declared.ends.End.{End}
-use Rattle.test_run.specs.declared.ends.End.TheVariants.{Frames, Locked, Breakpoint, Loop}
+use Rattle.test_run.specs.declared.ends.End.TheVariants.{Frames, Locked, Breakpoint, Loop, Memory}
 use Rattle.test_run.specs.Ends.{end_seen}
 
 -- ---- the inputs
@@ -46,6 +46,7 @@ frames_with Breakpoint done = done
 frames_with Frames done = done + 1
 frames_with Locked done = done + 1
 frames_with Loop done = done + 1
+frames_with (Memory status) done = done + 1
 
 -- a frame was played; if it does not end the test, the rest is this
 abbrev pub played_then : Option End → Processor BusState → (done : ℕ) → Tested → Tested

@@ -2,7 +2,7 @@
 use Rattle.std.specs.Prelude.{ℕ, ◌-◌, ◌==◌, ◌||◌, if◌then◌else◌, List, [], ◌∷◌, ◌++◌, length, codes, decimal, slice_index}
 use Rattle.debugger.specs.Registers.{register_line}
 use Rattle.test_run.specs.declared.ends.End.{End}
-use Rattle.test_run.specs.declared.ends.End.TheVariants.{Frames, Locked, Breakpoint, Loop}
+use Rattle.test_run.specs.declared.ends.End.TheVariants.{Frames, Locked, Breakpoint, Loop, Memory}
 use Rattle.test_run.specs.Tested.{Tested}
 
 -- a newline, unless nothing was sent or the last byte was one
@@ -17,6 +17,7 @@ ended_line Frames = codes "ended frames\n"
 ended_line Locked = codes "ended locked\n"
 ended_line Breakpoint = codes "ended breakpoint\n"
 ended_line Loop = codes "ended loop\n"
+ended_line (Memory status) = codes "ended memory\n"
 
 abbrev pub last_lines : Tested → List ℕ
 last_lines t = register_line t.processor ++ (frames_line t.frames ++ ended_line t.why)

@@ -1,7 +1,7 @@
 //! Why a test ended.
 
 ghost use Rattle.std.specs.Prelude.{◌≡◌, ◌≤◌};
-ghost use Rattle.test_run.specs.Ends.{end_of, is_idle, is_still, is_in_place, jumps_to_itself, jumps_by, jumps_at};
+ghost use Rattle.test_run.specs.Ends.{end_of, end_without_result, result_of, has_signature, is_idle, is_still, is_in_place, jumps_to_itself, jumps_by, jumps_at};
 
 use machine::{Machine, Memory, Processor, ProcessorState};
 use memory_map::Bus;
@@ -17,6 +17,8 @@ pub enum End {
     Breakpoint,
     /// After a frame the processor was at a jump to itself that no interrupt can end, and no byte was being sent.
     Loop,
+    /// After a frame this result stood in the memory, and no byte was being sent.
+    Memory(u8),
 }
 
 /// The opcode of `JR` with an offset.
@@ -28,13 +30,47 @@ const BACK: u8 = 0xfe;
 /// The opcode of `JP` to an address.
 const JUMP_TO: u8 = 0xc3;
 
-/// Why a test ends after a frame, if it does: nothing can happen any more.
+/// Where a test keeps its status.
+const STATUS: u16 = 0xa000;
+
+/// The status of a test that is running. What is below it is a result.
+const RUNNING: u8 = 0x80;
+
+/// Why a test ends after a frame, if it does: a result stands in the memory, or nothing can happen any more.
 pub(crate) fn end_of(processor: &Processor<Bus>) -> Option<End>
     ensures { result ≡ end_of processor.now }
 {
     if processor.memory.serial().cycles_left != 0 {
         return None;
     }
+    match result_of(&processor.memory) {
+        Some(status) => Some(End::Memory(status)),
+        None => end_without_result(processor),
+    }
+}
+
+/// Whether the signature stands behind the status of a test.
+fn has_signature(memory: &Bus) -> bool
+    ensures { result ≡ has_signature memory.now }
+{
+    memory.peek(0xa001) == 0xde && memory.peek(0xa002) == 0xb0 && memory.peek(0xa003) == 0x61
+}
+
+/// The result of a test that stands in the memory, if one does.
+fn result_of(memory: &Bus) -> Option<u8>
+    ensures { result ≡ result_of memory.now }
+{
+    let status = memory.peek(STATUS);
+    if has_signature(memory) && status < RUNNING {
+        return Some(status);
+    }
+    None
+}
+
+/// Why a test without a result ends after a frame, if it does: nothing can happen any more.
+fn end_without_result(processor: &Processor<Bus>) -> Option<End>
+    ensures { result ≡ end_without_result processor.now }
+{
     if processor.state.locked {
         return Some(End::Locked);
     }

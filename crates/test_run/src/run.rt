@@ -69,7 +69,7 @@ fn frames_with(why: End, done: u32) -> u32
 {
     match why {
         End::Breakpoint => done,
-        End::Frames | End::Locked | End::Loop => done + 1,
+        End::Frames | End::Locked | End::Loop | End::Memory(_) => done + 1,
     }
 }
 
@@ -203,8 +203,9 @@ fn test_to_end<W: Write>(
 }
 
 /// Runs a test ROM from power-on: the moves of a script, of which a save does nothing, and then frames without buttons, until `frames`
-/// frames are done, `LD B,B` (opcode 40) was run, or after a frame nothing can happen any more: no byte is being sent, and the
-/// processor is locked, or at a jump to itself with interrupts off. It writes each byte that is sent over the serial port, then,
+/// frames are done, `LD B,B` (opcode 40) was run, or after a frame no byte is being sent and either a result stands in the memory or
+/// nothing can happen any more: the processor is locked, or at a jump to itself with interrupts off. A result is a byte below 80 at A000
+/// with DE B0 61 behind it. It writes each byte that is sent over the serial port, then,
 /// on a new line, the registers, `frames` with the number of frames that were done, and `ended` with why.
 ///
 /// Refusals, in this order: what is wrong with the image; with the script; no memory, all with nothing written; output failed, where a

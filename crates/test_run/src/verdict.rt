@@ -1,7 +1,7 @@
 //! Whether a test has passed.
 
 ghost use Rattle.std.specs.Prelude.{◌≡◌, slice_index};
-ghost use Rattle.test_run.specs.Verdict.{has_six, is_breakpoint, verdict_by};
+ghost use Rattle.test_run.specs.Verdict.{has_six, is_bad_result, is_breakpoint, is_good_result, verdict_by};
 
 use crate::ends::End;
 use sm83_alu::Registers;
@@ -9,9 +9,9 @@ use sm83_alu::Registers;
 /// Whether a test has passed.
 #[derive(Clone, Copy, Debug, PartialEq, Eq)]
 pub enum Verdict {
-    /// It ended at `LD B,B` with B, C, D, E, H and L 3, 5, 8, 13, 21 and 34, or it sent `Passed`; and it is not `Failed`.
+    /// It ended at `LD B,B` with B, C, D, E, H and L 3, 5, 8, 13, 21 and 34, by the result 0, or it sent `Passed`; and it is not `Failed`.
     Passed,
-    /// It ended at `LD B,B` with these six 42 (hexadecimal), or it sent `Failed`.
+    /// It ended at `LD B,B` with these six 42 (hexadecimal), by another result, or it sent `Failed`.
     Failed,
     /// Neither.
     Undecided,
@@ -33,7 +33,27 @@ fn is_breakpoint(why: End) -> bool
 {
     match why {
         End::Breakpoint => true,
-        End::Frames | End::Locked | End::Loop => false,
+        End::Frames | End::Locked | End::Loop | End::Memory(_) => false,
+    }
+}
+
+/// Whether it ended by the result of a test that has passed.
+fn is_good_result(why: End) -> bool
+    ensures { result ≡ is_good_result why }
+{
+    match why {
+        End::Memory(status) => status == 0,
+        End::Frames | End::Locked | End::Breakpoint | End::Loop => false,
+    }
+}
+
+/// Whether it ended by the result of a test that has failed.
+fn is_bad_result(why: End) -> bool
+    ensures { result ≡ is_bad_result why }
+{
+    match why {
+        End::Memory(status) => status != 0,
+        End::Frames | End::Locked | End::Breakpoint | End::Loop => false,
     }
 }
 
@@ -42,10 +62,13 @@ pub(crate) fn verdict_by(why: End, registers: &Registers, passed: bool, failed: 
     ensures { result ≡ verdict_by why registers.now passed failed }
 {
     let is_broken_off = is_breakpoint(why);
-    if failed || (is_broken_off && has_six(registers, [0x42; 6])) {
+    if failed || is_bad_result(why) || (is_broken_off && has_six(registers, [0x42; 6])) {
         return Verdict::Failed;
     }
-    if passed || (is_broken_off && has_six(registers, [3, 5, 8, 13, 21, 34])) {
+    if passed
+        || is_good_result(why)
+        || (is_broken_off && has_six(registers, [3, 5, 8, 13, 21, 34]))
+    {
         return Verdict::Passed;
     }
     Verdict::Undecided

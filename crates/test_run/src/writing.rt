@@ -32,6 +32,7 @@ fn ended_text(why: End) -> &'static [u8]
         End::Locked => b"ended locked\n",
         End::Breakpoint => b"ended breakpoint\n",
         End::Loop => b"ended loop\n",
+        End::Memory(_) => b"ended memory\n",
     }
 }
 

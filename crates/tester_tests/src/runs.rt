@@ -193,6 +193,84 @@ fn verdicts(rt: HostRuntime) {
     );
 }
 
+/// A program that writes a status to A000 and three bytes behind it, into RAM of the cartridge, and stays at a jump to itself.
+fn leaving(alloc: Global, status: u8, signature: [u8; 3]) -> Result<Vec<u8>, AllocError> {
+    let mut code = vec![in alloc; 0u8; 0x50]?;
+    // JP 0150; and in the header a controller with RAM, and its size
+    for (place, byte) in [(0, 0xc3), (1, 0x50), (2, 0x01), (0x47, 0x03), (0x49, 0x02)] {
+        if let Some(held) = code.get_mut(place) {
+            *held = byte;
+        }
+    }
+    let [first, second, third] = signature;
+    // RAM is opened by 0A
+    let writes = [
+        (0x0a, 0x00, 0x00),
+        (status, 0x00, 0xa0),
+        (first, 0x01, 0xa0),
+        (second, 0x02, 0xa0),
+        (third, 0x03, 0xa0),
+    ];
+    for (value, low, high) in writes {
+        // LD A,value; LD (address),A
+        code.extend_from_slice(&[0x3e, value, 0xea, low, high])?;
+    }
+    // LD A,00; JR -2
+    code.extend_from_slice(&[0x3e, 0x00, 0x18, 0xfe])?;
+    Ok(code)
+}
+
+fn leaves(
+    rt: &impl Abort,
+    alloc: Global,
+    status: u8,
+    signature: [u8; 3],
+    wanted: Verdict,
+    ended: &str,
+) {
+    let code = leaving(alloc, status, signature).or_stop(rt);
+    let mut out = Vec::new(alloc);
+    let found = run(alloc, &code, b"", 9, &mut out);
+    same!(*rt; found, Ok(wanted), "status {status}");
+    same!(*rt; str::from_utf8(&out).ok().and_then(|text| text.get(62..)), Some(ended));
+}
+
+/// A result in the memory counts where the whole signature stands behind it; from 80 on it is none.
+#[test]
+fn results_in_the_memory(rt: HostRuntime) {
+    let (alloc, signature) = (rt.alloc(), [0xde, 0xb0, 0x61]);
+    let (memory, still) = ("frames 1\nended memory\n", "frames 1\nended loop\n");
+    leaves(&rt, alloc, 0x00, signature, Verdict::Passed, memory);
+    leaves(&rt, alloc, 0x01, signature, Verdict::Failed, memory);
+    leaves(&rt, alloc, 0x7f, signature, Verdict::Failed, memory);
+    leaves(&rt, alloc, 0x80, signature, Verdict::Undecided, still);
+    leaves(&rt, alloc, 0xff, signature, Verdict::Undecided, still);
+    leaves(
+        &rt,
+        alloc,
+        0x00,
+        [0xdf, 0xb0, 0x61],
+        Verdict::Undecided,
+        still,
+    );
+    leaves(
+        &rt,
+        alloc,
+        0x00,
+        [0xde, 0xb1, 0x61],
+        Verdict::Undecided,
+        still,
+    );
+    leaves(
+        &rt,
+        alloc,
+        0x00,
+        [0xde, 0xb0, 0x60],
+        Verdict::Undecided,
+        still,
+    );
+}
+
 /// A program that sends these letters, waiting for each, and then runs D3. It stands after the header.
 fn saying(alloc: Global, word: &[u8]) -> Result<Vec<u8>, AllocError> {
     let mut code = vec![in alloc; 0u8; 0x50]?;
