@@ -11,7 +11,9 @@
 What is given goes to the program at once and in order. `save` and `picture` wait for their answer; nothing else does. When the block ends,
 also by an exception, what is unsaved is saved. A refusal of the program is raised as `Refused`.
 
-It needs no package beside Python's own. examples/collect.py is a whole example."""
+`Machine` is a machine that is tried out, by `gbkeep debug`: its states can be taken, given back and kept, and nothing of it is saved.
+
+It needs no package beside Python's own. examples/collect.py is a whole example, and examples/search.py one of a machine."""
 import contextlib
 import os
 import select
@@ -35,6 +37,8 @@ MOST_FRAMES, MOST_SECONDS = 1_000_000, 0xffff_ffff
 PIECE = 4096
 # as much as a program says of itself without a line end: more of it is no program of ours
 MOST_UNREAD = 1 << 20
+# a state of a cartridge with the most RAM is shorter
+MOST_STATE, STATE_HEAD = 1 << 20, b'GBSNAP01'
 # 2.3 MiB: ten hours of play with ten changes of buttons a second
 RECORDING_SECTORS = 4_800
 
@@ -308,3 +312,170 @@ class Game:
         self.process.stderr.close()
         if of_itself or status != 0:
             raise Refused(line_of(line, status), self.command)
+
+
+class Machine:
+    """A machine to try things out with, from power-on or, with a SAVE, from its game: nothing that is done here is saved.
+
+    What is given goes to the program in order, many lines at once, and what it answers is compared; so a refusal may be raised by a later call. `state`,
+    `restore`, `memory`, `picture` and `settle` wait until all is done. A state is bytes: it can be given to another `Machine` of the same cartridge, in
+    another process or on another computer."""
+
+    def __init__(self, cart, save=None, program=None):
+        words = ['debug', '--', str(cart)] + ([str(save)] if save else [])
+        self.process = started([str(program or find_program()), *words], stdin=subprocess.PIPE, stdout=subprocess.PIPE, stderr=subprocess.PIPE, bufsize=0)
+        self.input, self.output = self.process.stdin.fileno(), self.process.stdout.fileno()
+        # the lines that are not given yet, the answers that are known and did not come yet, and those that came
+        self.lines, self.known, self.unread = bytearray(), bytearray(), bytearray()
+        if save:
+            with ended(self.process):
+                if not self._line().startswith(b'resumed '):
+                    self._answers_wrongly()
+
+    def frame(self, buttons=0):
+        """One frame with these buttons, a sum of RIGHT, LEFT, UP, DOWN, A, B, SELECT and START."""
+        self.frames(buttons, 1)
+
+    def frames(self, buttons, count):
+        """So many frames with these buttons."""
+        if not 0 <= buttons <= 255 or count < 0:
+            raise ValueError(f'no frames: {buttons}, {count}')
+        while count > 0:
+            times = min(count, MOST_FRAMES)
+            self._ask(b'frames %02x %d\n' % (buttons, times), b'done\n')
+            count -= times
+
+    def seconds(self, count):
+        """So many seconds pass on the cartridge's clock."""
+        if not 0 <= count <= MOST_SECONDS:
+            raise ValueError(f'no seconds: {count}')
+        self._ask(b'seconds %d\n' % count, b'done\n')
+
+    def state(self):
+        """The machine's snapshot, as bytes."""
+        self._ask(b'state\n')
+        return self._counted(b'state')
+
+    def restore(self, state):
+        """From now on the machine of this state. One that is no state of the cartridge is refused with ValueError, with nothing done."""
+        if not 1 <= len(state) <= MOST_STATE:
+            raise ValueError('no state of this cartridge')
+        self._ask(b'restore %d\n' % len(state) + state)
+        if self._line() != b'restored':
+            raise ValueError('no state of this cartridge')
+
+    def memory(self, address, count):
+        """So many bytes as the program sees them, but that no mode closes VRAM and OAM; after FFFF comes 0000."""
+        if not 0 <= address <= 0xffff or not 1 <= count <= 0x10000:
+            raise ValueError(f'no memory: {address}, {count}')
+        self._ask(b'memory %04X %d\n' % (address, count))
+        rows = [self._line()[5:] for _ in range((count + 15) // 16)]
+        try:
+            return bytes.fromhex(b' '.join(rows).decode())
+        except ValueError:
+            self._answers_wrongly()
+
+    def picture(self):
+        """The picture of the machine as it is now."""
+        self._ask(b'picture\n')
+        return Picture(self._bytes(PICTURE_BYTES))
+
+    def settle(self):
+        """Waits until all that was given is done."""
+        self._give(bytes(self.lines))
+        self.lines.clear()
+        while self.known:
+            self._take()
+
+    def close(self):
+        """Ends the program."""
+        if not self.process.stdin.closed:
+            with ended(self.process):
+                self.settle()
+            self.process.stdin.close()
+            self._end(of_itself=False)
+
+    def __enter__(self):
+        return self
+
+    def __exit__(self, kind, value, trace):
+        if kind is None:
+            self.close()
+        else:
+            self.process.kill()
+            self.process.communicate()
+
+    def _ask(self, line, answer=b''):
+        """Gives a line, whose answer is known or is to be taken."""
+        self.lines += line
+        self.known += answer
+        if not answer:
+            # what is known has to be out of the way of an answer that is not
+            self.settle()
+        elif len(self.lines) >= PIECE:
+            self._give(bytes(self.lines))
+            self.lines.clear()
+
+    def _give(self, left):
+        """Gives lines, and takes the answers that come meanwhile: else each side might wait for the other to read."""
+        left = memoryview(left)
+        while left:
+            readable, writable, _ = select.select([self.output], [self.input], [])
+            if readable:
+                self._take()
+            if writable:
+                try:
+                    left = left[os.write(self.input, left[:PIECE]):]
+                except BrokenPipeError:
+                    self._end()
+
+    def _take(self):
+        """Waits for some of the answers, and compares those that are known."""
+        some = os.read(self.output, 1 << 18)
+        if not some:
+            self._end()
+        self.unread += some
+        size = min(len(self.unread), len(self.known))
+        if self.unread[:size] != self.known[:size]:
+            self._answers_wrongly()
+        del self.unread[:size], self.known[:size]
+
+    def _line(self):
+        """The next line of an answer."""
+        while (end := self.unread.find(b'\n')) < 0:
+            if len(self.unread) > MOST_UNREAD:
+                self._answers_wrongly()
+            self._take()
+        line = bytes(self.unread[:end])
+        del self.unread[:end + 1]
+        return line
+
+    def _bytes(self, count):
+        while len(self.unread) < count:
+            self._take()
+        data = bytes(self.unread[:count])
+        del self.unread[:count]
+        return data
+
+    def _counted(self, word):
+        """The bytes of an answer that begins with how many they are."""
+        first, _, count = self._line().partition(b' ')
+        if first != word or not count.isdigit() or int(count) > MOST_STATE:
+            self._answers_wrongly()
+        return self._bytes(int(count))
+
+    def _answers_wrongly(self):
+        self.process.kill()
+        self.process.communicate()
+        raise Refused('the program answers what no gbkeep answers', 'debug')
+
+    def _end(self, of_itself=True):
+        """Waits for the program's end. A program that ends of itself has refused."""
+        if not self.process.stdin.closed:
+            self.process.stdin.close()
+        line = self.process.stderr.read().decode(errors='replace')
+        status = self.process.wait()
+        self.process.stdout.close()
+        self.process.stderr.close()
+        if of_itself or status != 0:
+            raise Refused(line_of(line, status), 'debug')

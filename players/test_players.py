@@ -21,7 +21,7 @@ DEMO = HERE.parent / 'examples/demo'
 sys.path.insert(0, str(HERE))
 sys.path.insert(0, str(DEMO))
 from film import HEAD as FILM_HEAD
-from gbkeep import A, LEFT, RIGHT, START, Game, Refused, begin, run
+from gbkeep import A, LEFT, RIGHT, START, Game, Machine, Refused, begin, run
 from movie import bk2_frames, bk2_of, frames_of, log_frames, moves_of, vbm_frames
 from png import png_of
 from rest import rest_of
@@ -114,6 +114,59 @@ def test_game(room):
     expect('png.py and png', room.path('out.png').read_bytes() == picture.png() == png_of(picture.shades, 160, 144), True)
     shown = room.tool(HERE.parent / 'examples/collect.py', room.path('collect.gbkeep'), room.path('collect.png'))
     expect('the example', (shown, room.path('collect.png').read_bytes()[:4]), ('saved 504\n', b'\x89PNG'))
+
+
+def test_machine(room):
+    """States that are taken, given back and given to another machine; what is no state changes nothing."""
+    with Machine(CART, program=room.program) as machine:
+        machine.frames(0, 60)
+        machine.frames(START, 4)
+        first, place = machine.state(), machine.memory(0xc001, 2)
+        expect('a state', (first[:8], len(first)), (b'GBSNAP01', 22_607 + 32_768))
+        for _ in range(3):
+            machine.frames(RIGHT, 20)
+            machine.seconds(1)
+        moved, shades = machine.state(), machine.picture().shades
+        expect('the player has moved', machine.memory(0xc001, 2) != place, True)
+        machine.restore(first)
+        expect('back', (machine.state() == first, machine.memory(0xc001, 2)), (True, place))
+        for bad in (b'', first[:-1], first + b'x', b'X' + first[1:], first[:20] + b'\xff' + first[21:], b'x' * (1 << 20)):
+            try:
+                machine.restore(bad)
+                expect('no state is taken', bad[:30], None)
+            except ValueError:
+                pass
+        expect('nothing is done then', machine.state() == first, True)
+        with Machine(CART, program=room.program) as other:
+            other.restore(moved)
+            expect('in another machine', (other.state() == moved, other.picture().shades == shades), (True, True))
+        for _ in range(3):
+            machine.frames(RIGHT, 20)
+            machine.seconds(1)
+        expect('the same inputs again', machine.state() == moved, True)
+        for _ in range(20_000):
+            machine.frame(A)
+        machine.settle()
+        expect('memory goes around', machine.memory(0xffff, 3)[1:], machine.memory(0, 2))
+    save = room.path('machine.gbkeep')
+    with Game(CART, save, room.program) as game:
+        game.frames(START, 70)
+    before = save.read_bytes()
+    with Machine(CART, save, room.program) as machine, Machine(CART, program=room.program) as again:
+        again.frames(START, 70)
+        expect('a game\'s machine', machine.state() == again.state(), True)
+        machine.frames(A, 10)
+    with Game(CART, save, room.program) as game:
+        expect('nothing of it is saved', (game.resumed, len(before)), (70, len(save.read_bytes())))
+    try:
+        with Machine(CART, room.path('none.gbkeep'), room.program) as machine:
+            machine.settle()
+        expect('a game that is not there', True, False)
+    except Refused as refused:
+        expect('the refusal', refused.line, 'gbkeep: device failed')
+    one, two = (room.tool(HERE.parent / 'examples/search.py', '--rounds', '2', '--beam', '2', *words).splitlines() for words in ((), ('--workers', '2')))
+    value, again = one[1].split()[1::2]
+    expect('the search, by one process and by two', (one[0].split()[0], one[:2] == two[:2], value == again), ('ways', True, True))
 
 
 def test_refusals(room):
@@ -326,7 +379,7 @@ def test_recordings(room):
 def main():
     if len(sys.argv) != 2:
         sys.exit(__doc__)
-    tests = [test_game, test_refusals, test_friendly, test_check, test_rest, test_movies, test_film, test_recordings]
+    tests = [test_game, test_machine, test_refusals, test_friendly, test_check, test_rest, test_movies, test_film, test_recordings]
     with tempfile.TemporaryDirectory(prefix='players-') as folder:
         for test in tests:
             test(Room(os.path.abspath(sys.argv[1]), folder))

@@ -21,8 +21,8 @@ HERE = Path(__file__).resolve().parent
 # behind what lies beside it: where it is installed, that is all
 sys.path.insert(1, str(HERE.parent / 'players'))
 import memory_pictures
-from gbkeep import MOST_FRAMES, MOST_SECONDS, PICTURE_BYTES, Picture, Refused, find_program, line_of, started
-from input_files import WrongInput, number, printable
+from gbkeep import MOST_FRAMES, MOST_SECONDS, MOST_STATE, PICTURE_BYTES, STATE_HEAD, Picture, Refused, find_program, line_of, started
+from input_files import WrongInput, number, printable, read_bytes
 from memory_pictures import MAP_BYTES, MAPS, OAM, OAM_BYTES, REGISTER_BYTES, REGISTERS, VRAM, VRAM_BYTES, Canvas
 from new_files import Unsafe, new_file
 from png import PNG_HEAD, png_of
@@ -51,7 +51,9 @@ HELP = '''\
   serial              the bytes that were sent since the last serial
   picture FILE        writes the picture: PNG where FILE ends in .png, else plain PGM;
                       a FILE that is there has to be a picture
-  state               the SHA-256 of the machine's snapshot'''
+  state FILE          writes the machine's snapshot; a FILE that is there has to be one
+  restore FILE        makes the machine the one of the snapshot in FILE; the history is empty then
+  digest              the SHA-256 of the machine's snapshot'''
 OWN_HELP = '''\
   over [N]            a step; a call is run to its return, in N steps (1,000,000)
   out [N]             up to N steps, to behind the call that it is in
@@ -110,10 +112,12 @@ class Program:
         if self.resumed is not None:
             self.number(self.resumed, 2 ** 64)
 
-    def ask(self, line):
-        """Gives a line, and answers the first line of the answer."""
+    def ask(self, line, data=b''):
+        """Gives a line and the bytes that it asks for, and answers the first line of the answer."""
+        left = memoryview(line.encode() + b'\n' + data)
         try:
-            os.write(self.process.stdin.fileno(), line.encode() + b'\n')
+            while left:
+                left = left[os.write(self.process.stdin.fileno(), left):]
         except BrokenPipeError:
             self.end()
         answer = self.line()
@@ -425,8 +429,23 @@ class Session:
         return self.written(path, Picture(data).png() if path.suffix == '.png' else data, (b'P2', PNG_HEAD))
 
     def do_state(self, words):
+        path = Path(few(words, 1, 1)[0])
+        answer = self.program.ask('state')
+        return self.written(path, self.program.bytes(self.program.number(answer, MOST_STATE)), (STATE_HEAD,))
+
+    def do_restore(self, words):
+        path = few(words, 1, 1)[0]
+        try:
+            state = read_bytes(path, MOST_STATE)
+        except (OSError, WrongInput) as error:
+            raise Wrong(str(error)) from None
+        if not state:
+            raise Wrong(f'{quoted(path)} is empty')
+        return [self.program.ask(f'restore {len(state)}', state)]
+
+    def do_digest(self, words):
         few(words, 0, 0)
-        return [self.program.ask('state')]
+        return [self.program.ask('digest')]
 
     # ---- lines of the prompt's own
 

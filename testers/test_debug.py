@@ -247,16 +247,29 @@ def test_pictures(room):
         expect(f'the error of {line!r}', (status, out, err.startswith('debug.py: --do 1: '), why in err), (1, '', True, True))
 
 
+def test_states(room):
+    """A state is written, given back and refused where it is none."""
+    state, other = room.folder / 'one.state', room.write('other.state', 'text')
+    made = room.tool(CART, '--do', 'frames 00 60', '--do', f'state {state}', '--do', 'frames 80 4', '--do', 'digest')
+    expect('what is written', (made[0], state.read_bytes()[:8], made[2]), (0, b'GBSNAP01', ''))
+    status, out, err = room.tool(CART, '--do', f'restore {state}', '--do', 'frames 80 4', '--do', 'digest', '--do', f'state {state}')
+    expect('what is given back', (status, out.splitlines()[0], out.splitlines()[-1], err), (0, 'restored', made[1].splitlines()[-1], ''))
+    for line in (f'restore {other}', f'state {other}', f'restore {room.folder / "none"}', 'restore', f'state {CART}'):
+        status, out, err = room.tool(CART, '--do', line)
+        expect(f'the error of {line!r}', (status, out, err.startswith('debug.py: --do 1: ')), (1, '', True))
+    expect('it is left', other.read_text(), 'text')
+
+
 def test_lines(room):
     """Lines from a file, with what may be left out, up to a wrong one."""
     path, picture = room.write('lines.txt', ''), room.folder / 'picture.pgm'
-    typed = f'# a comment\n\nstep\nlist\nhistory\nseconds 3\nframe\nframes 80\nhistory\nserial\npicture {picture}\npicture {path.with_suffix(".png")}\nstate\nquit\nwrong\n'
+    typed = f'# a comment\n\nstep\nlist\nhistory\nseconds 3\nframe\nframes 80\nhistory\nserial\npicture {picture}\npicture {path.with_suffix(".png")}\ndigest\nquit\nwrong\n'
     status, out, err = room.tool(CART, typed=typed)
     lines = out.splitlines()
     expect('what may be left out', (status, lines[:1], len(lines), lines[-6:-1], err),
            (0, ['0100 00     NOP'], 19, ['done', 'done', 'done', 'history 0', 'serial 0'], ''))
     expect('the listing at PC', lines[1:4], ['0101 C35001 JP 0150', '0104 00     NOP', '0105 00     NOP'])
-    expect('the state', (lines[-1][:6], len(lines[-1])), ('state ', 70))
+    expect('the digest', (lines[-1][:7], len(lines[-1])), ('digest ', 71))
     data = picture.read_bytes()
     expect('the pictures', (data[:13], len(data), path.with_suffix('.png').read_bytes()[:4]), (b'P2\n160 144\n3\n', 46_093, b'\x89PNG'))
     for line, why in (('jump', "'jump' is no line"), ('stepp', 'there is step'), ('save', 'saves nothing'), ('step 0', "'0' is no number from 1"), ('step 1 2', '2, and it takes 0 to 1'),

@@ -65,7 +65,7 @@ class Room:
         self.runs += 1
         words = words.split() if isinstance(words, str) else words
         try:
-            done = subprocess.run([self.program, *words], input=given.encode(), capture_output=True, cwd=self.folder, timeout=SECONDS)
+            done = subprocess.run([self.program, *words], input=given if isinstance(given, bytes) else given.encode(), capture_output=True, cwd=self.folder, timeout=SECONDS)
         except subprocess.TimeoutExpired as late:
             return f'none in {SECONDS} seconds', late.stdout or b'', late.stderr or b''
         return done.returncode, done.stdout, done.stderr

@@ -163,7 +163,7 @@ def test_batteries_and_clocks(room):
             room.expect(f'{name}.out and {name}.other', (room.size(f'{name}.out'), room.size(f'{name}.other')), (None, None))
         # of a type without a battery these two alone show what its file would have
         room.expect(f'the RAM of {name}.gb', room.printed(f'info {name}.gb').split(b'\n')[3:4], [b'ram %d bytes code 02' % ram])
-        states = set(room.printed(f'debug {name}.gb', 'state\nseconds 1\nstate\n').split(b'\n')[::2])
+        states = set(room.printed(f'debug {name}.gb', 'digest\nseconds 1\ndigest\n').split(b'\n')[::2])
         room.expect(f'the states of {name}.gb before and after a second', len(states), 2 if has_clock else 1)
 
 
@@ -281,7 +281,7 @@ def lines_of(room, first, count, logged, generation, sectors):
     machine[CLOCKS] = bytes([passed % 60, passed // 60 % 60, passed // 3600]) + bytes(7)
     # a machine that is given the seconds from power-on on is the same
     given = ''.join(f'seconds {number}\n' for number in seconds(0, count))
-    room.done('debug A.gb', count * 'done\n' + f'state {digest(machine)}\n', given + 'state\n')
+    room.done('debug A.gb', count * 'done\n' + f'digest {digest(machine)}\n', given + 'digest\n')
     return f'''\
 inputs {count}
 logged {logged}

@@ -312,9 +312,9 @@ def test_a_save_file_is_shown_as_it_is(room):
 
 LINES = '''\
 registers
-state
+digest
 step 2
-state
+digest
 until 9 0109
 until 3 0109
 until 1 0109 0108
@@ -327,8 +327,8 @@ memory fffe 4
 memory 00f0 33
 memory FE00 1
 memory ff40 2
-state
-state
+digest
+digest
 serial
 until 2000 0000
 serial
@@ -337,18 +337,18 @@ frame 80
 history 5
 registers
 frames 00 2
-state
+digest
 seconds 5
-state
+digest
 until 4294967295 0 1 2 3 4 5 6 7 8 9 A b C d E 108
 registers'''
 
 ANSWERS = '''\
 A=01 F=80 B=00 C=13 D=00 E=D8 H=01 L=4D SP=FFFE PC=0100 IME=0
-state d410e79829d52fafe20561f5f2ab78db12d1324a6061ad1b13a1d65f63e56e3b
+digest d410e79829d52fafe20561f5f2ab78db12d1324a6061ad1b13a1d65f63e56e3b
 0100 3E41   LD A,41
 0102 E001   LDH (01),A
-state 16b3dc432bf0ff8db755781f0d822cda6ac15e87c7d9040bb82f5dafac02e0a8
+digest 16b3dc432bf0ff8db755781f0d822cda6ac15e87c7d9040bb82f5dafac02e0a8
 stopped 0109
 stopped 0109
 limit 0108
@@ -369,8 +369,8 @@ FFFE 00 00 AB 00
 0110 00
 FE00 00
 FF40 91 87
-state 64cd953f9646b970757a219d6009951686288edfe3bebe97aa91fbef6ee82371
-state 64cd953f9646b970757a219d6009951686288edfe3bebe97aa91fbef6ee82371
+digest 64cd953f9646b970757a219d6009951686288edfe3bebe97aa91fbef6ee82371
+digest 64cd953f9646b970757a219d6009951686288edfe3bebe97aa91fbef6ee82371
 serial 0
 
 limit 0108
@@ -382,9 +382,9 @@ done
 history 0
 A=81 F=80 B=00 C=13 D=00 E=D8 H=01 L=4D SP=FFFE PC=0108 IME=0
 done
-state eae0496214bbc7ba2aef6d3acbbd992f28bb43ffad0eb4312e99480ffd374e18
+digest eae0496214bbc7ba2aef6d3acbbd992f28bb43ffad0eb4312e99480ffd374e18
 done
-state 9d1130d4dcf3683fe8c8b8a9568605d1fc37ed2b2442cdec79a126f6f69af3f9
+digest 9d1130d4dcf3683fe8c8b8a9568605d1fc37ed2b2442cdec79a126f6f69af3f9
 stopped 0108
 A=81 F=80 B=00 C=13 D=00 E=D8 H=01 L=4D SP=FFFE PC=0108 IME=0
 '''
@@ -525,6 +525,33 @@ def test_a_place_has_a_bank(room):
     room.done('debug banked.gb', 'stopped 0108\nlimit 0108\nwrong 3\nwrong 4\n', 'until 99 0:108\nuntil 9 1:4000\nuntil 9 1000:4000\nbank 1:4000\n')
 
 
+def test_a_state_is_given_back(room):
+    """The machine goes on from a state as it would have gone on, be it in another process; bytes that are no state of the cartridge change nothing."""
+    room.rom('state.gb', SENDS, {0x147: 0x10, 0x149: 2})
+    room.rom('state.other.gb', COUNTS)
+    told = room.printed('debug state.gb', 'frames 01 2\nseconds 61\nstate\nframes 80 3\nhistory 9\ndigest\n')
+    head, size = b'done\ndone\nstate 30799\n', 30_799
+    state, rest = told[len(head):len(head) + size], told[len(head) + size:]
+    room.expect('how a state is told', (told[:len(head)], len(rest)), (head, len(b'done\nhistory 0\n') + 72))
+    given = b'restore 30799\n' + state
+    room.expect('what follows a state', room.printed('debug state.gb', given + b'frames 80 3\nhistory 9\ndigest\n'), b'restored\n' + rest)
+    # the history is empty then, and what was sent before is told still
+    room.done('debug state.gb', 'done\nrestored\nhistory 0\nserial 1\nA\nserial 0\n\n', b'frames 00 2\n' + given + b'history 9\nserial\nserial\n')
+    # the last bytes of a state are of RAM, and may be newlines; the line behind them is the next one
+    lines = given[:22607 - size] + (size - 22607) * b'\n'
+    room.expect('a state that ends in newlines', room.printed('debug state.gb', lines + b'state\nwrong'), b'restored\nstate 30799\n' + lines[14:] + b'wrong 3\n')
+    digest = room.printed('debug state.gb', 'digest\n')
+    for what, bad, lines in (('a byte of the magic', b'X' + state[1:], 1), ('a register that is not legal', state[:20] + b'\xff' + state[21:], 1),
+                             ('a byte that is unused', state[:100] + b'\1' + state[101:], 1), ('fewer bytes', state[:-1], 1), ('more bytes', state + b'\0', 1), ('one byte', b'\n', 1)):
+        room.expect(what, room.printed('debug state.gb', b'restore %d\n' % len(bad) + bad + b'digest\n'), b'wrong 1\n' + digest)
+    room.expect('a state of another cartridge', room.printed('debug state.other.gb', given + b'registers\n')[:8], b'wrong 1\n')
+    room.expect('the end within the bytes', room.printed('debug state.gb', given[:-1]), b'wrong 1\n')
+    room.expect('the end behind the line', room.printed('debug state.gb', 'digest\nrestore 30799'), digest + b'wrong 2\n')
+    room.done('debug state.gb', 'wrong 1\nwrong 2\nwrong 3\nwrong 4\nwrong 5\nwrong 6\n', 'restore\nrestore 0\nrestore 1048577\nrestore x\nrestore 1 1\nrestore 4294967297\n')
+    room.rom('state.2.gb', SENDS, {0x147: 0x10, 0x149: 2, 0x14f: 1})
+    room.expect('of a changed ROM it is a state', room.printed('debug state.2.gb', given + b'registers\n')[:9], b'restored\n')
+
+
 def test_a_game_keeps_nothing_of_a_debugger(room):
     room.rom('debugged.gb', SENDS, {0: 0xab, 0x147: 0x10})
     room.rom('debugged.other.gb', SENDS)
@@ -535,28 +562,28 @@ def test_a_game_keeps_nothing_of_a_debugger(room):
     room.done('new debugged.gb debugged.gbkeep 156', 'begun 0\n')
     room.done('debug debugged.gb debugged.gbkeep', '''\
 resumed 0
-state d410e79829d52fafe20561f5f2ab78db12d1324a6061ad1b13a1d65f63e56e3b
+digest d410e79829d52fafe20561f5f2ab78db12d1324a6061ad1b13a1d65f63e56e3b
 done
 wrong 3
-''', 'state\nframes 80 9\nsave')
+''', 'digest\nframes 80 9\nsave')
     room.done('play debugged.gb debugged.gbkeep debugged.script', 'resumed 0\nsaved 2\n')
     # the byte was sent in a frame of the game
     room.done('debug debugged.gb debugged.gbkeep', '''\
 resumed 2
 A=81 F=80 B=00 C=13 D=00 E=D8 H=01 L=4D SP=FFFE PC=0108 IME=0
-state 56a98b8432e3d67b541dad5d4dc9b02837fcf36dcdee8bf6a7b2a6de5680ff71
+digest 56a98b8432e3d67b541dad5d4dc9b02837fcf36dcdee8bf6a7b2a6de5680ff71
 0108 40     LD B,B
 0109 18FD   JR -03
 done
 done
-state 2139144cc93a51cd76db78b3a8fb049075bd90ca308f6c4c3b763211f494cf17
+digest 2139144cc93a51cd76db78b3a8fb049075bd90ca308f6c4c3b763211f494cf17
 serial 0
 
-''', 'registers\nstate\nstep 2\nframes 01 3\nseconds 9\nstate\nserial\n')
+''', 'registers\ndigest\nstep 2\nframes 01 3\nseconds 9\ndigest\nserial\n')
     room.done('debug debugged.gb debugged.gbkeep', '''\
 resumed 2
-state 56a98b8432e3d67b541dad5d4dc9b02837fcf36dcdee8bf6a7b2a6de5680ff71
-''', 'state\n')
+digest 56a98b8432e3d67b541dad5d4dc9b02837fcf36dcdee8bf6a7b2a6de5680ff71
+''', 'digest\n')
     room.done('trace debugged.gb debugged.gbkeep 1', 'resumed 2\n0108 40     LD B,B\n')
     room.refused('debug debugged.other.gb debugged.gbkeep', 'gbkeep: other cartridge\n', given='registers\n')
     room.refused('debug debugged.kind.gb debugged.gbkeep', 'gbkeep: cartridge type FF\n', given='registers\n')

@@ -142,7 +142,7 @@ def test_a_small_stack_loses_nothing(room):
     room.done('new game.gb game.gbkeep', 'begun 0\n')
     room.done('play game.gb game.gbkeep one.script', 'resumed 0\nsaved 60\n')
     copy(room, 'game.gbkeep', 'kept.gbkeep')
-    lines = 'until 1000 FFFF\nregisters\nhistory 5\nframes 00 2\npicture\nstate\n'
+    lines = 'until 1000 FFFF\nregisters\nhistory 5\nframes 00 2\npicture\ndigest\n'
     commands = (('debug game.gb game.gbkeep', lines), ('stream game.gb game.gbkeep', 'frame 01\npicture\n'), ('play game.gb game.gbkeep one.script', ''),
                 ('frame game.gb game.gbkeep out.pgm', ''), ('trace game.gb game.gbkeep 5', ''), ('show game.gb game.gbkeep', ''))
     for words, given in commands:

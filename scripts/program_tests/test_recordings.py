@@ -67,10 +67,10 @@ def inputs_of(script):
 
 
 def state_after(room, inputs):
-    """The line with the digest of the machine after these inputs from power-on."""
-    answers = room.printed('debug game.gb', text_of([*inputs, 'state'])).decode().splitlines()
+    """The line of `show` with the digest of the machine after these inputs from power-on."""
+    answers = room.printed('debug game.gb', text_of([*inputs, 'digest'])).decode().splitlines()
     room.expect(f'what is answered before the digest of {len(inputs)} inputs', answers[:-1], ['done'] * len(inputs))
-    return ''.join(answers[-1:])
+    return ''.join(answers[-1:]).replace('digest', 'state')
 
 
 def agree(room, save, recording, count, recorded):

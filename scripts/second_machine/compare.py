@@ -1015,11 +1015,14 @@ def compare_debug(kind, seed, rom, rnd):
     """Lines of a debugger, most of them right, and a digest of the machine behind each that may change it."""
     with open(TMP, 'wb') as f: f.write(rom)
     stats['roms'] += 1
-    text = b''
-    for line in debug_lines.lines_of(debug_lines.random_lines(rnd, rnd.randrange(5, 25), rnd.choice([30, 1000, 3000]), 0.1, debug_lines.seen_in(rom, 500))):
-        text += line + b'\n' + (b'state\n' if rnd.random() < 0.4 else b'')
-    want = debug_lines.Debugger(ref.Machine(rom)).answers(text)
-    for line, answer in zip(debug_lines.lines_of(text), want):
+    text, debugger, want, states = b'', debug_lines.Debugger(ref.Machine(rom)), [], [b'x', b'GBSNAP01']
+    for line, given in debug_lines.lines_of(debug_lines.random_lines(rnd, rnd.randrange(5, 25), rnd.choice([30, 1000, 3000]), 0.1, debug_lines.seen_in(rom, 500))):
+        for one in [line + b'\n' + given] + [b'digest\n'] * (rnd.random() < 0.4) + [b'state\n'] * (rnd.random() < 0.1) + [debug_lines.a_restore(rnd, states)] * (rnd.random() < 0.1):
+            text += one
+            for line, given in debug_lines.lines_of(one):
+                want.append(debugger.answer(line, given, len(want) + 1))
+                if want[-1].startswith(b'state '): states.append(want[-1].split(b'\n', 1)[1])
+    for (line, _), answer in zip(debug_lines.lines_of(text), want):
         name = 'wrong' if answer.startswith(b'wrong') else answer.split()[0].decode() if answer[:4] in (b'stop', b'limi') else line.split(b' ')[0].decode()
         if name == 'serial' and not answer.startswith(b'serial 0'): name = 'sent'
         cov[name] = cov.get(name, 0) + 1
@@ -1028,7 +1031,7 @@ def compare_debug(kind, seed, rom, rnd):
     at = 0
     for number, answer in enumerate(want, 1):
         if out[at:at + len(answer)] != answer:
-            report(kind, seed, 'line %d, %r, of %r: want %r got %r' % (number, debug_lines.lines_of(text)[number - 1], text[:2000], answer[:300], out[at:at + 300]))
+            report(kind, seed, 'line %d, %r, of %r: want %r got %r' % (number, debug_lines.lines_of(text)[number - 1][0], text[:2000], answer[:300], out[at:at + 300]))
             return
         at += len(answer)
     if (code, err, out[at:]) != (0, b'', b''):

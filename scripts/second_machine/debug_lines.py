@@ -1,7 +1,9 @@
 """The lines of `gbkeep debug`, read and answered by the second machine: what each asks for, and each byte of the answer. Written from docs/COMMANDS.md,
 docs/SNAPSHOT.md and docs/MACHINE.md, by somebody who had read of the code what its calls promise. debug_lines.py --check compares its own parts."""
-import collections, copy, hashlib, random, re, sys
+import collections, copy, hashlib, os, random, re, sys
 import reference as ref
+sys.path.insert(0, os.path.join(os.path.dirname(os.path.abspath(__file__)), '..', 'second_storage'))
+import save_files
 
 MOST_LINE, MOST_SENT, MOST_HISTORY = 128, 65536, 1024
 COUNT, HEX = rb'([0-9]{1,10})', rb'[0-9A-Fa-f]'
@@ -50,7 +52,10 @@ FORMS = [(re.compile(form), name, readers) for form, name, readers in (
     (rb'memory ' + ADDRESS + b' ' + COUNT, 'memory', (address, room)),
     (rb'serial', 'serial', ()),
     (rb'picture', 'picture', ()),
-    (rb'state', 'state', ()))]
+    (rb'state', 'state', ()),
+    (rb'digest', 'digest', ()))]
+RESTORE = re.compile(rb'restore ' + COUNT)
+MOST_GIVEN = 1048576
 
 
 def order_of(line):
@@ -65,10 +70,22 @@ def order_of(line):
     return None
 
 
+def given_by(line):
+    """How many bytes a line asks for, which stand behind its newline; 0 of any but `restore`."""
+    found = RESTORE.fullmatch(line) if len(line) <= MOST_LINE else None
+    return (found and within(found[1], 1, MOST_GIVEN)) or 0
+
+
 def lines_of(text):
-    """The lines of an input, the last of which may lack its newline."""
-    lines = text.split(b'\n')
-    return lines[:-1] if lines[-1] == b'' else lines
+    """The lines of an input, the last of which may lack its newline, each with the bytes that it asks for, of which the last may lack some."""
+    lines, at = [], 0
+    while at < len(text):
+        end = text.find(b'\n', at)
+        end = len(text) if end < 0 else end
+        line = text[at:end]
+        at = end + 1 + given_by(line)
+        lines.append((line, text[end + 1:at]))
+    return lines
 
 
 # ---- the machine
@@ -91,6 +108,38 @@ def snapshot(m):
     data += m.live + m.latched + [0] * 61
     picture = [row[at] << 6 | row[at + 1] << 4 | row[at + 2] << 2 | row[at + 3] for row in m.shades for at in range(0, 160, 4)]
     return bytes(data) + bytes(m.vram) + bytes(m.wram) + bytes(m.oam) + bytes(m.hram) + bytes(m.sound) + bytes(picture) + bytes(m.cram)
+
+
+def restored(m, data):
+    """Makes the machine the one of a snapshot of its cartridge, by the same table. Answers whether it is one."""
+    cart = save_files.Cartridge(m.rom)
+    if not save_files.is_legal(data, cart):
+        return False
+
+    def word(at): return data[at] | data[at + 1] << 8
+
+    m.r[:] = [data[at] for at in (10, 11, 12, 13, 14, 15, 9, 8)]
+    m.sp, m.pc = word(16), word(18)
+    flags = data[20]
+    m.ime, m.enable, m.halted, m.stopped, m.locked, m.repeat = flags & 1, bool(flags & 2), bool(flags & 4), bool(flags & 8), bool(flags & 16), bool(flags & 32)
+    m.overrun, m.ie, m.iflag, m.buttons, m.p1 = data[21:26]
+    m.counter, (m.tima, m.tma, m.tac, m.sb, m.sc), m.left = word(26), data[28:33], word(33)
+    m.dma, m.copied, m.lcdc, m.stat, m.scy, m.scx, m.lyc, m.bgp, m.obp0, m.obp1, m.wy, m.wx, m.line_, m.mc, m.window_line = data[35:50]
+    m.seen, m.statsig = bool(data[50] & 1), bool(data[50] & 2)
+    kind, m.ramon, bank, mode = data[51], bool(data[52]), word(53), data[56]   # by kind, as `snapshot` has them
+    if kind == 1: m.lower, m.upper, m.mode1 = bank, data[55], mode
+    if kind in (2, 3, 4, 5): m.bank = bank
+    if kind in (3, 4): m.select = data[55]
+    if kind == 4: m.armed = bool(mode)
+    if kind == 5: m.rambank = data[55]
+    m.live, m.latched = list(data[57:62]), list(data[62:67])
+    at = 128
+    for store in (m.vram, m.wram, m.oam, m.hram, m.sound):
+        store[:] = data[at:at + len(store)]
+        at += len(store)
+    m.shades = [[data[at + 40 * y + x // 4] >> 6 - x % 4 * 2 & 3 for x in range(160)] for y in range(144)]
+    m.cram[:] = data[at + 5760:]
+    return True
 
 
 def pass_seconds(m, count):
@@ -211,21 +260,30 @@ class Debugger:
         if name == 'memory': return self.memory(*words)
         if name == 'serial': return self.serial()
         if name == 'picture': return m.picture()
-        return 'state %s\n' % hashlib.sha256(snapshot(m)).hexdigest()
+        if name == 'state':
+            data = snapshot(m)
+            return b'state %d\n' % len(data) + data
+        return 'digest %s\n' % hashlib.sha256(snapshot(m)).hexdigest()
 
-    def answer(self, line, number):
-        """The answer to a line, and what it does to the machine."""
+    def restore(self, given, count):
+        if len(given) != count or not restored(self.m, given):
+            return None
+        self.history.clear()
+        return 'restored\n'
+
+    def answer(self, line, given, number):
+        """The answer to a line and the bytes that it asks for, and what it does to the machine."""
         if not line:
             return b''
-        order = order_of(line)
-        if order is None:
+        count, order = given_by(line), order_of(line)
+        text = self.restore(given, count) if count else self.obeyed(*order) if order else None
+        if text is None:
             return b'wrong %d\n' % number
-        text = self.obeyed(*order)
         return text if isinstance(text, bytes) else text.encode()
 
     def answers(self, text):
         """The answer to each line of an input."""
-        return [self.answer(line, number) for number, line in enumerate(lines_of(text), 1)]
+        return [self.answer(line, given, number) for number, (line, given) in enumerate(lines_of(text), 1)]
 
 
 # ---- lines to try
@@ -242,7 +300,8 @@ WRONG = [b'step', b'step 0', b'step 4294967296', b'step 00000000001', b'step -1'
          b'frames 00 1000001', b'frames 00', b'frame 00 1', b'seconds', b'seconds -1', b'seconds 4294967296', b'registers ', b'registers 1', b'Registers',
          b'history', b'history 0', b'history 65537', b'history 1 1', b'list 100', b'list 100 0', b'list 100 65537', b'list 10000 1', b'list  1', b'list g 1',
          b'memory 0', b'memory 0 0', b'memory 0 65537', b'memory 00000 1', b'memory -1 1', b'memory 1 1 1', b'memory 0x10 1', b'serial 1', b'serial\0', b'picture 1',
-         b'state 0', b'state\r', b'save', b'resume', b'quit', b' ', b'  ', b'\r', b'\0', b'\xff', b'\xc3\xa9', b'step \xd9\xa1', b'x' * 128, b'x' * 129,
+         b'state 0', b'state\r', b'digest 0', b'digest ', b'Digest', b'restore', b'restore ', b'restore 0', b'restore 1048577', b'restore 4294967296', b'restore -1',
+         b'restore x', b'restore 1 1', b'restore  1', b'Restore 1', b'restore 00000000001', b'save', b'resume', b'quit', b' ', b'  ', b'\r', b'\0', b'\xff', b'\xc3\xa9', b'step \xd9\xa1', b'x' * 128, b'x' * 129,
          b'registers' + b' ' * 119, b'registers' + b' ' * 120, b'0' * 1023, b'0' * 1024, b'0' * 1025, b's' * 5000]
 
 
@@ -287,7 +346,17 @@ def a_line(rnd, most, seen):
     if choice == 12: return 'until-change %s %s' % (count(most), place())
     if choice < 15: return 'until-write %s %s' % (count(most), spanned())
     if choice < 17: return 'until-read %s %s' % (count(most), spanned())
-    return rnd.choice(['registers', 'serial', 'state', 'state'] + ['picture'] * (rnd.random() < 0.2))
+    return rnd.choice(['registers', 'serial', 'digest', 'digest'] + ['picture', 'state'] * (rnd.random() < 0.2))
+
+
+def a_restore(rnd, states):
+    """A state that was told before, whole or spoilt."""
+    state = bytearray(rnd.choice(states))
+    chance = rnd.random()
+    if chance < 0.3: state[rnd.choice([rnd.randrange(len(state)), rnd.randrange(min(len(state), 130))])] = rnd.randrange(256)
+    elif chance < 0.4: state = state[:rnd.randrange(1, len(state) + 1)]
+    elif chance < 0.5: state += rnd.randbytes(rnd.choice([1, 512]))
+    return b'restore %d\n' % len(state) + state + rnd.choice([b'', b'\n'])
 
 
 def random_lines(rnd, count, most, wrong, seen):
@@ -332,7 +401,7 @@ def check():
 
         name, rest = words[0], words[1:]
         try:
-            if name in (b'registers', b'serial', b'picture', b'state') and not rest: return (name.decode(),)
+            if name in (b'registers', b'serial', b'picture', b'state', b'digest') and not rest: return (name.decode(),)
             if name == b'step' and len(rest) == 1: return 'step', number(rest[0], 1, 2 ** 32 - 1)
             if name == b'history' and len(rest) == 1: return 'history', number(rest[0], 1, 2 ** 16)
             if name in (b'list', b'memory') and len(rest) == 2: return name.decode(), hexes(rest[0], 1, 4), number(rest[1], 1, 2 ** 16)
@@ -353,7 +422,7 @@ def check():
     rnd = random.Random(1)
     seen = collections.Counter()
     for _ in range(5000):
-        for line in lines_of(random_lines(rnd, 5, 100, 0.4, ([0x100], [0x40]))):
+        for line, _ in lines_of(random_lines(rnd, 5, 100, 0.4, ([0x100], [0x40]))):
             if not line: continue
             order = order_of(line)
             if order != by_words(line): sys.exit('%r: %r and %r' % (line, order, by_words(line)))

@@ -80,12 +80,13 @@ def line_by_line(rnd, seed, rom, image, cart, count, machine):
     patience.start()
     report = debug.stdout.readline()
     answered = report == b'resumed %d\n' % count
-    for number, line in enumerate(debug_lines.lines_of(lines_for(rnd, rom, 300)) + [b'registers', b'save'], 1):
+    lines = debug_lines.lines_of(lines_for(rnd, rom, 300)) + [(b'registers', b''), (b'save', b'')]
+    for number, (line, given) in enumerate(lines, 1):
         if not answered:
             break
-        want = debugger.answer(line, number)
+        want = debugger.answer(line, given, number)
         try:
-            debug.stdin.write(line + b'\n')
+            debug.stdin.write(line + b'\n' + given)
             debug.stdin.flush()
         except BrokenPipeError:
             answered = False
@@ -129,8 +130,8 @@ def over_a_game(rnd, seed, rom, cart):
     good = is_as(seed, 'SAVE beside the one that a trace leaves', get(SAVE), left) and good
     shown = gbkeep('show', CART, SAVE)[1].decode().split('\n')
     good = is_as(seed, 'the game after it', (shown[0], shown[5:]), ('inputs %d' % game.count, ['state ' + state, ''])) and good
-    again = gbkeep('debug', CART, SAVE, input=b'state')
-    if is_as(seed, 'the game again', again, (0, game.report + b'state %s\n' % state.encode(), b'')) and good:
+    again = gbkeep('debug', CART, SAVE, input=b'digest')
+    if is_as(seed, 'the game again', again, (0, game.report + b'digest %s\n' % state.encode(), b'')) and good:
         return image, game.count, script
 
 
@@ -140,14 +141,14 @@ def over_damage(rnd, seed, image, cart, rom):
     traced = gbkeep('trace', CART, SAVE, '1')
     left = get(SAVE)
     put(SAVE, image)
-    status, out, err = gbkeep('debug', CART, SAVE, input=b'registers\nwait\nframes 00 2\nstate\n')
+    status, out, err = gbkeep('debug', CART, SAVE, input=b'registers\nwait\nframes 00 2\ndigest\n')
     wanted = hostile.played(image, cart, b'')
     is_as(seed, 'a damaged game', (status, out[:len(wanted[1])], err), wanted[:3])
     is_as(seed, 'a damaged game beside a trace', (status, err), (traced[0], traced[2]))
     is_as(seed, 'SAVE of a damaged game beside the one that a trace leaves', get(SAVE), left)
     if not same_file(left, wanted[3]):
         differs('debugs', seed, 'SAVE of a damaged game is left with other bytes')
-    if status == 1 and out or status == 0 and [row.split()[0] for row in out.decode().split('\n')[2:-1]] != ['wrong', 'done', 'state']:
+    if status == 1 and out or status == 0 and [row.split()[0] for row in out.decode().split('\n')[2:-1]] != ['wrong', 'done', 'digest']:
         differs('debugs', seed, 'of a damaged game %r' % out)
 
 
@@ -159,13 +160,35 @@ def from_power_on(rnd, seed, rom, text):
     return good
 
 
+def with_states(rnd, rom, other):
+    """Lines with states: of this machine, whole, cut, longer, and with a byte that is another, mostly among those that may be illegal; of another
+    cartridge; with a count that is none, or that is not theirs; and the last one may be cut off by the end of the input."""
+    text, states = b'', []
+    for image in (rom, other):
+        machine = reference.Machine(image)
+        for _ in range(rnd.randrange(300)): machine.step()
+        states.append(debug_lines.snapshot(machine))
+    own, foreign = states
+    for _ in range(20):
+        state, chance = bytearray(own), rnd.randrange(12)
+        count = b'%d' % len(state)
+        if chance < 6: state[rnd.choice([rnd.randrange(len(state)), rnd.randrange(128), rnd.randrange(128)])] ^= 1 << rnd.randrange(8)
+        elif chance == 6: state, count = bytearray(foreign), b'%d' % len(foreign)
+        elif chance == 7: state = state[:rnd.randrange(1, len(state))]
+        elif chance == 8: state += rnd.randbytes(rnd.choice([1, 512]))
+        elif chance == 9: state, count = bytearray(), rnd.choice([b'0', b'1048577', b'4294967295', b'99999999999999999999', b'-1', b'x', b'', b'22607 ', b'2 2'])
+        if chance in (7, 8): count = b'%d' % len(state)
+        text += b'restore ' + count + b'\n' + bytes(state) + rnd.choice([b'', b'\n', b'registers\n', b'digest\n', b'digest\n'])
+    return text[:-rnd.randrange(1, 2000)] if rnd.random() < 0.5 else text
+
+
 def debugs(rnd, seed):
-    rom = random_rom(rnd)
-    cart, other = Cartridge(rom), Cartridge(random_rom(rnd))
+    rom, other_rom = random_rom(rnd), random_rom(rnd)
+    cart, other = Cartridge(rom), Cartridge(other_rom)
     put(CART, rom)
     wrong = rnd.sample(debug_lines.WRONG, len(debug_lines.WRONG))
     wrong[rnd.randrange(len(wrong))] = b''
-    if not from_power_on(rnd, seed, rom, b'\n'.join(wrong)) or not from_power_on(rnd, seed, rom, lines_for(rnd, rom, 1000)):
+    if not from_power_on(rnd, seed, rom, with_states(rnd, rom, other_rom)) or not from_power_on(rnd, seed, rom, b'\n'.join(wrong)) or not from_power_on(rnd, seed, rom, lines_for(rnd, rom, 1000)):
         return
     game = over_a_game(rnd, seed, rom, cart)
     if game is None:

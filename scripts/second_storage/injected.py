@@ -101,7 +101,7 @@ def of_a_game(rnd, seed):
     words = rnd.choice([['play', hostile.CART, hostile.SAVE, hostile.SCRIPT], ['stream', hostile.CART, hostile.SAVE],
                         ['frame', hostile.CART, hostile.SAVE, hostile.OUT], ['trace', hostile.CART, hostile.SAVE, '5'], ['debug', hostile.CART, hostile.SAVE]])
     gives = script if words[0] in ('play', 'stream') else b''
-    text = b'step 3\nframes 01 2\nmemory 0 100\nstate\n' if words[0] == 'debug' else gives
+    text = b'step 3\nframes 01 2\nmemory 0 100\ndigest\n' if words[0] == 'debug' else gives
     put(hostile.SCRIPT, gives)
     counts = calls_of(words, text)
     for _ in range(6):

@@ -46,7 +46,9 @@ const DEBUG_LINES: &str = "Lines of the standard input, each answered before the
   bank ADDR         the number of the bank that is mapped at ADDR
   serial            the bytes that were sent since the last serial
   picture           the picture as plain PGM, 46,093 bytes
-  state             the SHA-256 of the machine's snapshot";
+  state             state K, and the K bytes of the machine's snapshot
+  restore K         and K bytes behind it: goes on from this snapshot
+  digest            the SHA-256 of the machine's snapshot";
 
 pub(crate) fn command<'a>(alloc: Global) -> Result<Command<'a>, AllocError>
     ensures { IfOk result (Reads gbkeep) }

@@ -1,5 +1,5 @@
 -- No order changes the ROM, or the length of cartridge RAM.
-use Rattle.std.proofs.Common.{◌≡◌, ◌∙◌, ℕ, zero, suc, Bool, true, false, List, [], ◌∷◌, length, Option, None, Some, ap, sym}
+use Rattle.std.proofs.Common.{◌≡◌, ◌∙◌, ℕ, zero, suc, Bool, true, false, List, [], ◌∷◌, length, Option, None, Some, ap, subst, sym}
 use Rattle.std.specs.Prelude.{◌==◌, if◌then◌else◌}
 use Rattle.bank_controllers.specs.CartridgeState.{IsSameCartridge}
 use Rattle.bank_controllers.proofs.Same.{same_itself, same_then, seconds-same}
@@ -12,7 +12,11 @@ use Rattle.machine.specs.declared.input.Input.TheVariants.{Frame}
 use Rattle.machine.specs.Machine.{after}
 use Rattle.machine.proofs.KeptByInputs.{bus_keeps, by_inputs}
 use Rattle.debugging.specs.declared.order.Order.{Order}
-use Rattle.debugging.specs.declared.order.Order.TheVariants.{Frames, Seconds, Step, Until, UntilOpcode, UntilChange, UntilWrite, UntilRead, Registers, History, List as Listing, Memory, Bank, Serial, Picture, State}
+use Rattle.debugging.specs.declared.order.Order.TheVariants.{Frames, Seconds, Step, Until, UntilOpcode, UntilChange, UntilWrite, UntilRead, Registers, History, List as Listing, Memory, Bank, Serial, Picture, State, Digest}
+use Rattle.cartridge.specs.Header.{ram_length_of}
+use Rattle.snapshot.specs.Encoding.{snapshot_length}
+use Rattle.snapshot.specs.Legal.{IsOfImage}
+use Rattle.debugging.specs.States.{rom_of}
 use Rattle.debugging.specs.Orders.{order_of}
 use Rattle.debugging.specs.Quiet.{HasRom}
 use Rattle.debugging.specs.Run.{RunState, after_frame, after_frames, after_steps_of, processor_of}
@@ -64,6 +68,7 @@ order_keeps (Bank address) r = itself r
 order_keeps Serial r = itself r
 order_keeps Picture r = itself r
 order_keeps State r = itself r
+order_keeps Digest r = itself r
 
 asked_keeps : (asked : Option Order) (r : RunState) → IsKept r (after_asked asked r)
 asked_keeps None r = itself r
@@ -76,11 +81,22 @@ either_keeps false r x kept = kept
 line_kept : (line : List ℕ) (r : RunState) → IsKept r (after_line line r)
 line_kept line r = either_keeps (length line == 0) r (after_asked (order_of line) r) (asked_keeps (order_of line) r)
 
-pub line_keeps : (line : List ℕ) (r : RunState) → ram_length (after_line line r) ≡ ram_length r
-line_keeps line r = (line_kept line r).ram_length
+-- ---- the cartridge
 
-pub line_keeps_rom : (line : List ℕ) (r : RunState) → rom_length (after_line line r) ≡ rom_length r
-line_keeps_rom line r = ap length (line_kept line r).rom
+of_kept : (rom : List ℕ) (old new : RunState) → IsKept old new → IsOfImage rom old.debugger.machine → IsOfImage rom new.debugger.machine
+of_kept rom old new kept of = record { rom = kept.rom ∙ of.rom; kind = kept.kind ∙ of.kind; rumble = kept.rumble ∙ of.rumble; ram_length = kept.ram_length ∙ of.ram_length }
+
+pub line_of : (rom line : List ℕ) (r now : RunState) → now ≡ after_line line r → IsOfImage rom r.debugger.machine → IsOfImage rom now.debugger.machine
+line_of rom line r now is of = subst (λ (x : RunState). IsOfImage rom x.debugger.machine) (sym is) (of_kept rom r (after_line line r) (line_kept line r) of)
+
+pub rom_is : (size : ℕ) (rom : List ℕ) (old new : RunState) → HasRom size (processor_of old).memory → IsOfImage rom old.debugger.machine → IsOfImage rom new.debugger.machine → HasRom size (processor_of new).memory
+rom_is size rom old new has before after = record { size = has.size ∙ ap length (before.rom ∙ sym after.rom); least = has.least }
+
+pub room_is : (size : ℕ) (rom : List ℕ) (old new : RunState) → size ≡ snapshot_length (ram_length old) → IsOfImage rom old.debugger.machine → IsOfImage rom new.debugger.machine → size ≡ snapshot_length (ram_length new)
+room_is size rom old new is before after = is ∙ ap snapshot_length (before.ram_length ∙ sym after.ram_length)
+
+pub room_of : (size : ℕ) (rom : List ℕ) (r : RunState) → size ≡ snapshot_length (ram_length r) → IsOfImage rom r.debugger.machine → size ≡ snapshot_length (ram_length_of (rom_of r))
+room_of size rom r is of = is ∙ ap snapshot_length (of.ram_length ∙ ap ram_length_of (sym of.rom))
 
 -- ---- the ROM
 

@@ -9,3 +9,5 @@ pub mod Parts
 pub mod Bytes
 pub mod Kept
 pub mod Exchanges
+pub mod Restoring
+pub mod Givens

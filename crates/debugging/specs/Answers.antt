@@ -17,8 +17,10 @@ use Rattle.debugger.specs.Listing.{byte_after, lines_from}
 use Rattle.debugger.specs.Registers.{register_line}
 use Rattle.debugger.specs.Report.{line_seen, step_lines}
 use Rattle.debugging.specs.declared.order.Order.{Order}
-use Rattle.debugging.specs.declared.order.Order.TheVariants.{Frames, Seconds, Step, Until, UntilOpcode, UntilChange, UntilWrite, UntilRead, Registers, History, List as Listing, Memory, Bank, Serial, Picture, State}
-use Rattle.debugging.specs.Orders.{order_of}
+use Rattle.debugging.specs.declared.order.Order.TheVariants.{Frames, Seconds, Step, Until, UntilOpcode, UntilChange, UntilWrite, UntilRead, Registers, History, List as Listing, Memory, Bank, Serial, Picture, State, Digest}
+use Rattle.debugging.specs.Orders.{order_of, restore_of}
+use Rattle.debugging.specs.States.{is_given, restored}
+use Rattle.input_lines.specs.Given.{Given}
 use Rattle.debugging.specs.declared.order.Place.{Place}
 use Rattle.debugging.specs.declared.order.Span.{Span}
 use Rattle.debugging.specs.Banks.{bank_at}
@@ -67,11 +69,15 @@ serial_text sent = count_line (codes "serial") (length sent) ++ (sent ++ codes "
 
 -- a digest in lower-case hexadecimal digits
 abbrev pub digest_line : List ℕ → List ℕ
-digest_line digest = codes "state " ++ (encode_lower digest ++ codes "\n")
+digest_line digest = codes "digest " ++ (encode_lower digest ++ codes "\n")
 
 -- the SHA-256 of the machine's snapshot
-abbrev pub state_text : MachineState → List ℕ
-state_text m = digest_line (sha256 (encoded m))
+abbrev pub digest_text : MachineState → List ℕ
+digest_text m = digest_line (sha256 (encoded m))
+
+-- how many bytes a snapshot has, and its bytes
+abbrev pub state_text : List ℕ → List ℕ
+state_text bytes = count_line (codes "state") (length bytes) ++ bytes
 
 -- ---- orders
 
@@ -109,6 +115,7 @@ after_order (Bank address) r = r
 after_order Serial r = record r { sent = [] }
 after_order Picture r = r
 after_order State r = r
+after_order Digest r = r
 
 -- the answer to an order that leaves the debugger as `new`
 abbrev pub answer_from : Order → (old new : RunState) → List ℕ
@@ -127,7 +134,8 @@ answer_from (Memory address n) old new = memory_text old.debugger.machine addres
 answer_from (Bank address) old new = bank_line (bank_at (processor_of old).memory address)
 answer_from Serial old new = serial_text old.sent
 answer_from Picture old new = picture_text (picture_rows old.debugger.machine)
-answer_from State old new = state_text old.debugger.machine
+answer_from State old new = state_text (encoded old.debugger.machine)
+answer_from Digest old new = digest_text old.debugger.machine
 
 abbrev pub answer_to : Order → RunState → List ℕ
 answer_to order r = answer_from order r (after_order order r)
@@ -152,11 +160,33 @@ after_line line r = if length line == 0 then r else after_asked (order_of line) 
 abbrev pub answer_line : List ℕ → (number : ℕ) → RunState → List ℕ
 answer_line line number r = if length line == 0 then [] else answer_asked (order_of line) number r
 
--- the answers to these lines, the first of which has this number
-unfoldable pub answers : (number : ℕ) → List (List ℕ) → RunState → List ℕ
-answers number [] r = []
-answers number (line ∷ lines) r = answer_line line number r ++ answers (number + 1) lines (after_line line r)
+-- `restore N` and the bytes behind it: where they are no snapshot, nothing is done
+abbrev pub after_restore : (n : ℕ) → (bytes : List ℕ) → RunState → RunState
+after_restore n bytes r = if is_given n bytes r then restored bytes r else r
 
-unfoldable pub after_lines : List (List ℕ) → RunState → RunState
+abbrev pub answer_restore : (n : ℕ) → (bytes : List ℕ) → (number : ℕ) → RunState → List ℕ
+answer_restore n bytes number r = if is_given n bytes r then codes "restored\n" else wrong_line number
+
+abbrev pub after_either : Option ℕ → Given → RunState → RunState
+after_either None given r = after_line given.line r
+after_either (Some n) given r = after_restore n given.bytes r
+
+abbrev pub answer_either : Option ℕ → Given → (number : ℕ) → RunState → List ℕ
+answer_either None given number r = answer_line given.line number r
+answer_either (Some n) given number r = answer_restore n given.bytes number r
+
+-- a line and the bytes that it asks for
+abbrev pub after_given : Given → RunState → RunState
+after_given given r = after_either (restore_of given.line) given r
+
+abbrev pub answer_given : Given → (number : ℕ) → RunState → List ℕ
+answer_given given number r = answer_either (restore_of given.line) given number r
+
+-- the answers to these lines, the first of which has this number
+unfoldable pub answers : (number : ℕ) → List Given → RunState → List ℕ
+answers number [] r = []
+answers number (given ∷ rest) r = answer_given given number r ++ answers (number + 1) rest (after_given given r)
+
+unfoldable pub after_lines : List Given → RunState → RunState
 after_lines [] r = r
-after_lines (line ∷ lines) r = after_lines lines (after_line line r)
+after_lines (given ∷ rest) r = after_lines rest (after_given given r)

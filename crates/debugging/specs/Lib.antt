@@ -2,8 +2,10 @@ pub mod Orders
 pub mod Banks
 pub mod Accesses
 pub mod Run
+pub mod States
 pub mod Answers
 pub mod Debugged
 -- what only the code needs
 pub mod Words
 pub mod Quiet
+pub mod NextGiven

@@ -11,7 +11,7 @@ use Rattle.script.specs.Line.{byte_of, count_of, move_of_line, words_of}
 use Rattle.debugging.specs.declared.order.Place.{Place}
 use Rattle.debugging.specs.declared.order.Span.{Span}
 use Rattle.debugging.specs.declared.order.Order.{Order}
-use Rattle.debugging.specs.declared.order.Order.TheVariants.{Frames, Seconds, Step, Until, UntilOpcode, UntilChange, UntilWrite, UntilRead, Registers, History, List as Listing, Memory, Bank, Serial, Picture, State}
+use Rattle.debugging.specs.declared.order.Order.TheVariants.{Frames, Seconds, Step, Until, UntilOpcode, UntilChange, UntilWrite, UntilRead, Registers, History, List as Listing, Memory, Bank, Serial, Picture, State, Digest}
 
 -- ---- words
 
@@ -85,13 +85,14 @@ order_of_move (FramesMove buttons times) = Some (Frames buttons times)
 order_of_move (SecondsMove count) = Some (Seconds count)
 order_of_move Save = None
 
--- `registers`, `serial`, `picture`, `state`
+-- `registers`, `serial`, `picture`, `state`, `digest`
 abbrev pub order_of_one : List ℕ → Option Order
 order_of_one name =
     if bytes_eq name (codes "registers") then Some Registers
     else (if bytes_eq name (codes "serial") then Some Serial
     else (if bytes_eq name (codes "picture") then Some Picture
-    else (if bytes_eq name (codes "state") then Some State else None)))
+    else (if bytes_eq name (codes "state") then Some State
+    else (if bytes_eq name (codes "digest") then Some Digest else None))))
 
 -- `step N`, `history N`, `bank ADDR`
 abbrev pub order_of_two : List ℕ → List ℕ → Option Order
@@ -141,3 +142,20 @@ order_by None line = order_of_words (words_of line)
 -- None: the line is wrong. One of more than 128 bytes always is.
 abbrev pub order_of : List ℕ → Option Order
 order_of line = if nat_le (length line) 128 then order_by (move_of_line line) line else None
+
+-- ---- `restore N`, which asks for N bytes behind its newline
+
+abbrev pub restore_of_words : List (List ℕ) → Option ℕ
+restore_of_words (name ∷ word ∷ []) = if bytes_eq name (codes "restore") then count_of 1 1048576 word else None
+restore_of_words words = None
+
+abbrev pub restore_of : List ℕ → Option ℕ
+restore_of line = if nat_le (length line) 128 then restore_of_words (words_of line) else None
+
+-- how many bytes a line asks for
+abbrev pub asked_by : Option ℕ → ℕ
+asked_by None = 0
+asked_by (Some n) = n
+
+abbrev pub asked : List ℕ → ℕ
+asked line = asked_by (restore_of line)

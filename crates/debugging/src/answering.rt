@@ -4,11 +4,12 @@ ghost use Rattle.std.specs.Prelude.{◌≡◌, [], drop, length, IfSome, OnErr, 
 ghost use Rattle.std.specs.Io.KnownBytes.{Appends};
 ghost use Rattle.exact_text.specs.Written.{AppendsProperPrefix};
 ghost use Rattle.memory_map.specs.BusRules.{bus_rules};
-ghost use Rattle.snapshot.specs.Encoding.{snapshot_length};
+ghost use Rattle.snapshot.specs.Encoding.{encoded, snapshot_length};
+ghost use Rattle.snapshot.specs.Legal.{IsOfImage};
 ghost use Rattle.std.specs.List.{flat_map};
 ghost use Rattle.debugger.specs.Registers.{register_line};
 ghost use Rattle.debugger.specs.Report.{line_seen, step_lines};
-ghost use Rattle.debugging.specs.Answers.{after_line, after_order, answer_line, answer_to, count_line, history_text, digest_line, place_text, serial_text, state_text, wrong_line};
+ghost use Rattle.debugging.specs.Answers.{after_line, after_order, answer_line, answer_to, count_line, history_text, after_restore, answer_restore, digest_line, digest_text, place_text, serial_text, state_text, wrong_line};
 ghost use Rattle.debugging.specs.Answers.{bank_line};
 ghost use Rattle.debugging.specs.Banks.{bank_at};
 ghost use Rattle.debugging.specs.Quiet.{HasRom};
@@ -17,8 +18,9 @@ ghost use Rattle.debugging.specs.Run.{after_steps_of, processor_of};
 use crate::banks::bank_at;
 use crate::memory::write_memory;
 use crate::order::{Order, read_order};
-use crate::run::{Run, RunUntil};
+use crate::run::{Run, RunRestored, RunUntil};
 use arrayvec::ArrayString;
+use cartridge::Cartridge;
 use debugger::{Debugger, register_line, write_stepped};
 use digest_text::digest_digits;
 use exact_text::{OutputFailed, word_digits, write_whole};
@@ -65,6 +67,29 @@ pub(crate) fn answer<W: Write>(
             Answered { run, written }
         }
     }
+}
+
+/// Makes the machine the one of these bytes, if they are a snapshot of the cartridge, and answers it. Condition: the machine is one of it.
+pub(crate) fn restore<W: Write>(
+    run: Run,
+    cartridge: &Cartridge,
+    bytes: &[u8],
+    number: u64,
+    out: &mut W,
+) -> Answered
+    requires { IsOfImage cartridge.now run.debugger.machine }
+    ensures of { IsOfImage cartridge.now result.run.debugger.machine }
+    ensures run { OnOk result.written (result.run ≡ after_restore (length bytes.now) bytes.now run) }
+    ensures ok { OnOk result.written (Appends (W.contents out.old) (W.contents out.new) (answer_restore (length bytes.now) bytes.now number run)) }
+    ensures err { OnErr result.written (AppendsProperPrefix (W.contents out.old) (W.contents out.new) (answer_restore (length bytes.now) bytes.now number run)) }
+{
+    let RunRestored { run, is_restored } = run.restore(cartridge, bytes);
+    let written = if is_restored {
+        write_whole(out, b"restored\n")
+    } else {
+        write_wrong(number, out)
+    };
+    Answered { run, written }
 }
 
 /// The line about a wrong line.
@@ -161,7 +186,12 @@ fn obey<W: Write>(run: Run, order: Order, rom: usize, snapshot: &mut [u8], out: 
             Answered { run, written }
         }
         Order::State => {
+            let run = run.draw_late();
             let written = write_state(run.debugger().machine(), snapshot, out);
+            Answered { run, written }
+        }
+        Order::Digest => {
+            let written = write_digest(run.debugger().machine(), snapshot, out);
             Answered { run, written }
         }
     }
@@ -331,15 +361,40 @@ fn write_sent<W: Write>(run: &Run, out: &mut W) -> Result<(), OutputFailed>
     write_whole(out, b"\n")
 }
 
-/// Writes the digest of the machine's snapshot, for which there is room.
+/// Writes how many bytes the machine's snapshot has, and its bytes. There is room for them.
 fn write_state<W: Write>(
+    machine: &Machine,
+    bytes: &mut [u8],
+    out: &mut W,
+) -> Result<(), OutputFailed>
+    requires { length bytes.old ≡ snapshot_length (length machine.now.processor.memory.banks.ram) }
+    ensures ok { OnOk result (Appends (W.contents out.old) (W.contents out.new) (state_text (encoded machine.now))) }
+    ensures err { OnErr result (AppendsProperPrefix (W.contents out.old) (W.contents out.new) (state_text (encoded machine.now))) }
+    ensures room { length bytes.new ≡ length bytes.old }
+{
+    encode(machine, bytes);
+    write_bytes(bytes, out)
+}
+
+fn write_bytes<W: Write>(bytes: &[u8], out: &mut W) -> Result<(), OutputFailed>
+    ensures ok { OnOk result (Appends (W.contents out.old) (W.contents out.new) (state_text bytes.now)) }
+    ensures err { OnErr result (AppendsProperPrefix (W.contents out.old) (W.contents out.new) (state_text bytes.now)) }
+{
+    if let Err(fault) = write_count("state", bytes.len(), out) {
+        return Err(fault);
+    }
+    write_whole(out, bytes)
+}
+
+/// Writes the digest of the machine's snapshot, for which there is room.
+fn write_digest<W: Write>(
     machine: &Machine,
     snapshot: &mut [u8],
     out: &mut W,
 ) -> Result<(), OutputFailed>
     requires { length snapshot.old ≡ snapshot_length (length machine.now.processor.memory.banks.ram) }
-    ensures ok { OnOk result (Appends (W.contents out.old) (W.contents out.new) (state_text machine.now)) }
-    ensures err { OnErr result (AppendsProperPrefix (W.contents out.old) (W.contents out.new) (state_text machine.now)) }
+    ensures ok { OnOk result (Appends (W.contents out.old) (W.contents out.new) (digest_text machine.now)) }
+    ensures err { OnErr result (AppendsProperPrefix (W.contents out.old) (W.contents out.new) (digest_text machine.now)) }
     ensures room { length snapshot.new ≡ length snapshot.old }
 {
     encode(machine, snapshot);
@@ -355,7 +410,7 @@ fn digest_text(digest: [u8; 32]) -> Option<ArrayString<80>>
     let digits = digest_digits(digest);
     let digits = digits.as_str();
     let mut text = ArrayString::new();
-    match writeln!(text, "state {digits}") {
+    match writeln!(text, "digest {digits}") {
         Ok(()) => Some(text),
         Err(_) => None,
     }

@@ -7,6 +7,7 @@
 mod answering;
 mod banks;
 pub mod error;
+mod given;
 mod memory;
 mod obeying;
 pub mod order;
@@ -15,4 +16,4 @@ mod run;
 
 pub use error::DebugError;
 pub use obeying::LineDebugger;
-pub use order::{Order, Place, Span, read_order};
+pub use order::{Order, Place, Span, read_order, read_restore};

@@ -2,15 +2,16 @@
 
 ghost use Rattle.std.specs.Prelude.{◌≡◌, IfErr, IfOk, OnOk};
 ghost use Rattle.machine.specs.Machine.{MachineState};
+ghost use Rattle.snapshot.specs.Legal.{IsOfImage};
 ghost use Rattle.debugging.specs.Run.{begun};
 ghost use Rattle.debugging.specs.Debugged.{HasAnsweredAll, IsDebugCause};
 
-use crate::answering::{answer, write_wrong};
+use crate::answering::{answer, restore, write_wrong};
 use crate::error::DebugError;
+use crate::given::{NextGiven, next_given};
 use crate::run::Run;
 use arrayvec::ArrayVec;
 use cartridge::Cartridge;
-use input_lines::{NextLine, next_line};
 use machine::Machine;
 use memory_map::Region;
 use snapshot::length;
@@ -81,10 +82,21 @@ impl LineDebugger {
     /// | `bank ADDR` | nothing | `bank XXXX`, the number of the bank that is mapped at an address, or 0 |
     /// | `serial` | nothing | `serial K`, K bytes that were sent since the last `serial`, at most the last 65,536, and a newline |
     /// | `picture` | nothing | the picture as plain PGM |
-    /// | `state` | nothing | `state` and the SHA-256 of the machine's snapshot |
+    /// | `state` | nothing | `state K`, and the K bytes of the machine's snapshot |
+    /// | `restore K`, and K bytes | the machine becomes the one of this snapshot; the history is empty then | `restored` |
+    /// | `digest` | nothing | `digest` and the SHA-256 of the machine's snapshot |
     ///
-    /// Refusals: input failed, once every whole line is answered; output failed, where a proper prefix of the answers went out.
-    pub fn obey<R: Read, W: Write>(self, input: &mut R, out: &mut W) -> Result<(), DebugError>
+    /// The bytes of `restore` stand right behind its newline, and the next line behind them. Where they are no snapshot of this cartridge,
+    /// or fewer to the end of the input, nothing is done, and the line is wrong. So it is, with no bytes behind it, where K is more than 1,048,576.
+    ///
+    /// Refusals: input failed, once every line that is whole, with its bytes, is answered; output failed, where a proper prefix of the answers went out.
+    pub fn obey<R: Read, W: Write>(
+        self,
+        cartridge: &Cartridge,
+        input: &mut R,
+        out: &mut W,
+    ) -> Result<(), DebugError>
+        requires { IsOfImage cartridge.now self.debugger.machine }
         ensures answered { OnOk result (HasAnsweredAll self
             (record { unread = R.remaining input.old; left = R.remaining input.new; before = W.contents out.old; since = W.contents out.new })) }
         ensures refused { IfErr result (λ why. IsDebugCause why self
@@ -97,21 +109,34 @@ impl LineDebugger {
         } = self;
         let mut unread = ArrayVec::new();
         for number in 1..u64::MAX {
-            match next_line(&mut unread, input) {
-                NextLine::Line(line) => {
+            match next_given(&mut unread, input, &mut snapshot) {
+                NextGiven::Line(line) => {
                     let answered = answer(run, line.as_slice(), number, rom, &mut snapshot, out);
                     run = answered.run;
                     if answered.written.is_err() {
                         return Err(DebugError::Output);
                     }
                 }
-                NextLine::TooLong => {
+                NextGiven::State => {
+                    let answered = restore(run, cartridge, &snapshot, number, out);
+                    run = answered.run;
+                    if answered.written.is_err() {
+                        return Err(DebugError::Output);
+                    }
+                }
+                NextGiven::Wrong => {
                     if write_wrong(number, out).is_err() {
                         return Err(DebugError::Output);
                     }
                 }
-                NextLine::End => return Ok(()),
-                NextLine::Failed => return Err(DebugError::Input),
+                NextGiven::Last => {
+                    if write_wrong(number, out).is_err() {
+                        return Err(DebugError::Output);
+                    }
+                    return Ok(());
+                }
+                NextGiven::End => return Ok(()),
+                NextGiven::Failed => return Err(DebugError::Input),
             }
         }
         Ok(())

@@ -4,7 +4,7 @@ ghost use Rattle.std.specs.Prelude.{◌≡◌, ◌≤◌, IfSome, ◌<◌, ◌^�
 ghost use Rattle.std.specs.Option.{option_map};
 ghost use Rattle.std.specs.Str.{bytes_eq};
 ghost use Rattle.script.specs.Line.{words_of};
-ghost use Rattle.debugging.specs.Orders.{address_of, hex_of, order_of, order_of_few, order_of_move, order_of_one, order_of_span, order_of_three, order_of_two, order_of_words, place_of, places_of, room_of, span_of, steps_of, until_order};
+ghost use Rattle.debugging.specs.Orders.{address_of, hex_of, order_of, order_of_few, order_of_move, order_of_one, order_of_span, order_of_three, order_of_two, order_of_words, place_of, places_of, restore_of, restore_of_words, room_of, span_of, steps_of, until_order};
 ghost use Rattle.debugging.specs.Words.{words_after};
 
 use arrayvec::ArrayVec;
@@ -26,6 +26,9 @@ const BANK_DIGITS: usize = 3;
 
 /// The most lines, or bytes, that one order lists.
 const MOST_ROOM: u32 = 65_536;
+
+/// The most bytes that a line asks for.
+const MOST_GIVEN: u32 = 1_048_576;
 
 /// The most places at which a run stops.
 pub const MOST_PLACES: usize = 16;
@@ -103,8 +106,10 @@ pub enum Order {
     Serial,
     /// The picture as it is now.
     Picture,
-    /// The digest of the machine's snapshot.
+    /// The machine's snapshot.
     State,
+    /// The digest of the machine's snapshot.
+    Digest,
 }
 
 /// What one line asks for, without its newline. `None` if it is wrong, or if it has more than 128 bytes; an empty line is wrong here.
@@ -118,6 +123,30 @@ pub fn read_order(line: &[u8]) -> Option<Order>
         Some(a_move) => order_of_move(a_move),
         None => read_words(line),
     }
+}
+
+/// How many bytes `restore N` asks for behind its newline: N. `None`: it is another line.
+pub fn read_restore(line: &[u8]) -> Option<u32>
+    ensures { result ≡ restore_of line.now }
+{
+    if line.len() > MOST_BYTES {
+        return None;
+    }
+    read_restore_words(line)
+}
+
+fn read_restore_words(line: &[u8]) -> Option<u32>
+    ensures { result ≡ restore_of_words (words_of line.now) }
+{
+    let (name, rest) = cut(line, SPACE);
+    let (word, rest) = cut(rest?, SPACE);
+    if rest.is_some() {
+        return None;
+    }
+    if !is_word(name, b"restore") {
+        return None;
+    }
+    read_count(word, 1, MOST_GIVEN)
 }
 
 fn order_of_move(a_move: Move) -> Option<Order>
@@ -176,6 +205,9 @@ fn with_none(name: &[u8]) -> Option<Order>
     }
     if is_word(name, b"state") {
         return Some(Order::State);
+    }
+    if is_word(name, b"digest") {
+        return Some(Order::Digest);
     }
     None
 }

@@ -7,7 +7,9 @@ ghost use Rattle.memory_map.specs.BusRules.{bus_rules};
 ghost use Rattle.sm83_processor.specs.Steps.{step_of};
 ghost use Rattle.memory_map.specs.State.{BusState};
 ghost use Rattle.sm83_processor.specs.declared.processor.Processor.{Processor};
-ghost use Rattle.debugging.specs.Answers.{until_change_steps, until_opcode_steps, until_read_steps, until_steps, until_write_steps};
+ghost use Rattle.snapshot.specs.Legal.{IsOfImage};
+ghost use Rattle.debugging.specs.States.{is_given};
+ghost use Rattle.debugging.specs.Answers.{after_restore, until_change_steps, until_opcode_steps, until_read_steps, until_steps, until_write_steps};
 ghost use Rattle.debugging.specs.Run.{after_frame, after_frames, after_seconds, after_steps_of, begun, is_at, is_bank, is_before, is_changed, is_place, processor_of, steps_up_to};
 ghost use Rattle.debugging.specs.Quiet.{HasRom, IsQuietFor, Makes, MakesIn, StopsBefore, StopsIn, has_pc, is_aim, is_interrupted, is_next, is_waiting};
 
@@ -15,10 +17,12 @@ use crate::banks::bank_at;
 use crate::order::{Place, Span};
 use crate::probe::{is_reading, is_writing};
 use arrayvec::ArrayVec;
+use cartridge::Cartridge;
 use circular_buffer::HeapCircularBuffer;
 use debugger::{Debugger, RunRoom, Stop, WatchedStep};
 use machine::{Executed, Input, Machine, Memory, Processor, Stepped, Watched};
 use memory_map::Bus;
+use snapshot::decode_into;
 use std::alloc::{AllocError, Global};
 use std::marker::Model;
 
@@ -67,6 +71,13 @@ pub(crate) struct RunStep {
 pub(crate) struct RunUntil {
     pub(crate) run: Run,
     pub(crate) is_there: bool,
+}
+
+/// A run whose machine may have been given as its snapshot, and whether it was.
+#[derive(Drop)]
+pub(crate) struct RunRestored {
+    pub(crate) run: Run,
+    pub(crate) is_restored: bool,
 }
 
 /// Where a run stops.
@@ -362,6 +373,36 @@ impl Run {
         Run {
             debugger: Debugger::from_parts(machine, history),
             sent,
+        }
+    }
+
+    /// Makes the machine the one of these bytes, if they are a snapshot of the cartridge. Condition: the machine is one of it.
+    pub(crate) fn restore(self, cartridge: &Cartridge, bytes: &[u8]) -> RunRestored
+        requires { IsOfImage cartridge.now self.debugger.machine }
+        ensures run { result.run ≡ after_restore (length bytes.now) bytes.now self }
+        ensures restored { result.is_restored ≡ is_given (length bytes.now) bytes.now self }
+        ensures of { IsOfImage cartridge.now result.run.debugger.machine }
+    {
+        let Run { debugger, sent } = self;
+        let (mut machine, mut kept) = debugger.into_parts();
+        match decode_into(bytes, cartridge, &mut machine) {
+            Ok(()) => {
+                kept.clear();
+                RunRestored {
+                    run: Run {
+                        debugger: Debugger::from_parts(machine, kept),
+                        sent,
+                    },
+                    is_restored: true,
+                }
+            }
+            Err(_) => RunRestored {
+                run: Run {
+                    debugger: Debugger::from_parts(machine, kept),
+                    sent,
+                },
+                is_restored: false,
+            },
         }
     }
 

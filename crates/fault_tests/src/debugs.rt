@@ -18,7 +18,7 @@ list 100 1
 memory fffe 20
 serial
 seconds 1
-state
+digest
 ";
 
 const ANSWERS: &[u8] = b"\
@@ -37,11 +37,11 @@ FFFE 00 00 00 00 00 00 00 00 00 00 00 00 00 00 00 00
 serial 0
 
 done
-state 7dfcfa765a7b584768255af000363b76704ea319d67eb66de4bb4b2d03e618a1
+digest 7dfcfa765a7b584768255af000363b76704ea319d67eb66de4bb4b2d03e618a1
 ";
 
 /// How many bytes of the answers are those to so many lines.
-const ENDS: [usize; 13] = [0, 38, 100, 100, 108, 121, 132, 180, 199, 269, 279, 284, 355];
+const ENDS: [usize; 13] = [0, 38, 100, 100, 108, 121, 132, 180, 199, 269, 279, 284, 356];
 
 /// The lines up to an end, so many bytes a read. Then a read fails.
 #[derive(Drop)]

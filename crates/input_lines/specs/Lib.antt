@@ -1,2 +1,4 @@
 pub mod Newlines
 pub mod Reading
+pub mod Taking
+pub mod Given

@@ -21,7 +21,7 @@ const INPUTS: u32 = 5;
 
 const SCRIPT: &[u8] = b"frames 01 2\nseconds 3\nsave\nframe 02\n";
 
-const LINES: &[u8] = b"step 3\nframe 01\nhistory 3\nserial\nstate\nregisters\n";
+const LINES: &[u8] = b"step 3\nframe 01\nhistory 3\nserial\ndigest\nregisters\n";
 
 fn set(bytes: &mut [u8], at: usize, value: u8) {
     if let Some(place) = bytes.get_mut(at) {

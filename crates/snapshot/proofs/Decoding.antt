@@ -5,7 +5,7 @@ use Rattle.std.proofs.lemmas.List.{length-replicate}
 use Rattle.std.proofs.lemmas.List.Elements.{All-contains}
 use Rattle.cartridge.specs.Header.{controller_of, has_rumble, ram_length_of}
 use Rattle.cartridge.specs.declared.controller.Controller.{Controller}
-use Rattle.bank_controllers.specs.CartridgeState.{IsLegalRam, cartridge_at_power_on}
+use Rattle.bank_controllers.specs.CartridgeState.{CartridgeState, IsLegalRam, cartridge_at_power_on}
 use Rattle.bank_controllers.proofs.Legal.{ram_at_power_on}
 use Rattle.machine.specs.declared.machine_without_memory.MachineWithoutMemory.{MachineWithoutMemory}
 use Rattle.machine.specs.Machine.{MachineState, start}
@@ -16,9 +16,9 @@ use Rattle.snapshot.specs.declared.error.SnapError.TheVariants.{SnapLength, Fiel
 use Rattle.snapshot.specs.Encoding.{encoded, snapshot_length}
 use Rattle.snapshot.specs.Table.{bytes, is_legal, ram_rule, kind_of_image, table_of}
 use Rattle.snapshot.specs.Reading.{registers_in, with_stores, machine_in}
-use Rattle.snapshot.specs.Legal.{IsMachineOf, IsLegalSnapshot, IsRefusal}
-use Rattle.snapshot.proofs.Legality.{ram_in, registers_legal}
-use Rattle.snapshot.proofs.Machines.{fields_of, ram_long, ram_legal, machine_legal, encoded_legal}
+use Rattle.snapshot.specs.Legal.{IsMachineOf, IsOfImage, IsLegalSnapshot, IsRefusal}
+use Rattle.snapshot.proofs.Legality.{AreLegalFields, ram_in, registers_legal}
+use Rattle.snapshot.proofs.Machines.{fields_of, in_place, ram_long, ram_legal, machine_legal, encoded_legal}
 use Rattle.snapshot.proofs.Offsets.{kind_is}
 
 zeros_long : (image : List ℕ) → (let zeros : List ℕ = replicate (ram_length_of image) 0 in length zeros) ≡ ram_length_of image
@@ -75,3 +75,38 @@ refused_legal image encoded Memory h legal = refl
 
 pub refused_bytes : (image bytes : List ℕ) (e : SnapError) → IsRefusal image bytes e → (m : MachineState) → IsMachineOf image m → encoded m ≡ bytes → e ≡ Memory
 refused_bytes image bytes e h m of same = refused_legal image bytes e h (subst (λ (t : List ℕ). IsLegalSnapshot image t) same (encoded_legal image m of))
+
+-- ---- in a machine that is there
+
+pub placed_registers : (image bytes : List ℕ) (kind : Controller) (m : MachineState) → IsOfImage image m → ((i : ℕ) → get_or bytes i 0 < 256) → IsLegalSnapshot image bytes → controller_of image ≡ Some kind
+    → AreLegalFor m.processor.memory.banks (registers_in kind bytes)
+placed_registers image bytes kind m of fit legal e =
+    let c : CartridgeState = m.processor.memory.banks in
+    let n : ℕ = ram_length_of image in
+    let by_rumble : AreLegalFields (kind_of_image image) c.rumble n bytes =
+    subst (λ (b : Bool). AreLegalFields (kind_of_image image) b n bytes) (sym of.rumble) (fields_of image bytes legal) in
+    let fields : AreLegalFields c.state.kind c.rumble n bytes = subst (λ (k : Controller). AreLegalFields k c.rumble n bytes) (sym of.kind) by_rumble in
+    let same : c.state.kind ≡ kind = of.kind ∙ kind_is image kind e in
+    subst (λ (k : Controller). AreLegalFor c (registers_in k bytes)) same (registers_legal c n bytes fit fields)
+
+pub placed_length : (image bytes : List ℕ) (m : MachineState) → IsOfImage image m → IsLegalSnapshot image bytes → length bytes ≡ snapshot_length (length m.processor.memory.banks.ram)
+placed_length image bytes m of legal = legal.length ∙ ap snapshot_length (sym of.ram_length)
+
+pub placed_ram :
+    (image encoded : List ℕ) (kind : Controller) (m : MachineState) → IsOfImage image m → controller_of image ≡ Some kind → IsLegalSnapshot image encoded
+    → (length (slice_range encoded 22607 (length encoded)) ≡ length m.processor.memory.banks.ram) × IsLegalRam kind (slice_range encoded 22607 (length encoded))
+placed_ram image encoded kind m of e legal = (
+  ram_long (replicate (ram_length_of image) 0) encoded (ram_length_of image) (zeros_long image) legal.length ∙ zeros_long image ∙ sym of.ram_length,
+  ram_legal kind (replicate (ram_length_of image) 0) encoded (ram_length_of image) (ram_at_power_on image kind e) (zeros_long image) legal.length (ram_rule_holds image encoded kind e legal),
+)
+
+pub placed_is :
+    (image encoded : List ℕ) (kind : Controller) (r : MachineWithoutMemory) (first second third : MachineState) → IsOfImage image first
+    → r ≡ registers_in kind encoded → controller_of image ≡ Some kind → second ≡ restored r first → third ≡ with_stores encoded second → third ≡ machine_in image encoded
+placed_is image encoded kind r first second third of er ek e2 e3 =
+    let same : r ≡ registers_in (kind_of_image image) encoded = er ∙ ap (λ (k : Controller). registers_in k encoded) (sym (kind_is image kind ek)) in
+    e3 ∙ ap (with_stores encoded) (e2 ∙ ap (λ (r : MachineWithoutMemory). restored r first) same) ∙ in_place image encoded first of
+
+-- what names a length or a field is not legal
+pub named_illegal : (image encoded : List ℕ) (e : SnapError) → IsRefusal image encoded e → (e ≡ Memory → ⊥) → IsLegalSnapshot image encoded → ⊥
+named_illegal image encoded e refusal named legal = named (refused_legal image encoded e refusal legal)

@@ -13,12 +13,12 @@ use Rattle.memory_map.specs.Bus.{is_set, digit}
 use Rattle.memory_map.specs.State.{BusState}
 use Rattle.machine.specs.declared.machine_without_memory.MachineWithoutMemory.{MachineWithoutMemory}
 use Rattle.machine.specs.Machine.{MachineState}
-use Rattle.machine.specs.MachineStores.{without_memory, AreLegalFor}
+use Rattle.machine.specs.MachineStores.{without_memory, restored, AreLegalFor}
 use Rattle.snapshot.specs.Encoding.{fixed_fields, unused, picture_bytes, stores_bytes, encoded, snapshot_length}
 use Rattle.snapshot.specs.Table.{bytes, is_legal, ram_rule, kind_of_image, table_of}
-use Rattle.snapshot.specs.Reading.{registers_in, rows_in, machine_in}
+use Rattle.snapshot.specs.Reading.{registers_in, rows_in, machine_in, with_stores}
 use Rattle.machine.specs.Legal.{IsLegalMachine}
-use Rattle.snapshot.specs.Legal.{IsMachineOf, IsLegalSnapshot}
+use Rattle.snapshot.specs.Legal.{IsMachineOf, IsOfImage, IsLegalSnapshot}
 use Rattle.snapshot.proofs.Bytes.{bit_back, digit_small, numbers_at}
 use Rattle.snapshot.proofs.Parts.{AreParts, parts_of, parts_length, parts_join, part_length}
 use Rattle.snapshot.proofs.Pictures.{picture_length, picture_again, rows_back, rows_length, rows_are_rows}
@@ -64,6 +64,14 @@ machine_in_is :
 unfolding machine_in cartridge_at_power_on assemble
 machine_in_is image bytes = refl
 
+-- so does any other machine, whatever its stores and registers were
+in_place_is :
+    (r : MachineWithoutMemory) (bytes : List ℕ) (m : MachineState)
+    → with_stores bytes (restored r m)
+    ≡ assemble r (slice_range bytes 128 8320) (slice_range bytes 8320 16512) (slice_range bytes 16512 16672) (slice_range bytes 16672 16799) (slice_range bytes 16799 16847) (rows_in (slice_range bytes 16847 22607)) (slice_range bytes 22607 (length bytes)) m.processor.memory.banks.rom m.processor.memory.banks.rumble
+unfolding assemble
+in_place_is r bytes m = refl
+
 -- the five requests of IF
 five_back :
     (a b c d e : Bool) → let n = digit a + 2 * digit b + 4 * digit c + 8 * digit d + 16 * digit e in
@@ -105,6 +113,13 @@ assembled_alike :
     → r ≡ r' → vram ≡ vram' → wram ≡ wram' → oam ≡ oam' → hram ≡ hram' → sound ≡ sound' → rows ≡ rows' → ram ≡ ram' → rom ≡ rom' → rumble ≡ rumble'
     → assemble r vram wram oam hram sound rows ram rom rumble ≡ assemble r' vram' wram' oam' hram' sound' rows' ram' rom' rumble'
 assembled_alike r r' vram vram' wram wram' oam oam' hram hram' sound sound' rows rows' ram ram' rom rom' rumble rumble' e0 e1 e2 e3 e4 e5 e6 e7 e8 e9 = cc
+
+-- made of any machine of the image
+pub in_place : (image bytes : List ℕ) (m : MachineState) → IsOfImage image m → with_stores bytes (restored (registers_in (kind_of_image image) bytes) m) ≡ machine_in image bytes
+in_place image bytes m of =
+    in_place_is (registers_in (kind_of_image image) bytes) bytes m
+    ∙ assembled_alike _ _ _ _ _ _ _ _ _ _ _ _ _ _ _ _ _ _ _ _ refl refl refl refl refl refl refl refl of.rom of.rumble
+    ∙ sym (machine_in_is image bytes)
 
 -- ---- the snapshot of a machine
 

@@ -20,6 +20,13 @@ pub record IsMachineOf (image : List ℕ) (m : MachineState) : Type 0 where
   pub rumble : m.processor.memory.banks.rumble ≡ has_rumble image
   pub ram_length : length m.processor.memory.banks.ram ≡ ram_length_of image
 
+-- a machine with this image as its ROM, and the kind, the motor and the length of RAM that the image asks for
+pub record IsOfImage (image : List ℕ) (m : MachineState) : Type 0 where
+  pub rom : m.processor.memory.banks.rom ≡ image
+  pub kind : m.processor.memory.banks.state.kind ≡ kind_of_image image
+  pub rumble : m.processor.memory.banks.rumble ≡ has_rumble image
+  pub ram_length : length m.processor.memory.banks.ram ≡ ram_length_of image
+
 -- ---- snapshots
 
 abbrev pub HasLength : (image bytes : List ℕ) → Type 0
@@ -37,6 +44,12 @@ pub record IsFirstIllegal (fields : List SnapshotField) (bytes : List ℕ) (offs
   pub here : field.offset ≡ offset
   pub illegal : is_legal field bytes ≡ false
   pub least : All (λ other. is_legal other bytes ≡ false → offset ≤ other.offset) fields
+
+-- why bytes are no legal snapshot of this image: their length; else the first field that is not legal
+abbrev pub IsFault : (image bytes : List ℕ) → SnapError → Type 0
+IsFault image bytes (SnapLength n) = (n ≡ length bytes) × (¬ HasLength image bytes)
+IsFault image bytes (Field offset) = HasLength image bytes × IsFirstIllegal (table_of image) bytes offset
+IsFault image bytes Memory = ⊥
 
 -- why bytes give no machine of this image: their length; else the first field that is not legal; and out of memory only
 -- where the snapshot is legal

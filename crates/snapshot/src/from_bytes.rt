@@ -1,11 +1,11 @@
 //! Bytes as a machine.
 
-ghost use Rattle.std.specs.Prelude.{◌≡◌, IfOk, IfErr, IfSome, IfNone, MatchResult, length, slice_range};
+ghost use Rattle.std.specs.Prelude.{◌≡◌, IfOk, IfErr, IfSome, IfNone, MatchResult, OnErr, OnOk, length, slice_range};
 ghost use Rattle.memory_map.specs.Stores.{FitsRegion};
 ghost use Rattle.machine.specs.Machine.{MachineState, picture_rows};
 ghost use Rattle.snapshot.specs.Encoding.{encoded, snapshot_length, length_without_ram};
 ghost use Rattle.snapshot.specs.Reading.{with_rows, with_stores, rows_in};
-ghost use Rattle.snapshot.specs.Legal.{IsMachineOf, IsLegalSnapshot, IsRefusal};
+ghost use Rattle.snapshot.specs.Legal.{IsMachineOf, IsOfImage, IsFault, IsLegalSnapshot, IsRefusal};
 
 use crate::error::SnapError;
 use crate::layout;
@@ -36,6 +36,32 @@ pub fn decode(alloc: Global, bytes: &[u8], cartridge: &Cartridge) -> Result<Mach
     machine.restore(&registers_in(cartridge.controller(), bytes));
     fill_stores(&mut machine, bytes);
     Ok(machine)
+}
+
+/// Makes a machine of this cartridge the one that has this snapshot, without taking memory. Condition: it is one of this cartridge.
+///
+/// Refused with the first of these that holds, with the machine as it was: another length than the cartridge's snapshots have, `SnapLength`; a
+/// field that is not legal, `Field` with the offset of the first one.
+pub fn decode_into(
+    bytes: &[u8],
+    cartridge: &Cartridge,
+    machine: &mut Machine,
+) -> Result<(), SnapError>
+    requires { IsOfImage cartridge.now machine.old }
+    ensures ok { OnOk result (IsMachineOf cartridge.now machine.new × (encoded machine.new ≡ bytes.now)) }
+    ensures all { (m : MachineState) → IsMachineOf cartridge.now m → encoded m ≡ bytes.now → MatchResult result (λ done. machine.new ≡ m) (λ error. ⊥) }
+    ensures err { IfErr result (IsFault cartridge.now bytes.now) }
+    ensures refused { OnErr result ((machine.new ≡ machine.old) × (¬ IsLegalSnapshot cartridge.now bytes.now)) }
+{
+    if let Some(why) = fault(bytes, cartridge) {
+        return Err(why);
+    }
+    // there are 144 rows
+    let _known = machine.state();
+    let registers = registers_in(cartridge.controller(), bytes);
+    machine.restore(&registers);
+    fill_stores(machine, bytes);
+    Ok(())
 }
 
 /// Sets the stores and the picture.
@@ -73,6 +99,8 @@ fn fill_stores(machine: &mut Machine, bytes: &[u8])
 fn fault(bytes: &[u8], cartridge: &Cartridge) -> Option<SnapError>
     ensures none { IfNone result (IsLegalSnapshot cartridge.now bytes.now) }
     ensures some { IfSome result (IsRefusal cartridge.now bytes.now) }
+    ensures named { IfSome result (IsFault cartridge.now bytes.now) }
+    ensures illegal { IfSome result (λ why. ¬ IsLegalSnapshot cartridge.now bytes.now) }
 {
     let ram = cartridge.ram_length();
     if bytes.len() != length(ram) {

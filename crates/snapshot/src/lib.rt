@@ -16,7 +16,7 @@ mod to_bytes;
 
 pub use error::SnapError;
 pub use field::{Rule, SnapshotField};
-pub use from_bytes::decode;
+pub use from_bytes::{decode, decode_into};
 pub use laws::{
     a_legal_snapshot_is_a_machine, one_snapshot_is_one_machine, snapshots_are_legal,
     the_start_is_a_machine,

@@ -4,6 +4,8 @@ use Rattle.snapshot.specs.declared.field.SnapshotField.{SnapshotField}
 use Rattle.snapshot.specs.Table.{is_legal}
 use Rattle.snapshot.specs.Ascending.{IsAscending}
 use Rattle.snapshot.specs.Legal.{IsFirstIllegal}
+use Rattle.snapshot.proofs.Decoding.{named_illegal}
+use Rattle.snapshot.specs.declared.error.SnapError.TheVariants as SnapError
 use Rattle.snapshot.proofs.Offsets.{table_ascends, table_is, ram_small}
 use Rattle.snapshot.proofs.from_bytes.fault.Goals as goal
 
@@ -19,6 +21,9 @@ returns-in-Some-clause-some c =
       subst (λ (fields : List SnapshotField). IsFirstIllegal fields c.args.bytes.now c.in-Some.offset) same c.in-Some.ensures.some,
     )
 
+pub returns-in-Some-clause-named : goal.returns-in-Some-clause-named
+returns-in-Some-clause-named c = returns-in-Some-clause-some c
+
 pub returns-in-None-clause-none : goal.returns-in-None-clause-none
 returns-in-None-clause-none c =
     let small : c.ram_length-ram.result ≤ 131072 = ram_small c.ram_length-ram.result c.ram_length-ram.ensures.listed in
@@ -27,3 +32,6 @@ returns-in-None-clause-none c =
       length = omega (arith, c.length.ensures, c.ram_length-ram.ensures.header, c.if-bytes-length.false, small);
       fields = subst (λ (fields : List SnapshotField). All (λ field. is_legal field c.args.bytes.now ≡ true) fields) same c.in-None.ensures.none;
     }
+
+pub returns-in-Some-clause-illegal : goal.returns-in-Some-clause-illegal
+returns-in-Some-clause-illegal c = named_illegal c.args.cartridge.now c.args.bytes.now (SnapError.Field c.in-Some.offset) (returns-in-Some-clause-some c) (λ same. cc)

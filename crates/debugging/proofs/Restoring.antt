@@ -1,0 +1,88 @@
+-- A machine that is given as its snapshot.
+use Rattle.std.proofs.Common.{◌≡◌, ◌≢◌, ◌⊎◌, inl, inr, ℕ, ◌<◌, Bool, true, false, List, [], ◌∷◌, length, Option, None, Some, refl, sym, ap, subst, ◌∙◌, arith, ◌&&◌, ◌==◌}
+use Rattle.std.specs.Prelude.{if◌then◌else◌, nat_le}
+use Rattle.std.specs.List.{All, list_all}
+use Rattle.std.proofs.lemmas.Bool.{eqb-true, eqb-false, eq-eqb, cases_Bool, lt-leb, and_parts}
+use Rattle.std.proofs.lemmas.Bool.Decides.{nat_tests}
+use Rattle.std.proofs.lemmas.List.Elements.{All-nil, All-cons, All-head, All-tail}
+use Rattle.cartridge.specs.Header.{ram_length_of}
+use Rattle.machine.specs.Machine.{MachineState}
+use Rattle.snapshot.specs.declared.field.SnapshotField.{SnapshotField}
+use Rattle.snapshot.specs.Encoding.{encoded, snapshot_length}
+use Rattle.snapshot.specs.Legal.{IsMachineOf, IsOfImage, IsLegalSnapshot}
+use Rattle.snapshot.specs.Reading.{machine_in}
+use Rattle.snapshot.specs.Table.{is_legal, table_of}
+use Rattle.snapshot.proofs.Machines.{machine_back, encoded_legal}
+use Rattle.debugger.specs.History.{DebuggerState}
+use Rattle.sm83_processor.specs.declared.step.Executed.{Executed}
+use Rattle.debugging.specs.Run.{RunState, processor_of}
+use Rattle.debugging.specs.States.{is_given, is_snapshot, restored, rom_of}
+use Rattle.debugging.specs.Answers.{after_given, after_restore, answer_given, answer_restore, wrong_line}
+use Rattle.debugging.specs.Orders.{order_of, restore_of}
+
+all_true : {X : Type 0} (p : X → Bool) (xs : List X) → All (λ x. p x ≡ true) xs → list_all p xs ≡ true
+all_true p [] h = refl
+all_true p (x ∷ xs) h = rw (All-head (λ x. p x ≡ true) x xs h, all_true p xs (All-tail (λ x. p x ≡ true) x xs h)) refl
+
+true_all : {X : Type 0} (p : X → Bool) (xs : List X) → list_all p xs ≡ true → All (λ x. p x ≡ true) xs
+true_all p [] e = All-nil (λ x. p x ≡ true)
+true_all p (x ∷ xs) e = let both = and_parts _ _ e in All-cons (λ x. p x ≡ true) x xs both.0 (true_all p xs both.1)
+
+pub legal_is : (rom bytes : List ℕ) → IsLegalSnapshot rom bytes → is_snapshot rom bytes ≡ true
+legal_is rom bytes legal = rw (eq-eqb (length bytes) (snapshot_length (ram_length_of rom)) legal.length, all_true (λ (field : SnapshotField). is_legal field bytes) (table_of rom) legal.fields) refl
+
+pub is_legal_snapshot : (rom bytes : List ℕ) → is_snapshot rom bytes ≡ true → IsLegalSnapshot rom bytes
+is_legal_snapshot rom bytes e =
+    let both = and_parts _ _ e in
+    record { length = eqb-true _ _ both.0; fields = true_all (λ (field : SnapshotField). is_legal field bytes) (table_of rom) both.1 }
+
+not_true : (b : Bool) → (b ≡ true → ⊥) → b ≡ false
+not_true true never = absurd (never refl)
+not_true false never = refl
+
+itself : (bytes : List ℕ) → (length bytes == length bytes) ≡ true
+itself bytes = eq-eqb (length bytes) (length bytes) refl
+
+pub is_given_legal : (rom bytes : List ℕ) (r : RunState) → rom_of r ≡ rom → IsLegalSnapshot rom bytes → is_given (length bytes) bytes r ≡ true
+is_given_legal rom bytes r is legal = rw (itself bytes, is) (legal_is rom bytes legal)
+
+pub is_given_illegal : (rom bytes : List ℕ) (r : RunState) → rom_of r ≡ rom → (IsLegalSnapshot rom bytes → ⊥) → is_given (length bytes) bytes r ≡ false
+is_given_illegal rom bytes r is illegal = rw (itself bytes, is) (not_true (is_snapshot rom bytes) (λ e. illegal (is_legal_snapshot rom bytes e)))
+
+pub given_machine : (rom bytes : List ℕ) (m : MachineState) → IsMachineOf rom m → encoded m ≡ bytes → IsLegalSnapshot rom bytes × (machine_in rom bytes ≡ m)
+given_machine rom bytes m of same =
+    (subst (IsLegalSnapshot rom) same (encoded_legal rom m of), ap (machine_in rom) (sym same) ∙ machine_back rom m of)
+
+module _ (rom bytes : List ℕ) (r : RunState) (of : IsOfImage rom r.debugger.machine) where
+  pub machine_given : (m : MachineState) → IsMachineOf rom m → encoded m ≡ bytes
+      → (is_given (length bytes) bytes r ≡ true) × (after_restore (length bytes) bytes r ≡ record r { debugger = record r.debugger { machine = m; history = [] } })
+  machine_given m is same =
+      let made = given_machine rom bytes m is same in
+      let t = is_given_legal rom bytes r of.rom made.0 in
+      let here : machine_in (rom_of r) bytes ≡ m = ap (λ (x : List ℕ). machine_in x bytes) of.rom ∙ made.1 in
+      (t, rw (t, here) refl)
+
+  pub nothing_given : (IsLegalSnapshot rom bytes → ⊥) → (is_given (length bytes) bytes r ≡ false) × (after_restore (length bytes) bytes r ≡ r)
+  nothing_given illegal =
+      let f = is_given_illegal rom bytes r of.rom illegal in
+      (f, rw f refl)
+
+-- a run of the parts of another one
+pub given_run : (r : RunState) (d : DebuggerState) (m : MachineState) (size : ℕ) (history : List Executed) (sent : List ℕ) → d ≡ record { machine = m; size = size; history = history } → size ≡ r.debugger.size → history ≡ []
+    → sent ≡ r.sent → record { debugger = d; sent = sent } ≡ record r { debugger = record r.debugger { machine = m; history = [] } }
+given_run r d m size history sent is same none kept = rw (is, same, none, kept) refl
+
+pub same_run : (r : RunState) (d : DebuggerState) (m : MachineState) (size : ℕ) (history : List Executed) (sent : List ℕ) → d ≡ record { machine = m; size = size; history = history } → m ≡ r.debugger.machine
+    → size ≡ r.debugger.size → history ≡ r.debugger.history → sent ≡ r.sent → record { debugger = d; sent = sent } ≡ r
+same_run r d m size history sent is machine same all kept = rw (is, machine, same, all, kept) refl
+
+-- bytes that are not as many as they are said to be, or as a snapshot has
+not_equal : (a b : ℕ) → (a ≡ b → ⊥) → (a == b) ≡ false
+not_equal a b never = not_true (a == b) (λ e. never (eqb-true a b e))
+
+pub is_given_short : (n : ℕ) (bytes : List ℕ) (r : RunState) → (length bytes ≢ n) ⊎ (n ≢ snapshot_length (ram_length_of (rom_of r))) → is_given n bytes r ≡ false
+is_given_short n bytes r (inl other) = rw (not_equal (length bytes) n other) refl
+is_given_short n bytes r (inr other) = not_true (is_given n bytes r) (λ e.
+    let both = and_parts _ _ e in
+    let legal = and_parts _ _ both.1 in
+    other (sym (eqb-true _ _ both.0) ∙ eqb-true _ _ legal.0))

@@ -1,0 +1,23 @@
+-- A machine that is given as its snapshot.
+use Rattle.std.specs.Prelude.{ℕ, ◌==◌, ◌&&◌, Bool, List, [], length}
+use Rattle.std.specs.List.{list_all}
+use Rattle.cartridge.specs.Header.{ram_length_of}
+use Rattle.snapshot.specs.Encoding.{snapshot_length}
+use Rattle.snapshot.specs.Reading.{machine_in}
+use Rattle.snapshot.specs.Table.{is_legal, table_of}
+use Rattle.debugging.specs.Run.{RunState, processor_of}
+
+abbrev pub rom_of : RunState → List ℕ
+rom_of r = (processor_of r).memory.banks.rom
+
+-- as long as the snapshots of this cartridge, and each field legal
+abbrev pub is_snapshot : (rom bytes : List ℕ) → Bool
+is_snapshot rom bytes = length bytes == snapshot_length (ram_length_of rom) && list_all (λ field. is_legal field bytes) (table_of rom)
+
+-- all n bytes are there, and they are a snapshot of the cartridge
+abbrev pub is_given : ℕ → List ℕ → RunState → Bool
+is_given n bytes r = length bytes == n && is_snapshot (rom_of r) bytes
+
+-- the machine of this snapshot; none of its instructions are kept, so the history is empty then
+abbrev pub restored : List ℕ → RunState → RunState
+restored bytes r = record r { debugger = record r.debugger { machine = machine_in (rom_of r) bytes; history = [] } }
