@@ -2,6 +2,12 @@
 RT ?= rt
 PREFIX ?= $(HOME)/.local
 PROGRAM := crates/gbkeep_program
+# empty, or arm64: what is built for it lies in bin/arm64
+ARCH ?=
+OUT := bin$(if $(ARCH),/$(ARCH))
+ifneq ($(filter-out arm64,$(ARCH)),)
+$(error ARCH is arm64, or left out for this computer)
+endif
 SOURCES := crates.txt $(shell find crates -name out -prune -o -type f \( -name '*.rt' -o -name '*.antt' \) -print)
 
 help:
@@ -15,7 +21,9 @@ help:
 	@echo '  make libretro        leaves bin/gbkeep_libretro.so, a core for RetroArch and its kind (needs a C compiler and retroarch-dev)'
 	@echo '  make library         proves the library for C, and leaves bin/libgbkeep.a, bin/libgbkeep.so, bin/gbkeep.h and bin/gbkeep.pc (needs a C'
 	@echo '                       compiler)'
-	@echo '  make dist            leaves a tarball and Debian packages in dist (needs dpkg-deb)'
+	@echo '  make dist            leaves a tarball and Debian packages in dist, and their sums (needs dpkg-deb and a C compiler)'
+	@echo '                       (build, library, libretro and dist take ARCH=arm64: all is left in bin/arm64 and dist/arm64; needs'
+	@echo '                       gcc-aarch64-linux-gnu)'
 	@echo '  make run             tries the program on a small ROM before any proof (a minute, each time; about 50 frames a second;'
 	@echo '                       ARGS="info data/rom.gb": on other words, over files of $(PROGRAM))'
 	@echo
@@ -32,8 +40,17 @@ help:
 	@echo '  make memory          refuses each allocation in turn (20 seconds once both programs are built; needs a C compiler)'
 	@echo '  make test-window     plays the demo by real keys in a window of its own and kills it (two minutes; needs xvfb, xdotool, python3-pygame)'
 	@echo '  make test-library    plays by the library from C and from Python, under the sanitizers, and cuts it at each call (a minute)'
+	@echo '  make test-arm64      runs the program for aarch64 by qemu: program tests, damaged files, comparisons, recordings, battery files, and games'
+	@echo '                       that go from one processor to the other (SECONDS=20 a kind; needs qemu-user-static, and make build ARCH=arm64)'
+	@echo '  make test-packages   looks at the packages of dist by lintian, and installs, upgrades and removes them in a system of their own (ten'
+	@echo '                       minutes; needs lintian, debootstrap and root)'
+	@echo '  make test-reproducible'
+	@echo '                       builds it all again in a clone of another name, and compares each byte with dist'
+	@echo '  make test-slow-disk  plays in the window and by the core while each sync takes 300 ms (a minute; needs what make test-window needs)'
+	@echo '  make test-cards      cuts the power of a card with exFAT or vfat in a virtual machine, and looks at what it may hold (four minutes; KERNEL: a'
+	@echo '                       folder that a linux-image of Debian was unpacked into; scripts/second_storage/cards.py says what it needs)'
 	@echo '  make test-libretro   plays the demo by the core, kills it at each point, and gives it a program that answers garbage (two minutes; needs'
-	@echo '                       what make libretro needs, and a compiler with the sanitizers)'
+	@echo '                       what make libretro needs, and a compiler with the sanitizers); in RetroArch, where that is there'
 
 ARGS ?= step data/rom.gb 2
 
@@ -43,29 +60,14 @@ run:
 bin/gbkeep: $(SOURCES)
 	@RT=$(RT) JOBS=$(JOBS) python3 -B scripts/build.py
 
-build: bin/gbkeep
+BY_ARM64 := $(addprefix scripts/arm64/,target.py os.c start.S)
+bin/arm64/gbkeep: $(SOURCES) $(BY_ARM64) library/heap.c
+	@RT=$(RT) JOBS=$(JOBS) python3 -B scripts/build.py arm64
 
-# each is installed as gbkeep-NAME
-TOOLS := window script rest movie film branch verify png battery
+build: $(OUT)/gbkeep
 
-# what testers have: one folder that works alone, from which these two are installed as gbkeep-run-tests and gbkeep-debug
-TESTERS := testers/run.py testers/debug.py
-TESTER_FILES := testers/symbols.py testers/memory_pictures.py $(addprefix players/,faults.py gbkeep.py input_files.py new_files.py png.py script.py tools.py)
-
-install: bin/gbkeep
-	install -D -m 755 bin/gbkeep $(DESTDIR)$(PREFIX)/bin/gbkeep
-	install -D -m 644 docs/gbkeep.1 $(DESTDIR)$(PREFIX)/share/man/man1/gbkeep.1
-	install -D -m 644 completions/gbkeep.bash $(DESTDIR)$(PREFIX)/share/bash-completion/completions/gbkeep
-	install -d $(DESTDIR)$(PREFIX)/share/gbkeep
-	install -m 755 $(TOOLS:%=players/%.py) $(DESTDIR)$(PREFIX)/share/gbkeep
-	install -m 644 players/faults.py players/gbkeep.py players/timed_game.py players/slots.py players/window_files.py players/window_keys.py $(DESTDIR)$(PREFIX)/share/gbkeep
-	install -m 644 players/input_files.py players/new_files.py players/tools.py scripts/second_storage/save_files.py $(DESTDIR)$(PREFIX)/share/gbkeep
-	for tool in $(TOOLS); do ln -sf ../share/gbkeep/$$tool.py $(DESTDIR)$(PREFIX)/bin/gbkeep-$$tool; done
-	install -d $(DESTDIR)$(PREFIX)/share/gbkeep-testers
-	install -m 755 $(TESTERS) $(DESTDIR)$(PREFIX)/share/gbkeep-testers
-	install -m 644 $(TESTER_FILES) $(DESTDIR)$(PREFIX)/share/gbkeep-testers
-	ln -sf ../share/gbkeep-testers/run.py $(DESTDIR)$(PREFIX)/bin/gbkeep-run-tests
-	ln -sf ../share/gbkeep-testers/debug.py $(DESTDIR)$(PREFIX)/bin/gbkeep-debug
+install: $(OUT)/gbkeep
+	python3 -B packaging/installed.py --destdir "$(DESTDIR)" "$(PREFIX)"
 
 check:
 ifdef CRATE
@@ -121,23 +123,36 @@ play: bin/gbkeep
 CC ?= cc
 LIBRETRO ?= /usr/include/libretro-common
 
-bin/gbkeep_libretro.so: players/libretro/gbkeep_libretro.c players/libretro/faults_h.py players/faults.py
-	mkdir -p bin/libretro
-	python3 -B players/libretro/faults_h.py > bin/libretro/faults.h
-	$(CC) -std=c11 -O2 -Wall -Wextra -fPIC -shared -Ibin/libretro -I$(LIBRETRO) -o $@ players/libretro/gbkeep_libretro.c
+$(OUT)/gbkeep_libretro.so: scripts/libretro.py players/libretro/gbkeep_libretro.c players/libretro/faults_h.py players/faults.py
+	CC="$(CC)" LIBRETRO="$(LIBRETRO)" python3 -B scripts/libretro.py $(ARCH)
 
-libretro: bin/gbkeep_libretro.so
+libretro: $(OUT)/gbkeep_libretro.so
 
-library: bin/libgbkeep.so
+library: $(OUT)/libgbkeep.so
 
-bin/libgbkeep.so: $(SOURCES) $(wildcard library/*) scripts/library.py players/faults.py
-	RT=$(RT) python3 -B scripts/library.py
+$(OUT)/libgbkeep.so: $(SOURCES) $(wildcard library/*) scripts/library.py $(if $(ARCH),scripts/arm64/target.py) players/faults.py
+	RT=$(RT) python3 -B scripts/library.py $(ARCH)
 
 test-library: bin/gbkeep bin/libgbkeep.so
 	python3 -B library/test_library.py bin/gbkeep
 
-dist: bin/gbkeep
-	RT=$(RT) python3 -B scripts/dist.py
+dist: $(OUT)/gbkeep $(OUT)/libgbkeep.so $(if $(wildcard $(LIBRETRO)/libretro.h),$(OUT)/gbkeep_libretro.so)
+	RT=$(RT) python3 -B scripts/dist.py $(ARCH)
+
+test-arm64: bin/gbkeep bin/arm64/gbkeep
+	python3 -B scripts/arm64/test_arm64.py bin/gbkeep bin/arm64 $(SECONDS)
+
+test-packages:
+	python3 -B packaging/test_packages.py dist
+
+test-reproducible:
+	RT=$(RT) python3 -B packaging/test_reproducible.py $(ARCH)
+
+test-cards: bin/gbkeep
+	python3 -B scripts/second_storage/cards.py bin/gbkeep "$(KERNEL)"
+
+test-slow-disk: bin/gbkeep bin/gbkeep_libretro.so
+	CC="$(CC)" $(PYTHON) -B players/test_slow_disk.py bin/gbkeep
 
 test-window: bin/gbkeep
 	$(PYTHON) -B players/test_window.py bin/gbkeep
@@ -145,6 +160,7 @@ test-window: bin/gbkeep
 test-libretro: bin/gbkeep bin/gbkeep_libretro.so
 	CC="$(CC)" python3 -B players/libretro/test_libretro.py bin/gbkeep bin/gbkeep_libretro.so
 	CC="$(CC)" LIBRETRO="$(LIBRETRO)" python3 -B players/libretro/test_garbage.py
+	if command -v retroarch > /dev/null; then python3 -B players/libretro/test_retroarch.py bin/gbkeep bin/gbkeep_libretro.so; else echo 'there is no retroarch: it was not tried'; fi
 
 memory: bin/gbkeep
 	cd crates/refused_memory && $(RT) run > /dev/null
@@ -162,6 +178,7 @@ test:
 	python3 -B scripts/front_door.py $(PROGRAM)/out/gbkeep_program
 	python3 -B players/test_players.py $(PROGRAM)/out/gbkeep_program
 	python3 -B players/test_slots.py $(PROGRAM)/out/gbkeep_program
+	python3 -B players/test_shown_game.py $(PROGRAM)/out/gbkeep_program
 	python3 -B players/test_window_parts.py
 	if [ -e $(LIBRETRO)/libretro.h ]; then $(MAKE) bin/gbkeep_libretro.so && \
 	python3 -B players/libretro/test_libretro.py $(PROGRAM)/out/gbkeep_program bin/gbkeep_libretro.so && \
@@ -179,4 +196,4 @@ test:
 	python3 -B scripts/second_storage/refused_memory.py $(PROGRAM)/out/gbkeep_program crates/refused_memory/out/refused_memory
 	RT=$(RT) python3 -B scripts/dist.py passed $(PROGRAM)/out/gbkeep_program
 
-.PHONY: help build demo play install libretro dist run check edits test bench compare hostile fuzz strace memory test-window test-libretro library test-library
+.PHONY: help build demo play install libretro dist run check edits test bench compare hostile fuzz strace memory test-window test-libretro library test-library test-arm64 test-packages test-reproducible test-slow-disk test-cards

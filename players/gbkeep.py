@@ -191,10 +191,14 @@ class Game:
                 begin_recording(cart, recording, program=program)
             begin(cart, save, program)
         words = ['record', '--', str(cart), str(save), str(recording)] if recording else ['stream', '--', str(cart), str(save)]
+        self._start(program, words)
+
+    def _start(self, program: str, words: list[str], **how: object) -> None:
+        """Starts the program, and waits until it has taken up the game."""
         self.command = words[0]
         # a Ctrl-C or the end of a login is for the caller: the program goes on, and saves what is unsaved when it is closed
         self.process = started([program, *words], stdin=subprocess.PIPE, stdout=subprocess.PIPE, stderr=subprocess.PIPE, bufsize=0,
-                               preexec_fn=lambda: [signal.signal(one, signal.SIG_IGN) for one in (signal.SIGINT, signal.SIGTERM, signal.SIGHUP)])
+                               preexec_fn=lambda: [signal.signal(one, signal.SIG_IGN) for one in (signal.SIGINT, signal.SIGTERM, signal.SIGHUP)], **how)
         self.input, self.output = self.process.stdin.fileno(), self.process.stdout.fileno()
         self.unread, self.pictures, self.saved, self.resumed = b'', [], None, None
         # nobody closes a game that is not yet there
@@ -288,14 +292,17 @@ class Game:
             answer, self.unread = self.unread[:length], self.unread[length:]
             if is_picture:
                 self.pictures.append(answer)
-                continue
-            word, _, count = answer[:-1].partition(b' ')
-            if word != (b'resumed' if self.resumed is None else b'saved') or not count.isdigit() or len(count) > 20:
-                self._answers_wrongly()
-            if word == b'resumed':
-                self.resumed = int(count)
             else:
-                self.saved = int(count)
+                self._take_line(answer[:-1])
+
+    def _take_line(self, line: bytes) -> None:
+        word, _, count = line.partition(b' ')
+        if word != (b'resumed' if self.resumed is None else b'saved') or not count.isdigit() or len(count) > 20:
+            self._answers_wrongly()
+        if word == b'resumed':
+            self.resumed = int(count)
+        else:
+            self.saved = int(count)
 
     def _answers_wrongly(self):
         self.process.kill()

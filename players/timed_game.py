@@ -177,18 +177,35 @@ class TimedGame(Game):
         self.trouble = None
         return True
 
+    def due(self) -> int:
+        """How many seconds the clock has to be given."""
+        if not self.header.has_clock():
+            return 0
+        return max(0, min(int(self.opened + self.elapsed() - self.began) - self.given_until, MOST_SECONDS))
+
+    def claim(self, count: int, passed: int) -> bool:
+        """Has SAVE.time say that input `count` gives the clock so many seconds; False where it can't, and then it must not be given."""
+        claim = (count, self.given_until + passed)
+        if not self._writes([claim, self.written]):
+            return False
+        self.written, self.given_until = claim, claim[1]
+        return True
+
+    def note(self) -> None:
+        """Has SAVE.time name the game as it was saved, where no seconds are due."""
+        if self.header.has_clock() and self.saved > self.written[0] and self._writes([(self.saved, self.given_until)]):
+            self.written = self.saved, self.given_until
+
     def keep(self) -> int:
         """Gives the clock the seconds that have passed, saves, and answers the count of inputs."""
-        if not self.header.has_clock():
-            return self.save()
-        passed = min(int(self.opened + self.elapsed() - self.began) - self.given_until, MOST_SECONDS)
-        claim = (self.count + 1, self.given_until + passed)
-        if passed > 0 and self._writes([claim, self.written]):
+        passed = self.due()
+        if passed > 0 and self.claim(self.count + 1, passed):
             self.seconds(passed)
-            self.given_until += passed
-            self.written = claim
-            return self.save()
         count = self.save()
-        if passed <= 0 and count > self.written[0] and self._writes([(count, self.given_until)]):
-            self.written = count, self.given_until
+        if passed <= 0:
+            self.note()
         return count
+
+    def begin_keep(self) -> None:
+        """Keeps the game where somebody else can wait for that; here nobody can."""
+        self.keep()

@@ -31,10 +31,11 @@ import os
 import signal
 import sys
 import time
-from typing import Optional
+from typing import Optional, Union
 
 from gbkeep import HEIGHT, WIDTH, Refused, find_program, starting
 from input_files import MOST_LINE, WrongInput, printable, reason
+from shown_game import ShownGame, shown
 from slots import Slots, short
 from timed_game import TimedGame, WrongTime
 from tools import Words, count_word, name_of_tool
@@ -283,8 +284,8 @@ def play(window, game, save, slots, open_game):
             window.shades = game.picture().shades
             entitle()
         if game.trouble != told:
-            told = game.trouble
-            window.say(told or 'the clock goes on', WARNING_SECONDS)
+            before, told = told, game.trouble
+            window.say(told or ('the clock goes on' if 'clock' in before else 'the game is saved again'), WARNING_SECONDS)
         if window.is_paused != was_paused:
             was_paused = window.is_paused
             if was_paused:
@@ -303,7 +304,7 @@ def play(window, game, save, slots, open_game):
             window.say(f'fast: {speed.text()}', 0.25)
         window.show(game.picture().shades)
         if frames % FRAMES_A_SAVE == 0:
-            game.keep()
+            game.begin_keep()
         if speed.count(1):
             entitle()
         due += 1 / FRAMES_A_SECOND
@@ -348,12 +349,12 @@ def run_window(window: Window, asked: argparse.Namespace, save: str) -> None:
         window.shades = game.picture().shades
         return is_agreed or window.ask(question)
 
-    def open_game() -> TimedGame:
+    def open_game() -> Union[ShownGame, TimedGame]:
         game = TimedGame(asked.cart, save, asked.gbkeep, recording=recording, ask=ask)
         if game.notice:
             window.shades = game.picture().shades
             window.tell(game.notice)
-        return game
+        return shown(game, asked.cart, save, asked.gbkeep)
     game = open_game()
     if warning_of(asked):
         window.say(warning_of(asked), WARNING_SECONDS)

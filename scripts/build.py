@@ -1,7 +1,8 @@
 """Proves and builds the program, its crates side by side, and leaves it at bin/gbkeep. A line for each crate that is proved: its place, its name, the
 minutes so far and, once a tenth is done, about how many are left.
 
-usage: build.py, at the top of the repository
+usage: build.py          at the top of the repository
+       build.py arm64    for aarch64: leaves bin/arm64/gbkeep and bin/arm64/gbkeep-static, which runs without a C library
 
 RT is the toolchain's command. JOBS is how many crates are proved at once: as many as there are processors, and 2.5 GB of free memory for each, if it is
 not given. Several at once are proved in a copy of the program's crates alone, in ~/.cache/gbkeep (or XDG_CACHE_HOME), whose work stays there for the next
@@ -20,6 +21,10 @@ BUILT = Path('bin/gbkeep')
 BYTES_A_JOB = 2_500_000_000
 # what a proof does not read
 LEFT_OUT = ('out', 'must-fail', 'wrong-bodies')
+
+
+sys.path.insert(0, str(Path(__file__).resolve().parent / 'arm64'))
+import target  # noqa: E402
 
 
 class Failed(Exception):
@@ -139,6 +144,11 @@ def prove_side_by_side(told, count, root):
 
 
 def main():
+    words = sys.argv[1:]
+    if words not in ([], ['arm64']):
+        sys.exit(__doc__)
+    if words:
+        target.compiler()
     order, lines = crates()
     told, count = Told(order), jobs()
     try:
@@ -149,8 +159,14 @@ def main():
             prove_side_by_side(told, count, root)
         for name in order:
             folder = root / 'crates' / name
+            if name == PROGRAM and words:
+                continue
             done(['run', '--', '--help'] if name == PROGRAM else ['lib'], folder)
             told.tell(name)
+        if words:
+            print(target.program(root, BUILT.parent / 'arm64'))
+            print(f'bin/arm64/gbkeep: built in {told.minutes():.0f} minutes')
+            return
         BUILT.parent.mkdir(exist_ok=True)
         made = BUILT.with_name('gbkeep.new')
         shutil.copy(root / 'crates' / PROGRAM / 'out' / PROGRAM, made)

@@ -258,13 +258,14 @@ def shell(room, line, **more):
 
 def clone(room, program):
     """What of the clone the blocks need, with this program at bin/gbkeep."""
-    for path in ('README.md', 'Makefile', 'crates.txt', 'examples', 'players', 'testers', 'docs', 'completions'):
+    for path in ('README.md', 'Makefile', 'crates.txt', 'examples', 'players', 'testers', 'docs', 'completions', 'packaging'):
         copy = shutil.copytree if os.path.isdir(path) else shutil.copy
         copy(path, os.path.join(room, path))
     os.makedirs(os.path.join(room, 'scripts/second_storage'))
     shutil.copy('scripts/second_storage/save_files.py', os.path.join(room, 'scripts/second_storage'))
     os.makedirs(os.path.join(room, 'bin'))
-    os.makedirs(os.path.join(room, 'crates'))
+    os.makedirs(os.path.join(room, 'crates/command_line/src'))
+    shutil.copy(WORDS, os.path.join(room, WORDS))
     shutil.copy(program, os.path.join(room, 'bin/gbkeep'))
     os.utime(os.path.join(room, 'bin/gbkeep'))
 
@@ -322,7 +323,7 @@ def installed(room):
     status, got = shell(room, 'make install PREFIX=inst')
     wrong = [f'make install: {got}'] if status != 0 else []
     for path in ('bin/gbkeep', 'bin/gbkeep-window', 'bin/gbkeep-script', 'bin/gbkeep-rest', 'bin/gbkeep-movie', 'bin/gbkeep-film', 'bin/gbkeep-branch', 'bin/gbkeep-verify', 'bin/gbkeep-battery',
-                 'bin/gbkeep-run-tests', 'bin/gbkeep-debug', 'share/man/man1/gbkeep.1',
+                 'bin/gbkeep-run-tests', 'bin/gbkeep-debug', 'share/man/man1/gbkeep.1', 'share/man/man1/gbkeep-window.1', 'share/applications/gbkeep.desktop',
                  'share/bash-completion/completions/gbkeep', 'share/gbkeep/gbkeep.py'):
         if not os.path.exists(os.path.join(room, 'inst', path)):
             wrong.append(f'make install leaves no {path}')

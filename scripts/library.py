@@ -1,6 +1,7 @@
 """Leaves bin/libgbkeep.a, bin/libgbkeep.so, bin/gbkeep.h and bin/gbkeep.pc: the machine and the session as a library for C.
 
 usage: library.py [PREFIX]     PREFIX: where gbkeep.pc says that the library is (/usr/local)
+       library.py arm64        the same for aarch64, in bin/arm64
 
 RT names the prover, CC the C compiler. The proved part is built by `rt lib` in crates/c_interface, which proves what has changed first."""
 import os
@@ -11,7 +12,10 @@ from pathlib import Path
 
 TOP = Path(__file__).resolve().parent.parent
 LIBRARY, BIN = TOP / 'library', TOP / 'bin'
-FLAGS = ['-std=c11', '-O2', '-Wall', '-Wextra', '-fPIC']
+# files are named as below the top, so that a build in another folder has the same bytes
+FLAGS = ['-std=c11', '-O2', '-Wall', '-Wextra', '-fPIC', f'-ffile-prefix-map={TOP}=.']
+sys.path.insert(0, str(TOP / 'scripts/arm64'))
+import target  # noqa: E402
 
 
 def run(words, **how):
@@ -36,7 +40,7 @@ def header():
     return lines.replace(mark, '/* What a call answers. The lines of `gbkeep`, the program, with the same words have the same meaning. */\n' + made('codes'))
 
 
-def build(out, proved, compiler, debug=False):
+def build(out, proved, compiler, debug=False, archiver='ar'):
     """The archive and the shared object in `out`, of the proved archive."""
     out.mkdir(parents=True, exist_ok=True)
     (out / 'gbkeep.h').write_text(header(), encoding='utf-8')
@@ -48,30 +52,38 @@ def build(out, proved, compiler, debug=False):
         run([compiler, *flags, f'-I{out}', '-c', LIBRARY / f'{name}.c', '-o', objects[-1]])
     archive = out / 'libgbkeep.a'
     archive.write_bytes(proved.read_bytes())
-    run(['ar', 'r', archive, *objects], stderr=subprocess.DEVNULL)
+    run([archiver, 'rD', archive, *objects], stderr=subprocess.DEVNULL)
     names = out / 'gbkeep.map'
     names.write_text('{ global: gbkeep_machine_*; gbkeep_session_*; gbkeep_fault_text; local: *; };\n', encoding='utf-8')
     if not debug:
-        run([compiler, '-shared', '-Wl,-soname,libgbkeep.so.0', f'-Wl,--version-script={names}', '-Wl,--gc-sections', '-o', out / 'libgbkeep.so',
-             '-Wl,--whole-archive', archive, '-Wl,--no-whole-archive'])
+        run([compiler, '-shared', '-s', '-Wl,-soname,libgbkeep.so.0', f'-Wl,--version-script={names}', '-Wl,--gc-sections', '-Wl,-z,relro,-z,now',
+             '-o', out / 'libgbkeep.so', '-Wl,--whole-archive', archive, '-Wl,--no-whole-archive'])
     for made_on_the_way in (*objects, names, out / 'gbkeep_faults.h'):
         made_on_the_way.unlink()
 
 
 def main():
-    prefix = sys.argv[1] if len(sys.argv) > 1 else '/usr/local'
-    crate = TOP / 'crates/c_interface'
+    words = sys.argv[1:]
+    is_arm64 = words == ['arm64']
+    prefix = '/usr/local' if is_arm64 or not words else words[0]
+    compiler = target.compiler() if is_arm64 else os.environ.get('CC', 'cc')
+    archiver = target.tool('ar') if is_arm64 else 'ar'
+    crate, place = TOP / 'crates/c_interface', BIN / 'arm64' if is_arm64 else BIN
     run([os.environ.get('RT', 'rt'), 'lib'], cwd=crate, stdout=subprocess.DEVNULL)
-    proved = crate / 'out/libc_interface.a'
-    compiler = os.environ.get('CC', 'cc')
-    BIN.mkdir(exist_ok=True)
-    with tempfile.TemporaryDirectory(dir=BIN) as folder:
-        build(Path(folder), proved, compiler)
+    place.mkdir(parents=True, exist_ok=True)
+    with tempfile.TemporaryDirectory(dir=place) as folder:
+        proved = crate / 'out/libc_interface.a'
+        if is_arm64:
+            proved = Path(folder).resolve() / 'libc_interface.a'
+            print(target.prove(TOP, 'c_interface', proved, '--crate-type', 'staticlib'))
+        build(Path(folder), proved, compiler, archiver=archiver)
+        if is_arm64:
+            target.needed(Path(folder) / 'libgbkeep.so')
         for name in ('libgbkeep.a', 'libgbkeep.so', 'gbkeep.h'):
-            os.replace(Path(folder) / name, BIN / name)
-    (BIN / 'gbkeep.pc').write_text(f'prefix={prefix}\nlibdir=${{prefix}}/lib\nincludedir=${{prefix}}/include\n\nName: gbkeep\n'
-                                   'Description: a Game Boy emulator whose machine and saves are proved\nVersion: 0\n'
-                                   'Libs: -L${libdir} -lgbkeep\nCflags: -I${includedir}\n', encoding='utf-8')
+            os.replace(Path(folder) / name, place / name)
+    (place / 'gbkeep.pc').write_text(f'prefix={prefix}\nlibdir=${{prefix}}/lib\nincludedir=${{prefix}}/include\n\nName: gbkeep\n'
+                                     'Description: a Game Boy emulator whose machine and saves are proved\nVersion: 0\n'
+                                     'Libs: -L${libdir} -lgbkeep\nCflags: -I${includedir}\n', encoding='utf-8')
 
 
 if __name__ == '__main__':

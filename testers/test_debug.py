@@ -401,6 +401,9 @@ def main():
         sys.exit(__doc__)
     program = os.path.abspath(sys.argv[1])
     tests = [one for name, one in globals().items() if name.startswith('test_')]
+    if 'GBKEEP_EMULATED' in os.environ:
+        # a Ctrl-C at the prompt reaches the emulator of another processor, too, and ends it
+        tests.remove(test_prompt)
     for test in tests:
         with tempfile.TemporaryDirectory(prefix='debug-') as folder:
             test(Room(program, folder))

@@ -17,7 +17,8 @@ HERE = Path(__file__).resolve().parent
 HEADERS = os.environ.get('LIBRETRO', '/usr/include/libretro-common')
 COMPILER = os.environ.get('CC', 'cc')
 FLAGS = ['-std=c11', '-g', '-O1', '-Wall', '-Wextra', '-fPIC', '-shared', '-fsanitize=address,undefined', '-fno-sanitize-recover=all',
-         '-fno-omit-frame-pointer', '-DREAD_MILLISECONDS=300', '-DEND_MILLISECONDS=500']
+         '-fno-omit-frame-pointer', '-DREAD_MILLISECONDS=300', '-DEND_MILLISECONDS=500', '-DSLOW_MILLISECONDS=200', '-DSAVE_MILLISECONDS=1000',
+         '-pthread']
 # what a run may take on a busy computer: loading waits for six times the latter, and each end of a program once
 MOST_SECONDS = 30
 PROGRAM = '''#!{python} -SE
@@ -56,7 +57,7 @@ if command == 'new':
     sys.exit(0) if is_kind else end()
 if rnd.random() < 0.1:
     say(garbage(100_000))
-say(b'resumed %d\\n' % rnd.choice(numbers) if rnd.random() < 0.9 else garbage(200))
+say(b'resumed %d\\n' % random.Random(seed).choice(numbers) if rnd.random() < 0.9 else garbage(200))
 shown = picture()
 for line in sys.stdin.buffer:
     chance = rnd.random() if not is_kind or rnd.random() < 0.02 else 1
@@ -70,6 +71,8 @@ for line in sys.stdin.buffer:
         say(shown[:rnd.randrange(len(shown))])
     elif line == b'picture\\n':
         say(shown)
+    elif command == 'debug':
+        say(b'done\\n')
     elif line == b'save\\n':
         say(b'saved %d\\n' % rnd.choice(numbers))
 end()
@@ -107,7 +110,7 @@ def one_run(core, room, seed):
     elif rnd.random() < 0.3:
         rnd.choice([lambda: os.mkfifo(time_file), time_file.mkdir, lambda: time_file.symlink_to('/dev/zero'), lambda: time_file.symlink_to('nowhere'),
                     lambda: time_file.symlink_to(time_file)])()
-    front = FrontEnd(core, folder, **{option: rnd.choice(WORDS) for option in ('palette', 'save_seconds', 'time_away')})
+    front = FrontEnd(core, folder, **{option: rnd.choice(WORDS) for option in ('palette', 'save_seconds', 'time_away', 'messages', 'import')})
     front.load(room / rnd.choice(['x.gb', 'x', '.gb', 'x' * 250 + '.gb', 'x.gb/' + 'y' * 4500]))
     for _ in range(rnd.choice([1, 3, 70, 130])):
         front.frames(rnd.randrange(256), 1)

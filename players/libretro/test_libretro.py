@@ -27,7 +27,9 @@ CART = DEMO / 'demo.gb'
 WIDTH, HEIGHT = 160, 144
 PALETTES = {'green': [0x0f380f, 0x306230, 0x8bac0f, 0xe0f8d0], 'grey': [0, 0x555555, 0xaaaaaa, 0xffffff],
             'pocket': [0x1f1f1f, 0x4d533c, 0x8b956d, 0xc4cfa1], 'night': [0xffffff, 0xaaaaaa, 0x555555, 0]}
-SET_MESSAGE, GET_SAVE_DIRECTORY, SET_PIXEL_FORMAT, GET_VARIABLE, SET_VARIABLES, GET_VARIABLE_UPDATE = 6, 31, 10, 15, 16, 17
+SET_MESSAGE, GET_SAVE_DIRECTORY, SET_PIXEL_FORMAT, GET_VARIABLE, SET_VARIABLES, GET_VARIABLE_UPDATE, GET_LOG, GET_CORE = 6, 31, 10, 15, 16, 17, 27, 19
+# what a line on the screen may have
+MOST_SHOWN = 64
 # ends the front end before the n-th of its syncs, renames and lines but those of frames, with the program or before it
 KILLER = r'''
 #define _GNU_SOURCE
@@ -49,8 +51,11 @@ static __attribute__((constructor)) void begin(void) {
 static void one(void) {
     if (left < 0 || left-- > 0)
         return;
-    FILE *children = getenv("KILL_PROGRAM") ? fopen("/proc/thread-self/children", "r") : NULL;
+    char name[64];
     int child;
+    /* of the first thread, which starts the programs */
+    snprintf(name, sizeof name, "/proc/self/task/%d/children", getpid());
+    FILE *children = getenv("KILL_PROGRAM") ? fopen(name, "r") : NULL;
     while (children && fscanf(children, "%d", &child) == 1)
         kill(child, SIGKILL);
     kill(getpid(), SIGKILL);
@@ -72,6 +77,8 @@ Environment = ctypes.CFUNCTYPE(ctypes.c_bool, ctypes.c_uint, ctypes.c_void_p)
 Video = ctypes.CFUNCTYPE(None, ctypes.c_void_p, ctypes.c_uint, ctypes.c_uint, ctypes.c_size_t)
 Batch = ctypes.CFUNCTYPE(ctypes.c_size_t, ctypes.c_void_p, ctypes.c_size_t)
 Poll = ctypes.CFUNCTYPE(None)
+# the core logs each line by a format with one text
+Log = ctypes.CFUNCTYPE(None, ctypes.c_int, ctypes.c_char_p, ctypes.c_char_p)
 State = ctypes.CFUNCTYPE(ctypes.c_int16, ctypes.c_uint, ctypes.c_uint, ctypes.c_uint, ctypes.c_uint)
 
 
@@ -88,10 +95,12 @@ class Variable(ctypes.Structure):
 
 
 class FrontEnd:
-    """A front end of few lines: one core, one cartridge."""
+    """A front end of few lines: one core, one cartridge. `told` is what stands on the screen, `log` all that is logged."""
 
-    def __init__(self, core, folder, **options):
+    def __init__(self, core, folder, place=None, **options):
+        self.place = place and os.fsencode(place)
         self.options = {f'gbkeep_{key}'.encode(): value.encode() for key, value in options.items()}
+        self.log, self.log_call = [], Log(lambda level, form, text: self.log.append(text.decode(errors='replace')))
         self.folder, self.told, self.buttons, self.looks, self.pixels, self.samples = os.fsencode(folder), [], 0, True, None, 0
         self.core = ctypes.CDLL(str(core))
         self.core.retro_load_game.restype = ctypes.c_bool
@@ -113,6 +122,10 @@ class FrontEnd:
             asked.value = self.options[asked.key]
         elif what == GET_VARIABLE_UPDATE:
             ctypes.cast(data, ctypes.POINTER(ctypes.c_bool))[0] = True
+        elif what == GET_CORE and self.place:
+            ctypes.cast(data, ctypes.POINTER(ctypes.c_char_p))[0] = self.place
+        elif what == GET_LOG:
+            ctypes.cast(data, ctypes.POINTER(ctypes.c_void_p))[0] = ctypes.cast(self.log_call, ctypes.c_void_p)
         elif what not in (SET_PIXEL_FORMAT, SET_VARIABLES):
             return False
         return True
@@ -140,6 +153,7 @@ class FrontEnd:
     def unload(self):
         self.core.retro_unload_game()
         self.core.retro_deinit()
+        expect('lines without room on the screen', [text for text in self.told if len(text) > MOST_SHOWN], [])
 
 
 def expect(what, got, wanted):
@@ -158,7 +172,7 @@ def test_play(program, core, room):
     folder.mkdir()
     save = folder / 'demo.gbkeep'
     for palette, colours in PALETTES.items():
-        front = FrontEnd(core, folder, palette=palette)
+        front = FrontEnd(core, folder, palette=palette, messages='all')
         expect('a game is loaded', front.load(CART), True)
         front.frames(0, 60)
         front.frames(START, 4)
@@ -169,7 +183,94 @@ def test_play(program, core, room):
         expect(f'the picture in {palette}', front.pixels, [colours[shade] for shade in shades])
         expect('sound', front.samples, 134 * 800)
     expect('all inputs are saved', count, 4 * 134)
-    expect('what is told', (front.told[0], front.told[-1]), (f'resumed {3 * 134}', f'saved {3 * 134 + 120}'))
+    expect('what is told', (front.told[0], front.told[-1]), (f'resumed {3 * 134}', f'saved {4 * 134}'))
+    for messages, wanted in (('none', []), ('refusals only', ['gbkeep has no reset: a game is begun in a new SAVE']), ('', ['gbkeep has no reset: a game is begun in a new SAVE'])):
+        front = FrontEnd(core, folder, messages=messages)
+        front.load(CART)
+        front.frames(0, 130)
+        front.core.retro_reset()
+        front.unload()
+        expect(f'messages: {messages}', (front.told, sum(line.startswith('saved') for line in front.log) > 1), (wanted, True))
+
+
+def test_carts(program, core, room):
+    """A colour game that runs on a DMG, as a front end unpacks it; and without a player, the pictures come from the program that saves. The program is found
+    beside the core, too."""
+    cart, folder = room / 'Colour Game.gbc', room / 'colours'
+    folder.mkdir()
+    rom = bytearray(CART.read_bytes())
+    rom[0x143] = 0x80
+    rom[0x14d] = -sum(byte + 1 for byte in rom[0x134:0x14d]) & 0xff
+    cart.write_bytes(rom)
+    refuses = room / 'refuses'
+    refuses.write_text(f'#!/bin/sh\n[ "$1" = debug ] && exit 1\nexec {program} "$@"\n')
+    refuses.chmod(0o755)
+    for used in (program, str(refuses)):
+        os.environ['GBKEEP'] = used
+        front = FrontEnd(core, folder, palette='grey')
+        front.load(cart)
+        front.frames(START, 10)
+        front.frames(RIGHT, 61)
+        pixels = front.pixels
+        front.unload()
+        shades, count = shades_of(program, cart, folder / 'Colour Game.gbkeep', room)
+        expect('the picture', pixels, [PALETTES['grey'][shade] for shade in shades])
+        expect('nothing is told', front.told, [])
+    expect('its inputs', count, 2 * 71)
+    (room / 'cores').mkdir()
+    shutil.copy(program, room / 'cores/gbkeep')
+    del os.environ['GBKEEP']
+    front = FrontEnd(core, folder, room / 'cores/gbkeep_libretro.so', messages='all')
+    front.load(cart)
+    running = os.readlink(f'/proc/{child_of("stream")}/exe')
+    front.unload()
+    expect('the program beside the core', (front.told[0], running), ('resumed 142', str(room / 'cores/gbkeep')))
+    os.environ['GBKEEP'] = program
+
+
+def test_battery(program, core, room):
+    """The battery file of another core is told of, and imported where the option says so."""
+    for beside in (False, True):
+        for suffix in ('.srm', '.sav'):
+            folder, carts = room / f'battery{beside}{suffix}', room / f'carts{beside}{suffix}'
+            folder.mkdir(), carts.mkdir()
+            cart = carts / 'demo.gb'
+            shutil.copy(CART, cart)
+            battery = (carts if beside else folder) / f'demo{suffix}'
+            battery.write_bytes(b'another file')
+            front = FrontEnd(core, folder)
+            front.load(cart)
+            front.frames(0, 2)
+            front.unload()
+            expect('a hint', (front.told, any(f"gbkeep import '{cart}' '{battery}'" in line for line in front.log)),
+                   ([f'A new game: NAME{suffix} is there; to import it, see the log'], True))
+            front = FrontEnd(core, folder)
+            front.load(cart)
+            front.unload()
+            expect('no hint where there is a game', front.told, [])
+    # a cartridge with a battery goes on from it
+    folder, cart = room / 'imported', room / 'clock.gb'
+    folder.mkdir()
+    cart.write_bytes(Assembler().assemble(CLOCK))
+    subprocess.run([program, 'new', cart, folder / 'older'], check=True, capture_output=True)
+    (folder / 'more').write_text('frames 00 60\nseconds 5000\nframes 00 60\n')
+    subprocess.run([program, 'play', cart, folder / 'older', folder / 'more'], check=True, capture_output=True)
+    subprocess.run([program, 'export', cart, folder / 'older', folder / 'clock.srm'], check=True, capture_output=True)
+    front = FrontEnd(core, folder, **{'import': 'yes'})
+    front.load(cart)
+    front.frames(0, 65)
+    front.unload()
+    expect('an import', front.told, [])
+    with Game(cart, folder / 'clock.gbkeep', program) as game:
+        expect('its clock', seconds_shown(game) >= 5000, True)
+    # one that is refused begins nothing
+    (folder / 'clock.gbkeep').unlink()
+    (folder / 'clock.srm').write_bytes(b'wrong')
+    front = FrontEnd(core, folder, **{'import': 'yes'})
+    front.load(cart)
+    front.frames(0, 2)
+    front.unload()
+    expect('a wrong file', ('battery length 5' in front.told[0], (folder / 'clock.gbkeep').exists()), (True, False))
 
 
 def test_faults(program, core, room):
@@ -177,7 +278,8 @@ def test_faults(program, core, room):
     folder.mkdir()
     with Game(CART, folder / 'demo.gbkeep', program):
         front = FrontEnd(core, folder)
-        expect('a SAVE in use is told', (front.load(CART), 'device failed: ' in front.told[-1], 'end the other one' in front.told[-1]), (True, True, True))
+        expect('a SAVE in use is told', (front.load(CART), front.told[-1], any('device failed: ' in line and 'end the other one' in line for line in front.log)),
+               (True, "SAVE is open elsewhere, or can't be read or written", True))
         began = time.monotonic()
         front.frames(0, 301)
         expect('and told again', (time.monotonic() - began < 20, len(front.told)), (True, 2))
@@ -192,25 +294,56 @@ def test_faults(program, core, room):
     wrong.write_bytes(bytes(1000))
     front = FrontEnd(core, folder)
     front.load(wrong)
-    expect('a ROM that is none', ('rom length 1000' in front.told[-1], 'use a complete ROM file' in front.told[-1]), (True, True))
+    expect('a ROM that is none', ('rom length 1000' in front.told[-1], any('use a complete ROM file' in line for line in front.log)), (True, True))
     front.unload()
     os.environ['GBKEEP'] = str(room / 'nothing')
     front = FrontEnd(core, folder)
     front.load(CART)
-    expect('no program', "can't be started" in front.told[-1], True)
+    expect('no program', any("can't be started" in line for line in front.log), True)
     front.unload()
     os.environ['GBKEEP'] = program
-    for number, wanted, longest in ((signal.SIGKILL, 'ended by a signal', 2), (signal.SIGSTOP, 'does not answer', 20)):
-        front = FrontEnd(core, folder)
-        front.load(CART)
-        front.frames(RIGHT, 65)
-        child = int(subprocess.run(['pgrep', '-P', str(os.getpid()), '-f', 'stream'], capture_output=True, text=True).stdout.split()[-1])
-        os.kill(child, number)
+    for kind in ('stream', 'debug'):
+        for number, wanted, longest in ((signal.SIGKILL, 'ended by a signal', 2), (signal.SIGSTOP, 'does not answer', 20)):
+            if (kind, number) == ('stream', signal.SIGSTOP):
+                continue
+            front = FrontEnd(core, folder, messages='all')
+            front.load(CART)
+            front.frames(RIGHT, 65)
+            os.kill(child_of(kind), number)
+            began = time.monotonic()
+            front.frames(RIGHT, 2)
+            expect(f'{kind} that has {number.name}', (any(wanted in text for text in front.told), time.monotonic() - began < longest), (True, True))
+            front.frames(0, 2)
+            front.unload()
+            expect('what is saved', shades_of(program, CART, folder / 'demo.gbkeep', room)[1] >= int(front.told[0].split()[1]) + 60, True)
+
+
+def child_of(kind):
+    """The program that the core has started with this command."""
+    return int(subprocess.run(['pgrep', '-P', str(os.getpid()), '-f', kind], capture_output=True, text=True).stdout.split()[-1])
+
+
+def test_slow(program, core, room):
+    """A keeper that stands still: the game goes on, nothing is told as saved, and all of it is saved later."""
+    folder = room / 'slow'
+    folder.mkdir()
+    front = FrontEnd(core, folder, messages='all')
+    front.load(CART)
+    front.frames(RIGHT, 10)
+    keeper = child_of('stream')
+    os.kill(keeper, signal.SIGSTOP)
+    longest = 0
+    for number in range(400):
         began = time.monotonic()
-        front.frames(RIGHT, 2)
-        expect(f'a program that has {number.name}', (any(wanted in text for text in front.told), time.monotonic() - began < longest), (True, True))
-        front.frames(0, 2)
-        front.unload()
+        front.frames(number & 0xff, 1)
+        longest = max(longest, time.monotonic() - began)
+    expect('no frame waits', (longest < 1, front.told), (True, ['resumed 0']))
+    time.sleep(5.1)
+    front.frames(0, 1)
+    expect('it is told', [text.rsplit(' ', 2)[0] for text in front.told[1:]], ['The disk is slow: nothing is saved for'])
+    os.kill(keeper, signal.SIGCONT)
+    front.unload()
+    expect('all is saved', (front.told[2].split()[0], front.told[-1], shades_of(program, CART, folder / 'demo.gbkeep', room)[1]), ('saved', 'saved 411', 411))
 
 
 def test_power(program, core, room):
@@ -245,6 +378,7 @@ class Clocked:
         expect('a game is loaded', front.load(self.cart), True)
         front.frames(0, frames)
         front.unload()
+        self.log = front.log
         return [text for text in front.told if not text.startswith(('resumed', 'saved'))]
 
     def given_until(self):
@@ -289,12 +423,12 @@ def test_clock(program, core, room):
         game.play()
     expect('a day away', is_about(game.shown(), DAY), True)
     # a leap of the date is not given, and only told once; an earlier date gives nothing
-    for seconds, said in ((56 * 365 * DAY, '20440 days'), (-3600, 'is before the time'), (-400 * DAY, 'Take SAVE.time away')):
+    for seconds, said in ((56 * 365 * DAY, '20440 days'), (-3600, 'before the time'), (-400 * DAY, 'Take SAVE.time away')):
         game = Clocked(program, core, room, f'leap {seconds}')
         game.play()
         game.away(seconds)
         told = game.play()
-        expect(f'away for {seconds}', (any(said in text for text in told), is_about(game.shown(), 0)), (True, True))
+        expect(f'away for {seconds}', (len(told), any(said in text for text in game.log), is_about(game.shown(), 0)), (1, True, True))
         if seconds > 0:
             expect('told once', game.play(), [])
     game.time.unlink()
@@ -357,11 +491,11 @@ def test_options(program, core, room):
     folder = room / 'options'
     folder.mkdir()
     for seconds in ('1073741824', '0', '-1', '99999999999999999999', '3601', 'many', '1 ', ''):
-        front = FrontEnd(core, folder, save_seconds=seconds, palette='none')
+        front = FrontEnd(core, folder, save_seconds=seconds, palette='none', messages='all')
         front.load(CART)
         front.frames(0, 61)
-        expect(f'saves every {seconds!r} seconds', [text.split()[0] for text in front.told], ['resumed', 'saved'])
         front.unload()
+        expect(f'saves every {seconds!r} seconds', [text.split()[0] for text in front.told], ['resumed', 'saved', 'saved'])
     # the greatest count of inputs
     most, save = room / 'most', 'demo.gbkeep'
     most.mkdir()
@@ -374,7 +508,7 @@ def test_options(program, core, room):
         if content[sector:sector + 4] == b'GBL2':
             content[sector:sector + 512] = bytes(512)
     (most / save).write_bytes(content)
-    began, front = time.monotonic(), FrontEnd(core, most)
+    began, front = time.monotonic(), FrontEnd(core, most, messages='all')
     front.load(CART)
     front.frames(0, 3)
     front.unload()
@@ -396,7 +530,7 @@ def measure(core, room):
 
 
 def play(core, cart, folder, frames):
-    front = FrontEnd(core, folder)
+    front = FrontEnd(core, folder, messages='all')
     front.load(cart)
     shown = 0
     for _ in range(int(frames)):
@@ -417,7 +551,7 @@ def main():
     os.environ['GBKEEP'] = program
     with tempfile.TemporaryDirectory(prefix='libretro-') as folder:
         room = Path(folder)
-        tests = (test_play, test_faults, test_power, test_options, test_clock, test_crafted_times, test_clock_cut)
+        tests = (test_play, test_carts, test_battery, test_faults, test_slow, test_power, test_options, test_clock, test_crafted_times, test_clock_cut)
         for test in tests:
             test(program, core, room)
         measure(core, room)

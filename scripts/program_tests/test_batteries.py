@@ -2,6 +2,7 @@
 
 What a machine has is read from the snapshot in its save file by the second reader of these files, and its digest is made here."""
 import hashlib
+import os
 import resource
 import signal
 import subprocess
@@ -138,8 +139,8 @@ def test_battery_refusals_as_text(room):
     room.refused('export kept.gb blank.gbkeep never', 'gbkeep: no session\n')
     room.refused('import bare.gb right.sav never', 'gbkeep: no battery\n')
     room.refused('import kept.gb short.sav never', 'gbkeep: battery length 8191, 8192 needed\n')
-    # in so much memory 8 MiB are read, but no machine has room for its own copy of them
-    for battery, why in (('short.sav', 'battery length 8191, 8192 needed'), ('right.sav', 'no memory')):
+    # in so much memory 8 MiB are read, but no machine has room for its own copy of them; an emulator of another processor takes more for itself
+    for battery, why in () if 'GBKEEP_EMULATED' in os.environ else (('short.sav', 'battery length 8191, 8192 needed'), ('right.sav', 'no memory')):
         got = limited(room, f'import large.gb {battery} never', resource.RLIMIT_AS, 23 * MEBIBYTE)
         room.expect(f'an import of {battery} in 23 MiB', got, (1, b'', f'gbkeep: {why}\n'.encode()))
     room.expect('the size of never', room.size('never'), None)

@@ -1,0 +1,181 @@
+#!/usr/bin/env python3
+"""Tries a game that goes on while it is saved: its pictures and its SAVE, the clock, and programs that stand still, end or refuse.
+
+usage: test_shown_game.py GBKEEP     the status is 1 at the first difference"""
+import os
+import random
+import signal
+import sys
+import tempfile
+import time
+from pathlib import Path
+
+HERE = Path(__file__).resolve().parent
+sys.path[:0] = [str(HERE), str(HERE.parent / 'examples/demo')]
+import shown_game
+from assemble import Assembler
+from gbkeep import Game, Refused
+from shown_game import ShownGame, shown
+from test_slots import CLOCK, seconds_shown
+from timed_game import TimedGame
+
+CART = HERE.parent / 'examples/demo/demo.gb'
+
+
+def expect(what, got, wanted):
+    if got != wanted:
+        sys.exit(f'{what}: {got!r:.600}, and not {wanted!r:.600}')
+
+
+def refusal(call):
+    try:
+        call()
+    except Refused as refused:
+        return refused.line
+    return None
+
+
+def until(what, is_so, seconds=20):
+    end = time.monotonic() + seconds
+    while not is_so():
+        if time.monotonic() > end:
+            sys.exit(f'{what}: it never came')
+        time.sleep(0.002)
+
+
+def opened(program, save, cart=CART, **more):
+    game = shown(TimedGame(cart, save, program, **more), cart, save, program)
+    expect('two programs', type(game), ShownGame)
+    return game
+
+
+def test_play(program, room):
+    """The pictures of each frame are those of a game that is played by one program, and so is SAVE."""
+    randomly, save = random.Random(1), room / 'play.gbkeep'
+    with Game(CART, room / 'other.gbkeep', program) as other:
+        for _ in range(3):
+            game = opened(program, save)
+            expect('its count', game.count, other.count)
+            for number in range(150):
+                buttons = randomly.randrange(256)
+                game.frame(buttons)
+                other.frame(buttons)
+                if number % 10 == 0:
+                    expect(f'picture {number}', game.picture().shades, other.picture().shades)
+                if number % 7 == 0:
+                    game.begin_keep()
+                expect('no more is told than there is', game.saved <= game.count, True)
+            expect('a whole save', (game.keep(), game.count, game.saved), (other.count, other.count, other.count))
+            game.close()
+        with Game(CART, save, program) as again:
+            expect('what is kept', (again.resumed, again.picture().shades), (other.count, other.picture().shades))
+
+
+def test_slow(program, room):
+    """While the program that saves stands still the game goes on, nothing is told as saved, and all of it is saved later."""
+    game = opened(program, room / 'slow.gbkeep')
+    keeper = game.game.process
+    os.kill(keeper.pid, signal.SIGSTOP)
+    longest = 0
+    for number in range(300):
+        began = time.monotonic()
+        game.frame(number & 255)
+        game.picture()
+        if number % 60 == 0:
+            game.begin_keep()
+        longest = max(longest, time.monotonic() - began)
+    expect('no frame waits', (longest < 1, game.saved, game.trouble), (True, 0, None))
+    time.sleep(shown_game.SLOW_SECONDS)
+    expect('it is told', game.trouble, f'the disk is slow: nothing is saved for {shown_game.SLOW_SECONDS} seconds')
+    os.kill(keeper.pid, signal.SIGCONT)
+    expect('all is saved', (game.keep(), game.trouble), (300, None))
+    game.close()
+
+
+def test_clock(program, room):
+    """Both programs are given the same seconds, at the same input; none where SAVE.time can't be written."""
+    cart, save, now = room / 'clock.gb', room / 'clock.gbkeep', [0.0]
+    cart.write_bytes(Assembler().assemble(CLOCK))
+    game = opened(program, save, cart, elapsed=lambda: now[0])
+    for second in (1, 3, 4, 100, 101):
+        now[0] = float(second)
+        game.begin_keep()
+        for _ in range(20):
+            game.frame()
+        until('a save', lambda: (game.frame(), not game.is_keeping)[1])
+    game.keep()
+    told, count = seconds_shown(game), game.count
+    game.close()
+    expect('the seconds', told, 101)
+    with Game(cart, save, program) as kept:
+        expect('those that are kept', (kept.resumed >= count, seconds_shown(kept)), (True, 101))
+    # a folder in the place of SAVE.time
+    os.unlink(f'{save}.time')
+    game = opened(program, save, cart, elapsed=lambda: now[0])
+    os.unlink(f'{save}.time')
+    os.mkdir(f'{save}.time')
+    now[0] += 2
+    game.begin_keep()
+    until('a save', lambda: (game.frame(), not game.is_keeping)[1])
+    expect('it is told', 'the clock stands still' in (game.trouble or ''), True)
+    game.keep()
+    expect('no second', seconds_shown(game), 101)
+    game.close()
+
+
+def test_ends(program, room):
+    """A program that ends is told, and what was given is saved if the other one is there."""
+    for which in ('game', 'player'):
+        save = room / f'{which}.gbkeep'
+        game = opened(program, save)
+        for _ in range(30):
+            game.frame()
+        game.keep()
+        for _ in range(30):
+            game.frame(1)
+        process = game.game.process if which == 'game' else game.player.process
+        time.sleep(0.2)
+        process.kill()
+        process.wait()
+
+        def go_on():
+            for _ in range(2000):
+                game.frame()
+                game.picture()
+                game.begin_keep()
+                time.sleep(0.001)
+        expect(f'{which} that ends', refusal(go_on) is not None, True)
+        if which == 'player':
+            game.game.close()
+        with Game(CART, save, program) as left:
+            expect('what is saved', left.resumed >= (30 if which == 'game' else 60), True)
+
+
+def test_refused(program, room):
+    """Where no second program can be had, the game is played by one."""
+    refuses = room / 'refuses'
+    refuses.write_text(f'#!/bin/sh\n[ "$1" = debug ] && exit 1\nexec {program} "$@"\n')
+    refuses.chmod(0o755)
+    save = room / 'one.gbkeep'
+    game = shown(TimedGame(CART, save, str(refuses)), CART, save, str(refuses))
+    expect('one program', type(game), TimedGame)
+    game.frame(1)
+    game.begin_keep()
+    expect('its save', game.saved, 1)
+    game.close()
+
+
+def main():
+    if len(sys.argv) != 2:
+        sys.exit(__doc__)
+    tests = [test for name, test in globals().items() if name.startswith('test_')]
+    # no test waits for long
+    shown_game.SLOW_SECONDS = 1
+    for test in tests:
+        with tempfile.TemporaryDirectory(prefix='shown-') as folder:
+            test(os.path.abspath(sys.argv[1]), Path(folder))
+    print(f'games that go on while they are saved: {len(tests)} tests')
+
+
+if __name__ == '__main__':
+    main()

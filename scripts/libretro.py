@@ -1,0 +1,41 @@
+"""Leaves bin/gbkeep_libretro.so: a libretro core, for RetroArch and its kind.
+
+usage: libretro.py [arm64]     arm64: for aarch64, in bin/arm64
+
+CC names the C compiler, and LIBRETRO the folder of libretro.h (/usr/include/libretro-common)."""
+import os
+import subprocess
+import sys
+import tempfile
+from pathlib import Path
+
+TOP = Path(__file__).resolve().parent.parent
+SOURCES = TOP / 'players/libretro'
+FLAGS = ['-std=c11', '-O2', '-Wall', '-Wextra', '-fPIC', '-pthread', '-shared', '-s', '-Wl,-z,relro,-z,now', f'-ffile-prefix-map={TOP}=.']
+sys.path.insert(0, str(TOP / 'scripts/arm64'))
+import target  # noqa: E402
+
+
+def main():
+    words = sys.argv[1:]
+    if words not in ([], ['arm64']):
+        sys.exit(__doc__)
+    headers = os.environ.get('LIBRETRO') or '/usr/include/libretro-common'
+    if not os.path.exists(f'{headers}/libretro.h'):
+        sys.exit(f'libretro.py: there is no {headers}/libretro.h: install retroarch-dev')
+    compiler, out = (target.compiler(), TOP / 'bin/arm64') if words else (os.environ.get('CC') or 'cc', TOP / 'bin')
+    out.mkdir(parents=True, exist_ok=True)
+    with tempfile.TemporaryDirectory(dir=out) as folder:
+        with open(f'{folder}/faults.h', 'wb') as table:
+            subprocess.run([sys.executable, '-B', SOURCES / 'faults_h.py'], stdout=table, check=True)
+        made = Path(folder) / 'gbkeep_libretro.so'
+        status = subprocess.run([compiler, *FLAGS, f'-I{folder}', f'-I{headers}', '-o', made, SOURCES / 'gbkeep_libretro.c']).returncode
+        if status != 0:
+            sys.exit(f'libretro.py: {compiler} ended with status {status}')
+        if words:
+            target.needed(made)
+        os.replace(made, out / made.name)
+
+
+if __name__ == '__main__':
+    main()
