@@ -21,6 +21,7 @@ help:
 	@echo '  make libretro        leaves bin/gbkeep_libretro.so, a core for RetroArch and its kind (needs a C compiler and retroarch-dev)'
 	@echo '  make library         proves the library for C, and leaves bin/libgbkeep.a, bin/libgbkeep.so, bin/gbkeep.h and bin/gbkeep.pc (needs a C'
 	@echo '                       compiler)'
+	@echo '  make web             proves the library, and leaves dist/web, a page that plays in a browser from any web server (docs/BROWSER.md)'
 	@echo '  make dist            leaves a tarball and Debian packages in dist, and their sums (needs dpkg-deb and a C compiler)'
 	@echo '                       (build, library, libretro and dist take ARCH=arm64: all is left in bin/arm64 and dist/arm64; needs'
 	@echo '                       gcc-aarch64-linux-gnu)'
@@ -49,6 +50,8 @@ help:
 	@echo '  make test-slow-disk  plays in the window and by the core while each sync takes 300 ms (a minute; needs what make test-window needs)'
 	@echo '  make test-cards      cuts the power of a card with exFAT or vfat in a virtual machine, and looks at what it may hold (four minutes; KERNEL: a'
 	@echo '                       folder that a linux-image of Debian was unpacked into; scripts/second_storage/cards.py says what it needs)'
+	@echo '  make test-web        plays by the page in Chromium, kills it, and gives it wrong files, a full disk and no network (eight minutes; needs chromium,'
+	@echo '                       chromium-driver, python3-selenium)'
 	@echo '  make test-libretro   plays the demo by the core, kills it at each point, and gives it a program that answers garbage (two minutes; needs'
 	@echo '                       what make libretro needs, and a compiler with the sanitizers); in RetroArch, where that is there'
 
@@ -136,6 +139,20 @@ $(OUT)/libgbkeep.so: $(SOURCES) $(wildcard library/*) scripts/library.py $(if $(
 test-library: bin/gbkeep bin/libgbkeep.so
 	python3 -B library/test_library.py bin/gbkeep
 
+web: dist/web/gbkeep.wasm
+
+dist/web/gbkeep.wasm: $(SOURCES) $(wildcard library/* web/page/* web/include/* web/*.c web/*.h) web/faults.py scripts/web.py scripts/library.py \
+  players/faults.py examples/demo/demo.gb
+	RT=$(RT) python3 -B scripts/web.py
+
+# the Python that has selenium: Debian's, where another one comes first
+WEB_PYTHON ?= $(shell python3 -c 'import selenium' > /dev/null 2>&1 && echo python3 || echo /usr/bin/python3)
+
+test-web: bin/gbkeep dist/web/gbkeep.wasm
+	CC="$(CC)" python3 -B web/test_heap.py
+	python3 -B web/test_module.py
+	$(WEB_PYTHON) -B web/test_web.py bin/gbkeep
+
 dist: $(OUT)/gbkeep $(OUT)/libgbkeep.so $(if $(wildcard $(LIBRETRO)/libretro.h),$(OUT)/gbkeep_libretro.so)
 	RT=$(RT) python3 -B scripts/dist.py $(ARCH)
 
@@ -196,4 +213,4 @@ test:
 	python3 -B scripts/second_storage/refused_memory.py $(PROGRAM)/out/gbkeep_program crates/refused_memory/out/refused_memory
 	RT=$(RT) python3 -B scripts/dist.py passed $(PROGRAM)/out/gbkeep_program
 
-.PHONY: help build demo play install libretro dist run check edits test bench compare hostile fuzz strace memory test-window test-libretro library test-library test-arm64 test-packages test-reproducible test-slow-disk test-cards
+.PHONY: help build demo play install libretro dist run check edits test bench compare hostile fuzz strace memory test-window test-libretro library test-library test-arm64 test-packages test-reproducible test-slow-disk test-cards web test-web

@@ -1,0 +1,137 @@
+// The clock of a cartridge, which is given the seconds that pass, also while nobody plays.
+//
+// Beside an image stands until when its clock was given: lines `COUNT SECONDS`. Each says that an image with COUNT inputs or more was given the time
+// until SECONDS, in seconds since 1970; the greatest of those that are true of the image counts. Before seconds are given, a line says so, with the
+// number that this input will have, and the line before it stays: no second is given twice, wherever the page is killed.
+//
+// While a game is open, time is counted by a clock that nobody sets; the computer's date is looked at when a game is opened.
+
+const INPUTS_BETWEEN = 125;
+const YEAR = 366 * 86400;
+const NO_FAULT = 60;
+const MOST_LINES = 8;
+const MOST_SECONDS = 0xffffffff;
+
+/** Whether a cartridge has a clock, by its type. */
+export function hasClock(rom) {
+  return rom[0x147] === 0x0f || rom[0x147] === 0x10;
+}
+
+/** So many seconds in words: the two greatest units of them. */
+export function span(seconds) {
+  const words = [];
+  let left = seconds;
+  for (const [name, size] of [['year', 365 * 86400], ['day', 86400], ['hour', 3600], ['minute', 60], ['second', 1]]) {
+    const count = Math.floor(left / size);
+    left %= size;
+    if (count > 0) {
+      words.push(`${count.toLocaleString('en')} ${name}${count === 1 ? '' : 's'}`);
+    }
+  }
+  return words.slice(0, 2).join(' and ') || '0 seconds';
+}
+
+/** The lines of a text; null where it is no such text. */
+function linesOf(text) {
+  const lines = text.split('\n').map((line) => /^([0-9]{1,15}) ([0-9]{1,11})$/.exec(line));
+  return lines.length <= MOST_LINES && lines.every(Boolean) ? lines.map((found) => ({ count: Number(found[1]), until: Number(found[2]) })) : null;
+}
+
+/** Until when the clock of an image with so many inputs was given; of one that is older than each line, the last of all. */
+function givenUntil(lines, count) {
+  const fit = lines.filter((line) => line.count <= count);
+  return Math.max(...(fit.length > 0 ? fit : lines).map((line) => line.until));
+}
+
+export class Clock {
+  /** The clock of an image with so many inputs. `place` reads and writes the text that stands beside it. */
+  constructor(place, count, now = () => Date.now() / 1000, elapsed = () => performance.now() / 1000) {
+    Object.assign(this, { place, count, elapsed });
+    this.opened = now();
+    this.began = elapsed();
+    this.until = Math.floor(this.opened);
+    this.written = { count, until: this.until };
+    this.isStill = false;
+  }
+
+  /** Looks up until when the clock was given. `ask` answers a question by true, false, or null for no answer. Answers what the player is to be told. */
+  async begin(ask) {
+    const text = this.place.read();
+    const lines = text === '' ? [] : linesOf(text);
+    if (lines === null) {
+      this.isStill = true;
+      return "What stands beside the game about its clock can't be read: the clock is given no time.";
+    }
+    let notice = null;
+    if (lines.length > 0) {
+      notice = await this.takeUp(lines, ask);
+    } else if (this.count > 0) {
+      notice = "Nothing says until when the cartridge's clock was given: it goes on from where it stood.";
+    }
+    this.opened = Math.max(this.opened, this.until);
+    this.written = { count: this.count, until: this.until };
+    this.write([this.written]);
+    return notice;
+  }
+
+  async takeUp(lines, ask) {
+    const now = this.until;
+    this.until = givenUntil(lines, this.count);
+    const away = now - this.until;
+    let notice = null;
+    if (this.count < Math.min(...lines.map((line) => line.count))) {
+      notice = `The game has fewer inputs than it had: it is an older copy. Its clock is given the ${Math.max(away, 0).toLocaleString('en')} seconds since it was last saved here.`;
+    } else if (this.count > Math.max(...lines.map((line) => line.count)) + INPUTS_BETWEEN) {
+      notice = `The game was played elsewhere. Its clock is given the ${Math.max(away, 0).toLocaleString('en')} seconds since it was last saved here.`;
+    }
+    if (away > YEAR) {
+      notice = null;
+      const agrees = await ask(`By the computer's date, ${span(away)} have passed since this game was played. Shall the cartridge's clock be given them?`);
+      if (agrees === null) {
+        this.opened = this.until;
+      } else if (!agrees) {
+        this.until = now;
+      }
+    } else if (away < -NO_FAULT) {
+      notice = `The computer's date is ${span(-away)} before the time until which the cartridge's clock was given: the clock goes on from where it stood.`;
+      if (away < -YEAR && await ask(`${notice} Shall the time away be counted from the present date on?`)) {
+        this.until = now;
+        notice = null;
+      }
+    }
+    return notice;
+  }
+
+  /** The text that says so of the image. False where it can't be written: the clock stands still then. */
+  write(lines) {
+    try {
+      this.place.write(lines.map((line) => `${line.count} ${line.until}`).join('\n'));
+      return true;
+    } catch {
+      return false;
+    }
+  }
+
+  /** How many seconds have passed, which the next input of a game of so many is to give, once this is written; 0 for none. */
+  claim(count) {
+    if (this.isStill) {
+      return 0;
+    }
+    const passed = Math.min(Math.floor(this.opened + this.elapsed() - this.began) - this.until, MOST_SECONDS);
+    this.claimed = { count: count + 1, until: this.until + passed };
+    return passed > 0 && this.write([this.claimed, this.written]) ? passed : 0;
+  }
+
+  /** The seconds that were claimed were given. */
+  given() {
+    this.until = this.claimed.until;
+    this.written = this.claimed;
+  }
+
+  /** So many inputs are saved: an older copy can be told from the game. */
+  saved(count) {
+    if (!this.isStill && count > this.written.count && this.written.until === this.until && this.write([{ count, until: this.until }])) {
+      this.written = { count, until: this.until };
+    }
+  }
+}

@@ -1,0 +1,585 @@
+// The page: what is shown, and what buttons, keys and files do. Everything that plays is in the worker.
+import { Held, KEYS, byteOf } from './keys.js';
+import { PALETTES, draw, fit, pngOf } from './picture.js';
+import { Refused, lineOf } from './refusals.js';
+
+const MOST_ROM = 8 << 20;
+const MOST_FILE = 65536 * 512;
+const ROM_LENGTH = 2;
+const DEMO = 'demo.gb';
+
+const $ = (id) => document.getElementById(id);
+const given = new URLSearchParams(location.search);
+const isMax = given.get('speed') === 'max';
+const isTest = given.get('paused') === '1';
+
+// ---- the worker
+
+const worker = new Worker('worker.js', { type: 'module' });
+const waiting = new Map();
+let calls = 0;
+
+/** Asks the worker, and waits for its answer. */
+function ask(what, data = {}, moved = []) {
+  calls += 1;
+  const call = calls;
+  return new Promise((kept, broken) => {
+    waiting.set(call, { kept, broken });
+    worker.postMessage({ ask: what, data, call }, moved);
+  });
+}
+
+const told = {
+  picture({ shades, ...place }) {
+    last = shades;
+    draw($('screen'), shades, palette);
+    shown(place);
+  },
+  saved: shown,
+  stopped({ refused }) {
+    refuse(refused);
+  },
+  async question({ question, number }) {
+    worker.postMessage({ ask: 'answered', data: { number, said: await questioned(question) }, call: 0 });
+  },
+};
+
+worker.onmessage = ({ data }) => {
+  if (data.tell) {
+    told[data.tell](data);
+    return;
+  }
+  const one = waiting.get(data.call);
+  waiting.delete(data.call);
+  if (data.refused) {
+    const { line, means, advice, kind } = data.refused;
+    one?.broken(new Refused(line, means, advice, kind));
+  } else {
+    one?.kept(data.answer);
+  }
+};
+
+worker.onerror = (event) => {
+  event.preventDefault();
+  refuse({ line: 'the page failed', means: event.message || 'its worker does not run', advice: 'open the page anew: what was saved stays saved' });
+};
+
+// ---- what is shown
+
+let last = null;
+let palette = 0;
+// the game that is open: its title, and whether it is paused
+let playing = null;
+
+function remembered(name) {
+  try {
+    return localStorage.getItem(`gbkeep.${name}`);
+  } catch {
+    return null;
+  }
+}
+
+function remember(name, value) {
+  try {
+    localStorage.setItem(`gbkeep.${name}`, value);
+  } catch {
+    // it is asked again the next time
+  }
+}
+
+/** Says how the game stands, and a line about it. */
+function say(state, line) {
+  $('status').dataset.state = state;
+  $('status').textContent = line;
+}
+
+/** Shows a refusal. The game that was open is over. */
+function refuse(refused) {
+  if (playing) {
+    playing = null;
+    held.clear();
+  }
+  say('refused', lineOf(refused));
+  $('pause').disabled = true;
+}
+
+/** Says a refusal after which the game goes on. */
+function mention(refused) {
+  say(stateNow(), lineOf(refused));
+}
+
+function stateNow() {
+  return playing === null ? 'closed' : playing.isPaused ? 'paused' : 'playing';
+}
+
+function shown({ count, saved }) {
+  if (count === undefined) {
+    return;
+  }
+  $('status').dataset.count = count;
+  $('status').dataset.saved = saved;
+  $('count').textContent = `saved ${saved.toLocaleString('en')} of ${count.toLocaleString('en')} inputs`;
+}
+
+function show(view) {
+  $('games').hidden = view !== 'games';
+  $('game').hidden = view !== 'game';
+  if (view === 'games') {
+    $('title').textContent = 'gbkeep';
+    $('count').textContent = '';
+    document.title = 'gbkeep';
+  }
+}
+
+function size(bytes) {
+  return bytes < 1 << 20 ? `${Math.ceil(bytes / 1024).toLocaleString('en')} KiB` : `${(bytes / (1 << 20)).toFixed(1)} MiB`;
+}
+
+function part(kind, text, more = {}) {
+  return Object.assign(document.createElement(kind), { textContent: text, ...more });
+}
+
+function button(text, label, run) {
+  const made = part('button', text, { type: 'button' });
+  made.setAttribute('aria-label', label);
+  made.addEventListener('click', () => tried(run));
+  return made;
+}
+
+/** Does what a button says; a refusal is shown, and the game goes on if it is open. */
+async function tried(run) {
+  try {
+    await run();
+  } catch (error) {
+    if ($('status').dataset.state !== 'refused' || playing) {
+      mention(error instanceof Refused ? error : { line: 'the page failed', means: String(error), advice: 'open the page anew' });
+      if (playing === null) {
+        $('status').dataset.state = 'refused';
+      }
+    }
+  }
+}
+
+/** Asks the player a question: whether it was agreed to. */
+function questioned(text) {
+  const dialog = $('question');
+  $('question-text').textContent = text;
+  return new Promise((done) => {
+    let said = null;
+    const end = (value) => () => {
+      said = value;
+      dialog.close();
+    };
+    $('yes').onclick = end(true);
+    $('no').onclick = end(false);
+    dialog.onclose = () => done(said);
+    dialog.showModal();
+  });
+}
+
+// ---- the games
+
+async function listed() {
+  const rows = await ask('list');
+  $('none').hidden = rows.length > 0;
+  $('list').replaceChildren(...rows.map(rowOf));
+}
+
+function when(time) {
+  return time ? new Date(time).toLocaleString() : 'never';
+}
+
+function rowOf(row) {
+  const name = row.title || row.name;
+  const item = part('li', '');
+  item.dataset.id = row.id;
+  const canvas = Object.assign(document.createElement('canvas'), { width: 160, height: 144 });
+  canvas.setAttribute('role', 'img');
+  canvas.setAttribute('aria-label', row.picture ? `the last picture of ${name}` : `${name} has no picture yet`);
+  if (row.picture) {
+    draw(canvas, row.picture, palette);
+  }
+  const buttons = part('p', '', { className: 'row' });
+  buttons.append(button(row.isBegun ? 'Go on' : 'Begin', `Go on with ${name}`, () => play({ id: row.id })));
+  if (row.play) {
+    buttons.append(button('Take the SAVE out', `Take the SAVE of ${name} out`, () => takeOut(row.id, row.play, name)),
+      button('New game', `Begin ${name} anew; the present game is kept`, () => play({ id: row.id, anew: true })));
+  }
+  buttons.append(button('Delete', `Delete ${name}`, async () => {
+    if (await questioned(`Delete ${name}, with its SAVE, its slot and all that is kept of it, from this browser? This can't be undone.`)) {
+      await ask('deleteGame', { id: row.id });
+      await listed();
+      say('closed', `${name} was deleted.`);
+    }
+  }));
+  item.append(canvas, part('h3', row.title ? `${row.title} (${row.name})` : row.name),
+    part('p', row.isOpen ? 'open in another tab' : `${row.isBegun ? `last saved ${when(row.saved)}` : 'not begun'}; ${size(row.size)}`), buttons);
+  const others = row.images.filter((image) => image.number !== row.play);
+  if (others.length > 0) {
+    item.append(othersOf(row, name, others));
+  }
+  return item;
+}
+
+/** What else is kept of a game: its slot, and games that were replaced. */
+function othersOf(row, name, others) {
+  const details = part('details', '');
+  details.append(part('summary', `${others.length} more kept`));
+  const list = part('ul', '');
+  for (const image of others) {
+    const what = `${image.number === row.slot ? 'the slot' : 'a game that was replaced'}, saved ${when(image.saved)}`;
+    const item = part('li', '');
+    const buttons = part('span', '', { className: 'row' });
+    buttons.append(button('Take out', `Take out ${what}, of ${name}`, () => takeOut(row.id, image.number, name)));
+    if (image.number !== row.slot) {
+      buttons.append(button('Play this one', `Play ${what}, of ${name}; the present one is kept`, async () => {
+        await ask('playImage', { id: row.id, number: image.number });
+        await listed();
+      }), button('Delete', `Delete ${what}, of ${name}`, async () => {
+        if (await questioned(`Delete ${what}, of ${name}? This can't be undone.`)) {
+          await ask('deleteImage', { id: row.id, number: image.number });
+          await listed();
+        }
+      }));
+    }
+    item.append(`${what} `, buttons);
+    list.append(item);
+  }
+  details.append(list);
+  return details;
+}
+
+/** Leaves bytes or a blob as a file of the visitor's. */
+function leave(content, name) {
+  const url = URL.createObjectURL(content instanceof Blob ? content : new Blob([content], { type: 'application/octet-stream' }));
+  const link = Object.assign(document.createElement('a'), { href: url, download: name });
+  link.click();
+  setTimeout(() => URL.revokeObjectURL(url), 60000);
+}
+
+/** A name for a file, of what a game is called. */
+function fileName(name, end) {
+  const stem = name.replace(/\.gbc?$/i, '').replace(/[^\w .-]+/g, '_').trim() || 'game';
+  return `${stem}${end}`;
+}
+
+async function takeOut(id, number, name) {
+  leave(await ask('imageOf', { id, number }), fileName(name, '.gbkeep'));
+  say('closed', `The SAVE of ${name} was taken out.`);
+}
+
+// ---- a game
+
+async function play(what) {
+  say('opening', 'Opening the game.');
+  await closed();
+  let got;
+  try {
+    got = await ask('open', { ...what, paused: isTest, max: isMax, test: isTest }, what.rom ? [what.rom.buffer] : []);
+  } catch (error) {
+    say('refused', lineOf(error));
+    show('games');
+    await listed().catch(() => {});
+    throw error;
+  }
+  playing = { title: got.title, name: got.name, isPaused: isTest };
+  $('pause').disabled = false;
+  $('title').textContent = got.title;
+  document.title = `${got.title}: gbkeep`;
+  show('game');
+  resized();
+  paused(isTest);
+  shown(got);
+  if (got.notice) {
+    say(stateNow(), got.notice);
+  }
+  $('screen').focus();
+  askToKeep();
+}
+
+/** Saves and closes the game that is open. */
+async function closed() {
+  if (playing) {
+    playing = null;
+    held.clear();
+    await ask('close');
+  }
+}
+
+function paused(isPaused) {
+  playing.isPaused = isPaused;
+  $('pause').setAttribute('aria-pressed', String(isPaused));
+  say(stateNow(), isPaused ? 'Paused.' : 'Playing.');
+}
+
+async function pause(isPaused) {
+  if (playing && playing.isPaused !== isPaused) {
+    paused(isPaused);
+    shown(await ask('pause', { paused: isPaused }));
+  }
+}
+
+const does = {
+  Pause: () => pause(!playing.isPaused),
+  async Leave() {
+    const done = pause(true);
+    $('pause').focus();
+    await done;
+  },
+  async Picture() {
+    const blob = await pngOf(await ask('picture'));
+    leave(blob, fileName(playing.name, `-${$('status').dataset.count}.png`));
+    say(stateNow(), 'The picture was left with your downloads.');
+  },
+  async Keys() {
+    await pause(true);
+    $('keys').showModal();
+  },
+  Palette: () => choose((palette + 1) % PALETTES.length),
+  async 'Keep slot'() {
+    shown(await ask('keepSlot'));
+    say(stateNow(), `Kept in the slot: ${$('status').dataset.saved} inputs.`);
+  },
+  async 'Go back'() {
+    const got = await ask('goBack');
+    shown(got);
+    say(stateNow(), got.notice ?? `Back to the slot: ${got.count} inputs. The game before is kept.`);
+  },
+  async 'Full screen'() {
+    if (document.fullscreenElement) {
+      await document.exitFullscreen();
+    } else {
+      await $('stage').requestFullscreen();
+    }
+    $('screen').focus();
+  },
+  async Export() {
+    leave(await ask('image'), fileName(playing.name, '.gbkeep'));
+    say(stateNow(), 'The SAVE was taken out.');
+  },
+};
+
+/** Does what a key or a button says, while a game is open. */
+function act(name) {
+  if (playing) {
+    tried(does[name]);
+  }
+}
+
+function choose(number) {
+  palette = number;
+  $('palette').selectedIndex = number;
+  remember('palette', number);
+  if (last) {
+    draw($('screen'), last, palette);
+  }
+}
+
+function resized() {
+  const stage = $('stage').getBoundingClientRect();
+  const pad = $('pad').hidden ? 0 : $('pad').getBoundingClientRect().height + 10;
+  const room = document.fullscreenElement ? { width: innerWidth, height: innerHeight } : { width: stage.width, height: Math.max(144, innerHeight - stage.top - 12) };
+  fit($('screen'), { width: room.width, height: room.height - pad });
+}
+
+/** The next moment of the page: what is held goes to the worker, one moment at a time. */
+let isAsked = false;
+async function moment() {
+  requestAnimationFrame(moment);
+  if (playing && !playing.isPaused && !isAsked && document.visibilityState === 'visible') {
+    isAsked = true;
+    try {
+      shown(await ask('tick', held.look()));
+    } catch {
+      // the worker has told why it stopped
+    }
+    isAsked = false;
+  }
+}
+
+/** Asks the browser once to keep what is here, and says what it answers. */
+async function askToKeep() {
+  if (!navigator.storage?.persist) {
+    return;
+  }
+  let isKept = await navigator.storage.persisted();
+  if (!isKept && remembered('asked') === null) {
+    remember('asked', '1');
+    isKept = await navigator.storage.persist();
+  }
+  sayKept(isKept);
+}
+
+function sayKept(isKept) {
+  $('kept').textContent = isKept
+    ? 'This browser keeps the games until you delete them or its data.'
+    : 'This browser does not promise to keep the games: it may remove all of them together when the disk is short of room. Take out each SAVE that you would miss.';
+}
+
+// ---- files
+
+async function take(files) {
+  const read = [];
+  for (const file of files) {
+    if (file.size > MOST_FILE) {
+      throw Refused.of(ROM_LENGTH);
+    }
+    try {
+      read.push({ name: file.name, bytes: new Uint8Array(await file.arrayBuffer()) });
+    } catch {
+      throw Refused.own('read');
+    }
+  }
+  const saves = [];
+  const carts = [];
+  for (const one of read) {
+    (await ask('isSave', { bytes: one.bytes }) ? saves : carts).push(one);
+  }
+  if (carts.length > 0) {
+    await begin(carts[0]);
+  }
+  if (saves.length > 0) {
+    await closed();
+    show('games');
+    const id = await ask('takeIn', { image: saves[0].bytes }, [saves[0].bytes.buffer]);
+    await play({ id });
+  }
+}
+
+/** Begins or goes on with a cartridge. */
+async function begin({ name, bytes }) {
+  if (bytes.length > MOST_ROM) {
+    throw Refused.of(ROM_LENGTH);
+  }
+  await play({ rom: bytes, name });
+}
+
+async function fetched(url) {
+  let answer;
+  try {
+    answer = await fetch(url);
+  } catch {
+    throw Refused.own('fetch');
+  }
+  if (!answer.ok) {
+    throw Refused.own('fetch');
+  }
+  return { name: decodeURIComponent(new URL(url, location.href).pathname.split('/').at(-1)), bytes: new Uint8Array(await answer.arrayBuffer()) };
+}
+
+// ---- for tests, and for anybody who plays by program
+
+window.gbkeep = {
+  /** Plays frames with these buttons, a byte or names; kept when they were played. */
+  press: (buttons, frames = 1) => {
+    if (!Number.isSafeInteger(frames) || frames < 1) {
+      throw new TypeError('frames is a number from 1 on');
+    }
+    const byte = typeof buttons === 'number' ? buttons & 0xff : byteOf(buttons);
+    return ask('press', { held: byte, frames }).then((place) => {
+      shown(place);
+      return place.count;
+    });
+  },
+  /** Saves; kept, with the count of inputs, when all calls were made. */
+  save: () => ask('save').then((place) => {
+    shown(place);
+    return place.saved;
+  }),
+  /** The SHA-256 of the state, as `gbkeep show` prints it of the SAVE. */
+  state: () => ask('state'),
+  /** 23,040 shades, 0 the darkest and 3 the lightest, row by row. */
+  picture: () => ask('picture'),
+  /** The bytes of the SAVE, with everything saved. */
+  exportSave: () => ask('image'),
+};
+
+// ---- the page begins
+
+const held = new Held($('screen'), $('pad'), act);
+
+function connect() {
+  const clicks = { pause: 'Pause', 'keep-slot': 'Keep slot', 'go-back': 'Go back', export: 'Export', shot: 'Picture', full: 'Full screen', help: 'Keys' };
+  for (const [id, name] of Object.entries(clicks)) {
+    $(id).addEventListener('click', (event) => {
+      act(name);
+      // a mouse or a finger goes on with the game; a keyboard stays at its button
+      if (event.detail > 0 && playing) {
+        $('screen').focus();
+      }
+    });
+  }
+  $('close').addEventListener('click', () => tried(async () => {
+    try {
+      say('closed', '');
+      await closed();
+    } finally {
+      show('games');
+      await listed();
+      $('choose').focus();
+    }
+  }));
+  $('keys-close').addEventListener('click', () => $('keys').close());
+  $('keys').addEventListener('close', () => $('screen').focus());
+  $('keys-list').replaceChildren(...KEYS.map(([, , name, means]) => {
+    const row = part('tr', '');
+    row.append(part('th', name, { scope: 'row' }), part('td', means));
+    return row;
+  }));
+  $('palette').addEventListener('change', () => choose($('palette').selectedIndex));
+  $('touch').addEventListener('change', () => {
+    $('pad').hidden = !$('touch').checked;
+    remember('touch', $('touch').checked ? '1' : '0');
+    resized();
+  });
+  $('choose').addEventListener('click', () => $('file').click());
+  $('file').addEventListener('change', () => tried(async () => {
+    const files = [...$('file').files];
+    $('file').value = '';
+    await take(files);
+  }));
+  $('demo').addEventListener('click', () => tried(async () => begin(await fetched(DEMO))));
+  for (const kind of ['dragover', 'drop', 'dragleave']) {
+    document.addEventListener(kind, (event) => {
+      event.preventDefault();
+      $('games').classList.toggle('over', kind === 'dragover');
+      if (kind === 'drop' && event.dataTransfer.files.length > 0) {
+        tried(() => take([...event.dataTransfer.files]));
+      }
+    });
+  }
+  document.addEventListener('visibilitychange', () => {
+    if (document.visibilityState === 'hidden' && playing) {
+      held.clear();
+      ask('save').then(shown, () => {});
+    }
+  });
+  addEventListener('resize', resized);
+  document.addEventListener('fullscreenchange', resized);
+}
+
+async function start() {
+  connect();
+  choose(Math.min(Math.max(Number(remembered('palette')) || 0, 0), PALETTES.length - 1));
+  $('touch').checked = (remembered('touch') ?? (matchMedia('(pointer: coarse)').matches ? '1' : '0')) === '1';
+  $('pad').hidden = !$('touch').checked;
+  navigator.serviceWorker?.register('service_worker.js').catch(() => {});
+  if (navigator.storage?.persisted) {
+    sayKept(await navigator.storage.persisted());
+  }
+  requestAnimationFrame(moment);
+  await ask('load');
+  if (given.has('cart')) {
+    await begin(await fetched(given.get('cart')));
+  } else {
+    show('games');
+    await listed();
+  }
+}
+
+tried(start).then(() => {
+  if (playing === null && $('game').hidden) {
+    show('games');
+  }
+  document.documentElement.dataset.ready = String(Math.round(performance.now()));
+});

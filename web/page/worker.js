@@ -1,0 +1,345 @@
+// Everything that plays: the library, the game that is open, and its files. The page asks by {ask, data, call}, and is answered by {call, answer} or
+// {call, refused}. What nobody asked for is told by {tell}.
+import { Game, deleteGame, deleteImage, gamesFolder, imageOf, isSave, listGames, playImage, refusalOf, takeIn } from './games.js';
+import { Library } from './library.js';
+import { Refused } from './refusals.js';
+
+const FRAMES_A_SECOND = 4194304 / 70224;
+// a save a second; with more unsaved inputs than this, a save before
+const FRAMES_A_SAVE = 60;
+const MOST_UNSAVED = 3000;
+// how long frames are played in one piece, in milliseconds, and how much of them is made up for where the page was late
+const PIECE = 8;
+const FAST_PIECE = 11;
+const MOST_LATE = 250;
+const PICTURE_TIME = 1000 / 60;
+
+let library = null;
+let loading = null;
+let game = null;
+// why the game that was open stopped
+let stopped = null;
+
+// how the game is played
+let isPaused = false;
+let isMax = false;
+let isTest = false;
+let buttons = 0;
+// since when frames are counted by time, and how many were played since
+let since = 0;
+let played = 0;
+let kept = 0;
+let drawn = 0;
+// something is done that no frame may come between
+let isBusy = false;
+// frames that were asked for: {buttons, left, call}
+const orders = [];
+
+const now = () => performance.now();
+const pump = new MessageChannel();
+let isPumping = false;
+
+function tell(what, more = {}, moved = []) {
+  postMessage({ tell: what, ...more }, moved);
+}
+
+/** Where the game stands, for the page. */
+function place() {
+  return { count: game.count, saved: game.saved };
+}
+
+function showPicture() {
+  const shades = game.picture();
+  drawn = now();
+  tell('picture', { ...place(), shades }, [shades.buffer]);
+}
+
+/** Begins to count frames by time from now on. */
+function countAnew() {
+  since = now();
+  played = 0;
+}
+
+/** The game that is open. */
+function open() {
+  if (game === null) {
+    throw stopped ?? Refused.own('closed');
+  }
+  return game;
+}
+
+/** Ends the game after what can't be undone: what was saved stays saved, and what was not is lost. */
+function stop(error) {
+  stopped = refusalOf(error);
+  const over = game;
+  game = null;
+  // the next game has a module of its own: this one may have failed
+  loading = null;
+  try {
+    over.drop();
+  } finally {
+    orders.splice(0).forEach((order) => postMessage({ call: order.call, refused: stopped.told() }));
+    tell('stopped', { refused: stopped.told() });
+  }
+}
+
+/** Does something with the game that is open; where it fails, the game is over. */
+function guarded(run) {
+  try {
+    return run(open());
+  } catch (error) {
+    if (game !== null) {
+      stop(error);
+    }
+    throw stopped ?? error;
+  }
+}
+
+function keep() {
+  kept = now();
+  return game.keep();
+}
+
+/** A frame, or some where they are alike; then a save where one is due. */
+function play(held, count) {
+  game.frames(held, count);
+  const unsaved = game.count - game.saved;
+  if (unsaved >= MOST_UNSAVED || (unsaved >= FRAMES_A_SAVE && now() - kept >= 1000)) {
+    keep();
+  }
+}
+
+/** The frames that were asked for, or else frames with the buttons that are held, until this time or after so many. */
+function playUntil(time, most) {
+  let count = 0;
+  while (count < most && now() < time) {
+    if (orders.length > 0) {
+      const order = orders[0];
+      const some = Math.min(order.left, 4, most - count);
+      play(order.buttons, some);
+      order.left -= some;
+      count += some;
+      if (order.left === 0) {
+        orders.shift();
+        postMessage({ call: order.call, answer: place() });
+      }
+    } else {
+      play(buttons, 1);
+      count += 1;
+    }
+  }
+  return count;
+}
+
+/** Whether frames are to be played without a tick of the page. */
+function isFree() {
+  return game !== null && !isBusy && ((isMax && !isPaused) || (isPaused && orders.length > 0));
+}
+
+function pumps() {
+  if (!isPumping && isFree()) {
+    isPumping = true;
+    pump.port2.postMessage(null);
+  }
+}
+
+pump.port1.onmessage = () => {
+  isPumping = false;
+  if (!isFree()) {
+    return;
+  }
+  try {
+    guarded(() => {
+      if (isPaused) {
+        const until = now() + PIECE;
+        while (orders.length > 0 && now() < until) {
+          playUntil(until, orders[0].left);
+        }
+      } else {
+        playUntil(now() + PIECE, Infinity);
+      }
+      if (now() - drawn >= PICTURE_TIME || !isFree()) {
+        showPicture();
+      }
+    });
+  } catch {
+    // the page was told
+  }
+  pumps();
+};
+
+/** A moment of the page's: the frames that are due by the clock, or, fast, as many as there is time for. */
+function tick({ held, isFast }) {
+  buttons = held;
+  if (game === null || isBusy || isPaused || isMax) {
+    return game === null ? {} : place();
+  }
+  return guarded(() => {
+    if (isFast) {
+      playUntil(now() + FAST_PIECE, Infinity);
+      countAnew();
+    } else {
+      const late = now() - since - 1000 * played / FRAMES_A_SECOND;
+      if (late > MOST_LATE) {
+        countAnew();
+        played = -1;
+      }
+      const due = Math.floor((now() - since) * FRAMES_A_SECOND / 1000) - played;
+      if (due <= 0) {
+        return place();
+      }
+      played += playUntil(Infinity, due);
+    }
+    showPicture();
+    return place();
+  });
+}
+
+async function loaded() {
+  loading ??= Library.load(new URL('gbkeep.wasm', import.meta.url));
+  try {
+    library = await loading;
+  } catch (error) {
+    loading = null;
+    throw error;
+  }
+  return library;
+}
+
+let questions = 0;
+const asked = new Map();
+
+/** Asks the player: true, false, or null for no answer. */
+function ask(question) {
+  questions += 1;
+  const number = questions;
+  return new Promise((done) => {
+    asked.set(number, done);
+    tell('question', { question, number });
+  });
+}
+
+function close() {
+  if (game !== null) {
+    const closing = game;
+    game = null;
+    stopped = null;
+    orders.splice(0).forEach((order) => postMessage({ call: order.call, refused: Refused.own('closed').told() }));
+    closing.close();
+  }
+}
+
+const answers = {
+  async load() {
+    await loaded();
+    await gamesFolder();
+  },
+  list: listGames,
+  async open({ id = null, rom = null, name = null, anew = false, paused = false, max = false, test = false }) {
+    close();
+    isTest = test;
+    game = await Game.open(await loaded(), { id, rom, name, isNew: anew, isTimed: !isTest, ask });
+    stopped = null;
+    isPaused = paused;
+    isMax = max;
+    buttons = 0;
+    kept = now();
+    countAnew();
+    showPicture();
+    return { ...place(), title: game.title, name: game.name, notice: game.notice };
+  },
+  close,
+  tick,
+  pause({ paused }) {
+    isPaused = paused;
+    countAnew();
+    if (isPaused) {
+      guarded(keep);
+    }
+    return place();
+  },
+  save() {
+    guarded(keep);
+    return place();
+  },
+  press({ held, frames }, call) {
+    open();
+    orders.push({ buttons: held, left: frames, call });
+  },
+  state: () => guarded((one) => one.state()),
+  picture: () => guarded((one) => one.picture()),
+  image: () => guarded((one) => one.image()),
+  async keepSlot() {
+    await open().keepSlot();
+    return place();
+  },
+  async goBack() {
+    const going = open();
+    try {
+      await going.goBack();
+    } catch (error) {
+      if (going.disk === null || going.session === null) {
+        stop(error);
+      }
+      throw error;
+    }
+    countAnew();
+    showPicture();
+    return { ...place(), notice: going.notice };
+  },
+  takeIn: async ({ image }) => takeIn(await loaded(), image),
+  isSave: ({ bytes }) => isSave(bytes),
+  imageOf: ({ id, number }) => imageOf(id, number),
+  playImage: ({ id, number }) => playImage(id, number),
+  deleteImage: ({ id, number }) => deleteImage(id, number),
+  deleteGame: ({ id }) => deleteGame(id),
+  answered({ number, said }) {
+    asked.get(number)?.(said);
+    asked.delete(number);
+  },
+};
+
+// What is asked is done one after another, and no frame is played meanwhile. A tick can be left out, and an answer is waited for.
+const AT_ONCE = new Set(['tick', 'answered', 'load']);
+let last = Promise.resolve();
+
+async function answer({ ask: what, data, call }) {
+  try {
+    const got = await answers[what](data ?? {}, call);
+    if (what !== 'press') {
+      postMessage({ call, answer: got ?? null });
+    }
+  } catch (error) {
+    postMessage({ call, refused: refusalOf(error).told() });
+  }
+}
+
+async function alone(asked) {
+  isBusy = true;
+  await answer(asked);
+  isBusy = false;
+  pumps();
+}
+
+self.onmessage = ({ data }) => {
+  if (AT_ONCE.has(data.ask)) {
+    answer(data);
+  } else {
+    last = last.then(() => alone(data));
+  }
+};
+
+// the module is fetched while the page begins; `load` tells where it fails
+loaded().catch(() => {});
+
+// what was pressed and not saved is saved a second later, also in a pause
+setInterval(() => {
+  if (game !== null && !isBusy && game.count > game.saved && now() - kept >= 1000) {
+    try {
+      guarded(keep);
+      tell('saved', place());
+    } catch {
+      // the page was told
+    }
+  }
+}, 500);

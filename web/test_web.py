@@ -1,0 +1,1361 @@
+#!/usr/bin/python3
+"""Plays in a browser: Debian's Chromium, without a window, on the page of dist/web, served from this computer.
+
+usage: test_web.py GBKEEP [NAME ..]     NAME: of a test, as kills; all are run where none is given
+       test_web.py GBKEEP measure       prints times
+       test_web.py GBKEEP shots         leaves docs/browser.png and docs/browser_phone.png
+
+It needs Debian's packages chromium, chromium-driver and python3-selenium, and installs nothing; firefox-esr is tried, too, where it is there. What the
+page plays is compared with what the program plays. The whole browser is killed with SIGKILL at random moments. KILLS is how often (20); SEED says when;
+PAGE names another folder than dist/web."""
+import ast
+import contextlib
+import functools
+import hashlib
+import http.server
+import json
+import os
+import random
+import re
+import shutil
+import signal
+import statistics
+import subprocess
+import sys
+import tempfile
+import threading
+import time
+import unittest
+from pathlib import Path
+
+HERE = Path(__file__).resolve().parent
+TOP = HERE.parent
+sys.path[:0] = [str(TOP / 'players'), str(TOP / 'examples/demo'), str(TOP / 'examples/speed'), str(TOP / 'scripts/second_storage')]
+import build as speed_roms
+from assemble import Assembler
+from check import SAYS, glyphs, letters
+from gbkeep import Picture
+from timed_game import SaveTime, TimedGame
+
+NEEDED = []
+for program, package in (('chromium', 'chromium'), ('chromedriver', 'chromium-driver')):
+    if not shutil.which(program):
+        NEEDED.append(package)
+try:
+    from selenium import webdriver
+    from selenium.common.exceptions import WebDriverException
+    from selenium.webdriver.chrome.options import Options
+    from selenium.webdriver.chrome.service import Service
+    from selenium.webdriver.common.action_chains import ActionChains
+    from selenium.webdriver.common.by import By
+    from selenium.webdriver.common.keys import Keys
+except ImportError:
+    NEEDED.append(f'python3-selenium (for {sys.executable})')
+if NEEDED:
+    sys.exit("test_web.py needs Debian's " + ', '.join(NEEDED))
+
+DIST = Path(os.environ.get('PAGE', TOP / 'dist/web'))
+DEMO = TOP / 'examples/demo/demo.gb'
+TEST_ROMS = sorted((TOP / 'examples/test_roms').glob('*.gb'))
+SECTOR = 512
+BITS = {'Right': 1, 'Left': 2, 'Up': 4, 'Down': 8, 'A': 16, 'B': 32, 'Select': 64, 'Start': 128}
+GBKEEP = 'bin/gbkeep'
+SEED = int(os.environ.get('SEED', '1'))
+CLOCK = '''
+        org $100
+        jp start
+        org $134
+        db "CLOCK"
+        org $147
+        db $10, $00, $02
+        org $150
+start:  di
+again:  jr again
+'''
+
+
+class Quiet(http.server.SimpleHTTPRequestHandler):
+    def log_message(self, *_):
+        pass
+
+    def end_headers(self):
+        # what the browser has without the server, the page has kept
+        self.send_header('Cache-Control', 'no-store')
+        super().end_headers()
+
+
+class Noting(Quiet):
+    """Notes the writes of an image, (place, old bytes, new bytes), that no flush has followed yet. Where the server is to hold, it lets the page wait in
+    the middle of its calls."""
+
+    def do_POST(self):
+        body = self.rfile.read(int(self.headers.get('Content-Length', 0)))
+        what, _, place = self.path.partition('?')
+        server = self.server
+        with server.guard:
+            if what == '/flush':
+                server.unflushed.clear()
+            else:
+                server.unflushed.append((int(place), body[:len(body) // 2], body[len(body) // 2:]))
+            server.calls_left -= 1
+            is_held = server.calls_left == 0
+        if is_held:
+            server.held.set()
+            server.released.wait(60)
+        with contextlib.suppress(OSError):
+            self.send_response(204)
+            self.end_headers()
+
+
+# tells a noting server of each write of an image before it is made, and of each flush after it
+NOTES = '''
+{
+  const tell = (path, bytes) => { const ask = new XMLHttpRequest(); ask.open('POST', path, false); ask.send(bytes); };
+  const images = new WeakSet();
+  const { createSyncAccessHandle } = FileSystemFileHandle.prototype;
+  FileSystemFileHandle.prototype.createSyncAccessHandle = async function () {
+    const handle = await createSyncAccessHandle.call(this);
+    if (this.name.endsWith('.gbkeep')) { images.add(handle); }
+    return handle;
+  };
+  const { write, flush } = FileSystemSyncAccessHandle.prototype;
+  FileSystemSyncAccessHandle.prototype.write = function (bytes, { at }) {
+    if (images.has(this)) {
+      const both = new Uint8Array(2 * bytes.length);
+      this.read(both.subarray(0, bytes.length), { at });
+      both.set(bytes, bytes.length);
+      tell(`/write?${at}`, both);
+    }
+    return write.call(this, bytes, { at });
+  };
+  FileSystemSyncAccessHandle.prototype.flush = function () {
+    flush.call(this);
+    if (images.has(this)) { tell('/flush', ''); }
+  };
+}
+'''
+
+
+class Server:
+    """Serves a folder on this computer."""
+
+    def __init__(self, folder, port=0, kind=Quiet):
+        self.server = http.server.ThreadingHTTPServer(('127.0.0.1', port), functools.partial(kind, directory=str(folder)))
+        self.server.guard, self.server.unflushed, self.server.calls_left = threading.Lock(), [], -1
+        self.server.held, self.server.released = threading.Event(), threading.Event()
+        self.port = self.server.server_port
+        threading.Thread(target=self.server.serve_forever, daemon=True).start()
+
+    def url(self, words=''):
+        return f'http://localhost:{self.port}/index.html{words}'
+
+    def close(self):
+        self.server.shutdown()
+        self.server.server_close()
+
+
+class Browser:
+    """A browser with a profile of its own."""
+
+    def __init__(self, profile, *more):
+        options = Options()
+        options.binary_location = shutil.which('chromium')
+        for word in ('--headless=new', '--no-sandbox', '--disable-gpu', '--no-first-run', '--disable-dev-shm-usage', '--window-size=900,800', f'--user-data-dir={profile}', *more):
+            options.add_argument(word)
+        options.set_capability('goog:loggingPrefs', {'browser': 'ALL'})
+        self.profile = str(profile)
+        self.driver = webdriver.Chrome(service=Service(shutil.which('chromedriver')), options=options)
+        self.driver.set_script_timeout(120)
+
+    def __getattr__(self, name):
+        return getattr(self.driver, name)
+
+    def processes(self):
+        """The processes of this browser alone: those that name its profile."""
+        found = []
+        for folder in Path('/proc').iterdir():
+            if folder.name.isdigit():
+                with contextlib.suppress(OSError):
+                    if f'--user-data-dir={self.profile}'.encode() in (folder / 'cmdline').read_bytes().split(b'\0'):
+                        found.append(int(folder.name))
+        return found
+
+    def main_processes(self):
+        """The process that the others of this browser are below."""
+        words = {one: Path(f'/proc/{one}/cmdline').read_bytes() for one in self.processes()}
+        return [one for one, line in words.items() if b'--type=' not in line and b'chromedriver' not in line]
+
+    def kill(self):
+        """Kills the whole browser."""
+        main = self.main_processes()
+        if not main:
+            raise AssertionError('there is no browser to be killed')
+        # children of the main process, as the renderer, name no profile
+        children = descendants(main)
+        for one in main + children:
+            with contextlib.suppress(ProcessLookupError):
+                os.kill(one, signal.SIGKILL)
+        self.end()
+
+    def end(self):
+        with contextlib.suppress(Exception):
+            self.driver.service.process.kill()
+            self.driver.service.process.wait()
+
+    def close(self):
+        with contextlib.suppress(WebDriverException):
+            self.driver.quit()
+
+
+def descendants(roots):
+    """The processes below these."""
+    parents = {}
+    for folder in Path('/proc').iterdir():
+        if folder.name.isdigit():
+            with contextlib.suppress(OSError, IndexError, ValueError):
+                parents[int(folder.name)] = int((folder / 'stat').read_text().rsplit(')', 1)[1].split()[1])
+    found, more = [], list(roots)
+    while more:
+        more = [child for child, parent in parents.items() if parent in more]
+        found += more
+    return found
+
+
+class Page:
+    """The page in a browser."""
+
+    def __init__(self, browser):
+        self.browser = browser
+
+    def open(self, url):
+        self.browser.get(url)
+        self.until(lambda: self.js('return document.documentElement.dataset.ready'), 'the page was never ready', 30)
+        return self
+
+    def js(self, text, *words):
+        return self.browser.execute_script(text, *words)
+
+    def wait_for(self, text, *words):
+        """What a promise keeps."""
+        got = self.browser.execute_async_script(
+            'const done = arguments[arguments.length - 1]; const given = [...arguments].slice(0, -1);'
+            f'(async () => {{ {text} }})().then((kept) => done([true, kept]), (error) => done([false, String(error)]));', *words)
+        if not got[0]:
+            raise AssertionError(f'{text}: {got[1]}')
+        return got[1]
+
+    def until(self, what, or_else, seconds=20):
+        end = time.monotonic() + seconds
+        while time.monotonic() < end:
+            got = what()
+            if got:
+                return got
+            time.sleep(0.03)
+        raise AssertionError(f'{or_else}; the status is {self.status()}')
+
+    def status(self):
+        return self.js("const s = document.getElementById('status'); return {...s.dataset, text: s.textContent}")
+
+    def state_of(self):
+        return self.js("return document.getElementById('status').dataset.state")
+
+    def saved(self):
+        return int(self.js("return document.getElementById('status').dataset.saved"))
+
+    def count(self):
+        return int(self.js("return document.getElementById('status').dataset.count"))
+
+    def text(self):
+        return self.js("return document.getElementById('status').textContent")
+
+    def until_state(self, state):
+        self.until(lambda: self.state_of() == state, f'the state was never {state}')
+
+    def until_text(self, words):
+        return self.until(lambda: words in self.text() and self.text(), f'{words!r} was never said')
+
+    def press(self, buttons, frames):
+        return self.wait_for('return await gbkeep.press(given[0], given[1])', buttons, frames)
+
+    def save(self):
+        return self.wait_for('return await gbkeep.save()')
+
+    def state(self):
+        return self.wait_for('return await gbkeep.state()')
+
+    def picture(self):
+        return bytes(self.wait_for('return [...await gbkeep.picture()]'))
+
+    def export(self):
+        return bytes.fromhex(self.wait_for("return [...await gbkeep.exportSave()].map((one) => one.toString(16).padStart(2, '0')).join('')"))
+
+    def click(self, where):
+        self.browser.find_element(By.CSS_SELECTOR, where).click()
+
+    def give(self, *paths):
+        """Chooses files, as the picker does."""
+        self.browser.find_element(By.ID, 'file').send_keys('\n'.join(map(str, paths)))
+
+    def rows(self):
+        return self.js("return [...document.querySelectorAll('#list > li')].map((one) => one.innerText)")
+
+    def button(self, label):
+        return self.browser.find_element(By.CSS_SELECTOR, f'[aria-label^="{label}"]')
+
+    def shot(self, path):
+        self.browser.save_screenshot(str(path))
+
+
+def run(*words):
+    return subprocess.run([str(word) for word in words], capture_output=True, text=True, timeout=120)
+
+
+class Program:
+    """The program on files of a folder."""
+
+    def __init__(self, folder):
+        self.folder = Path(folder)
+
+    def do(self, *words):
+        done = run(GBKEEP, *words)
+        if done.returncode != 0:
+            raise AssertionError(f'{words}: {done.stderr}')
+        return done.stdout
+
+    def after(self, cart, inputs, save=None):
+        """What a game of the program shows after these inputs, (buttons, frames) each: its state and its picture."""
+        if save is None:
+            save = self.folder / 'program.gbkeep'
+            save.unlink(missing_ok=True)
+            self.do('new', cart, save)
+        script = self.folder / 'script'
+        script.write_text(''.join(f'frames {buttons:02x} {frames}\n' for buttons, frames in inputs))
+        self.do('play', cart, save, script)
+        return self.shows(cart, save), self.picture(cart, save)
+
+    def shows(self, cart, save):
+        return dict(line.split(' ', 1) for line in self.do('show', cart, save).splitlines())
+
+    def picture(self, cart, save):
+        out = self.folder / 'picture.pgm'
+        out.unlink(missing_ok=True)
+        self.do('frame', cart, save, out)
+        return Picture(out.read_bytes()).shades
+
+
+def any_inputs(chance, count, most=40):
+    return [(chance.choice([0, 0, 1, 2, 4, 8, 16, 32, 64, 128, chance.randrange(256)]), chance.randint(1, most)) for _ in range(count)]
+
+
+class WithBrowser(unittest.TestCase):
+    """A folder that is served, and a browser."""
+    more = ()
+
+    @classmethod
+    def setUpClass(cls):
+        cls.room = Path(tempfile.mkdtemp(prefix='web-'))
+        cls.addClassCleanup(shutil.rmtree, cls.room, ignore_errors=True)
+        cls.site = cls.room / 'site'
+        shutil.copytree(DIST, cls.site)
+        cls.carts = {'demo': DEMO, **{path.stem: path for path in TEST_ROMS}}
+        cls.carts.update(speed_roms.write(cls.room))
+        (cls.room / 'clock.gb').write_bytes(Assembler().assemble(CLOCK))
+        cls.carts['clock'] = cls.room / 'clock.gb'
+        for name, cart in cls.carts.items():
+            shutil.copy(cart, cls.site / f'{name}.gb')
+        cls.server = Server(cls.site)
+        cls.addClassCleanup(cls.server.close)
+        cls.browser = Browser(cls.room / 'profile', *cls.more)
+        cls.addClassCleanup(lambda: cls.browser.close())
+        cls.program = Program(cls.room)
+
+    def setUp(self):
+        self.page = Page(self.browser)
+
+    def play(self, name, more='&paused=1'):
+        self.page.open(self.server.url(f'?cart={name}.gb{more}'))
+        self.assertIn(self.page.state_of(), ('playing', 'paused'), self.page.status())
+        return self.page
+
+    def hold(self, key, seconds=0.2):
+        ActionChains(self.browser.driver).key_down(key).pause(seconds).key_up(key).perform()
+
+    def listed(self):
+        """The page with the list of games."""
+        return self.page.open(self.server.url())
+
+
+# frames until a round of the demo is over
+ROUND = 3_700
+KNOWN = glyphs((TOP / 'examples/demo/demo.asm').read_text())
+
+
+def asks_for_start(shades):
+    """Whether PRESS START stands in the middle of the demo's field, where the player or a coin may cover letters."""
+    said = letters(' '.join(['P2', '160', '144', '3', *map(str, shades)]), KNOWN, 8, range(3, 16))
+    return said.count('?') < 5 and all(letter in (wanted, '?') for letter, wanted in zip(said, SAYS))
+
+
+class Playing(WithBrowser):
+    def test_keys(self):
+        """The demo is played by keys: a round begins, and the player walks; the state is the program's."""
+        page = self.listed()
+        page.click('#demo')
+        page.until_state('playing')
+        page.until(lambda: page.saved() > 60, 'nothing was ever saved')
+        page = self.play('demo')
+        page.press(0, ROUND)
+        self.assertTrue(asks_for_start(page.picture()))
+        page.click('#pause')
+        page.until_state('playing')
+        self.hold(Keys.ENTER)
+        page.until(lambda: not asks_for_start(page.picture()), 'Start does nothing')
+        for key in (Keys.ARROW_RIGHT, Keys.ARROW_DOWN, Keys.ARROW_LEFT, Keys.ARROW_UP):
+            field = page.picture()[:160 * 136]
+            self.hold(key)
+            page.until(lambda: page.picture()[:160 * 136] != field, f'{key!r} does nothing')
+        # held, they bring the player from wall to wall: a key that counts once alone moves it by a pixel
+        fields = []
+        for key in (Keys.ARROW_RIGHT, Keys.ARROW_LEFT):
+            self.hold(key, 3)
+            fields.append(page.picture())
+        for columns in (range(8, 18), range(142, 152)):
+            self.assertTrue(any(fields[0][160 * y + x] != fields[1][160 * y + x] for y in range(16, 128) for x in columns), columns)
+        for key in ('x', 'z', Keys.BACKSPACE):
+            self.hold(key)
+        ActionChains(self.browser.driver).send_keys('p').perform()
+        page.until_state('paused')
+        image, state, shades = page.export(), page.state(), page.picture()
+        save = self.room / 'keys.gbkeep'
+        save.write_bytes(image)
+        shown = self.program.shows(DEMO, save)
+        self.assertEqual((shown['inputs'], shown['state']), (str(page.count()), state))
+        self.assertEqual(self.program.picture(DEMO, save), shades)
+        count = page.count()
+        time.sleep(0.3)
+        self.assertEqual(page.count(), count)
+        page.click('#pause')
+        page.until(lambda: page.count() > count, 'the game never goes on')
+
+    def test_speed_of_a_game_boy(self):
+        """59.7 frames a second, by the clock, on screens of any rate; held F runs fast."""
+        page = self.play('demo', '')
+        self.browser.find_element(By.ID, 'screen').click()
+        page.until(lambda: page.count() > 30, 'it never runs')
+        text = "return [performance.now(), Number(document.getElementById('status').dataset.count)]"
+        for period in (None, 1000 / 144, 1000 / 120, 1000 / 30):
+            if period:
+                page.js('window.requestAnimationFrame = (run) => setTimeout(run, arguments[0])', period)
+                time.sleep(0.5)
+            before = page.js(text)
+            time.sleep(5)
+            after = page.js(text)
+            self.assertAlmostEqual(1000 * (after[1] - before[1]) / (after[0] - before[0]), 59.73, delta=1.0, msg=period)
+        ActionChains(self.browser.driver).key_down('f').perform()
+        before = page.js(text)
+        time.sleep(1)
+        after = page.js(text)
+        ActionChains(self.browser.driver).key_up('f').perform()
+        self.assertGreater(1000 * (after[1] - before[1]) / (after[0] - before[0]), 150)
+
+    def test_as_the_program(self):
+        """States and pictures after the same inputs, of each cartridge."""
+        chance = random.Random(SEED)
+        for name, cart in self.carts.items():
+            with self.subTest(cart=name):
+                page, inputs = self.play(name), any_inputs(chance, 12)
+                for buttons, frames in inputs:
+                    page.press(buttons, frames)
+                shown, picture = self.program.after(cart, inputs)
+                self.assertEqual(page.save(), sum(frames for _, frames in inputs))
+                self.assertEqual(page.state(), shown['state'])
+                self.assertEqual(page.picture(), picture)
+                self.assertEqual(page.saved(), int(shown['inputs']))
+
+    def test_long_presses(self):
+        """More frames than can be unsaved, and names of buttons."""
+        page = self.play('busy_hram', '&paused=1')
+        begun = page.count()
+        self.assertEqual(page.press(['A', 'Up'], 7_000), begun + 7_000)
+        self.assertGreater(page.saved(), begun)
+        self.assertEqual(page.save(), begun + 7_000)
+        with self.assertRaisesRegex(AssertionError, 'no button'):
+            page.press(['Q'], 1)
+
+
+LONG_PLAY = '''
+const { Library, SECTOR, Session, sectorsNeeded } = await import('./library.js');
+const library = await Library.load('gbkeep.wasm');
+const rom = new Uint8Array(await (await fetch('demo.gb')).arrayBuffer());
+const sectors = sectorsNeeded(library, rom);
+const disk = new Uint8Array(SECTOR * sectors);
+let session = Session.begin(library, rom, sectors);
+let calls = 0;
+let first = 0;
+const make = () => {
+  for (let call = session.nextCall(); call !== null; call = session.nextCall()) {
+    if (call.bytes !== null) { disk.set(call.bytes, SECTOR * call.sector); }
+    calls += 1;
+  }
+};
+make();
+for (let k = 0; k < 10000; k += 1) {
+  session.frames(k & 255, 1);
+  session.save();
+  make();
+  if (calls > 4000) {
+    session.free();
+    session = Session.resume(library, rom, disk);
+    calls = 0;
+    make();
+  }
+  if (k === 5000) { first = library.calls.memory.buffer.byteLength; }
+}
+return [first, library.calls.memory.buffer.byteLength, session.count()];'''
+
+
+class Files(WithBrowser):
+    def test_to_the_program_and_back(self):
+        """A SAVE goes from the page to the program and back, and both go on."""
+        page = self.play('demo')
+        first, second, third = (any_inputs(random.Random(SEED + one), 6) for one in range(3))
+        for buttons, frames in first:
+            page.press(buttons, frames)
+        save = self.room / 'out.gbkeep'
+        save.write_bytes(page.export())
+        shown, picture = self.program.after(DEMO, second, save)
+        page = self.listed()
+        page.give(save)
+        page.until_state('playing')
+        page.click('#close')
+        page.until(lambda: '1 more kept' in ''.join(page.rows()), 'the game that was replaced is not kept')
+        page = self.play('demo')
+        self.assertEqual(page.count(), page.saved())
+        # the page played some frames before it was closed, and the program plays as many
+        more = page.count() - int(shown['inputs'])
+        self.assertGreaterEqual(more, 0)
+        for buttons, frames in third:
+            page.press(buttons, frames)
+        page.save()
+        shown, picture = self.program.after(DEMO, ([(0, more)] if more else []) + third, save)
+        self.assertEqual((page.state(), page.picture()), (shown['state'], picture))
+
+    def test_wrong_files(self):
+        """What is no cartridge or no SAVE is refused in words, and leaves nothing."""
+        rom = bytearray(DEMO.read_bytes())
+        cases = {'short.gb': (b'no cartridge', 'rom length'), 'kind.gb': (bytes(rom[:0x147]) + b'\xfc' + bytes(rom[0x148:]), 'cartridge type'),
+                 'ram.gb': (bytes(rom[:0x149]) + b'\x09' + bytes(rom[0x14a:]), 'ram code'), 'empty.gb': (b'', 'rom length'),
+                 'long.gb': (bytes((8 << 20) + 512), 'rom length'), 'cut.gbkeep': (b'GBKPROOT' + bytes(100), 'the cartridge of this SAVE is not here')}
+        page = self.listed()
+        before = page.rows()
+        for name, (content, words) in cases.items():
+            with self.subTest(name=name):
+                path = self.room / name
+                path.write_bytes(content)
+                page.give(path)
+                page.until_text(words)
+                self.assertEqual(page.state_of(), 'refused')
+                page = self.listed()
+                self.assertEqual(page.rows(), before)
+        self.page.open(self.server.url('?cart=missing.gb'))
+        self.page.until_text("the cartridge can't be fetched")
+
+    def test_damaged_saves(self):
+        """A damaged SAVE is refused, from outside and where it lies, and nothing is lost."""
+        page = self.play('passes')
+        page.press(0, 300)
+        image = page.export()
+        count = page.count()
+        # an area: 32 sectors of the log, then the snapshot
+        area = (len(image) // SECTOR - 2) // 2
+        snapshots = [SECTOR * (2 + area * number + 32) for number in range(2)]
+        content = bytearray(image)
+        for place in snapshots:
+            content[place:place + 64] = bytes(byte ^ 0xff for byte in content[place:place + 64])
+        damaged = self.room / 'damaged.gbkeep'
+        damaged.write_bytes(content)
+        page = self.listed()
+        before = page.rows()
+        page.give(damaged)
+        page.until_text('damaged snapshot')
+        self.assertEqual(page.state_of(), 'refused')
+        page = self.listed()
+        self.assertEqual(page.rows(), before)
+        page = self.play('passes')
+        self.assertEqual(page.count(), count)
+        self.listed()
+        ident = hashlib.sha256(self.carts['passes'].read_bytes()).hexdigest()
+        image_there = '''
+            const folder = await (await (await navigator.storage.getDirectory()).getDirectoryHandle('games')).getDirectoryHandle(given[0]);
+            const place = await folder.getFileHandle('1.gbkeep');'''
+        digest_there = image_there + '''
+            const bytes = await (await place.getFile()).arrayBuffer();
+            return [...new Uint8Array(await crypto.subtle.digest('SHA-256', bytes))].join();'''
+        page.wait_for(image_there + '''
+            const file = await place.createWritable({ keepExistingData: true });
+            for (const position of given[1]) { await file.write({ type: 'write', position, data: new Uint8Array(64).fill(0xa5) }); }
+            await file.close();''', ident, snapshots)
+        there = page.wait_for(digest_there, ident)
+        page.open(self.server.url('?cart=passes.gb'))
+        page.until_text('damaged snapshot')
+        self.assertEqual(page.state_of(), 'refused')
+        self.assertEqual(page.wait_for(digest_there, ident), there)
+        # what is kept of it can be taken out and deleted
+        self.assertTrue(page.button('Take the SAVE of'))
+
+    def test_slots(self):
+        """The slot is a copy; going back loses no game."""
+        page = self.play('fails')
+        page.press(0, 100)
+        page.click('#go-back')
+        page.until_text('the slot is empty')
+        page.click('#keep-slot')
+        page.until_text('Kept in the slot: 100')
+        state = page.state()
+        page.press(1, 50)
+        page.save()
+        page.click('#go-back')
+        page.until_text('Back to the slot: 100')
+        self.assertEqual((page.count(), page.state()), (100, state))
+        page.press(2, 10)
+        self.assertEqual(page.save(), 110)
+        self.browser.find_element(By.ID, 'screen').send_keys(Keys.F5)
+        page.until_text('Kept in the slot: 110')
+        page = self.listed()
+        row = next(one for one in page.rows() if 'fails' in one.lower())
+        self.assertIn('3 more kept', row)
+
+    def test_new_game(self):
+        """A new game of a cartridge is begun beside the present one, which is kept and can be played again."""
+        page = self.play('copy')
+        page.press(0, 77)
+        page.save()
+        page = self.listed()
+        name = next(one.split('\n')[0] for one in page.rows() if 'copy.gb' in one).split(' (')[0]
+        page.button(f'Begin {name} anew').click()
+        page.until_state('playing')
+        page.click('#pause')
+        page.until_state('paused')
+        self.assertLess(page.count(), 77)
+        page.click('#close')
+        page.until(lambda: any('copy.gb' in one and '1 more kept' in one for one in page.rows()), 'the game before is not kept')
+        page.click('details summary')
+        page.button('Play a game that was replaced').click()
+        time.sleep(0.5)
+        self.assertEqual(self.play('copy').count(), 77)
+
+    def test_two_tabs(self):
+        """A second tab of a game is told so, and changes nothing."""
+        page = self.play('prints')
+        page.press(0, 200)
+        page.save()
+        image = page.export()
+        first = self.browser.current_window_handle
+        self.browser.switch_to.new_window('tab')
+        try:
+            page.open(self.server.url('?cart=prints.gb'))
+            page.until_text('another tab has this game')
+            self.assertEqual(page.state_of(), 'refused')
+        finally:
+            self.browser.driver.close()
+            self.browser.switch_to.window(first)
+        self.assertEqual(page.export(), image)
+        self.assertEqual(page.press(0, 5), 205)
+        self.assertEqual(page.save(), 205)
+
+    def test_delete(self):
+        page = self.play('halting')
+        page.press(0, 10)
+        page.save()
+        page = self.listed()
+        name = next(one.split('\n')[0] for one in page.rows() if 'halting' in one.lower())
+        label = name.split(' (')[0]
+        page.button(f'Delete {label}').click()
+        page.until(lambda: page.js("return document.getElementById('question').open"), 'there is no question')
+        page.click('#no')
+        self.assertTrue(any('halting' in one.lower() for one in page.rows()))
+        page.button(f'Delete {label}').click()
+        page.click('#yes')
+        page.until_text('was deleted')
+        self.assertFalse(any('halting' in one.lower() for one in page.rows()))
+
+    def test_long_play(self):
+        """Ten thousand saves, with the session taken up anew as the page does it, take no more memory than the first thousands."""
+        first, last, count = self.listed().wait_for(LONG_PLAY)
+        self.assertEqual(count, 10_000)
+        self.assertEqual(last, first)
+
+    def test_pictures(self):
+        """A PNG, three times as large, in four greys."""
+        page = self.play('scrolling')
+        page.press(0, 120)
+        png = bytes(page.wait_for('''
+            const { pngOf } = await import('./picture.js');
+            return [...new Uint8Array(await (await pngOf(await gbkeep.picture())).arrayBuffer())];'''))
+        got = page.wait_for('''
+            const image = await createImageBitmap(new Blob([new Uint8Array(given[0])], { type: 'image/png' }));
+            const canvas = new OffscreenCanvas(image.width, image.height);
+            const context = canvas.getContext('2d');
+            context.drawImage(image, 0, 0);
+            return [image.width, image.height, [...context.getImageData(0, 0, image.width, image.height).data].filter((_, k) => k % 4 === 0)];''', list(png))
+        self.assertEqual(got[:2], [480, 432])
+        shades = page.picture()
+        self.assertEqual(bytes(got[2]), bytes(85 * shades[160 * (y // 3) + x // 3] for y in range(432) for x in range(480)))
+
+    def test_clock(self):
+        """The clock is given the seconds that pass, also while the game is closed, and no more."""
+        page, began = self.play('clock', ''), time.time()
+        page.until(lambda: page.saved() > 70, 'nothing was ever saved')
+        page.click('#close')
+        page.until_state('closed')
+        time.sleep(4)
+        page = self.play('clock', '')
+        page.until(lambda: page.saved() > 150, 'nothing was ever saved')
+        page.click('#pause')
+        page.until_state('paused')
+        image, ended = page.export(), time.time()
+        save = self.room / 'clock.gbkeep'
+        save.write_bytes(image)
+        seconds = clock_of(self.program, self.carts['clock'], save)
+        self.assertLessEqual(seconds, ended - began + 1)
+        self.assertGreaterEqual(seconds, 5)
+        # more than a year away is asked: no gives nothing, yes gives it all
+        ident = hashlib.sha256(self.carts['clock'].read_bytes()).hexdigest()
+        for answer, least, most in (('#no', 0, 300), ('#yes', 400 * 86_400, 400 * 86_400 + 300)):
+            self.listed().wait_for('''
+                const folder = await (await (await navigator.storage.getDirectory()).getDirectoryHandle('games')).getDirectoryHandle(given[0]);
+                const file = await (await folder.getFileHandle('1.time')).createWritable();
+                await file.write(`0 ${given[1]}`.padEnd(512));
+                await file.close();''', ident, int(time.time()) - 400 * 86_400)
+            self.browser.get(self.server.url('?cart=clock.gb'))
+            page.until(lambda: page.js("return document.getElementById('question').open"), 'nothing was asked')
+            self.assertIn('1 year and 35 days', page.js("return document.getElementById('question-text').textContent"))
+            page.click(answer)
+            page.until(lambda: page.saved() > 0 and page.state_of() == 'playing', 'the game never goes on')
+            save.write_bytes(page.export())
+            seconds = clock_of(self.program, self.carts['clock'], save)
+            self.assertTrue(least <= seconds <= most, (answer, seconds))
+
+
+def clock_of(program, cart, save):
+    """How many seconds the clock of a game shows, by the file that `gbkeep export` writes."""
+    out = save.with_suffix('.sav')
+    out.unlink(missing_ok=True)
+    program.do('export', cart, save, out)
+    data = out.read_bytes()
+    fields = data[-48:-28] if len(data) % 8192 == 48 else data[-44:-24]
+    seconds, minutes, hours, days, high = (int.from_bytes(fields[4 * k:4 * k + 4], 'little') for k in range(5))
+    return seconds + 60 * minutes + 3600 * hours + 86_400 * (days + 256 * (high & 1))
+
+
+CLOCK_TRACES = '''
+const { Clock } = await import('./clock.js');
+const out = [];
+for (const { text: begun, count: inputs, now, answer, steps } of given[0]) {
+  let [text, date, ran, count, saved] = [begun, now, 500.25, inputs, inputs];
+  const clock = new Clock({ read: () => text, write: (other) => { text = other; } }, inputs, () => date, () => ran);
+  const asked = [];
+  const notice = await clock.begin((question) => { asked.push(question); return answer; });
+  const row = [notice !== null, asked.length];
+  for (const [passes, frames] of steps) {
+    date += passes;
+    ran += passes;
+    count += frames;
+    const passed = clock.claim(count);
+    if (passed > 0) {
+      count += 1;
+      clock.given();
+    }
+    if (count > saved) {
+      saved = count;
+      clock.saved(count);
+    }
+    row.push(passed, text.trim());
+  }
+  out.push(row);
+}
+return out;'''
+
+
+class OtherClock(TimedGame):
+    """The window's clock, over no program."""
+
+    def __init__(self, path, trace):
+        self.header = type('Header', (), {'has_clock': staticmethod(lambda: True)})
+        self.time, self.notice, self.trouble, self.asked, self.passed = SaveTime(path), None, None, 0, 0
+        self.date, self.ran, self.resumed, self.count = trace['now'], 500.25, trace['count'], trace['count']
+        self.elapsed = lambda: self.ran
+
+        def answered(_, question):
+            self.asked += 1
+            return trace['answer']
+        self.ask = answered
+        self.opened, self.began, self.given_until = self.date, self.ran, int(self.date)
+        self._begin_clock(False)
+
+    def seconds(self, count):
+        self.passed, self.count = count, self.count + 1
+
+    def save(self):
+        return self.count
+
+
+class Clocks(WithBrowser):
+    def test_clock_rules(self):
+        """The page's clock and the window's give the same seconds, ask the same questions, and keep the same lines."""
+        chance, traces, wanted = random.Random(SEED), [], []
+        path = self.room / 'rules'
+        for _ in range(400):
+            now, count = chance.choice([1_000_000.5, 2_000_000_000.25]), chance.choice([0, 5, 1_000])
+            lines = [(max(0, count + chance.choice([-200, -3, 0, 1, 3, 200])), int(now) + chance.choice([-40_000_000, -86_400, -5, 0, 5, 59, 61, 90_000, 40_000_000]))
+                     for _ in range(chance.choice([0, 1, 1, 2, 3]))]
+            text = chance.choice(['nonsense', '1 2 3', '5']) if chance.random() < 0.1 else '\n'.join(f'{least} {max(seconds, 0)}' for least, seconds in lines)
+            steps = [(0, 0)] + [(chance.choice([0, 0.5, 1, 3, 100]), chance.choice([0, 1, 60])) for _ in range(5)]
+            trace = {'text': text, 'count': count, 'now': now, 'answer': chance.choice([True, False, None]), 'steps': steps}
+            Path(f'{path}.time').write_text(text + '\n' if text else '')
+            other = OtherClock(path, trace)
+            row = [other.notice is not None, other.asked]
+            for passes, frames in steps:
+                other.date, other.ran, other.count, other.passed = other.date + passes, other.ran + passes, other.count + frames, 0
+                other.keep()
+                row += [other.passed, Path(f'{path}.time').read_text().strip()]
+            traces.append(trace)
+            wanted.append(row)
+        page = self.listed()
+        got = page.wait_for(CLOCK_TRACES, traces)
+        for trace, ours, theirs in zip(traces, got, wanted):
+            self.assertEqual(ours, theirs, trace)
+        self.assertGreater(len({tuple(row[:2]) for row in wanted}), 3)
+
+
+class Killed(WithBrowser):
+    def test_kills(self):
+        """Killed at random moments during play, the page goes on with at least what it had shown as saved."""
+        chance, told, kills = random.Random(SEED), 0, int(os.environ.get('KILLS', '20'))
+        kind = type(self)
+        for number in range(kills):
+            page = Page(kind.browser)
+            page.open(self.server.url('?cart=demo.gb' + ('&speed=max' if number % 2 else '')))
+            self.assertEqual(page.state_of(), 'playing', page.status())
+            self.assertGreaterEqual(page.saved(), told, f'kill {number}: what was shown as saved is gone')
+            begun, until = page.saved(), time.monotonic() + chance.uniform(0.3, 3)
+            while time.monotonic() < until:
+                told = max(told, page.saved())
+            kind.browser.kill()
+            self.assertGreaterEqual(told, begun)
+            kind.browser = Browser(kind.room / 'profile', *kind.more)
+        page = Page(kind.browser).open(self.server.url('?cart=demo.gb&paused=1'))
+        self.assertGreaterEqual(page.saved(), told)
+        save = self.room / 'killed.gbkeep'
+        save.write_bytes(page.export())
+        shown = self.program.shows(DEMO, save)
+        self.assertEqual((int(shown['inputs']), shown['state']), (page.count(), page.state()))
+        print(f'killed {kills} times, {told} inputs were told as saved', file=sys.stderr)
+
+
+    def test_undone_writes(self):
+        """Killed in the middle of its calls, and with some of the writes undone that no flush had followed: as a power cut of the computer may leave the
+        file."""
+        chance, told, site = random.Random(SEED + 1), 0, self.room / 'noting'
+        shutil.copytree(self.site, site)
+        (site / 'worker.js').write_text((site / 'worker.js').read_text() + NOTES)
+        server, profile, undone, kept_some, kind = Server(site, kind=Noting), self.room / 'undone-0', 0, 0, type(self)
+        notes = server.server
+        kind.browser.close()
+        kind.browser = Browser(profile)
+        try:
+            for number in range(int(os.environ.get('KILLS', '20'))):
+                page = Page(kind.browser)
+                notes.held.clear()
+                notes.released.clear()
+                if number % 2:
+                    # in the calls of a new checkpoint, as the game is taken up
+                    notes.calls_left = chance.randint(1, 110)
+                    kind.browser.get(server.url('?cart=demo.gb&speed=max'))
+                else:
+                    page.open(server.url('?cart=demo.gb&speed=max'))
+                    self.assertEqual(page.state_of(), 'playing', page.status())
+                    self.assertGreaterEqual(page.saved(), told, f'kill {number}: what was shown as saved is gone')
+                    notes.calls_left = chance.randint(1, 6)
+                self.assertTrue(notes.held.wait(20), 'the page makes no calls')
+                told = max(told, page.saved())
+                kind.browser.kill()
+                with notes.guard:
+                    writes = list(notes.unflushed)
+                    notes.unflushed.clear()
+                    notes.calls_left = -1
+                notes.released.set()
+                other = self.room / f'undone-{number + 1}'
+                shutil.copytree(profile, other, symlinks=True, ignore=shutil.ignore_patterns('Singleton*'))
+                kept = [write for write in writes if number % 4 > 1 and chance.random() < 0.5]
+                with image_in(other).open('r+b') as file:
+                    for place, old, _ in reversed(writes):
+                        file.seek(place)
+                        file.write(old)
+                    for place, _, new in kept:
+                        file.seek(place)
+                        file.write(new)
+                undone += len(writes) - len(kept)
+                kept_some += len(kept)
+                profile = other
+                kind.browser = Browser(profile)
+            page = Page(kind.browser).open(server.url('?cart=demo.gb&paused=1'))
+            self.assertGreaterEqual(page.saved(), told)
+            save = self.room / 'undone.gbkeep'
+            save.write_bytes(page.export())
+            shown = self.program.shows(DEMO, save)
+            self.assertEqual((int(shown['inputs']), shown['state']), (page.count(), page.state()))
+            self.assertGreater(undone, 20)
+            print(f'{undone} writes were undone, {kept_some} others kept, {told} inputs were told as saved', file=sys.stderr)
+        finally:
+            notes.released.set()
+            server.close()
+
+
+def image_in(profile):
+    """The file of a profile that is the image of a game."""
+    found = []
+    for path in Path(profile).rglob('File System/**/*'):
+        if path.is_file():
+            with path.open('rb') as file:
+                head = file.read(2 * SECTOR)
+            if b'GBKPROOT' in (head[:8], head[SECTOR:SECTOR + 8]):
+                found.append(path)
+    if len(found) != 1:
+        raise AssertionError(f'{len(found)} files of the profile are images')
+    return found[0]
+
+
+class Traced(WithBrowser):
+    def test_calls_of_the_system(self):
+        """Each call of a save is a call of the system on one file of the profile: a write of 512 bytes, then an fdatasync."""
+        if not shutil.which('strace'):
+            self.skipTest('there is no strace')
+        page, saves = self.play('demo'), 10
+        page.press(0, 50)
+        page.save()
+        out, main = self.room / 'trace', self.browser.main_processes()
+        processes = [word for one in main + descendants(main) for word in ('-p', str(one))]
+        tracer = subprocess.Popen(['strace', '-ff', '-y', '-e', 'trace=write,pwrite64,pwritev,fsync,fdatasync', '-o', out, *processes], stderr=subprocess.DEVNULL)
+        try:
+            time.sleep(2)
+            for number in range(saves):
+                page.press(1 << (number % 8), 7)
+                page.save()
+            time.sleep(1)
+        finally:
+            tracer.terminate()
+            tracer.wait()
+        image = image_in(self.room / 'profile')
+        # a file for each thread: one of them makes the calls of the image
+        calls = [line for path in self.room.glob('trace.*') for line in path.read_text(errors='replace').splitlines() if f'<{image}>' in line]
+        found = [(call.split('(')[0], re.search(r'(?:, 512, (\d+))?\)\s+= (\d+)$', call)) for call in calls]
+        self.assertEqual([name for name, _ in found], ['pwrite64', 'fdatasync'] * saves)
+        for name, end in found:
+            self.assertEqual(end[2], '512' if name == 'pwrite64' else '0')
+            self.assertEqual(int(end[1] or 0) % SECTOR, 0)
+
+
+class Room(WithBrowser):
+    def quota(self, size):
+        self.browser.execute_cdp_cmd('Storage.overrideQuotaForOrigin', {'origin': f'http://localhost:{self.server.port}', **({'quotaSize': size} if size else {})})
+
+    def leave_room(self, size):
+        """Leaves the page this room beyond what it has."""
+        self.quota(self.page.wait_for('return (await navigator.storage.estimate()).usage') + size)
+
+    def test_small_quota(self):
+        """Where there is no room, nothing is begun, and a game goes on."""
+        page = self.play('demo')
+        page.press(0, 50)
+        page.save()
+        page.wait_for('await navigator.serviceWorker.ready; return 1')
+        time.sleep(1)
+        self.leave_room(20_000)
+        try:
+            page.press(1, 200)
+            self.assertEqual(page.save(), 250)
+            page.click('#keep-slot')
+            page.until_text('there is no room')
+            self.assertEqual(page.state_of(), 'paused')
+            self.assertEqual(page.press(0, 5), 255)
+            self.assertEqual(page.save(), 255)
+            # not even its folder; its cartridge; its image; most of it
+            for room in (2_000, 15_000, 40_000, 80_000, 120_000):
+                # what is open has room beside that of its bytes
+                self.listed()
+                time.sleep(1)
+                self.leave_room(room)
+                self.page.open(self.server.url('?cart=passes.gb'))
+                page.until_text('there is no room')
+                self.assertEqual(page.state_of(), 'refused')
+                rows = self.listed().rows()
+                self.assertEqual(len(rows), 1, (room, rows))
+            page = self.play('demo')
+            self.assertEqual(page.count(), 255)
+        finally:
+            self.quota(None)
+        page = self.play('passes')
+        page.press(0, 3)
+        self.assertEqual(page.save(), 3)
+
+    def test_full_disk(self):
+        """A disk that fills up while a game is played: the game goes on, or stops with what was told."""
+        disk = self.room / 'disk'
+        disk.mkdir()
+        if run('mount', '-t', 'tmpfs', '-o', 'size=96m', 'none', disk).returncode != 0:
+            self.skipTest('no disk can be mounted here')
+        other = None
+        try:
+            other = Browser(disk / 'profile')
+            page = Page(other).open(self.server.url('?cart=demo.gb&speed=max'))
+            page.until(lambda: page.saved() > 100, 'nothing was ever saved')
+            with contextlib.suppress(OSError), (disk / 'filler').open('wb', buffering=0) as filler:
+                while True:
+                    filler.write(bytes(1 << 16))
+            begun = page.saved()
+            with contextlib.suppress(AssertionError):
+                page.until(lambda: page.state_of() == 'refused' or page.saved() > begun + 5000, '', 10)
+            self.assertIn(page.state_of(), ('playing', 'refused'))
+            if page.state_of() == 'playing':
+                # the image has all its room: a copy of it has none
+                page.click('#keep-slot')
+                page.until_text('there is no room')
+                self.assertEqual(page.state_of(), 'playing')
+            told = page.saved()
+            (disk / 'filler').unlink()
+            page = Page(other).open(self.server.url('?cart=demo.gb&paused=1'))
+            self.assertGreaterEqual(page.saved(), told)
+        finally:
+            if other:
+                other.close()
+            time.sleep(0.5)
+            run('umount', '-l', disk)
+
+
+class Around(WithBrowser):
+    def test_drop(self):
+        """A cartridge that is dropped is played."""
+        page = self.listed()
+        page.js("""
+            const given = new DataTransfer();
+            given.items.add(new File([new Uint8Array(arguments[0])], 'dropped.gb'));
+            document.dispatchEvent(new DragEvent('drop', { dataTransfer: given, bubbles: true, cancelable: true }));""", list(self.carts['passes'].read_bytes()))
+        page.until_state('playing')
+        page.click('#close')
+        page.until(lambda: 'dropped.gb' in ''.join(page.rows()), 'the game is not listed')
+
+    def test_gamepad(self):
+        """Start of a gamepad begins a round of the demo."""
+        page = self.play('demo')
+        page.press(0, ROUND)
+        self.assertTrue(asks_for_start(page.picture()))
+        page.js("""
+            window.held = new Set();
+            navigator.getGamepads = () => [null, { mapping: 'standard', axes: [0, 0, 0, 0], buttons: [...Array(17).keys()].map((one) => ({ pressed: held.has(one) })) }];""")
+        page.click('#pause')
+        page.until_state('playing')
+        time.sleep(0.3)
+        self.assertTrue(asks_for_start(page.picture()))
+        page.js('held.add(9)')
+        page.until(lambda: not asks_for_start(page.picture()), 'Start does nothing')
+        page.js('held.clear()')
+        field = page.picture()[:160 * 136]
+        page.js('held.add(15)')
+        page.until(lambda: page.picture()[:160 * 136] != field, 'the pad does nothing')
+
+    def test_palettes(self):
+        """The palettes are the window's, and a pixel is a whole number of the screen's."""
+        page = self.play('scrolling')
+        page.press(0, 100)
+        palettes = ast.literal_eval(re.search(r'^PALETTES = (\[\[.*?\]\])$', (TOP / 'players/window.py').read_text(), re.S | re.M)[1])
+        shades, there = page.picture(), """
+            const canvas = document.getElementById('screen');
+            const data = canvas.getContext('2d').getImageData(0, 0, 160, 144).data;
+            return [[...data].filter((_, k) => k % 4 < 3), parseFloat(canvas.style.width) * devicePixelRatio / 160];"""
+        number = page.js("return document.getElementById('palette').selectedIndex")
+        for _ in range(len(palettes)):
+            self.browser.find_element(By.ID, 'screen').send_keys(Keys.F2)
+            number = (number + 1) % len(palettes)
+            self.assertEqual(page.js("return document.getElementById('palette').selectedIndex"), number)
+            colours, scale = page.js(there)
+            self.assertEqual(bytes(colours), bytes(one for shade in shades for one in palettes[number][shade]))
+            self.assertEqual(scale % 1, 0)
+            self.assertGreaterEqual(scale, 2)
+
+    def test_offline(self):
+        """Once opened, the page plays without a network."""
+        page = self.listed()
+        page.wait_for('await navigator.serviceWorker.ready; return 1')
+        page.open(self.server.url())
+        page.until(lambda: page.js('return navigator.serviceWorker.controller !== null'), 'the page is never kept for later')
+        port = self.server.port
+        self.server.close()
+        try:
+            page.open(self.server.url())
+            page.click('#demo')
+            page.until_state('playing')
+            page.until(lambda: page.saved() > 60, 'nothing was ever saved')
+            page.open(self.server.url('?cart=elsewhere.gb'))
+            page.until_text("the cartridge can't be fetched")
+        finally:
+            type(self).server = Server(self.site, port)
+
+    def test_no_memories(self):
+        """A browser without 64-bit memories is told so in a sentence."""
+        other = self.room / 'other'
+        shutil.copytree(self.site, other)
+        text = (other / 'library.js').read_text()
+        self.assertIn('5, 3, 1, 4, 1]', text)
+        (other / 'library.js').write_text(text.replace('5, 3, 1, 4, 1]', '5, 3, 1, 64, 1]'))
+        server = Server(other)
+        try:
+            self.page.open(server.url())
+            self.page.until_text('this browser has no 64-bit memories')
+            self.assertEqual(self.page.state_of(), 'refused')
+        finally:
+            server.close()
+
+    def test_not_secure(self):
+        """From another computer by plain http, a browser keeps no files, and the page says so."""
+        other = Browser(self.room / 'not-secure', '--host-resolver-rules=MAP games.test 127.0.0.1')
+        try:
+            page = Page(other)
+            for words in ('', '?cart=demo.gb'):
+                page.open(self.server.url(words).replace('localhost', 'games.test'))
+                page.until_text('this address is not secure')
+                self.assertEqual(page.state_of(), 'refused')
+        finally:
+            other.close()
+
+    def test_only_itself(self):
+        """The page takes nothing from elsewhere, and evaluates no text."""
+        page = self.listed()
+        self.assertIsNone(page.js("const s = document.createElement('script'); s.textContent = 'window.evil = 1'; document.body.append(s); return window.evil ?? null"))
+        self.assertIn('failed', page.wait_for("return fetch('http://127.0.0.1:9/').then(() => 'fetched', () => 'failed')"))
+        self.assertIn("default-src 'none'", page.js("return document.querySelector('meta[http-equiv]').content"))
+
+    def test_header(self):
+        """The page plays with the header that its README has, which covers the worker, too."""
+        policy = re.search('Content-Security-Policy: (.*)', (DIST / 'README').read_text())[1]
+
+        class Strict(Quiet):
+            def end_headers(self):
+                self.send_header('Content-Security-Policy', policy)
+                super().end_headers()
+        server = Server(self.site, kind=Strict)
+        try:
+            page = self.page.open(server.url('?cart=demo.gb'))
+            page.until(lambda: page.saved() > 60, 'nothing was ever saved')
+        finally:
+            server.close()
+
+    def test_accessible(self):
+        """Each control has a name; the keyboard alone opens a game, and leaves it."""
+        page = self.listed()
+        nodes = self.browser.execute_cdp_cmd('Accessibility.getFullAXTree', {})['nodes']
+        controls = [node for node in nodes if node.get('role', {}).get('value') in ('button', 'checkbox', 'combobox', 'application') and not node.get('ignored')]
+        self.assertTrue(controls)
+        self.assertEqual([node for node in controls if not node.get('name', {}).get('value')], [])
+        body = self.browser.find_element(By.TAG_NAME, 'body')
+        body.send_keys(Keys.TAB)
+        for _ in range(10):
+            if page.js('return document.activeElement.id') == 'demo':
+                break
+            self.browser.switch_to.active_element.send_keys(Keys.TAB)
+        self.browser.switch_to.active_element.send_keys(Keys.ENTER)
+        page.until_state('playing')
+        self.assertEqual(page.js('return document.activeElement.id'), 'screen')
+        nodes = self.browser.execute_cdp_cmd('Accessibility.getFullAXTree', {})['nodes']
+        controls = [node for node in nodes if node.get('role', {}).get('value') in ('button', 'checkbox', 'combobox', 'application') and not node.get('ignored')]
+        self.assertGreater(len(controls), 8)
+        self.assertEqual([node for node in controls if not node.get('name', {}).get('value')], [])
+        self.browser.switch_to.active_element.send_keys(Keys.ESCAPE)
+        page.until_state('paused')
+        self.assertEqual(page.js('return document.activeElement.id'), 'pause')
+        self.browser.switch_to.active_element.send_keys(Keys.TAB)
+        self.assertEqual(page.js('return document.activeElement.id'), 'close')
+        self.browser.switch_to.active_element.send_keys(Keys.ENTER)
+        page.until_state('closed')
+        page.until(lambda: 'last saved' in ''.join(page.rows()), 'the game is not listed')
+        self.assertRegex(page.js("return document.getElementById('kept').textContent"), 'keeps the games|does not promise')
+
+    def test_phone(self):
+        """A phone's size, with touch: the buttons play, and nothing is wider than the screen."""
+        self.browser.execute_cdp_cmd('Emulation.setDeviceMetricsOverride', {'width': 390, 'height': 844, 'deviceScaleFactor': 3, 'mobile': True})
+        self.browser.execute_cdp_cmd('Emulation.setTouchEmulationEnabled', {'enabled': True})
+        try:
+            page = self.play('demo')
+            if not page.js("return document.getElementById('touch').checked"):
+                page.click('#touch')
+            page.press(0, ROUND)
+            self.assertLessEqual(page.js('return document.documentElement.scrollWidth'), 390)
+            page.click('#pause')
+            page.until_state('playing')
+            place = page.js("const r = document.querySelector('[data-button=Start]').getBoundingClientRect(); return [r.x + r.width / 2, r.y + r.height / 2]")
+            self.assertLess(place[1], 844)
+            before = page.picture()
+            self.browser.execute_cdp_cmd('Input.dispatchTouchEvent', {'type': 'touchStart', 'touchPoints': [{'x': place[0], 'y': place[1]}]})
+            self.assertTrue(page.js("return document.querySelector('[data-button=Start]').classList.contains('held')"))
+            time.sleep(0.3)
+            self.browser.execute_cdp_cmd('Input.dispatchTouchEvent', {'type': 'touchEnd', 'touchPoints': []})
+            self.assertFalse(page.js("return document.querySelector('[data-button=Start]').classList.contains('held')"))
+            self.assertTrue(asks_for_start(before))
+            page.until(lambda: not asks_for_start(page.picture()), 'Start does nothing')
+        finally:
+            self.browser.execute_cdp_cmd('Emulation.clearDeviceMetricsOverride', {})
+            self.browser.execute_cdp_cmd('Emulation.setTouchEmulationEnabled', {'enabled': False})
+
+    def test_nothing_is_logged(self):
+        page = self.play('demo', '')
+        page.until(lambda: page.saved() > 0, 'nothing was ever saved')
+        wrong = [entry['message'] for entry in self.browser.get_log('browser') if entry['level'] == 'SEVERE' and 'favicon' not in entry['message']
+                 and '404' not in entry['message'] and '127.0.0.1:9' not in entry['message'] and 'Content Security Policy' not in entry['message'] and 'ERR_CONNECTION' not in entry['message']]
+        self.assertEqual(wrong, [])
+
+
+class Reporting(Quiet):
+    """Takes what the page reports."""
+
+    def do_POST(self):
+        self.server.reports.append(json.loads(self.rfile.read(int(self.headers['Content-Length']))))
+        self.server.reported.set()
+        self.send_response(204)
+        self.end_headers()
+
+
+REPORTS = '''
+const report = (what) => fetch('/report', { method: 'POST', body: JSON.stringify({ ...what, status: document.getElementById('status').textContent }) });
+(async () => {
+  while (!document.documentElement.dataset.ready) { await new Promise((done) => { setTimeout(done, 50); }); }
+  const begun = Number(document.getElementById('status').dataset.count);
+  for (let k = 0; k < 10; k += 1) { await window.gbkeep.press(1 << (k % 8), 60); }
+  await report({ begun, saved: await window.gbkeep.save(), state: await window.gbkeep.state() });
+  for (;;) { await window.gbkeep.press(1, 30); await window.gbkeep.save(); }
+})().catch((error) => report({ failed: String(error) }));
+'''
+
+
+class Firefox(unittest.TestCase):
+    """Debian's Firefox, where it is installed: without a driver, the page itself reports."""
+
+    def test_firefox(self):
+        """It plays as the program does, and goes on after a SIGKILL."""
+        program = shutil.which('firefox-esr')
+        if not program:
+            self.skipTest("there is no firefox-esr")
+        with tempfile.TemporaryDirectory(prefix='web-', ignore_cleanup_errors=True) as name:
+            room = Path(name)
+            site = room / 'site'
+            shutil.copytree(DIST, site)
+            (site / 'page.js').write_text((site / 'page.js').read_text() + REPORTS)
+            server = Server(site, kind=Reporting)
+            server.server.reports, server.server.reported = [], threading.Event()
+            inputs = [(1 << (number % 8), 60) for number in range(10)]
+            try:
+                for life in range(3):
+                    server.server.reported.clear()
+                    process = subprocess.Popen([program, '--headless', '--no-remote', '--profile', str(room), server.url('?cart=demo.gb&paused=1')], start_new_session=True,
+                                               env={**os.environ, 'HOME': name}, stdout=subprocess.DEVNULL, stderr=subprocess.DEVNULL)
+                    try:
+                        self.assertTrue(server.server.reported.wait(240), 'nothing was reported')
+                        time.sleep(0.5)
+                    finally:
+                        os.killpg(process.pid, signal.SIGKILL)
+                        process.wait()
+                    report = server.server.reports[-1]
+                    self.assertNotIn('failed', report)
+                    if life == 0:
+                        self.assertEqual(report['state'], Program(room).after(DEMO, inputs)[0]['state'])
+                        self.assertEqual(report['saved'], 600)
+                    else:
+                        self.assertGreaterEqual(report['begun'], server.server.reports[-2]['saved'])
+            finally:
+                server.close()
+
+
+# the module by itself: each frame with its picture
+ALONE = '''
+const { Library, Session, sectorsNeeded } = await import('./library.js');
+const library = await Library.load('gbkeep.wasm');
+const rom = new Uint8Array(await (await fetch(given[0])).arrayBuffer());
+const session = Session.begin(library, rom, sectorsNeeded(library, rom));
+session.frames(0, 1200);
+const times = [];
+for (let k = 0; k < 600; k += 1) {
+  const begun = performance.now();
+  session.frames(0, 1);
+  session.picture();
+  times.push(performance.now() - begun);
+}
+session.free();
+times.sort((a, b) => a - b);
+return [times[300], times.at(-1)];'''
+
+
+class Measured(WithBrowser):
+    def runTest(self):
+        ready = [int(self.listed().js('return document.documentElement.dataset.ready')) for _ in range(5)]
+        print(f'ready after {min(ready)} ms at best, {statistics.median(ready):.0f} as the median of {len(ready)}')
+        for name in ('busy', 'scrolling', 'halting', 'demo'):
+            page = self.play(name)
+            page.press(0, 600)
+            rates, saves = [], []
+            for _ in range(5):
+                took = page.wait_for('const t = performance.now(); await gbkeep.press(0, 1200); return performance.now() - t')
+                rates.append(1_200_000 / took)
+                page.save()
+            for _ in range(30):
+                page.press(1, 60)
+                saves.append(page.wait_for('const t = performance.now(); await gbkeep.save(); return performance.now() - t'))
+            both = page.wait_for(ALONE, f'{name}.gb')
+            print(f'{name}: frames a second {max(rates):.0f} at best, {min(rates):.0f} at least of 5; a frame and its picture {both[0]:.3f} ms as the median of 600, '
+                  f'{both[1]:.3f} at most; a save of 60 frames {statistics.median(saves):.2f} ms as the median of 30, {max(saves):.2f} at most')
+            page = self.play(name, '&speed=max')
+            time.sleep(1)
+            text = "return [performance.now(), Number(document.getElementById('status').dataset.count)]"
+            before = page.js(text)
+            time.sleep(4)
+            after = page.js(text)
+            print(f'{name}: {1000 * (after[1] - before[1]) / (after[0] - before[0]):.0f} frames a second shown and saved, at speed=max')
+        print(f'dist/web: {sum(path.stat().st_size for path in DIST.iterdir()):,} bytes')
+
+
+class Shots(WithBrowser):
+    def runTest(self):
+        tour = [line.split() for line in (TOP / 'examples/demo/tour.txt').read_text().splitlines()]
+        page = self.play('demo')
+        for words in tour[:25]:
+            if words[0] == 'frames':
+                page.press(int(words[1], 16), int(words[2]))
+        page.save()
+        self.browser.set_window_size(760, 640)
+        page.shot(TOP / 'docs/browser.png')
+        self.browser.execute_cdp_cmd('Emulation.setDeviceMetricsOverride', {'width': 390, 'height': 844, 'deviceScaleFactor': 1, 'mobile': True})
+        page = self.play('demo')
+        if not page.js("return document.getElementById('touch').checked"):
+            page.click('#touch')
+        page.shot(TOP / 'docs/browser_phone.png')
+
+
+def main():
+    global GBKEEP
+    if len(sys.argv) < 2:
+        sys.exit(__doc__)
+    GBKEEP = str(Path(sys.argv[1]).resolve())
+    if not (DIST / 'gbkeep.wasm').exists():
+        sys.exit('test_web.py: there is no dist/web: make web leaves it')
+    wanted, suite, loader = sys.argv[2:], unittest.TestSuite(), unittest.TestLoader()
+    if wanted in (['measure'], ['shots']):
+        suite.addTest({'measure': Measured, 'shots': Shots}[wanted[0]]())
+    else:
+        for kind in (Playing, Files, Clocks, Traced, Room, Around, Firefox, Killed):
+            names = [name for name in loader.getTestCaseNames(kind) if not wanted or name.removeprefix('test_') in wanted]
+            suite.addTests(map(kind, names))
+    if suite.countTestCases() == 0:
+        sys.exit(f'test_web.py: there is no test of the name {" ".join(wanted)}')
+    return 0 if unittest.TextTestRunner(verbosity=2).run(suite).wasSuccessful() else 1
+
+
+if __name__ == '__main__':
+    sys.exit(main())
