@@ -197,6 +197,7 @@ test:
 	python3 -B players/test_slots.py $(PROGRAM)/out/gbkeep_program
 	python3 -B players/test_shown_game.py $(PROGRAM)/out/gbkeep_program
 	python3 -B players/test_window_parts.py
+	python3 -B web/test_module.py
 	if [ -e $(LIBRETRO)/libretro.h ]; then $(MAKE) bin/gbkeep_libretro.so && \
 	python3 -B players/libretro/test_libretro.py $(PROGRAM)/out/gbkeep_program bin/gbkeep_libretro.so && \
 	CC="$(CC)" LIBRETRO="$(LIBRETRO)" python3 -B players/libretro/test_garbage.py 10; else echo 'there is no libretro.h: the core was not tried'; fi

@@ -34,6 +34,8 @@ uint32_t gbkeep_resume_session(const uint8_t *rom, size_t rom_length, const uint
 void gbkeep_free_session(struct handle session);
 uint32_t gbkeep_play_session(struct handle session, uint8_t buttons, struct handle *out);
 uint32_t gbkeep_wait_session(struct handle session, uint32_t seconds, struct handle *out);
+uint32_t gbkeep_power_session(struct handle session, struct handle *out);
+uint32_t gbkeep_restore_session(struct handle session, const uint8_t *bytes, size_t length, struct handle *out);
 uint32_t gbkeep_save_session(struct handle session, uint64_t *saved, struct handle *out);
 uint32_t gbkeep_next_session(struct handle session, uint64_t *sector, uint8_t *bytes, size_t length, struct handle *out);
 void gbkeep_draw_session(struct handle session, uint8_t *shades, size_t length, struct handle *out);
@@ -214,6 +216,16 @@ uint32_t gbkeep_session_frames(gbkeep_session *session, uint8_t buttons, uint32_
 uint32_t gbkeep_session_seconds(gbkeep_session *session, uint32_t seconds) {
     NEEDS(session != NULL);
     return gbkeep_wait_session(session->handle, seconds, &session->handle);
+}
+
+uint32_t gbkeep_session_power(gbkeep_session *session) {
+    NEEDS(session != NULL);
+    return gbkeep_power_session(session->handle, &session->handle);
+}
+
+uint32_t gbkeep_session_restore(gbkeep_session *session, const uint8_t *bytes, size_t length) {
+    NEEDS(session != NULL);
+    return gbkeep_restore_session(session->handle, read_from(bytes, length), length, &session->handle);
 }
 
 uint32_t gbkeep_session_save(gbkeep_session *session, uint64_t *saved) {

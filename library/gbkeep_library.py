@@ -74,6 +74,8 @@ _CALLS = {
     'session_free': (None, _POINTER),
     'session_frames': (_WORD, _POINTER, ctypes.c_uint8, _WORD),
     'session_seconds': (_WORD, _POINTER, _WORD),
+    'session_power': (_WORD, _POINTER),
+    'session_restore': (_WORD, _POINTER, _POINTER, _LENGTH),
     'session_save': (_WORD, _POINTER, _POINTER),
     'session_next_call': (None, _POINTER, _POINTER),
     'session_picture': (_WORD, _POINTER, _POINTER, _LENGTH),
@@ -237,6 +239,15 @@ class Session(_Held):
     def seconds(self, seconds: int) -> None:
         """Gives seconds of the clock, as one input."""
         self._done(self._call('seconds', _number('seconds', seconds, 32)))
+
+    def power(self) -> None:
+        """Switches the power off and on, as one input."""
+        self._done(self._call('power'))
+
+    def restore(self, state: Buffer) -> None:
+        """Goes on with the machine whose state this is, as one input."""
+        state = bytes(state)
+        self._done(self._call('restore', _bytes_of(state), len(state)))
 
     def save(self) -> int:
         """Saves what is unsaved: the count of all inputs. It may be told once the calls that are then handed out were made."""

@@ -188,6 +188,26 @@ class InPython(InFolder):
             self.assertEqual(session.save(), 3200)
             session.frames(0)
             self.assertEqual(session.count(), 3201)
+            # the power switch and a state are inputs, and what they lead to is saved
+            state = machine.state()
+            machine.restore(state)
+            session.restore(state)
+            machine.frames(0x10, 7)
+            session.frames(0x10, 7)
+            machine.power()
+            session.power()
+            self.assertEqual((session.state(), session.picture().shades, session.count()), (machine.state(), machine.picture().shades, 3210))
+            for damaged in (b'', state[:-1], state + b'\0', b'X' + state[1:], bytes(len(state))):
+                with self.assertRaises(Refused) as refused:
+                    session.restore(damaged)
+                self.assertEqual((refused.exception.code, session.state(), session.count()), (6, machine.state(), 3210))
+            self.assertEqual(session.save(), 3210)
+            session.frames(0, 3199)
+            session.restore(state)
+            for refused_input in (session.power, lambda: session.restore(state), lambda: session.frames(0)):
+                with self.assertRaises(Refused) as refused:
+                    refused_input()
+                self.assertEqual((refused.exception.code, session.state(), session.count()), (15, state, 6410))
         with self.assertRaises(Refused):
             Session(ROM, sectors=3)
         with self.assertRaises(Refused):
@@ -208,6 +228,13 @@ class InPython(InFolder):
             for save in range(12):
                 if save:
                     session.frames(chance.randrange(256), chance.randrange(1, 400))
+                    if chance.random() < 0.3:
+                        kept = session.state()
+                        session.frames(chance.randrange(256), chance.randrange(1, 20))
+                        session.restore(kept)
+                    elif chance.random() < 0.3:
+                        session.power()
+                    session.frames(chance.randrange(256), chance.randrange(3))
                     now = session.save()
                 else:
                     now = given

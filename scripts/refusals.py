@@ -14,7 +14,7 @@ from pathlib import Path
 
 PROGRAMS = {'bench', 'gbkeep_program', 'refused_memory'}
 # a call that answers what another one answers, and nothing else
-HANDS_ON = {('embedding', 'Game::input'): ('session', 'Session::input')}
+HANDS_ON = {('embedding', f'Game::{name}'): ('session', f'Session::{name}') for name in ('input', 'power', 'restore')}
 
 
 def is_library(crate):

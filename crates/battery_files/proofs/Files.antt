@@ -13,11 +13,11 @@ use Rattle.bank_controllers.specs.declared.clock.ClockRegisters.{ClockRegisters}
 use Rattle.bank_controllers.specs.Clock.{IsLegalClock}
 use Rattle.bank_controllers.specs.State.{has_clock as has_clock_of}
 use Rattle.bank_controllers.specs.CartridgeState.{IsLegalRam, cartridge_at_power_on}
-use Rattle.machine.specs.Machine.{MachineState}
+use Rattle.machine.specs.Machine.{MachineState, with_clocks}
 use Rattle.snapshot.specs.Legal.{IsMachineOf}
 use Rattle.snapshot.specs.Table.{kind_of_image}
 use Rattle.battery_files.specs.Battery.{battery_length, battery_of, clock_bytes, has_clock}
-use Rattle.battery_files.specs.Importing.{clock_in, kept_by, ram_in, start_with, start_with_ram, with_clocks}
+use Rattle.battery_files.specs.Importing.{clock_in, kept_by, ram_in, start_with, start_with_ram}
 use Rattle.battery_files.specs.Laws.{ClocksComeBack, ComesBack, FilesComeBack, IsRamOf, RamComesBack}
 
 -- ---- which machine a file begins

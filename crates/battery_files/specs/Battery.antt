@@ -1,20 +1,11 @@
--- Battery files: what other emulators and cartridges keep of a game. The types with a battery are those of Pan Docs, "The Cartridge
--- Header", "0147 - Cartridge type"; the bytes after the RAM are those that other emulators write for MBC3's clock.
-use Rattle.std.specs.Prelude.{ℕ, ◌+◌, Bool, ◌==◌, ◌||◌, if◌then◌else◌, List, [], ◌∷◌, ◌++◌}
-use Rattle.cartridge.specs.Header.{kind_of, ram_length_of}
+-- Battery files: what other emulators and cartridges keep of a game. The bytes after the RAM are those that other emulators write for
+-- MBC3's clock.
+use Rattle.std.specs.Prelude.{ℕ, ◌+◌, Bool, if◌then◌else◌, List, [], ◌∷◌, ◌++◌}
+use Rattle.cartridge.specs.Header.{ram_length_of}
 use Rattle.bank_controllers.specs.declared.clock.ClockRegisters.{ClockRegisters}
 use Rattle.bank_controllers.specs.State.{has_clock as has_clock_of}
 use Rattle.machine.specs.Machine.{MachineState}
 use Rattle.snapshot.specs.Table.{kind_of_image}
-
--- of the accepted types: MBC1, MBC2, no controller, MBC3 with its clock and without, MBC5 and MBC5 with rumble
-abbrev pub is_battery_kind : ℕ → Bool
-is_battery_kind kind =
-    kind == 0x03 || (kind == 0x06 || (kind == 0x09 || (kind == 0x0F || (kind == 0x10 || (kind == 0x13 || (kind == 0x1B || kind == 0x1E))))))
-
--- whether the cartridge keeps its RAM when the power is off
-abbrev pub has_battery : (rom : List ℕ) → Bool
-has_battery rom = is_battery_kind (kind_of rom)
 
 -- whether it has MBC3's clock
 abbrev pub has_clock : (rom : List ℕ) → Bool

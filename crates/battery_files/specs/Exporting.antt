@@ -7,7 +7,8 @@ use Rattle.log_format.specs.Content.{content}
 use Rattle.session.specs.Calls.{faults_after}
 use Rattle.session.specs.Found.{IsLookCause}
 use Rattle.session.specs.Stands.{stands}
-use Rattle.battery_files.specs.Battery.{has_battery, battery_of}
+use Rattle.cartridge.specs.Header.{has_battery}
+use Rattle.battery_files.specs.Battery.{battery_of}
 use Rattle.battery_files.specs.declared.error.ExportError.{ExportError}
 use Rattle.battery_files.specs.declared.error.ExportError.TheVariants.{Cart, NoBattery, Session}
 use Rattle.battery_files.specs.declared.error.ExportRefused.{ExportRefused}

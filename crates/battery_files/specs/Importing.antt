@@ -1,14 +1,12 @@
 -- The machine that begins with a battery file, and which files are taken.
 use Rattle.std.specs.Prelude.{◌≡◌, ℕ, ◌+◌, ◌*◌, ◌/◌, ◌%◌, Bool, true, false, ◌==◌, ◌&&◌, ◌||◌, nat_lt, if◌then◌else◌, List, length, map, take, slice_index}
-use Rattle.cartridge.specs.Header.{ram_length_of}
+use Rattle.cartridge.specs.Header.{has_battery, ram_length_of}
 use Rattle.cartridge.specs.declared.controller.Controller.{Controller}
 use Rattle.cartridge.specs.declared.controller.Controller.TheVariants.{NoMbc, Mbc1, Mbc2, Mbc3, Mbc3Clock, Mbc5}
-use Rattle.bank_controllers.specs.CartridgeState.{CartridgeState}
 use Rattle.bank_controllers.specs.declared.clock.ClockRegisters.{ClockRegisters}
-use Rattle.memory_map.specs.State.{BusState}
-use Rattle.machine.specs.Machine.{MachineState, start}
+use Rattle.machine.specs.Machine.{MachineState, start, with_clocks, with_ram}
 use Rattle.snapshot.specs.Table.{kind_of_image}
-use Rattle.battery_files.specs.Battery.{has_battery, has_clock}
+use Rattle.battery_files.specs.Battery.{has_clock}
 use Rattle.battery_files.specs.declared.error.ImportError.{ImportError}
 use Rattle.battery_files.specs.declared.error.ImportError.TheVariants.{NoBattery, Length, Memory}
 
@@ -40,21 +38,6 @@ clock_in battery offset = record {
   day_low = slice_index battery (offset + 12);
   day_high = 64 * (slice_index battery (offset + 16) / 64) + slice_index battery (offset + 16) % 2;
 }
-
-abbrev pub with_ram : List ℕ → MachineState → MachineState
-with_ram ram m =
-    let memory : BusState = m.processor.memory in
-    record m { processor = record m.processor { memory = record memory { banks = record memory.banks { ram = ram } } } }
-
-abbrev pub with_clocks : (live latched : ClockRegisters) → MachineState → MachineState
-with_clocks live latched m =
-    let memory : BusState = m.processor.memory in
-    let banks : CartridgeState = memory.banks in
-    record m {
-      processor = record m.processor {
-        memory = record memory { banks = record banks { state = record banks.state { clock = live; latched = latched } } };
-      };
-    }
 
 -- the machine at power-on with the RAM of the file
 abbrev pub start_with_ram : (rom battery : List ℕ) → MachineState

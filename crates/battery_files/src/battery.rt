@@ -2,7 +2,7 @@
 
 ghost use Rattle.std.specs.Prelude.{◌≡◌, ◌≤◌, ◌++◌, IfOk, length};
 ghost use Rattle.bank_controllers.specs.State.{has_clock as has_clock_of};
-ghost use Rattle.battery_files.specs.Battery.{battery_length, battery_of, clock_bytes, has_battery, has_clock};
+ghost use Rattle.battery_files.specs.Battery.{battery_length, battery_of, clock_bytes, has_clock};
 
 use bank_controllers::ClockRegisters;
 use cartridge::{Cartridge, Controller};
@@ -11,24 +11,6 @@ use std::alloc::{AllocError, Global};
 
 /// The bytes of a file after the RAM: ten registers of four bytes, and a time of eight.
 pub(crate) const CLOCK_LENGTH: usize = 48;
-
-/// Whether the cartridge type in an image, the byte at 0147, names a battery: 03, 06, 09, 0F, 10, 13, 1B and 1E.
-pub(crate) fn names_battery(image: &[u8]) -> bool
-    requires { 32768 ≤ length image.now }
-    ensures { result ≡ has_battery image.now }
-{
-    matches!(
-        image[0x147],
-        0x03 | 0x06 | 0x09 | 0x0F | 0x10 | 0x13 | 0x1B | 0x1E
-    )
-}
-
-/// Whether the cartridge type names a battery.
-pub fn has_battery(cartridge: &Cartridge) -> bool
-    ensures { result ≡ has_battery cartridge.now }
-{
-    names_battery(cartridge.rom())
-}
 
 /// Whether the controller is an MBC3 with its clock.
 pub(crate) fn is_clocked(kind: Controller) -> bool

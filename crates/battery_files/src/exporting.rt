@@ -2,13 +2,13 @@
 
 ghost use Rattle.std.specs.Prelude.{◌≡◌, ◌⊎◌, true, IfErr, IfOk, OnOk};
 ghost use Rattle.cartridge.specs.Accepted.{IsAccepted};
+ghost use Rattle.cartridge.specs.Header.{has_battery};
 ghost use Rattle.sector_device.specs.DiskState.{HasAnswered};
 ghost use Rattle.sector_device.specs.Looking.{HasLooked};
 ghost use Rattle.session.specs.Calls.{CanBeLookedAt};
-ghost use Rattle.battery_files.specs.Battery.{has_battery};
 ghost use Rattle.battery_files.specs.Exporting.{IsExportCause, IsExported, IsUntouchedBy, faults_after_export, left_by};
 
-use crate::battery::{battery_of, has_battery};
+use crate::battery::battery_of;
 use crate::error::{ExportError, ExportRefused};
 use cartridge::Cartridge;
 use sector_device::SectorDevice;
@@ -52,7 +52,7 @@ pub fn export_battery<D: SectorDevice>(
             device,
         }),
     };
-    if !has_battery(&cartridge) {
+    if !cartridge.has_battery() {
         return Err(ExportRefused {
             why: ExportError::NoBattery,
             device,

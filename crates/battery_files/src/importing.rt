@@ -2,19 +2,19 @@
 
 ghost use Rattle.std.specs.Prelude.{◌≡◌, ◌≤◌, ◌<◌, ◌+◌, true, false, IfErr, IfOk, IfSome, IfNone, length};
 ghost use Rattle.cartridge.specs.Accepted.{IsAccepted};
-ghost use Rattle.cartridge.specs.Header.{ram_length_of};
+ghost use Rattle.cartridge.specs.Header.{has_battery, ram_length_of};
 ghost use Rattle.bank_controllers.specs.Clock.{IsLegalClock};
-ghost use Rattle.bank_controllers.specs.State.{has_clock as has_clock_of};
 ghost use Rattle.snapshot.specs.Legal.{IsMachineOf};
 ghost use Rattle.snapshot.specs.Table.{kind_of_image};
-ghost use Rattle.battery_files.specs.Battery.{has_battery, has_clock};
-ghost use Rattle.battery_files.specs.Importing.{IsImportCause, clock_in, is_taken_length, kept_by, ram_in, start_with, start_with_ram, with_clocks};
+ghost use Rattle.battery_files.specs.Battery.{has_clock};
+ghost use Rattle.battery_files.specs.Importing.{IsImportCause, clock_in, is_taken_length, kept_by, ram_in, start_with, start_with_ram};
 
-use crate::battery::{CLOCK_LENGTH, has_clock, names_battery};
+use crate::battery::{CLOCK_LENGTH, has_clock};
 use crate::error::ImportError;
 use bank_controllers::ClockRegisters;
 use cartridge::{Cartridge, Controller};
 use machine::{Machine, Region};
+use snapshot::set_clocks;
 use std::alloc::{AllocError, Global};
 
 /// The bytes after the RAM where the time of writing has four of them.
@@ -39,7 +39,9 @@ fn refusal(cartridge: &Cartridge, battery: &[u8]) -> Option<ImportError>
     ensures some { IfSome result (IsImportCause cartridge.now battery.now) }
     ensures accepted { IsAccepted cartridge.now }
 {
-    if !names_battery(cartridge.rom()) {
+    // its contract says that the image is an accepted one
+    let _ = cartridge.rom();
+    if !cartridge.has_battery() {
         return Some(ImportError::NoBattery);
     }
     if !is_taken_length(cartridge, battery.len()) {
@@ -91,19 +93,6 @@ fn clock_in(battery: &[u8], offset: usize) -> ClockRegisters
         day_low: battery[offset + 12],
         day_high: 64 * (high / 64) + high % 2,
     }
-}
-
-/// Sets the live clock and the latched one.
-fn set_clocks(machine: &mut Machine, live: ClockRegisters, latched: ClockRegisters)
-    requires clocked { has_clock_of machine.old.processor.memory.banks.state.kind ≡ true }
-    requires live { IsLegalClock live }
-    requires latched { IsLegalClock latched }
-    ensures { machine.new ≡ with_clocks live latched machine.old }
-{
-    let mut state = machine.state();
-    state.bus.banks.clock = live;
-    state.bus.banks.latched = latched;
-    machine.restore(&state);
 }
 
 /// The machine at power-on with the RAM of a file.

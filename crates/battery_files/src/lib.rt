@@ -9,7 +9,7 @@ mod exporting;
 mod importing;
 mod laws;
 
-pub use battery::{battery_length, battery_of, has_battery, has_clock};
+pub use battery::{battery_length, battery_of, has_clock};
 pub use error::{ExportError, ExportRefused, ImportError};
 pub use exporting::{Exported, export_battery};
 pub use importing::machine_with_battery;

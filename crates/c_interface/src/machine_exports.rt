@@ -1,11 +1,11 @@
 //! The exports of a machine.
 
 ghost use Rattle.std.specs.Prelude.{◌≡◌, length, replicate, true};
-ghost use Rattle.machine.specs.Machine.{start, after, picture_rows, seconds_passed};
-ghost use Rattle.machine.specs.declared.input.Input.TheVariants.{Frame};
+ghost use Rattle.machine.specs.Machine.{start, after, picture_rows, powered, seconds_passed};
+ghost use Rattle.machine.specs.Machine.{Frame};
 ghost use Rattle.snapshot.specs.Encoding.{encoded, snapshot_length};
 ghost use Rattle.snapshot.specs.Legal.{IsMachineOf};
-ghost use Rattle.embedding.specs.Orders.{shades_of, bytes_from, powered};
+ghost use Rattle.embedding.specs.Orders.{shades_of, bytes_from};
 ghost use Rattle.c_interface.specs.Codes.{done, IsMadeCode, IsRestoredCode, no_memory};
 
 use crate::codes::{DONE, NO_MEMORY, console_code};
@@ -80,7 +80,7 @@ pub extern "C" fn gbkeep_power_machine(
 ) -> u32
     requires held { machine.held ≡ true }
     ensures held { out.new.held ≡ true }
-    ensures machine { result ≡ done → out.new.value.machine ≡ powered machine.value.cartridge machine.value.machine }
+    ensures machine { result ≡ done → out.new.value.machine ≡ powered machine.value.machine }
     ensures refused { ¬ (result ≡ done) → (result ≡ no_memory) × (out.new.value.machine ≡ machine.value.machine) }
     ensures cartridge { out.new.value.cartridge ≡ machine.value.cartridge }
 {
@@ -149,7 +149,6 @@ pub extern "C" fn gbkeep_keep_machine(
 /// Takes the machine whose state this is. A refusal leaves the machine as it was.
 #[unsafe(no_mangle)]
 pub extern "C" fn gbkeep_restore_machine(
-    alloc: Global,
     machine: MachineHandle,
     bytes: &[u8],
     out: &mut MachineHandle,
@@ -163,7 +162,7 @@ pub extern "C" fn gbkeep_restore_machine(
     ensures cartridge { out.new.value.cartridge ≡ machine.value.cartridge }
 {
     let mut console = machine.into_box();
-    let code = match console.restore(alloc, bytes) {
+    let code = match console.restore(bytes) {
         Ok(()) => DONE,
         Err(why) => console_code(why),
     };

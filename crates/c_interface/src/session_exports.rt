@@ -2,15 +2,14 @@
 
 ghost use Rattle.std.specs.Prelude.{◌≡◌, ◌++◌, ◌∷◌, ◌+◌, ◌⊎◌, [], length, take, slice_get, Some, None, true, false};
 ghost use Rattle.cartridge.specs.Header.{ram_length_of};
-ghost use Rattle.machine.specs.Machine.{start, applied, picture_rows};
-ghost use Rattle.machine.specs.declared.input.Input.TheVariants.{Frame, Seconds};
+ghost use Rattle.machine.specs.Machine.{Frame, Seconds, Power, State, start, applied, picture_rows};
 ghost use Rattle.snapshot.specs.Encoding.{encoded, snapshot_length};
 ghost use Rattle.log_format.specs.Content.{content, need};
 ghost use Rattle.sector_device.specs.Runs.{HoldsSince};
 ghost use Rattle.session.specs.Accessors.{device_of, machine_of, rom_of, pending_of, acknowledged_of, is_broken, IsUnchanged};
 ghost use Rattle.session.specs.Calls.{IsAtRest};
-ghost use Rattle.session.specs.Inputs.{entry_of, inputs_of};
-ghost use Rattle.session.specs.Stands.{stands, StandsWithin};
+ghost use Rattle.session.specs.Inputs.{can_be_logged, entry_of, inputs_of};
+ghost use Rattle.session.specs.Stands.{stands, StandsBetween};
 ghost use Rattle.embedding.specs.Orders.{shades_of};
 ghost use Rattle.embedding.specs.Games.{IsFrom};
 ghost use Rattle.embedding.specs.HostDevices.{calls_of, host_disk};
@@ -169,6 +168,54 @@ pub extern "C" fn gbkeep_wait_session(
     code
 }
 
+/// Switches the power off and on, as one input. A refusal changes nothing.
+#[unsafe(no_mangle)]
+pub extern "C" fn gbkeep_power_session(
+    alloc: Global,
+    session: SessionHandle,
+    out: &mut SessionHandle,
+) -> u32
+    requires held { session.held ≡ true }
+    ensures held { out.new.held ≡ true }
+    ensures machine { result ≡ done → machine_of out.new.value.session ≡ applied Power (machine_of session.value.session) }
+    ensures pending { result ≡ done → pending_of out.new.value.session ≡ pending_of session.value.session ++ entry_of Power ∷ [] }
+    ensures refused { ¬ (result ≡ done) → IsUnchanged session.value.session out.new.value.session }
+    ensures noted { out.new.value.noted.items ≡ session.value.noted.items }
+    ensures handed { out.new.value.handed ≡ session.value.handed }
+{
+    let mut game = session.into_box();
+    let code = match game.power(alloc) {
+        Ok(()) => DONE,
+        Err(why) => session_code(why),
+    };
+    *out = SessionHandle::of(game);
+    code
+}
+
+/// Goes on with the machine of a state, as one input. A refusal changes nothing.
+#[unsafe(no_mangle)]
+pub extern "C" fn gbkeep_restore_session(
+    session: SessionHandle,
+    bytes: &[u8],
+    out: &mut SessionHandle,
+) -> u32
+    requires held { session.held ≡ true }
+    ensures held { out.new.held ≡ true }
+    ensures machine { result ≡ done → encoded (machine_of out.new.value.session) ≡ bytes.now }
+    ensures pending { result ≡ done → pending_of out.new.value.session ≡ pending_of session.value.session ++ entry_of (State (machine_of out.new.value.session)) ∷ [] }
+    ensures refused { ¬ (result ≡ done) → IsUnchanged session.value.session out.new.value.session }
+    ensures noted { out.new.value.noted.items ≡ session.value.noted.items }
+    ensures handed { out.new.value.handed ≡ session.value.handed }
+{
+    let mut game = session.into_box();
+    let code = match game.restore(bytes) {
+        Ok(()) => DONE,
+        Err(why) => session_code(why),
+    };
+    *out = SessionHandle::of(game);
+    code
+}
+
 /// Saves what is pending, and tells the count of all inputs. The calls that make it sure are then among those to be handed out.
 #[unsafe(no_mangle)]
 pub extern "C" fn gbkeep_save_session(
@@ -186,8 +233,9 @@ pub extern "C" fn gbkeep_save_session(
     ensures rests { result ≡ done → IsAtRest (rom_of session.value.session) (host_disk (device_of out.new.value.session)) saved.new []
         (machine_of session.value.session) }
     ensures images { is_broken session.value.session ≡ false → HoldsSince (host_disk (device_of session.value.session)) (host_disk (device_of out.new.value.session))
-        (StandsWithin (rom_of session.value.session) (stands (rom_of session.value.session) (content (host_disk (device_of session.value.session)).sectors))
-        (inputs_of (pending_of session.value.session))) }
+        (StandsBetween (can_be_logged (pending_of session.value.session)) (rom_of session.value.session)
+        (stands (rom_of session.value.session) (content (host_disk (device_of session.value.session)).sectors)) (inputs_of (pending_of session.value.session))
+        (record { count = acknowledged_of session.value.session + length (pending_of session.value.session); machine = machine_of session.value.session })) }
     ensures machine { (machine_of out.new.value.session ≡ machine_of session.value.session) × (rom_of out.new.value.session ≡ rom_of session.value.session) }
 {
     let mut game = session.into_box();

@@ -17,6 +17,11 @@ controller_at kind =
     (if is_from_to 0x11 0x13 kind then Some Mbc3 else
     (if is_from_to 0x19 0x1E kind then Some Mbc5 else None)))))
 
+-- what keeps its RAM when the power is off: MBC1, MBC2, no controller, MBC3 with its clock and without, MBC5 and MBC5 with rumble
+abbrev pub is_battery_kind : ℕ → Bool
+is_battery_kind kind =
+    kind == 0x03 || (kind == 0x06 || (kind == 0x09 || (kind == 0x0F || (kind == 0x10 || (kind == 0x13 || (kind == 0x1B || kind == 0x1E))))))
+
 -- MBC5 with a rumble motor
 abbrev pub is_rumble_kind : ℕ → Bool
 is_rumble_kind kind = is_from_to 0x1C 0x1E kind

@@ -3,7 +3,7 @@ use Rattle.std.specs.Prelude.{ℕ, ◌+◌, ◌-◌, ◌/◌, ◌%◌, ◌==◌,
 use Rattle.std.specs.List.{before_first}
 use Rattle.std.specs.Option.{unwrap_or, option_and_then, option_map_or}
 use Rattle.cartridge.specs.declared.controller.Controller.{Controller}
-use Rattle.cartridge.specs.Controllers.{controller_at, is_rumble_kind, most_banks_of, ram_of}
+use Rattle.cartridge.specs.Controllers.{controller_at, is_battery_kind, is_rumble_kind, most_banks_of, ram_of}
 
 -- 0134 to 0143, before the first 00
 abbrev pub title_of : List ℕ → List ℕ
@@ -34,6 +34,10 @@ controller_of image = controller_at (kind_of image)
 
 abbrev pub has_rumble : List ℕ → Bool
 has_rumble image = is_rumble_kind (kind_of image)
+
+-- whether the cartridge keeps its RAM when the power is off
+abbrev pub has_battery : List ℕ → Bool
+has_battery image = is_battery_kind (kind_of image)
 
 -- banks of 16 KiB
 abbrev pub banks_of : List ℕ → ℕ

@@ -11,7 +11,7 @@ ghost use Rattle.std.specs.Result.{result_err};
 ghost use Rattle.sha2.specs.Sha256.{sha256};
 ghost use Rattle.cartridge.specs.Accepted.{IsAccepted, refusal_of};
 ghost use Rattle.cartridge.specs.Controllers.{ram_lengths};
-ghost use Rattle.cartridge.specs.Header.{title_of, kind_of, rom_code_of, ram_code_of, stored_checksum_of, checksum_of, banks_of, most_banks, ram_length_of, controller_of, has_rumble, header_sum};
+ghost use Rattle.cartridge.specs.Header.{title_of, kind_of, rom_code_of, ram_code_of, stored_checksum_of, checksum_of, banks_of, most_banks, ram_length_of, controller_of, has_battery, has_rumble, header_sum};
 ghost use Rattle.cartridge.specs.Length.{IsBankCount};
 
 pub use controller::Controller;
@@ -118,6 +118,17 @@ impl Cartridge {
         ensures { result ≡ has_rumble self.now }
     {
         matches!(self.image[0x147], 0x1C..=0x1E)
+    }
+
+    /// Whether the cartridge type names a battery, which keeps the RAM and the clock when the power is off: 03, 06, 09, 0F, 10, 13, 1B
+    /// and 1E.
+    pub fn has_battery(&self) -> bool
+        ensures { result ≡ has_battery self.now }
+    {
+        matches!(
+            self.image[0x147],
+            0x03 | 0x06 | 0x09 | 0x0F | 0x10 | 0x13 | 0x1B | 0x1E
+        )
     }
 
     /// The number of banks of 16 KiB: a power of two, and at most what the controller reaches.

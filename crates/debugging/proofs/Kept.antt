@@ -8,8 +8,8 @@ use Rattle.sm83_processor.specs.Steps.{step_of, after_steps}
 use Rattle.sm83_processor.specs.declared.processor.Processor.{Processor}
 use Rattle.memory_map.specs.State.{BusState}
 use Rattle.memory_map.specs.BusRules.{bus_rules}
-use Rattle.machine.specs.declared.input.Input.TheVariants.{Frame}
-use Rattle.machine.specs.Machine.{after}
+use Rattle.std.proofs.lemmas.List.Elements.{All-cons, All-nil}
+use Rattle.machine.specs.Machine.{Frame, PassesTime, after}
 use Rattle.machine.proofs.KeptByInputs.{bus_keeps, by_inputs}
 use Rattle.debugging.specs.declared.order.Order.{Order}
 use Rattle.debugging.specs.declared.order.Order.TheVariants.{Frames, Seconds, Step, Until, UntilOpcode, UntilChange, UntilWrite, UntilRead, Registers, History, List as Listing, Memory, Bank, Serial, Picture, State, Digest}
@@ -45,7 +45,7 @@ steps_keep n r = by_steps n (processor_of r)
 
 frame_keeps : (buttons : ℕ) (r : RunState) → IsKept r (after_frame buttons r)
 unfolding after
-frame_keeps buttons r = by_inputs r.debugger.machine (Frame buttons ∷ [])
+frame_keeps buttons r = by_inputs r.debugger.machine (Frame buttons ∷ []) (All-cons PassesTime (Frame buttons) [] tt (All-nil PassesTime))
 
 frames_keep : (times buttons : ℕ) (r : RunState) → IsKept r (after_frames times buttons r)
 frames_keep zero buttons r = itself r

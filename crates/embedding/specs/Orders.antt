@@ -1,12 +1,10 @@
 -- What a console makes of its machine, and the bytes that it gives.
-use Rattle.std.specs.Prelude.{◌≡◌, ℕ, ◌+◌, ◌-◌, ◌/◌, ◌%◌, List, [], map, slice_index, slice_index_or, if◌then◌else◌, Some, ⊤}
+use Rattle.std.specs.Prelude.{◌≡◌, ℕ, ◌+◌, ◌-◌, ◌/◌, ◌%◌, List, [], map, slice_index, slice_index_or, Some, ⊤}
 use Rattle.std.specs.List.{range_with_len}
 use Rattle.cartridge.specs.Accepted.{IsAccepted, refusal_of}
 use Rattle.memory_map.specs.Bus.{peeked}
-use Rattle.machine.specs.Machine.{MachineState, start}
-use Rattle.snapshot.specs.Legal.{IsRefusal}
-use Rattle.battery_files.specs.Battery.{has_battery, battery_of}
-use Rattle.battery_files.specs.Importing.{start_with}
+use Rattle.machine.specs.Machine.{MachineState}
+use Rattle.snapshot.specs.Legal.{IsFault}
 use Rattle.embedding.specs.declared.error.ConsoleError.{ConsoleError}
 use Rattle.embedding.specs.declared.error.ConsoleError.TheVariants.{Memory, Cart, Snapshot}
 
@@ -22,12 +20,6 @@ shades_of rows = map (λ k. 3 - slice_index (slice_index_or rows (k / 160) []) (
 abbrev pub bytes_from : MachineState → (address count : ℕ) → List ℕ
 bytes_from m address count = map (λ k. peeked m.processor.memory ((address + k) % 65536)) (range_with_len 0 count)
 
--- ---- the power switch
-
--- off and on again: what the battery keeps, the RAM and the clocks, is as it was, and all else as at power-on
-abbrev pub powered : (rom : List ℕ) → MachineState → MachineState
-powered rom m = if has_battery rom then start_with rom (battery_of m) else start rom
-
 -- ---- refusals
 
 -- why an image gives no console: the first rule of a cartridge that it breaks, or want of memory
@@ -40,4 +32,4 @@ IsNewCause rom (Snapshot fault) = ⊥
 abbrev pub IsRestoreCause : (rom bytes : List ℕ) → ConsoleError → Type 0
 IsRestoreCause rom bytes Memory = ⊥
 IsRestoreCause rom bytes (Cart fault) = ⊥
-IsRestoreCause rom bytes (Snapshot fault) = IsRefusal rom bytes fault
+IsRestoreCause rom bytes (Snapshot fault) = IsFault rom bytes fault

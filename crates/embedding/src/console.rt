@@ -2,26 +2,25 @@
 
 ghost use Rattle.std.specs.Prelude.{◌≡◌, length, replicate, IfOk, IfErr, OnOk, OnErr};
 ghost use Rattle.cartridge.specs.Accepted.{IsAccepted};
-ghost use Rattle.machine.specs.Machine.{start, after, picture_rows, seconds_passed};
-ghost use Rattle.machine.specs.declared.input.Input.TheVariants.{Frame};
+ghost use Rattle.machine.specs.Machine.{start, after, picture_rows, powered, seconds_passed};
+ghost use Rattle.machine.specs.Machine.{Frame};
 ghost use Rattle.snapshot.specs.Encoding.{encoded, snapshot_length};
 ghost use Rattle.snapshot.specs.Legal.{IsMachineOf};
 ghost use Rattle.session.specs.Resting.{IsOfItsRom, own_prop};
-ghost use Rattle.embedding.specs.Orders.{shades_of, bytes_from, powered, IsNewCause, IsRestoreCause};
+ghost use Rattle.embedding.specs.Orders.{shades_of, bytes_from, IsNewCause, IsRestoreCause};
 ghost use Rattle.embedding.specs.declared.error.ConsoleError.TheVariants.{Memory};
 
 use crate::error::ConsoleError;
 use crate::shades::write_shades;
-use battery_files::{battery_of, has_battery, machine_with_battery};
 use cartridge::Cartridge;
 use machine::{Input, Machine};
 use session::machine_at_power_on;
-use snapshot::{decode, encode};
+use snapshot::{decode_into, encode, powered};
 use std::alloc::{AllocError, Global};
 
 /// A machine, and the cartridge that is in it.
 ///
-/// `new`, `power` and `restore` take memory; no other call does.
+/// `new` and `power` take memory; no other call does.
 #[derive(Drop)]
 pub struct Console {
     cartridge: Cartridge,
@@ -43,27 +42,6 @@ fn play_frames(machine: &mut Machine, buttons: u8, count: u32)
 {
     for _i in 0..count {
         machine.frame(buttons);
-    }
-}
-
-/// The machine after its power was switched off and on.
-fn machine_after_power(
-    alloc: Global,
-    cartridge: &Cartridge,
-    machine: &Machine,
-) -> Result<Machine, AllocError>
-    requires rom { machine.now.processor.memory.banks.rom ≡ cartridge.now }
-    requires own { IsOfItsRom machine.now }
-    ensures machine { IfOk result (λ m. m ≡ powered cartridge.now machine.now) }
-    ensures of { IfOk result (λ m. IsMachineOf cartridge.now m) }
-{
-    if !has_battery(cartridge) {
-        return machine_at_power_on(alloc, cartridge);
-    }
-    let battery = battery_of(alloc, machine)?;
-    match machine_with_battery(alloc, cartridge, &battery) {
-        Ok(machine) => Ok(machine),
-        Err(_) => Err(AllocError),
     }
 }
 
@@ -109,12 +87,12 @@ impl Console {
     /// Switches the power off and on. The RAM of a cartridge with a battery stays, and its clock goes on; of one without, everything begins
     /// anew. Refused with `Memory` alone.
     pub fn power(&mut self, alloc: Global) -> Result<(), ConsoleError>
-        ensures machine { OnOk result (self.new.machine ≡ powered self.old.cartridge self.old.machine) }
+        ensures machine { OnOk result (self.new.machine ≡ powered self.old.machine) }
         ensures cartridge { self.new.cartridge ≡ self.old.cartridge }
         ensures refused { OnErr result (self.new.machine ≡ self.old.machine) }
         ensures cause { IfErr result (λ why. why ≡ Memory) }
     {
-        let Ok(machine) = machine_after_power(alloc, &self.cartridge, &self.machine) else {
+        let Ok(machine) = powered(alloc, &self.cartridge, &self.machine) else {
             return Err(ConsoleError::Memory);
         };
         self.machine = machine;
@@ -152,19 +130,16 @@ impl Console {
 
     /// Takes the machine whose state this is.
     ///
-    /// Refused with the first of these that holds: bytes that are no state of this cartridge; `Memory`.
-    pub fn restore(&mut self, alloc: Global, bytes: &[u8]) -> Result<(), ConsoleError>
+    /// Refused for bytes that are no state of this cartridge.
+    pub fn restore(&mut self, bytes: &[u8]) -> Result<(), ConsoleError>
         ensures state { OnOk result (encoded self.new.machine ≡ bytes.now) }
         ensures of { OnOk result (IsMachineOf self.old.cartridge self.new.machine) }
         ensures cartridge { self.new.cartridge ≡ self.old.cartridge }
         ensures refused { OnErr result (self.new.machine ≡ self.old.machine) }
         ensures cause { IfErr result (IsRestoreCause self.old.cartridge bytes.now) }
     {
-        match decode(alloc, bytes, &self.cartridge) {
-            Ok(machine) => {
-                self.machine = machine;
-                Ok(())
-            }
+        match decode_into(bytes, &self.cartridge, &mut self.machine) {
+            Ok(()) => Ok(()),
             Err(why) => Err(ConsoleError::Snapshot(why)),
         }
     }

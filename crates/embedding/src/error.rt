@@ -14,7 +14,7 @@ pub enum ConsoleError {
     /// The image is not an accepted cartridge: the first rule that it breaks.
     #[error("{0}")]
     Cart(CartError),
-    /// The bytes are no legal snapshot of this cartridge, or there is no memory for the machine.
+    /// The bytes are no legal snapshot of this cartridge.
     #[error("{0}")]
     Snapshot(SnapError),
 }

@@ -3,15 +3,15 @@
 ghost use Rattle.std.specs.Prelude.{◌≡◌, ◌≤◌, ◌<◌, ◌+◌, ◌*◌, ◌++◌, ◌∷◌, [], true, false, ℕ, length, take, slice_get, slice_range, Some, None, Ok, IfOk, IfErr, IfSome, IfNone, OnOk, OnErr};
 ghost use Rattle.cartridge.specs.Accepted.{IsAccepted, refusal_of};
 ghost use Rattle.cartridge.specs.Header.{ram_length_of};
-ghost use Rattle.machine.specs.Machine.{start, applied, picture_rows};
+ghost use Rattle.machine.specs.Machine.{Power, State, start, as_input, applied, picture_rows};
 ghost use Rattle.snapshot.specs.Encoding.{encoded, snapshot_length};
 ghost use Rattle.sector_device.specs.DiskState.{sector_at};
 ghost use Rattle.sector_device.specs.Runs.{HoldsSince};
 ghost use Rattle.log_format.specs.Content.{content, need};
 ghost use Rattle.session.specs.Accessors.{device_of, machine_of, rom_of, pending_of, acknowledged_of, is_broken, IsUnchanged};
-ghost use Rattle.session.specs.Calls.{IsAtRest, input_answer};
-ghost use Rattle.session.specs.Inputs.{entry_of, inputs_of};
-ghost use Rattle.session.specs.Stands.{stands, StandsWithin};
+ghost use Rattle.session.specs.Calls.{IsAtRest, IsRestoreAnswer, input_answer};
+ghost use Rattle.session.specs.Inputs.{can_be_logged, entry_of, inputs_of};
+ghost use Rattle.session.specs.Stands.{stands, StandsBetween};
 ghost use Rattle.embedding.specs.Orders.{shades_of};
 ghost use Rattle.embedding.specs.Games.{IsFrom};
 ghost use Rattle.embedding.specs.HostDevices.{calls_of, count_of, host_disk};
@@ -36,6 +36,8 @@ pub struct Game {
     noted: Vec<Call>,
     handed: usize,
     in_step: bool,
+    cartridge: Cartridge,
+    ghost own: { rom_of session ≡ cartridge },
     ghost within: { handed ≤ length noted.items },
     ghost step: { in_step ≡ true → noted.items ≡ calls_of (device_of session) },
 }
@@ -109,8 +111,14 @@ fn write_image(device: &mut HostDevice, image: &[u8]) -> Result<(), GameError>
 
 impl Game {
     // A game with a session that was begun, of which so many calls are none that the host has to make.
-    fn of(alloc: Global, session: Session<HostDevice>, handed: usize) -> Result<Game, GameError>
-        requires { handed ≤ length (calls_of (device_of session)) }
+    fn of(
+        alloc: Global,
+        session: Session<HostDevice>,
+        cartridge: Cartridge,
+        handed: usize,
+    ) -> Result<Game, GameError>
+        requires own { rom_of session ≡ cartridge }
+        requires handed { handed ≤ length (calls_of (device_of session)) }
         ensures session { IfOk result (λ g. g.session ≡ session) }
         ensures step { IfOk result (λ g. g.in_step ≡ true) }
         ensures handed { IfOk result (λ g. g.handed ≡ handed) }
@@ -123,6 +131,7 @@ impl Game {
             noted,
             handed,
             in_step: true,
+            cartridge,
         })
     }
 
@@ -130,8 +139,10 @@ impl Game {
     fn taken_up(
         alloc: Global,
         session: Session<HostDevice>,
+        cartridge: Cartridge,
         written: usize,
     ) -> Result<Game, GameError>
+        requires { rom_of session ≡ cartridge }
         ensures session { IfOk result (λ g. g.session ≡ session) }
         ensures step { IfOk result (λ g. g.in_step ≡ true) }
         ensures handed { IfOk result (λ g. g.handed ≡ written) }
@@ -139,7 +150,7 @@ impl Game {
         if session.device().calls().len() < written {
             return Err(GameError::Session(SessionError::Broken));
         }
-        Game::of(alloc, session, written)
+        Game::of(alloc, session, cartridge, written)
     }
 
     /// Begins a game at power-on on a device of so many zero sectors. The calls that begin it are the first that the host has to make.
@@ -160,7 +171,7 @@ impl Game {
             return Err(GameError::Memory);
         };
         match new_game(alloc, device, &cartridge) {
-            Ok(session) => Game::of(alloc, session, 0),
+            Ok(session) => Game::of(alloc, session, cartridge, 0),
             Err(refused) => Err(GameError::Session(refused.why)),
         }
     }
@@ -171,8 +182,8 @@ impl Game {
     pub fn input(&mut self, input: Input) -> Result<(), SessionError>
         ensures answer { result ≡ input_answer (is_broken self.old.session) (length (pending_of self.old.session))
             (acknowledged_of self.old.session + length (pending_of self.old.session)) }
-        ensures machine { OnOk result (machine_of self.new.session ≡ applied input (machine_of self.old.session)) }
-        ensures pending { OnOk result (pending_of self.new.session ≡ pending_of self.old.session ++ entry_of input ∷ []) }
+        ensures machine { OnOk result (machine_of self.new.session ≡ applied (as_input input) (machine_of self.old.session)) }
+        ensures pending { OnOk result (pending_of self.new.session ≡ pending_of self.old.session ++ entry_of (as_input input) ∷ []) }
         ensures refused { OnErr result (IsUnchanged self.old.session self.new.session) }
         ensures device { device_of self.new.session ≡ device_of self.old.session }
         ensures noted { self.new.noted.items ≡ self.old.noted.items }
@@ -181,6 +192,40 @@ impl Game {
         ensures kept { (acknowledged_of self.new.session ≡ acknowledged_of self.old.session) × (rom_of self.new.session ≡ rom_of self.old.session) }
     {
         self.session.input(input)
+    }
+
+    /// Switches the power of the machine off and on: one input, which is not saved yet.
+    ///
+    /// Refusals, none of which changes anything: those of `Session::power`.
+    pub fn power(&mut self, alloc: Global) -> Result<(), SessionError>
+        ensures machine { OnOk result (machine_of self.new.session ≡ applied Power (machine_of self.old.session)) }
+        ensures pending { OnOk result (pending_of self.new.session ≡ pending_of self.old.session ++ entry_of Power ∷ []) }
+        ensures refused { OnErr result (IsUnchanged self.old.session self.new.session) }
+        ensures device { device_of self.new.session ≡ device_of self.old.session }
+        ensures noted { self.new.noted.items ≡ self.old.noted.items }
+        ensures handed { self.new.handed ≡ self.old.handed }
+        ensures step { self.new.in_step ≡ self.old.in_step }
+        ensures kept { (acknowledged_of self.new.session ≡ acknowledged_of self.old.session) × (rom_of self.new.session ≡ rom_of self.old.session) }
+    {
+        self.session.power(alloc, &self.cartridge)
+    }
+
+    /// Goes on with the machine of a state: one input, which is not saved yet. It takes no memory.
+    ///
+    /// Refusals, none of which changes anything: those of `Session::restore`.
+    pub fn restore(&mut self, bytes: &[u8]) -> Result<(), SessionError>
+        ensures answer { IsRestoreAnswer self.old.cartridge bytes.now (input_answer (is_broken self.old.session) (length (pending_of self.old.session))
+            (acknowledged_of self.old.session + length (pending_of self.old.session))) result }
+        ensures machine { OnOk result (encoded (machine_of self.new.session) ≡ bytes.now) }
+        ensures pending { OnOk result (pending_of self.new.session ≡ pending_of self.old.session ++ entry_of (State (machine_of self.new.session)) ∷ []) }
+        ensures refused { OnErr result (IsUnchanged self.old.session self.new.session) }
+        ensures device { device_of self.new.session ≡ device_of self.old.session }
+        ensures noted { self.new.noted.items ≡ self.old.noted.items }
+        ensures handed { self.new.handed ≡ self.old.handed }
+        ensures step { self.new.in_step ≡ self.old.in_step }
+        ensures kept { (acknowledged_of self.new.session ≡ acknowledged_of self.old.session) × (rom_of self.new.session ≡ rom_of self.old.session) }
+    {
+        self.session.restore(bytes, &self.cartridge)
     }
 
     /// Saves what is pending. At `Ok` the calls that were noted end with the sync that makes it sure: once the host has made them all, no power
@@ -200,9 +245,10 @@ impl Game {
 
         // at each moment the device stands for a prefix of the inputs that has all that were told before
         ensures images { is_broken self.old.session ≡ false → HoldsSince (host_disk (device_of self.old.session)) (host_disk (device_of self.new.session))
-            (StandsWithin (rom_of self.old.session) (stands (rom_of self.old.session) (content (host_disk (device_of self.old.session)).sectors))
-            (inputs_of (pending_of self.old.session))) }
-        ensures stood { is_broken self.old.session ≡ false → IsAtRest (rom_of self.old.session) (host_disk (device_of self.old.session))
+            (StandsBetween (can_be_logged (pending_of self.old.session)) (rom_of self.old.session)
+            (stands (rom_of self.old.session) (content (host_disk (device_of self.old.session)).sectors)) (inputs_of (pending_of self.old.session))
+            (record { count = acknowledged_of self.old.session + length (pending_of self.old.session); machine = machine_of self.old.session })) }
+        ensures stood { is_broken self.old.session ≡ false → can_be_logged (pending_of self.old.session) ≡ true → IsAtRest (rom_of self.old.session) (host_disk (device_of self.old.session))
             (acknowledged_of self.old.session) (pending_of self.old.session) (machine_of self.old.session) }
         ensures machine { (machine_of self.new.session ≡ machine_of self.old.session) × (rom_of self.new.session ≡ rom_of self.old.session) }
     {
@@ -304,7 +350,7 @@ impl Game {
         }
         let written = device.calls().len();
         match resume(alloc, device, &cartridge) {
-            Ok(session) => Game::taken_up(alloc, session, written),
+            Ok(session) => Game::taken_up(alloc, session, cartridge, written),
             Err(refused) => Err(GameError::Session(refused.why)),
         }
     }

@@ -2,7 +2,7 @@
 use Rattle.std.proofs.Common.{◌≡◌, ◌∙◌, ◌⊎◌, ◌+◌, inl, inr, refl, sym, ap, subst, ℕ, List, [], length, Option, Result, Ok, Err, arith}
 use Rattle.std.specs.Io.KnownBytes.{Appends}
 use Rattle.machine.specs.Machine.{MachineState, after}
-use Rattle.machine.specs.declared.input.Input.{Input}
+use Rattle.machine.specs.Machine.{Input}
 use Rattle.cartridge.specs.Accepted.{IsAccepted}
 use Rattle.std.specs.Prelude.{IfErr}
 use Rattle.sector_device.specs.DiskState.{DiskState, HasAnswered}

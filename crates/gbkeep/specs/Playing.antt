@@ -4,7 +4,7 @@ use Rattle.std.specs.Io.KnownBytes.{Appends, Keeps}
 use Rattle.exact_text.specs.Written.{AppendsProperPrefix}
 use Rattle.cartridge.specs.Accepted.{IsAccepted, refusal_of}
 use Rattle.machine.specs.Machine.{MachineState, after, picture_rows}
-use Rattle.machine.specs.declared.input.Input.{Input}
+use Rattle.machine.specs.Machine.{Input}
 use Rattle.picture_unit.specs.Pgm.{picture_text}
 use Rattle.script.specs.Script.{moves_of, IsRefused as IsScriptRefused}
 use Rattle.script.specs.declared.moves.Move.{Move}

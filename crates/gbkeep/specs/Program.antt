@@ -4,8 +4,7 @@ use Rattle.std.specs.Borrow.{Bor}
 use Rattle.std.specs.Io.KnownBytes.{Appends, Keeps}
 use Rattle.exact_text.specs.Written.{AppendsProperPrefix}
 use Rattle.cartridge.specs.Accepted.{IsAccepted, refusal_of}
-use Rattle.cartridge.specs.Header.{ram_length_of}
-use Rattle.battery_files.specs.Battery.{has_battery}
+use Rattle.cartridge.specs.Header.{has_battery, ram_length_of}
 use Rattle.battery_files.specs.Importing.{is_taken_length}
 use Rattle.clap.specs.Words.{HasKind, fault_of, kind_of}
 use Rattle.clap.specs.declared.error.kind.ErrorKind.{ErrorKind}

@@ -6,11 +6,11 @@ use Rattle.std.specs.Borrow.{Bor}
 use Rattle.std.specs.Io.KnownBytes.{Appends, Keeps}
 use Rattle.exact_text.specs.Written.{AppendsProperPrefix}
 use Rattle.cartridge.specs.Accepted.{IsAccepted}
-use Rattle.cartridge.specs.Header.{ram_length_of}
+use Rattle.cartridge.specs.Header.{has_battery, ram_length_of}
 use Rattle.command_line.specs.declared.Request.{Request}
 use Rattle.command_line.specs.declared.Request.TheVariants.{Info, List as Listing, Step, New, Play, Frame, Trace, Stream, NewRecording, Record, Recorded, Verify, Test, Show, Export, Import, Debug}
 use Rattle.machine.specs.Machine.{start}
-use Rattle.machine.specs.declared.input.Input.{Input}
+use Rattle.machine.specs.Machine.{Input}
 use Rattle.snapshot.specs.Legal.{IsMachineOf}
 use Rattle.snapshot.specs.Encoding.{snapshot_length}
 use Rattle.log_format.specs.Content.{need}
@@ -34,7 +34,6 @@ use Rattle.test_run.specs.Refusals.{IsTested, IsCutOff}
 use Rattle.test_run.specs.declared.verdict.Verdict.{Verdict}
 use Rattle.test_run.specs.declared.verdict.Verdict.TheVariants.{Passed}
 use Rattle.save_lines.specs.Shown.{Seen, shown_text}
-use Rattle.battery_files.specs.Battery.{has_battery}
 use Rattle.battery_files.specs.Importing.{is_taken_length}
 use Rattle.gbkeep.specs.Beginning.{begun_line}
 use Rattle.gbkeep.specs.Info.{info_of}

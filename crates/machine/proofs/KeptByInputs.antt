@@ -2,6 +2,7 @@
 use Rattle.std.proofs.Common.{ℕ, zero, suc, ◌+◌, Bool, true, false, [], ◌∷◌}
 use Rattle.std.specs.Prelude.{nat_lt, if◌then◌else◌}
 use Rattle.std.specs.Fn.{iterate}
+use Rattle.std.proofs.lemmas.List.Elements.{All-head, All-tail}
 use Rattle.bank_controllers.specs.CartridgeState.{IsSameCartridge}
 use Rattle.bank_controllers.proofs.Same.{same_itself, same_then, seconds-same}
 use Rattle.sm83_processor.specs.declared.processor.Processor.{Processor}
@@ -13,9 +14,7 @@ use Rattle.memory_map.specs.Bus as bus
 use Rattle.memory_map.specs.BusRules.{bus_rules}
 use Rattle.memory_map.specs.Ticks.{tick}
 use Rattle.memory_map.proofs.SameCartridge.{same_of, write_same, acknowledged_banks, ticks_banks}
-use Rattle.machine.specs.declared.input.Input.{Input}
-use Rattle.machine.specs.declared.input.Input.TheVariants.{Frame, Seconds}
-use Rattle.machine.specs.Machine.{MachineState, Ahead, steps_until, applied, after}
+use Rattle.machine.specs.Machine.{MachineState, Ahead, steps_until, Input, Frame, Seconds, Power, State, PassesTime, applied, after}
 use Rattle.machine.specs.MachineLaws.{CartridgeStays}
 
 module _ {M : Type 0} (r : Rules M) (R : M → M → Type 0) (k : IsKept r R) where
@@ -42,13 +41,16 @@ bus_keeps = record {
   passed = λ b n. same_of b.banks (iterate tick n b).banks (ticks_banks n b);
 }
 
-by_input : (input : Input) (m : MachineState) → IsSameCartridge m.processor.memory.banks (applied input m).processor.memory.banks
-by_input (Frame buttons) m =
+by_input : (input : Input) (m : MachineState) → PassesTime input → IsSameCartridge m.processor.memory.banks (applied input m).processor.memory.banks
+by_input (Frame buttons) m passes =
     let begun : Processor BusState = record m.processor { memory = bus.buttons_set buttons m.processor.memory } in
     by_steps_until bus_rules (λ old new. IsSameCartridge old.banks new.banks) bus_keeps 17556 m.overrun begun
-by_input (Seconds n) m = seconds-same n m.processor.memory.banks
+by_input (Seconds n) m passes = seconds-same n m.processor.memory.banks
+by_input Power m passes = absurd passes
+by_input (State n) m passes = absurd passes
 
 pub by_inputs : CartridgeStays
 unfolding after
-by_inputs m [] = same_itself m.processor.memory.banks
-by_inputs m (input ∷ inputs) = same_then _ _ _ (by_input input m) (by_inputs (applied input m) inputs)
+by_inputs m [] all = same_itself m.processor.memory.banks
+by_inputs m (input ∷ inputs) all =
+    same_then _ _ _ (by_input input m (All-head PassesTime input inputs all)) (by_inputs (applied input m) inputs (All-tail PassesTime input inputs all))

@@ -1,15 +1,16 @@
 -- The whole machine: power-on, steps, frames and inputs.
-use Rattle.std.specs.Prelude.{◌≡◌, ℕ, zero, suc, ◌+◌, ◌-◌, ◌<◌, ◌≤◌, true, false, not, ◌==◌, List, fold, nat_lt, if◌then◌else◌}
+use Rattle.std.specs.Prelude.{◌≡◌, ℕ, zero, suc, ◌+◌, ◌-◌, ◌<◌, ◌≤◌, true, false, not, ◌==◌, List, fold, nat_lt, if◌then◌else◌, ⊤}
 use Rattle.std.specs.Fn.{iterate}
 use Rattle.sm83_alu.specs.declared.register_file.Registers.{Registers}
-use Rattle.cartridge.specs.Header.{stored_checksum_of}
-use Rattle.bank_controllers.specs.CartridgeState.{second}
+use Rattle.cartridge.specs.Header.{stored_checksum_of, has_battery}
+use Rattle.bank_controllers.specs.declared.clock.ClockRegisters.{ClockRegisters}
+use Rattle.bank_controllers.specs.CartridgeState.{CartridgeState, second}
 use Rattle.memory_map.specs.State.{BusState, bus_at_power_on}
 use Rattle.memory_map.specs.Bus.{buttons_set}
 use Rattle.sm83_processor.specs.declared.processor.Processor.{Processor}
 use Rattle.sm83_processor.specs.declared.processor.ProcessorState.{ProcessorState}
-use Rattle.machine.specs.declared.input.Input.{Input}
-use Rattle.machine.specs.declared.input.Input.TheVariants.{Frame, Seconds}
+use Rattle.machine.specs.declared.input.Input.{Input as PassingInput}
+use Rattle.machine.specs.declared.input.Input.TheVariants.{Frame as FrameInput, Seconds as SecondsInput}
 use Rattle.sm83_processor.specs.Rules.{Rules}
 use Rattle.sm83_processor.specs.Steps.{step_of, after_steps}
 use Rattle.memory_map.specs.BusRules.{bus_rules}
@@ -88,7 +89,51 @@ pub record IsFrame {M : Type 0} (rules : Rules M) (overrun : ℕ) (old : Process
   pub excess : new.overrun ≡ overrun + cycles_of_steps rules steps old - cycles_per_frame
   pub few : new.overrun < 6
 
+-- ---- the power switch
+
+abbrev pub with_ram : List ℕ → MachineState → MachineState
+with_ram ram m =
+    let memory : BusState = m.processor.memory in
+    record m { processor = record m.processor { memory = record memory { banks = record memory.banks { ram = ram } } } }
+
+abbrev pub with_clocks : (live latched : ClockRegisters) → MachineState → MachineState
+with_clocks live latched m =
+    let memory : BusState = m.processor.memory in
+    let banks : CartridgeState = memory.banks in
+    record m {
+      processor = record m.processor {
+        memory = record memory { banks = record banks { state = record banks.state { clock = live; latched = latched } } };
+      };
+    }
+
+-- off and on again: what a battery keeps, the RAM and the clocks, is as it was, and all else as at power-on
+unfoldable pub powered : MachineState → MachineState
+powered m =
+    let banks : CartridgeState = m.processor.memory.banks in
+    if has_battery banks.rom
+    then with_clocks banks.state.clock banks.state.latched (with_ram banks.ram (start banks.rom))
+    else start banks.rom
+
 -- ---- inputs
+
+-- a frame with buttons, seconds of the clock, the power switch, or another machine of the same cartridge
+pub data Input : Type 0 where
+  Frame : ℕ → Input
+  Seconds : ℕ → Input
+  Power : Input
+  State : MachineState → Input
+
+-- the input of the code's type, which has those that pass time
+abbrev pub as_input : PassingInput → Input
+as_input (FrameInput buttons) = Frame buttons
+as_input (SecondsInput n) = Seconds n
+
+-- a frame or seconds
+abbrev pub PassesTime : Input → Type 0
+PassesTime (Frame buttons) = ⊤
+PassesTime (Seconds n) = ⊤
+PassesTime Power = ⊥
+PassesTime (State machine) = ⊥
 
 -- the buttons are set, then a frame passes
 abbrev pub frame_played : ℕ → MachineState → MachineState
@@ -105,6 +150,8 @@ seconds_passed n m =
 abbrev pub applied : Input → MachineState → MachineState
 applied (Frame buttons) m = frame_played buttons m
 applied (Seconds n) m = seconds_passed n m
+applied Power m = powered m
+applied (State machine) m = machine
 
 -- the machine after a list of inputs
 unfoldable pub after : MachineState → List Input → MachineState

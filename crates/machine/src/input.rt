@@ -1,6 +1,7 @@
-//! The inputs of a play session.
+//! The inputs that pass time.
 
-/// An input of a play session.
+/// An input that passes time. The power switch and another machine of the same cartridge are inputs, too: they are
+/// machines that take the place of this one.
 #[derive(Clone, Copy, Debug, PartialEq, Eq)]
 pub enum Input {
     /// A frame with these buttons: Right, Left, Up, Down, A, B, Select, Start as bits 0 to 7, 1 for

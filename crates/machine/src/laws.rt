@@ -13,7 +13,7 @@ pub fn inputs_add_up()
     ensures { InputsAddUp }
 {}
 
-/// No input changes which cartridge is in the machine: its ROM, kind, motor and length of RAM stay
+/// No frame and no second changes which cartridge is in the machine: its ROM, kind, motor and length of RAM stay
 /// the same.
 pub fn inputs_keep_the_cartridge()
     ensures { CartridgeStays }

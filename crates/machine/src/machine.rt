@@ -96,7 +96,7 @@ impl Machine {
 
     ghost use Rattle.memory_map.specs.Bus.{peeked};
     ghost use Rattle.memory_map.specs.Stores.{region_of, region_filled, FitsRegion};
-    ghost use Rattle.machine.specs.Machine.{start, frame_played, applied, picture_rows};
+    ghost use Rattle.machine.specs.Machine.{start, frame_played, as_input, applied, picture_rows};
     ghost use Rattle.machine.specs.MachineStores.{without_memory, restored, row_set, AreLegalFor};
 
     /// The machine at power-on with this cartridge. Refused if there is no memory.
@@ -178,7 +178,7 @@ impl Machine {
 
     /// Gives the machine one input.
     pub fn apply(&mut self, input: Input)
-        ensures { self.new ≡ applied input self.old }
+        ensures { self.new ≡ applied (as_input input) self.old }
     {
         match input {
             Input::Frame(buttons) => self.frame(buttons),

@@ -6,7 +6,7 @@ use Rattle.std.proofs.lemmas.List.Elements.{All-nil, All-cons, All-append, All-w
 use Rattle.exact_text.specs.Written.{AppendsProperPrefix}
 use Rattle.exact_text.proofs.Writes.{appends_nothing}
 use Rattle.machine.specs.Machine.{MachineState, after}
-use Rattle.machine.specs.declared.input.Input.{Input}
+use Rattle.machine.specs.Machine.{Input}
 use Rattle.session.specs.declared.error.SessionError.{SessionError}
 use Rattle.session.specs.declared.error.SessionError.TheVariants.{Output}
 use Rattle.session.proofs.Answering.{answered_both, answered_nothing, answered_refusal, answered_refused}

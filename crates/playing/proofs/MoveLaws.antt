@@ -2,7 +2,7 @@
 use Rattle.std.proofs.Common.{◌≡◌, ℕ, zero, suc, ◌+◌, ◌-◌, ◌<◌, List, [], ◌∷◌, ◌++◌, length, take, drop, replicate, get_or, Option, refl, sym, ap, ◌∙◌, subst, arith, append-nil}
 use Rattle.std.proofs.Math.Seq.{take-suc}
 use Rattle.std.proofs.lemmas.List.{replicate-append-replicate}
-use Rattle.machine.specs.declared.input.Input.{Input}
+use Rattle.machine.specs.Machine.{Input}
 use Rattle.script.specs.declared.moves.Move.{Move}
 use Rattle.session.specs.declared.error.SessionError.{SessionError}
 use Rattle.playing.specs.Making.{Place, all_of, Makes, StopsMaking, GivesInputs, StopsAmongInputs, MakesMoves, StopsAmongMoves}

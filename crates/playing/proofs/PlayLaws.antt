@@ -1,22 +1,38 @@
 -- How a play goes on over one save, over one input, and over several.
-use Rattle.std.proofs.Common.{◌≡◌, inl, ℕ, ◌+◌, ◌-◌, ◌≤◌, List, [], ◌∷◌, ◌++◌, length, take, drop, Some, Result, Ok, Err, OnOk, sym, ap, ◌∙◌, subst, arith, length-append, length-drop, append-nil}
+use Rattle.std.proofs.Common.{◌≡◌, inl, inr, ⊎_elim, Bool, true, ℕ, ◌+◌, ◌-◌, ◌≤◌, List, [], ◌∷◌, ◌++◌, length, take, drop, Some, Result, Ok, Err, OnOk, sym, ap, ◌∙◌, subst, arith, length-append, length-drop, append-nil}
 use Rattle.std.proofs.Math.Seq.{take-add}
-use Rattle.std.proofs.lemmas.List.{take_all, drop_all, drop-append-le, take-append-le, length-take-le, length-map}
-use Rattle.machine.specs.Machine.{MachineState, after, applied}
-use Rattle.machine.specs.declared.input.Input.{Input}
+use Rattle.std.proofs.lemmas.Bool.{cases_Bool}
+use Rattle.std.proofs.lemmas.List.{take_all, drop_all, drop-append-le, take-append-le, length-take-le}
+use Rattle.machine.specs.Machine.{MachineState, Input, after, applied}
 use Rattle.sector_device.specs.DiskState.{DiskState}
 use Rattle.sector_device.specs.Runs.{HoldsSince}
 use Rattle.sector_device.proofs.Runs.{holds_since}
 use Rattle.log_format.specs.Content.{content}
 use Rattle.input_entries.specs.declared.Entry.{Entry}
 use Rattle.session.specs.Calls.{IsAtRest}
-use Rattle.session.specs.Inputs.{input_of, inputs_of}
-use Rattle.session.specs.Stands.{Position, stands, further, StandsWithin}
+use Rattle.session.specs.Inputs.{can_be_logged, entry_of, inputs_of}
+use Rattle.session.specs.Stands.{Position, stands, further, StandsWithin, StandsBetween}
 use Rattle.session.proofs.StandsLaws.{after_append, after_none, after_one}
-use Rattle.session.proofs.Saving.{leading, same_after}
+use Rattle.session.proofs.Saving.{leading}
 use Rattle.session.proofs.Writes.{since_weaker}
 use Rattle.session.proofs.Beginnings.{since_then}
 use Rattle.playing.specs.Played.{Reaches, IsPlayed, Going, Stopped}
+
+-- ---- one more input
+
+-- among the pending ones there is one more; where a log can hold them all, it could hold those before, and it is this input
+pub record IsOneMore (pending more : List Entry) (input : Input) : Type 0 where
+  pub size : length more ≡ length pending + 1
+  pub logged : can_be_logged more ≡ true → can_be_logged pending ≡ true
+  pub given : can_be_logged more ≡ true → inputs_of more ≡ inputs_of pending ++ input ∷ []
+
+-- one that a log can hold
+pub one_logged : (pending more : List Entry) (input : Input) → more ≡ pending ++ entry_of input ∷ [] → can_be_logged more ≡ can_be_logged pending → inputs_of more ≡ inputs_of pending ++ input ∷ [] → IsOneMore pending more input
+one_logged pending more input is same given = record {
+  size = ap length is ∙ length-append pending (entry_of input ∷ []);
+  logged = λ logged. sym same ∙ logged;
+  given = λ logged. given;
+}
 
 -- ---- how far an image reaches
 
@@ -33,29 +49,51 @@ reaches_none rom from least given image r = record { count = r.count; at_least =
 
 module _ (rom : List ℕ) (now : DiskState) (acknowledged : ℕ) (pending : List Entry) (machine : MachineState) (from : Position) (given : List Input) (played : IsPlayed rom now acknowledged pending machine from given) where
   -- what is some pending inputs further is some given inputs from the start
-  pub reaches : (image : List (List ℕ)) → StandsWithin rom (stands rom (content now.sectors)) (inputs_of pending) image → Reaches rom from played.saved given image
-  reaches image w =
+  within : can_be_logged pending ≡ true → (image : List (List ℕ)) → StandsWithin rom (stands rom (content now.sectors)) (inputs_of pending) image → Reaches rom from played.saved given image
+  within logged image w =
+      let are = played.pending_is logged in
       let front : take (played.saved + w.count) given ≡ take played.saved given ++ take w.count (drop played.saved given) = take-add played.saved w.count given in
       let machine_is : after (after from.machine (take played.saved given)) (take w.count (inputs_of pending)) ≡ after from.machine (take (played.saved + w.count) given) =
-      ap (λ (l : List Input). after (after from.machine (take played.saved given)) (take w.count l)) played.pending_is
+      ap (λ (l : List Input). after (after from.machine (take played.saved given)) (take w.count l)) are
       ∙ after_append from.machine (take played.saved given) (take w.count (drop played.saved given)) ∙ ap (after from.machine) (sym front) in
       let size : length (take w.count (inputs_of pending)) ≡ w.count = length-take-le w.count (inputs_of pending) w.within in
       let count_is : acknowledged + length (take w.count (inputs_of pending)) ≡ from.count + (played.saved + w.count) = omega (arith, size, played.acknowledged_is) in
       record {
         count = played.saved + w.count;
         at_least = omega arith;
-        within = omega (arith, w.within, ap length played.pending_is, length-drop played.saved given, played.within);
+        within = omega (arith, w.within, ap length are, length-drop played.saved given, played.within);
         is = w.is ∙ ap (further (take w.count (inputs_of pending))) played.stands_is ∙ (λ i. Some (record { count = count_is i; machine = machine_is i }));
       }
 
-  -- the one image that is left
-  pub reaches_here : (image : List (List ℕ)) → now.image image → Reaches rom from played.saved given image
-  reaches_here image here = subst (Reaches rom from played.saved given) (sym (played.settled image here)) (record {
+  -- what was saved
+  reaches_saved : (image : List (List ℕ)) → stands rom (content image) ≡ stands rom (content now.sectors) → Reaches rom from played.saved given image
+  reaches_saved image same = record {
     count = played.saved;
     at_least = omega arith;
     within = played.within;
-    is = played.stands_is ∙ (λ i. Some (record { count = played.acknowledged_is i; machine = after from.machine (take played.saved given) }));
-  })
+    is = same ∙ played.stands_is ∙ (λ i. Some (record { count = played.acknowledged_is i; machine = after from.machine (take played.saved given) }));
+  }
+
+  -- all of them
+  reaches_all : (image : List (List ℕ)) → stands rom (content image) ≡ Some (record { count = acknowledged + length pending; machine = machine }) → Reaches rom from played.saved given image
+  reaches_all image is =
+      let count_is : acknowledged + length pending ≡ from.count + length given = omega (arith, played.acknowledged_is, played.unsaved_is) in
+      let machine_is : machine ≡ after from.machine (take (length given) given) = played.machine_is ∙ ap (after from.machine) (sym (take_all (length given) given (omega arith))) in
+      record { count = length given; at_least = played.within; within = omega arith; is = is ∙ (λ i. Some (record { count = count_is i; machine = machine_is i })) }
+
+  abbrev Between : Bool → List (List ℕ) → Type 0
+  Between logged image = StandsBetween logged rom (stands rom (content now.sectors)) (inputs_of pending) (record { count = acknowledged + length pending; machine = machine }) image
+
+  pub reaches : (image : List (List ℕ)) → Between (can_be_logged pending) image → Reaches rom from played.saved given image
+  reaches image between =
+      elim (cases_Bool (can_be_logged pending)) [
+        | inl can ↦ within can image (subst (λ (b : Bool). Between b image) can between)
+        | inr other ↦ ⊎_elim (reaches_saved image) (reaches_all image) (subst (λ (b : Bool). Between b image) other between)
+      ]
+
+  -- the one image that is left
+  pub reaches_here : (image : List (List ℕ)) → now.image image → Reaches rom from played.saved given image
+  reaches_here image here = reaches_saved image (ap (λ (c : List (List ℕ)). stands rom (content c)) (played.settled image here))
 
   -- no device call at all
   pub since_here : ((image : List (List ℕ)) → now.since now.moment image → now.image image) → HoldsSince now now (Reaches rom from 0 given)
@@ -65,15 +103,18 @@ module _ (rom : List ℕ) (now : DiskState) (acknowledged : ℕ) (pending : List
   pub stopped_here : ((image : List (List ℕ)) → now.since now.moment image → now.image image) → Stopped rom now now acknowledged from given
   stopped_here only = record { honest = played.honest; moments = since_here only; least = played.saved; acknowledged_is = played.acknowledged_is; images = reaches_here }
 
-  unsaved : length pending ≡ length given - played.saved
-  unsaved = sym (length-map pending input_of) ∙ ap length played.pending_is ∙ length-drop played.saved given
-
   module _ (own : List ℕ) (is_own : machine.processor.memory.banks.rom ≡ own) where
     own_is : own ≡ rom
     own_is = sym is_own ∙ played.rom_is
 
-    since_save : (new : DiskState) → HoldsSince now new (StandsWithin own (stands own (content now.sectors)) (inputs_of pending)) → HoldsSince now new (StandsWithin rom (stands rom (content now.sectors)) (inputs_of pending))
-    since_save new held = subst (λ (r : List ℕ). HoldsSince now new (StandsWithin r (stands r (content now.sectors)) (inputs_of pending))) own_is held
+    -- each image of a save
+    abbrev Saves : (r : List ℕ) → DiskState → Type 0
+    Saves r new =
+        HoldsSince now new
+        (StandsBetween (can_be_logged pending) r (stands r (content now.sectors)) (inputs_of pending) (record { count = acknowledged + length pending; machine = machine }))
+
+    since_save : (new : DiskState) → Saves own new → Saves rom new
+    since_save new held = subst (λ (r : List ℕ). Saves r new) own_is held
 
     -- after a save
     pub played_saved : (new : DiskState) (all then : ℕ) (cleared : List Entry) (after_it : MachineState) → new.honest → all ≡ acknowledged + length pending → then ≡ all → cleared ≡ [] → after_it ≡ machine
@@ -88,15 +129,16 @@ module _ (rom : List ℕ) (now : DiskState) (acknowledged : ℕ) (pending : List
           rom_is = ap (λ (n : MachineState). n.processor.memory.banks.rom) same ∙ played.rom_is;
           saved = length given;
           within = omega arith;
-          acknowledged_is = omega (arith, then_is, all_is, played.acknowledged_is, unsaved, played.within);
-          pending_is = ap inputs_of empty ∙ sym (drop_all (length given) given (omega arith));
+          acknowledged_is = omega (arith, then_is, all_is, played.acknowledged_is, played.unsaved_is, played.within);
+          unsaved_is = omega (arith, ap length empty);
+          pending_is = λ logged. ap inputs_of empty ∙ sym (drop_all (length given) given (omega arith));
           machine_is = same ∙ played.machine_is;
           settled = rests.settled;
           stands_is = ap (λ (r : List ℕ). stands r (content new.sectors)) (sym own_is) ∙ lead.stood ∙ (λ i. Some (record { count = count_is i; machine = here i }));
         }
 
     pub going_saved : (new : DiskState) (all then : ℕ) (cleared : List Entry) (after_it : MachineState) → new.honest → all ≡ acknowledged + length pending → then ≡ all → cleared ≡ [] → after_it ≡ machine
-        → IsAtRest own new all [] machine → HoldsSince now new (StandsWithin own (stands own (content now.sectors)) (inputs_of pending)) → Going rom now new then cleared after_it from given
+        → IsAtRest own new all [] machine → Saves own new → Going rom now new then cleared after_it from given
     going_saved new all then cleared after_it honest all_is then_is empty same rests held = record {
       moments = since_weaker (since_save new held) (λ image w. reaches_none rom from played.saved given image (reaches image w));
       played = played_saved new all then cleared after_it honest all_is then_is empty same rests;
@@ -104,7 +146,7 @@ module _ (rom : List ℕ) (now : DiskState) (acknowledged : ℕ) (pending : List
 
     -- a save that failed
     pub stopped_failed : (new : DiskState) (then : ℕ) → new.honest → then ≡ acknowledged → ((t : ℕ) (c : List (List ℕ)) → t ≤ new.moment → new.image c → new.since t c)
-        → HoldsSince now new (StandsWithin own (stands own (content now.sectors)) (inputs_of pending)) → Stopped rom now new then from given
+        → Saves own new → Stopped rom now new then from given
     stopped_failed new then honest then_is counts held =
         let all = since_save new held in
         record {
@@ -116,14 +158,17 @@ module _ (rom : List ℕ) (now : DiskState) (acknowledged : ℕ) (pending : List
         }
 
   -- after one more input
-  pub played_more : (more : List Entry) (after_it : MachineState) (input : Input) → inputs_of more ≡ inputs_of pending ++ input ∷ [] → after_it ≡ applied input machine → IsPlayed rom now acknowledged more after_it from (given ++ input ∷ [])
-  played_more more after_it input more_is is = record {
+  pub played_more : (more : List Entry) (after_it : MachineState) (input : Input) → IsOneMore pending more input → after_it ≡ applied input machine → after_it.processor.memory.banks.rom ≡ machine.processor.memory.banks.rom
+      → IsPlayed rom now acknowledged more after_it from (given ++ input ∷ [])
+  played_more more after_it input one is same = record {
     honest = played.honest;
-    rom_is = (same_after machine after_it input is).rom ∙ played.rom_is;
+    rom_is = same ∙ played.rom_is;
     saved = played.saved;
     within = omega (arith, played.within, length-append given (input ∷ []));
     acknowledged_is = played.acknowledged_is;
-    pending_is = more_is ∙ ap (λ (l : List Input). l ++ input ∷ []) played.pending_is ∙ sym (drop-append-le played.saved given (input ∷ []) played.within);
+    unsaved_is = omega (arith, one.size, played.unsaved_is, length-append given (input ∷ []));
+    pending_is = λ logged.
+        one.given logged ∙ ap (λ (l : List Input). l ++ input ∷ []) (played.pending_is (one.logged logged)) ∙ sym (drop-append-le played.saved given (input ∷ []) played.within);
     machine_is = is ∙ ap (applied input) played.machine_is ∙ sym (after_one (after from.machine given) input) ∙ after_append from.machine given (input ∷ []);
     settled = played.settled;
     stands_is = played.stands_is ∙ ap (λ (l : List Input). Some (record { count = acknowledged; machine = after from.machine l })) (sym (take-append-le played.saved given (input ∷ []) played.within));
@@ -131,9 +176,10 @@ module _ (rom : List ℕ) (now : DiskState) (acknowledged : ℕ) (pending : List
 
 -- one more input makes no device call
 pub going_input : (rom : List ℕ) (now : DiskState) (acknowledged : ℕ) (pending more : List Entry) (machine after_it : MachineState) (from : Position) (given : List Input) (input : Input) → IsPlayed rom now acknowledged pending machine from given
-    → inputs_of more ≡ inputs_of pending ++ input ∷ [] → after_it ≡ applied input machine → ((image : List (List ℕ)) → now.since now.moment image → now.image image) → Going rom now now acknowledged more after_it from (given ++ input ∷ [])
-going_input rom now acknowledged pending more machine after_it from given input played more_is is only =
-    let next = played_more rom now acknowledged pending machine from given played more after_it input more_is is in
+    → IsOneMore pending more input → after_it ≡ applied input machine → after_it.processor.memory.banks.rom ≡ machine.processor.memory.banks.rom
+    → ((image : List (List ℕ)) → now.since now.moment image → now.image image) → Going rom now now acknowledged more after_it from (given ++ input ∷ [])
+going_input rom now acknowledged pending more machine after_it from given input played one is same only =
+    let next = played_more rom now acknowledged pending machine from given played more after_it input one is same in
     record { moments = since_here rom now acknowledged more after_it from (given ++ input ∷ []) next only; played = next }
 
 -- nothing was given yet
@@ -208,7 +254,8 @@ begun_played rom now acknowledged pending machine honest rom_is empty rests =
       saved = 0;
       within = omega arith;
       acknowledged_is = omega arith;
-      pending_is = ap inputs_of empty;
+      unsaved_is = omega (arith, ap length empty);
+      pending_is = λ logged. ap inputs_of empty;
       machine_is = sym (after_none machine);
       settled = rests.settled;
       stands_is = lead.stood ∙ (λ i. Some (record { count = count_is i; machine = machine_is i }));
@@ -218,8 +265,7 @@ begun_played rom now acknowledged pending machine honest rom_is empty rests =
 pub all_saved : (rom : List ℕ) (now : DiskState) (acknowledged : ℕ) (pending : List Entry) (machine : MachineState) (from : Position) (given : List Input) → IsPlayed rom now acknowledged pending machine from given → pending ≡ []
     → IsAtRest rom now (from.count + length given) [] (after from.machine given)
 all_saved rom now acknowledged pending machine from given played empty =
-    let none : length (drop played.saved given) ≡ 0 = ap length (sym played.pending_is ∙ ap inputs_of empty) in
-    let all : played.saved ≡ length given = omega (arith, none, length-drop played.saved given, played.within) in
+    let all : played.saved ≡ length given = omega (arith, played.unsaved_is, ap length empty) in
     let count_is : acknowledged + 0 ≡ from.count + length given + 0 = omega (arith, played.acknowledged_is, all) in
     let whole : take played.saved given ≡ given = take_all played.saved given (omega (arith, all)) in
     let machine_is : after (after from.machine (take played.saved given)) [] ≡ after from.machine given = after_none (after from.machine (take played.saved given)) ∙ ap (after from.machine) whole in

@@ -3,7 +3,7 @@ use Rattle.std.proofs.Common.{◌≡◌, ◌==◌, inl, inr, Option, Bool, false
 use Rattle.std.specs.Io.KnownBytes.{Appends}
 use Rattle.std.proofs.lemmas.Bool.{cases_Bool, eqb-true, ne_eqb}
 use Rattle.exact_text.proofs.Writes.{appends_twice}
-use Rattle.machine.specs.declared.input.Input.{Input}
+use Rattle.machine.specs.Machine.{Input}
 use Rattle.script.specs.declared.moves.Move.{Move}
 use Rattle.playing.specs.Report.{inputs_of_move, inputs_of_moves, Line, texts, unsaved_after, unsaved_behind, line_due, lines_of_inputs, unsaved_behind_move, unsaved_behind_moves, lines_of_move, lines_of_moves, saved_line, last_line}
 

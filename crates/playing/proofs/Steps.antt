@@ -1,17 +1,16 @@
 -- One save, and one input.
-use Rattle.std.proofs.Common.{◌≡◌, ℕ, ◌+◌, ◌≤◌, ◌<◌, ◌-◌, ◌^◌, List, [], ◌∷◌, ◌++◌, length, Bool, false, Option, Ok, Err, refl, sym, ap, ◌∙◌, subst, arith, append-nil, length-append}
+use Rattle.std.proofs.Common.{◌≡◌, ℕ, ◌+◌, ◌≤◌, ◌<◌, ◌-◌, ◌^◌, List, [], ◌∷◌, ◌++◌, length, Bool, false, Option, Ok, Err, refl, sym, ap, ◌∙◌, subst, arith, append-nil}
 use Rattle.std.proofs.lemmas.List.Elements.{All-nil}
 use Rattle.std.specs.Io.KnownBytes.{Appends}
 use Rattle.exact_text.specs.Written.{AppendsProperPrefix}
 use Rattle.exact_text.proofs.Writes.{appends_nothing}
-use Rattle.machine.specs.Machine.{MachineState, applied}
-use Rattle.machine.specs.declared.input.Input.{Input}
+use Rattle.machine.specs.Machine.{MachineState, Input, applied}
 use Rattle.sector_device.specs.DiskState.{DiskState, HasAnswered}
 use Rattle.sector_device.specs.Runs.{HoldsSince}
 use Rattle.log_format.specs.Content.{content, generation_in}
 use Rattle.session.specs.Calls.{IsAtRest, IsSaveCause, faults_after, input_answer}
-use Rattle.session.specs.Inputs.{entry_of, inputs_of}
-use Rattle.session.specs.Stands.{stands, StandsWithin}
+use Rattle.session.specs.Inputs.{can_be_logged, inputs_of}
+use Rattle.session.specs.Stands.{stands, StandsBetween}
 use Rattle.session.specs.declared.error.SessionError.{SessionError}
 use Rattle.session.specs.declared.error.SessionError.TheVariants.{GenerationsUsedUp, Output}
 use Rattle.session.proofs.Answering.{answered_nothing, answered_refusal, answered_value, answered_error}
@@ -20,7 +19,7 @@ use Rattle.playing.specs.Making.{Place, all_of, Makes, StopsMaking, GivesInputs,
 use Rattle.playing.specs.Played.{Going, Stopped}
 use Rattle.playing.specs.Report.{Line, saved_line, lines_of_inputs}
 use Rattle.playing.proofs.Making.{makes_by, makes_line, makes_then, stops_at_line, stops_by, stops_then}
-use Rattle.playing.proofs.PlayLaws.{going_by, going_input, going_saved, stopped_by, stopped_failed, stopped_here, stopped_more}
+use Rattle.playing.proofs.PlayLaws.{IsOneMore, going_by, going_input, going_saved, stopped_by, stopped_failed, stopped_here, stopped_more}
 use Rattle.playing.proofs.ReportLaws.{is_due, not_due}
 use Rattle.playing.proofs.Stops.{full_not_output, full_stops, input_refused, save_not_output, save_stops}
 use Rattle.playing.proofs.Telling.{told_nothing}
@@ -30,7 +29,9 @@ use Rattle.playing.proofs.Telling.{told_nothing}
 abbrev pub rom_at : Place → List ℕ
 rom_at a = a.machine.processor.memory.banks.rom
 
-module _ (a b : Place) (x : Option (List ℕ)) (held : a.disk.honest → HoldsSince a.disk b.disk (StandsWithin (rom_at a) (stands (rom_at a) (content a.disk.sectors)) (inputs_of a.pending))) where
+module _
+    (a b : Place) (x : Option (List ℕ))
+    (held : a.disk.honest → HoldsSince a.disk b.disk (StandsBetween (can_be_logged a.pending) (rom_at a) (stands (rom_at a) (content a.disk.sectors)) (inputs_of a.pending) (record { count = all_of a; machine = a.machine }))) where
   pub save_made : (all : ℕ) → HasAnswered faults_after a.disk b.disk (Ok all) → all ≡ all_of a → b.acknowledged ≡ all → b.pending ≡ [] → b.machine ≡ a.machine
       → (a.disk.honest → IsAtRest (rom_at a) b.disk all [] a.machine) → Makes a b x x [] 0 []
   save_made all answered all_is saved none same rests = record {
@@ -84,17 +85,16 @@ module _ (a b : Place) (x : Option (List ℕ)) (input : Input) (disk_is : b.disk
   later : a.acknowledged ≤ b.acknowledged
   later = omega (arith, count_is)
 
-  pub input_made : b.pending ≡ a.pending ++ entry_of input ∷ [] → inputs_of b.pending ≡ inputs_of a.pending ++ input ∷ [] → b.machine ≡ applied input a.machine → Makes a b x x (input ∷ []) (length a.pending + 1) []
-  input_made pending_is given_is machine_is =
-      let more : length b.pending ≡ length a.pending + 1 = ap length pending_is ∙ length-append a.pending (entry_of input ∷ []) in
+  pub input_made : IsOneMore a.pending b.pending input → b.machine ≡ applied input a.machine → Makes a b x x (input ∷ []) (length a.pending + 1) []
+  input_made one machine_is =
       record {
         going = λ rom from given played.
             subst (λ (d : DiskState). Going rom a.disk d b.acknowledged b.pending b.machine from (given ++ input ∷ [])) (sym disk_is)
             (subst (λ (n : ℕ). Going rom a.disk a.disk n b.pending b.machine from (given ++ input ∷ [])) (sym count_is)
-            (going_input rom a.disk a.acknowledged a.pending b.pending a.machine b.machine from given input played given_is machine_is only));
+            (going_input rom a.disk a.acknowledged a.pending b.pending a.machine b.machine from given input played one machine_is rom_is only));
         machine_is = machine_is ∙ sym (after_one a.machine input);
-        all_is = omega (arith, more, count_is);
-        unsaved_is = more;
+        all_is = omega (arith, one.size, count_is);
+        unsaved_is = one.size;
         answered = appends_nothing x;
         are_saved = All-nil (λ line. line.told ≤ b.acknowledged);
         later = later;

@@ -2,7 +2,7 @@
 use Rattle.std.specs.Prelude.{◌≡◌, ◌≤◌, ◌+◌, ℕ, List, ◌++◌, length, Option, Ok, Err, All}
 use Rattle.std.specs.Io.KnownBytes.{Appends}
 use Rattle.machine.specs.Machine.{MachineState, after}
-use Rattle.machine.specs.declared.input.Input.{Input}
+use Rattle.machine.specs.Machine.{Input}
 use Rattle.sector_device.specs.DiskState.{DiskState, HasAnswered}
 use Rattle.sector_device.specs.declared.device.SectorDevice.{Ghosts}
 use Rattle.input_entries.specs.declared.Entry.{Entry}

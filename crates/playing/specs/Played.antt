@@ -1,8 +1,8 @@
 -- How far a play has come from where it was taken up.
-use Rattle.std.specs.Prelude.{◌≡◌, ◌⊎◌, ◌≤◌, ◌+◌, ◌-◌, ◌^◌, ℕ, List, [], length, take, drop, Option, Some, ⊤}
+use Rattle.std.specs.Prelude.{◌≡◌, ◌⊎◌, ◌≤◌, ◌+◌, ◌-◌, ◌^◌, ℕ, List, [], length, take, drop, true, Option, Some, ⊤}
 use Rattle.std.specs.Io.KnownBytes.{Keeps}
 use Rattle.machine.specs.Machine.{MachineState, after}
-use Rattle.machine.specs.declared.input.Input.{Input}
+use Rattle.machine.specs.Machine.{Input}
 use Rattle.sector_device.specs.DiskState.{DiskState, Settled}
 use Rattle.sector_device.specs.Looking.{HasLooked}
 use Rattle.sector_device.specs.Runs.{HoldsSince}
@@ -11,7 +11,7 @@ use Rattle.input_entries.specs.declared.Entry.{Entry}
 use Rattle.script.specs.declared.moves.Move.{Move}
 use Rattle.session.specs.Calls.{CanBeTakenUp, IsAtRest, StandsAsBefore}
 use Rattle.session.specs.Found.{IsResumeCause}
-use Rattle.session.specs.Inputs.{inputs_of}
+use Rattle.session.specs.Inputs.{can_be_logged, inputs_of}
 use Rattle.session.specs.declared.error.SessionError.{SessionError}
 use Rattle.session.specs.declared.error.SessionError.TheVariants.{Memory, Device, GenerationsUsedUp, CountFull, Output}
 use Rattle.session.specs.Stands.{Position, stands}
@@ -31,7 +31,9 @@ pub record IsPlayed (rom : List ℕ) (now : DiskState) (acknowledged : ℕ) (pen
   pub saved : ℕ
   pub within : saved ≤ length given
   pub acknowledged_is : acknowledged ≡ from.count + saved
-  pub pending_is : inputs_of pending ≡ drop saved given
+  -- the others are pending, and where a log can hold them, entry by entry
+  pub unsaved_is : saved + length pending ≡ length given
+  pub pending_is : can_be_logged pending ≡ true → inputs_of pending ≡ drop saved given
   pub machine_is : machine ≡ after from.machine given
   pub settled : Settled now
   pub stands_is : stands rom (content now.sectors) ≡ Some (record { count = acknowledged; machine = after from.machine (take saved given) })

@@ -1,8 +1,8 @@
 -- The inputs of moves, and the report of a play.
 use Rattle.std.specs.Prelude.{◌≡◌, ◌==◌, ◌<◌, ◌≤◌, ◌+◌, ℕ, List, [], ◌∷◌, ◌++◌, length, take, replicate, codes, decimal, if◌then◌else◌, Option, All}
 use Rattle.std.specs.Io.KnownBytes.{Appends}
-use Rattle.machine.specs.declared.input.Input.{Input}
-use Rattle.machine.specs.declared.input.Input.TheVariants.{Frame, Seconds as PassSeconds}
+use Rattle.machine.specs.Machine.{Input}
+use Rattle.machine.specs.Machine.{Frame, Seconds as PassSeconds}
 use Rattle.script.specs.declared.moves.Move.{Move}
 use Rattle.script.specs.declared.moves.Move.TheVariants.{Frames, Seconds, Save}
 use Rattle.session.specs.Calls.{most_unsaved}

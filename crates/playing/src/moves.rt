@@ -1,6 +1,6 @@
 //! Moves given to a session, saved when a save is due, and reported.
 ghost use Rattle.std.specs.Prelude.{◌≡◌, ◌<◌, ◌+◌, ◌∷◌, [], length, replicate, false, ⊤, OnOk, IfErr};
-ghost use Rattle.machine.specs.declared.input.Input.TheVariants.{Frame};
+ghost use Rattle.machine.specs.Machine.{Frame, as_input};
 ghost use Rattle.session.specs.Calls.{most_unsaved};
 ghost use Rattle.session.specs.Accessors.{device_of, machine_of, pending_of, acknowledged_of, is_broken};
 ghost use Rattle.playing.specs.Making.{place, Makes, StopsMaking, GivesInputs, StopsAmongInputs, MakesMoves, StopsAmongMoves};
@@ -46,10 +46,10 @@ fn give<D: SectorDevice, R: Report>(
     requires whole { is_broken session.old ≡ false }
     requires few { length (pending_of session.old) < most_unsaved }
     ensures made { OnOk result (GivesInputs (place (D.disk (device_of session.old)) session.old)
-        (place (D.disk (device_of session.new)) session.new) (R.contents report.old) (R.contents report.new) (input ∷ [])) }
+        (place (D.disk (device_of session.new)) session.new) (R.contents report.old) (R.contents report.new) (as_input input ∷ [])) }
     ensures stopped { IfErr result (λ why.
         StopsAmongInputs (place (D.disk (device_of session.old)) session.old) (place (D.disk (device_of session.new)) session.new)
-        (R.contents report.old) (R.contents report.new) R.may_fail (input ∷ []) why) }
+        (R.contents report.old) (R.contents report.new) R.may_fail (as_input input ∷ []) why) }
     ensures whole { OnOk result ((is_broken session.new ≡ false) × (length (pending_of session.new) < most_unsaved)) }
 {
     if let Err(why) = session.input(input) {

@@ -5,7 +5,7 @@ use Rattle.std.proofs.Math.Seq.{take-add}
 use Rattle.std.proofs.lemmas.List.{take-append-le}
 use Rattle.std.proofs.lemmas.List.Elements.{All-nil, All-cons, All-weaker}
 use Rattle.machine.specs.Machine.{MachineState, start, after}
-use Rattle.machine.specs.declared.input.Input.{Input}
+use Rattle.machine.specs.Machine.{Input}
 use Rattle.session.proofs.StandsLaws.{after_append}
 use Rattle.playing.specs.Report.{Line}
 use Rattle.recorded_lives.specs.Lives.{Files, Agree, Played, kept_of, IsRound, IsRecordedLife}

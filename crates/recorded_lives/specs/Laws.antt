@@ -1,6 +1,6 @@
 -- The law of recorded lives, which a public function states.
 use Rattle.std.specs.Prelude.{◌≡◌, ◌≤◌, ℕ, List, [], ◌∷◌, ◌++◌, All}
-use Rattle.machine.specs.declared.input.Input.{Input}
+use Rattle.machine.specs.Machine.{Input}
 use Rattle.recorded_lives.specs.Lives.{Files, Agree, Played, kept_of, IsRecordedLife}
 
 -- what the rounds added to the recording, one round after the other

@@ -1,7 +1,7 @@
 -- What a life of a SAVE and its recording is, whatever was cut in it.
 use Rattle.std.specs.Prelude.{◌≡◌, ◌⊎◌, ◌≤◌, ◌-◌, ℕ, List, [], ◌∷◌, ◌++◌, length, take, drop, Bool, true, All}
 use Rattle.machine.specs.Machine.{after, start}
-use Rattle.machine.specs.declared.input.Input.{Input}
+use Rattle.machine.specs.Machine.{Input}
 use Rattle.session.specs.Stands.{Position}
 use Rattle.playing.specs.Report.{Line, texts}
 use Rattle.input_lines.specs.Newlines.{joined}

@@ -6,8 +6,10 @@ use Rattle.std.proofs.lemmas.List.Elements.{All-nil, All-cons, All-append, All-w
 use Rattle.exact_text.specs.Written.{AppendsProperPrefix}
 use Rattle.exact_text.proofs.Writes.{appends_nothing}
 use Rattle.machine.specs.Machine.{MachineState, after}
-use Rattle.machine.specs.declared.input.Input.{Input}
-use Rattle.machine.specs.declared.input.Input.TheVariants.{Frame, Seconds as PassSeconds}
+use Rattle.machine.specs.Machine.{Input}
+use Rattle.machine.specs.Machine.{as_input}
+use Rattle.machine.specs.declared.input.Input.{Input as PassingInput}
+use Rattle.machine.specs.declared.input.Input.TheVariants.{Frame as FrameInput, Seconds as SecondsInput}
 use Rattle.script.specs.declared.moves.Move.TheVariants.{Save}
 use Rattle.session.specs.declared.error.SessionError.TheVariants.{Output}
 use Rattle.playing.specs.Report.{Line, texts, saved_line, line_due, unsaved_after}
@@ -104,17 +106,17 @@ obeys_nothing a x only_save only_recording = does_nothing a x only_save only_rec
 
 -- ---- one input
 
-pub one_given : (input : Input) → inputs_of_orders (order_for input ∷ []) ≡ input ∷ []
-one_given (Frame buttons) = refl
-one_given (PassSeconds n) = refl
+pub one_given : (input : PassingInput) → inputs_of_orders (order_for input ∷ []) ≡ as_input input ∷ []
+one_given (FrameInput buttons) = refl
+one_given (SecondsInput n) = refl
 
-pub one_answered : (place : Place) (input : Input) → answers_from place (order_for input ∷ []) ≡ line_due (length place.pending) (all_of place + 1)
-one_answered place (Frame buttons) = append-nil (line_due (length place.pending) (all_of place + 1) ++ []) ∙ append-nil (line_due (length place.pending) (all_of place + 1))
-one_answered place (PassSeconds n) = append-nil (line_due (length place.pending) (all_of place + 1))
+pub one_answered : (place : Place) (input : PassingInput) → answers_from place (order_for input ∷ []) ≡ line_due (length place.pending) (all_of place + 1)
+one_answered place (FrameInput buttons) = append-nil (line_due (length place.pending) (all_of place + 1) ++ []) ∙ append-nil (line_due (length place.pending) (all_of place + 1))
+one_answered place (SecondsInput n) = append-nil (line_due (length place.pending) (all_of place + 1))
 
-pub one_unsaved : (unsaved : ℕ) (input : Input) → unsaved_behind_orders unsaved (order_for input ∷ []) ≡ unsaved_after unsaved
-one_unsaved unsaved (Frame buttons) = refl
-one_unsaved unsaved (PassSeconds n) = refl
+pub one_unsaved : (unsaved : ℕ) (input : PassingInput) → unsaved_behind_orders unsaved (order_for input ∷ []) ≡ unsaved_after unsaved
+one_unsaved unsaved (FrameInput buttons) = refl
+one_unsaved unsaved (SecondsInput n) = refl
 
 -- ---- a picture
 

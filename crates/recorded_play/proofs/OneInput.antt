@@ -1,23 +1,22 @@
 -- One input, and a run of frames.
-use Rattle.std.proofs.Common.{◌≡◌, ◌==◌, inl, inr, ℕ, ◌+◌, ◌-◌, ◌^◌, ◌≤◌, List, [], ◌∷◌, ◌++◌, length, replicate, refl, sym, ap, ◌∙◌, subst, arith, append-nil, length-append, Option}
+use Rattle.std.proofs.Common.{◌≡◌, ◌==◌, inl, inr, ℕ, ◌+◌, ◌-◌, ◌^◌, ◌≤◌, List, [], ◌∷◌, ◌++◌, length, replicate, refl, sym, ap, ◌∙◌, subst, arith, append-nil, Option}
 use Rattle.std.proofs.lemmas.Bool.{cases_Bool, eq-eqb, eqb-true}
-use Rattle.std.proofs.lemmas.List.{replicate-append-replicate, length-map}
+use Rattle.std.proofs.lemmas.List.{replicate-append-replicate}
 use Rattle.std.proofs.lemmas.List.Elements.{All-nil}
 use Rattle.exact_text.proofs.Writes.{appends_nothing}
-use Rattle.machine.specs.Machine.{MachineState, applied}
-use Rattle.machine.specs.declared.input.Input.{Input}
-use Rattle.machine.specs.declared.input.Input.TheVariants.{Frame}
+use Rattle.machine.specs.Machine.{MachineState, Input, Frame, PassesTime, as_input, applied}
+use Rattle.machine.specs.declared.input.Input.{Input as PassingInput}
 use Rattle.script.specs.declared.moves.Move.TheVariants.{Frames, Save}
 use Rattle.input_entries.specs.declared.Entry.{Entry}
 use Rattle.session.specs.Calls.{faults_after}
-use Rattle.session.specs.Inputs.{input_of, inputs_of}
+use Rattle.session.specs.Inputs.{inputs_of}
 use Rattle.session.specs.declared.error.SessionError.{SessionError}
 use Rattle.session.specs.declared.error.SessionError.TheVariants.{CountFull}
 use Rattle.session.proofs.Answering.{answered_nothing, answered_refusal}
 use Rattle.session.proofs.Saving.{same_after}
 use Rattle.session.proofs.StandsLaws.{after_one}
 use Rattle.playing.specs.Report.{Line, saved_line, line_due, unsaved_after, unsaved_behind, lines_of_inputs}
-use Rattle.playing.proofs.PlayLaws.{going_input, stopped_here, stopped_more}
+use Rattle.playing.proofs.PlayLaws.{IsOneMore, going_input, stopped_here, stopped_more}
 use Rattle.playing.proofs.ReportLaws.{lines_append, line_is_due}
 use Rattle.playing.proofs.Stops.{full_not_output, full_stops}
 use Rattle.playing.proofs.Telling.{told_nothing}
@@ -38,23 +37,22 @@ use Rattle.recorded_play.proofs.Doing.{does_nothing, does_by, does_then, stops_b
 abbrev pub with_input : Game → List Entry → MachineState → Game
 with_input a more machine = record { save = record { disk = a.save.disk; acknowledged = a.save.acknowledged; pending = more; machine = machine }; recording = a.recording }
 
-pub input_comes : (a : Game) (more : List Entry) (machine : MachineState) (input : Input) → inputs_of more ≡ inputs_of a.save.pending ++ input ∷ [] → machine ≡ applied input a.save.machine → IsNow a.save.disk → IsNow a.recording
-    → Comes a (with_input a more machine) (input ∷ [])
-input_comes a more machine input more_is machine_is only_save only_recording =
-    let size : length more ≡ length a.save.pending + 1 =
-    sym (length-map more input_of) ∙ ap length more_is ∙ length-append (inputs_of a.save.pending) (input ∷ []) ∙ ap (λ (n : ℕ). n + 1) (length-map a.save.pending input_of) in
+pub input_comes : (a : Game) (more : List Entry) (machine : MachineState) (input : Input) → PassesTime input → IsOneMore a.save.pending more input → inputs_of more ≡ inputs_of a.save.pending ++ input ∷ []
+    → machine ≡ applied input a.save.machine → IsNow a.save.disk → IsNow a.recording → Comes a (with_input a more machine) (input ∷ [])
+input_comes a more machine input passes one more_is machine_is only_save only_recording =
+    let same = same_after a.save.machine machine input passes machine_is in
     record {
       going = λ rom from given played.
-          going_input rom a.save.disk a.save.acknowledged a.save.pending more a.save.machine machine from given input played more_is machine_is only_save;
+          going_input rom a.save.disk a.save.acknowledged a.save.pending more a.save.machine machine from given input played one machine_is same.rom only_save;
       records = λ rom all held.
           let next = saved_more rom a.recording a.save.acknowledged a.save.pending more all (input ∷ []) held more_is in
           record { moments = first_since_here rom a.recording a.save.acknowledged more (all ++ input ∷ []) next only_recording; holds = next };
       machine_is = machine_is ∙ sym (after_one a.save.machine input);
-      all_is = omega (arith, size);
+      all_is = omega (arith, one.size);
       later = omega arith;
       save_calls = answered_nothing;
       recording_calls = answered_nothing;
-      rom = (same_after a.save.machine machine input machine_is).rom;
+      rom = same.rom;
     }
 
 -- ---- a run of frames, and one after it
@@ -123,12 +121,12 @@ not_due unsaved count other = elim (cases_Bool (unsaved + 1 == 3200)) [
 alone : (a m : Game) (x : Option (List ℕ)) (input : Input) → Comes a m (input ∷ []) → Does a m x x (input ∷ []) [] (length m.save.pending)
 alone a m x input comes = record { comes = comes; unsaved_is = refl; answered = appends_nothing x; are_saved = All-nil (λ line. line.told ≤ m.save.acknowledged) }
 
-pub input_given : (a m : Game) (x : Option (List ℕ)) (input : Input) → Comes a m (input ∷ []) → length m.save.pending ≡ length a.save.pending + 1 → (length a.save.pending + 1 ≡ 3200 → ⊥) → Obeys a m x x (order_for input ∷ [])
+pub input_given : (a m : Game) (x : Option (List ℕ)) (input : PassingInput) → Comes a m (as_input input ∷ []) → length m.save.pending ≡ length a.save.pending + 1 → (length a.save.pending + 1 ≡ 3200 → ⊥) → Obeys a m x x (order_for input ∷ [])
 input_given a m x input comes size other =
     let none = not_due (length a.save.pending) (all_of a.save + 1) other in
-    does_by (sym (one_given input)) (sym (one_answered a.save input ∙ none.0)) (size ∙ sym none.1 ∙ sym (one_unsaved (length a.save.pending) input)) (alone a m x input comes)
+    does_by (sym (one_given input)) (sym (one_answered a.save input ∙ none.0)) (size ∙ sym none.1 ∙ sym (one_unsaved (length a.save.pending) input)) (alone a m x (as_input input) comes)
 
-module _ (a m b : Game) (x y : Option (List ℕ)) (input : Input) (comes : Comes a m (input ∷ [])) (due : length a.save.pending + 1 ≡ 3200) where
+module _ (a m b : Game) (x y : Option (List ℕ)) (input : PassingInput) (comes : Comes a m (as_input input ∷ [])) (due : length a.save.pending + 1 ≡ 3200) where
   line : saved_line (all_of m.save) ∷ [] ≡ answers_from a.save (order_for input ∷ [])
   line =
       ap (λ (n : ℕ). saved_line n ∷ []) comes.all_is
@@ -137,22 +135,22 @@ module _ (a m b : Game) (x y : Option (List ℕ)) (input : Input) (comes : Comes
   pub input_saved : Obeys m b x y (Make Save ∷ []) → Obeys a b x y (order_for input ∷ [])
   input_saved saved =
       does_by (sym (one_given input)) line (sym (due_after (length a.save.pending) due) ∙ sym (one_unsaved (length a.save.pending) input))
-      (does_then a m b x x y (input ∷ []) [] [] (saved_line (all_of m.save) ∷ []) (length m.save.pending) 0 (alone a m x input comes) saved)
+      (does_then a m b x x y (as_input input ∷ []) [] [] (saved_line (all_of m.save) ∷ []) (length m.save.pending) 0 (alone a m x (as_input input) comes) saved)
 
   pub input_stopped : (why : RecordError) → StopsAmong m b x y (Make Save ∷ []) why → StopsAmong a b x y (order_for input ∷ []) why
   input_stopped why stop =
       stops_by (sym (one_given input)) line
-      (stops_then a m b x x y (input ∷ []) [] [] (saved_line (all_of m.save) ∷ []) (length m.save.pending) why (alone a m x input comes) stop)
+      (stops_then a m b x x y (as_input input ∷ []) [] [] (saved_line (all_of m.save) ∷ []) (length m.save.pending) why (alone a m x (as_input input) comes) stop)
 
 -- an input that can't be counted
-pub input_full : (a : Game) (x : Option (List ℕ)) (input : Input) (why : SessionError) → why ≡ CountFull → all_of a.save ≡ 2 ^ 64 - 1 → IsNow a.save.disk → IsNow a.recording → StopsAmong a a x x (order_for input ∷ []) (Session why)
+pub input_full : (a : Game) (x : Option (List ℕ)) (input : PassingInput) (why : SessionError) → why ≡ CountFull → all_of a.save ≡ 2 ^ 64 - 1 → IsNow a.save.disk → IsNow a.recording → StopsAmong a a x x (order_for input ∷ []) (Session why)
 input_full a x input why is full only_save only_recording =
     stops_by {lines = answers_from a.save (order_for input ∷ [])} (sym (one_given input)) refl (record {
       halts = record {
         stopped = λ rom from given played.
-            stopped_more rom a.save.disk a.save.disk a.save.acknowledged from given (input ∷ [])
+            stopped_more rom a.save.disk a.save.disk a.save.acknowledged from given (as_input input ∷ [])
             (stopped_here rom a.save.disk a.save.acknowledged a.save.pending a.save.machine from given played only_save);
-        behind = λ rom all step. behind_more rom a a all (input ∷ []) (behind_here rom a all step only_recording);
+        behind = λ rom all step. behind_more rom a a all (as_input input ∷ []) (behind_here rom a all step only_recording);
         cause = full_stops why (all_of a.save + 1) a.save.disk is (omega (arith, full));
         full = λ same. absurd (cc);
         later = omega arith;

@@ -5,9 +5,7 @@ use Rattle.std.specs.List.{list_all}
 use Rattle.std.proofs.lemmas.Bool.{cases_Bool, and_parts}
 use Rattle.std.proofs.Math.Seq.{take-suc}
 use Rattle.std.proofs.lemmas.List.{length-map, replicate-append-replicate, take-append-drop}
-use Rattle.machine.specs.Machine.{MachineState, after, applied}
-use Rattle.machine.specs.declared.input.Input.{Input}
-use Rattle.machine.specs.declared.input.Input.TheVariants.{Frame, Seconds}
+use Rattle.machine.specs.Machine.{MachineState, Input, Frame, Seconds, PassesTime, after, applied}
 use Rattle.sector_device.specs.DiskState.{DiskState, HasAnswered, sector_at}
 use Rattle.sector_device.specs.Looking.{HasLooked, LooksOnly}
 use Rattle.sector_device.proofs.Looking.{looked_then, looked_self}
@@ -28,7 +26,7 @@ use Rattle.session.proofs.Replaying.{frames_of, seconds_back}
 use Rattle.session.proofs.Saving.{same_after}
 use Rattle.session.proofs.StandsLaws.{after_append, after_none, after_one, logged_append}
 use Rattle.playing.specs.Played.{IsStop}
-use Rattle.playing.proofs.PlayLaws.{going_nowhere, going_input, going_then, going_by, stopped_then, stopped_by, stopped_more, stopped_here}
+use Rattle.playing.proofs.PlayLaws.{IsOneMore, going_nowhere, going_input, going_then, going_by, stopped_then, stopped_by, stopped_more, stopped_here}
 use Rattle.playing.proofs.Stops.{stops_among, full_stops, full_not_output}
 use Rattle.playing.specs.Making.{Place, all_of}
 use Rattle.recorded_play.specs.CatchingUp.{given_by, given_by_all, recorded_in, Goes, Fails, Passes, PassesRecorded, FailsRecorded, HasCaughtUp, IsCatchUpStop}
@@ -170,17 +168,17 @@ given_none entry is = rw is refl
 abbrev pub place_with : Place → List Entry → MachineState → Place
 place_with a more machine = record { disk = a.disk; acknowledged = a.acknowledged; pending = more; machine = machine }
 
-pub input_goes : (a : Place) (more : List Entry) (machine : MachineState) (input : Input) → inputs_of more ≡ inputs_of a.pending ++ input ∷ [] → machine ≡ applied input a.machine → IsNow a.disk → Goes a (place_with a more machine) (input ∷ [])
-input_goes a more machine input more_is machine_is only =
-    let size : length more ≡ length a.pending + 1 =
-    sym (length-map more input_of) ∙ ap length more_is ∙ length-append (inputs_of a.pending) (input ∷ []) ∙ ap (λ (n : ℕ). n + 1) (length-map a.pending input_of) in
+pub input_goes : (a : Place) (more : List Entry) (machine : MachineState) (input : Input) → PassesTime input → IsOneMore a.pending more input → machine ≡ applied input a.machine → IsNow a.disk
+    → Goes a (place_with a more machine) (input ∷ [])
+input_goes a more machine input passes one machine_is only =
+    let same = same_after a.machine machine input passes machine_is in
     record {
-      going = λ rom from given played. going_input rom a.disk a.acknowledged a.pending more a.machine machine from given input played more_is machine_is only;
+      going = λ rom from given played. going_input rom a.disk a.acknowledged a.pending more a.machine machine from given input played one machine_is same.rom only;
       machine_is = machine_is ∙ sym (after_one a.machine input);
-      all_is = omega (arith, size);
+      all_is = omega (arith, one.size);
       later = omega arith;
       calls = answered_nothing;
-      rom = (same_after a.machine machine input machine_is).rom;
+      rom = same.rom;
     }
 
 pub input_fails : (a : Place) (input : Input) (why : SessionError) → why ≡ CountFull → all_of a ≡ 2 ^ 64 - 1 → IsNow a.disk → Fails a a (input ∷ []) why

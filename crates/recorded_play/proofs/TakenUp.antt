@@ -5,7 +5,7 @@ use Rattle.std.proofs.lemmas.List.{take_all, drop_all, length-map, take-map}
 use Rattle.std.specs.Option.{option_map}
 use Rattle.sha2.specs.Sha256.{sha256}
 use Rattle.machine.specs.Machine.{MachineState, start, after}
-use Rattle.machine.specs.declared.input.Input.{Input}
+use Rattle.machine.specs.Machine.{Input}
 use Rattle.sector_device.specs.DiskState.{DiskState, Settled}
 use Rattle.sector_device.specs.Looking.{HasLooked, LooksOnly}
 use Rattle.sector_device.proofs.Looking.{looked_then, looked_self, settled_looked, has_looked}
@@ -57,7 +57,8 @@ begun_from rom now acknowledged pending machine given honest rom_is empty rests 
       saved = length given;
       within = omega arith;
       acknowledged_is = omega (arith, count_is);
-      pending_is = ap inputs_of empty ∙ sym (drop_all (length given) given (omega arith));
+      unsaved_is = omega (arith, ap length empty);
+      pending_is = λ logged. ap inputs_of empty ∙ sym (drop_all (length given) given (omega arith));
       machine_is = machine_is;
       settled = begun.settled;
       stands_is = begun.stands_is ∙ (λ i. Some (record { count = acknowledged; machine = here i }));

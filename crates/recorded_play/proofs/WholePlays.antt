@@ -4,7 +4,7 @@ use Rattle.std.proofs.lemmas.List.{take_all, drop_all, take-append-drop}
 use Rattle.std.specs.Io.KnownBytes.{Appends}
 use Rattle.exact_text.proofs.Writes.{appends_twice}
 use Rattle.machine.specs.Machine.{MachineState, start, after}
-use Rattle.machine.specs.declared.input.Input.{Input}
+use Rattle.machine.specs.Machine.{Input}
 use Rattle.sector_device.specs.DiskState.{DiskState}
 use Rattle.sector_device.specs.Runs.{HoldsSince}
 use Rattle.recording.specs.declared.fault.RecordingFault.TheVariants.{Full}

@@ -1,7 +1,7 @@
 -- A session that is given what its recording has beyond it.
 use Rattle.std.specs.Prelude.{◌≡◌, ◌≤◌, ◌+◌, ◌-◌, ℕ, List, [], ◌∷◌, ◌++◌, length, drop, if◌then◌else◌, Ok, Err}
 use Rattle.machine.specs.Machine.{after}
-use Rattle.machine.specs.declared.input.Input.{Input}
+use Rattle.machine.specs.Machine.{Input}
 use Rattle.sector_device.specs.DiskState.{DiskState, HasAnswered}
 use Rattle.sector_device.specs.Looking.{LooksOnly}
 use Rattle.input_entries.specs.Inputs.{is_entry, inputs_in, inputs}

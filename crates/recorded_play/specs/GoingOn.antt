@@ -1,7 +1,7 @@
 -- A game that was looked at, and is resumed and given what its recording has beyond it; a reader needs none of this.
 use Rattle.std.specs.Prelude.{◌≡◌, ◌⊎◌, ◌+◌, ℕ, List, [], length, drop, ⊤}
 use Rattle.machine.specs.Machine.{MachineState, after}
-use Rattle.machine.specs.declared.input.Input.{Input}
+use Rattle.machine.specs.Machine.{Input}
 use Rattle.sector_device.specs.DiskState.{DiskState}
 use Rattle.sector_device.specs.Looking.{LooksOnly}
 use Rattle.sector_device.specs.Runs.{HoldsSince}

@@ -1,8 +1,9 @@
 -- What obeying orders leaves of a SAVE, a recording and a report.
 use Rattle.std.specs.Prelude.{◌≡◌, ◌≤◌, ℕ, List, ◌∷◌, length, Option, All}
 use Rattle.std.specs.Io.KnownBytes.{Appends}
-use Rattle.machine.specs.declared.input.Input.{Input}
-use Rattle.machine.specs.declared.input.Input.TheVariants.{Frame, Seconds as PassSeconds}
+use Rattle.machine.specs.Machine.{Input}
+use Rattle.machine.specs.declared.input.Input.{Input as PassingInput}
+use Rattle.machine.specs.declared.input.Input.TheVariants.{Frame as FrameInput, Seconds as SecondsInput}
 use Rattle.script.specs.declared.moves.Move.TheVariants.{Frames, Seconds}
 use Rattle.session.specs.declared.error.SessionError.{SessionError}
 use Rattle.session.specs.declared.error.SessionError.TheVariants.{Device}
@@ -21,9 +22,9 @@ use Rattle.recorded_play.specs.declared.error.RecordError.{RecordError}
 use Rattle.recorded_play.specs.declared.error.RecordError.TheVariants.{Session, Recording, Behind, Line as WrongLine, Input as FailedInput}
 
 -- the order of one input
-abbrev pub order_for : Input → Order
-order_for (Frame buttons) = Make (Frames buttons 1)
-order_for (PassSeconds n) = Make (Seconds n)
+abbrev pub order_for : PassingInput → Order
+order_for (FrameInput buttons) = Make (Frames buttons 1)
+order_for (SecondsInput n) = Make (Seconds n)
 
 -- only an output that failed cuts a line: to a report every other refusal is what a failed call is
 abbrev pub told_as : RecordError → SessionError

@@ -1,7 +1,7 @@
 -- How far a SAVE and a recording have come together.
 use Rattle.std.specs.Prelude.{◌≡◌, ◌≤◌, ◌+◌, ℕ, List, ◌++◌, length, take, drop, false, Some, Ok, Err, ⊤}
 use Rattle.machine.specs.Machine.{start, after}
-use Rattle.machine.specs.declared.input.Input.{Input}
+use Rattle.machine.specs.Machine.{Input}
 use Rattle.sector_device.specs.DiskState.{DiskState, Settled, HasAnswered}
 use Rattle.sector_device.specs.Runs.{HoldsSince}
 use Rattle.sector_device.specs.declared.device.SectorDevice.{Ghosts}

@@ -1,6 +1,6 @@
 //! A session that is given what its recording has beyond it.
 ghost use Rattle.std.specs.Prelude.{◌≡◌, ◌≤◌, ◌<◌, ◌+◌, ◌∷◌, ℕ, [], length, drop, false, replicate, IfOk, IfErr, OnOk};
-ghost use Rattle.machine.specs.declared.input.Input.TheVariants.{Frame};
+ghost use Rattle.machine.specs.Machine.{Frame, as_input};
 ghost use Rattle.sector_device.specs.DiskState.{sector_at};
 ghost use Rattle.recording.specs.Format.{entries_at};
 ghost use Rattle.recording.specs.Accessors.{device_of as device_of_recording, is_broken as is_broken_recording, used_of, full_of, tail_of, count_of};
@@ -42,8 +42,8 @@ fn pass<D: SectorDevice>(
 ) -> Result<u64, SessionError>
     requires whole { is_broken session.old ≡ false }
     requires few { length (pending_of session.old) < most_unsaved }
-    ensures passes { IfOk result (λ left. Passes (place (D.disk (device_of session.old)) session.old) (place (D.disk (device_of session.new)) session.new) skip left (input ∷ [])) }
-    ensures fails { IfErr result (λ why. Fails (place (D.disk (device_of session.old)) session.old) (place (D.disk (device_of session.new)) session.new) (drop skip (input ∷ [])) why) }
+    ensures passes { IfOk result (λ left. Passes (place (D.disk (device_of session.old)) session.old) (place (D.disk (device_of session.new)) session.new) skip left (as_input input ∷ [])) }
+    ensures fails { IfErr result (λ why. Fails (place (D.disk (device_of session.old)) session.old) (place (D.disk (device_of session.new)) session.new) (drop skip (as_input input ∷ [])) why) }
     ensures whole { OnOk result ((is_broken session.new ≡ false) × (length (pending_of session.new) < most_unsaved)) }
 {
     if skip > 0 {

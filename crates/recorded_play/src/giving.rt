@@ -1,7 +1,8 @@
 //! Moves given to a recorded session, saved when a save is due, and reported.
-ghost use Rattle.std.specs.Prelude.{◌≡◌, ◌<◌, ◌∷◌, [], length, false, OnOk, IfErr};
+ghost use Rattle.std.specs.Prelude.{◌≡◌, ◌<◌, ◌∷◌, [], length, false, true, OnOk, IfErr};
 ghost use Rattle.recording.specs.Accessors.{device_of as device_of_recording, is_broken as is_broken_recording};
 ghost use Rattle.session.specs.Calls.{most_unsaved};
+ghost use Rattle.session.specs.Inputs.{can_be_logged};
 ghost use Rattle.session.specs.Accessors.{device_of, pending_of, is_broken};
 ghost use Rattle.script.specs.declared.moves.Move.TheVariants.{Frames};
 ghost use Rattle.streaming.specs.declared.order.Order.TheVariants.{Make};
@@ -27,6 +28,7 @@ fn give<D: SectorDevice, E: SectorDevice, W: Write>(
     requires whole { is_broken session.old ≡ false }
     requires open { is_broken_recording recording.old ≡ false }
     requires few { length (pending_of session.old) < most_unsaved }
+    requires logged { can_be_logged (pending_of session.old) ≡ true }
     ensures obeyed { OnOk result (Obeys
         (game (D.disk (device_of session.old)) (E.disk (device_of_recording recording.old)) session.old)
         (game (D.disk (device_of session.new)) (E.disk (device_of_recording recording.new)) session.new)
@@ -37,6 +39,7 @@ fn give<D: SectorDevice, E: SectorDevice, W: Write>(
         (W.contents out.old) (W.contents out.new) (order_for input ∷ []) why) }
     ensures whole { OnOk result ((is_broken session.new ≡ false) × (is_broken_recording recording.new ≡ false) ×
         (length (pending_of session.new) < most_unsaved)) }
+    ensures logged { OnOk result (can_be_logged (pending_of session.new) ≡ true) }
 {
     if let Err(why) = session.input(input) {
         return Err(RecordError::Session(why));
@@ -58,6 +61,7 @@ fn give_frames<D: SectorDevice, E: SectorDevice, W: Write>(
     requires whole { is_broken session.old ≡ false }
     requires open { is_broken_recording recording.old ≡ false }
     requires few { length (pending_of session.old) < most_unsaved }
+    requires logged { can_be_logged (pending_of session.old) ≡ true }
     ensures obeyed { OnOk result (Obeys
         (game (D.disk (device_of session.old)) (E.disk (device_of_recording recording.old)) session.old)
         (game (D.disk (device_of session.new)) (E.disk (device_of_recording recording.new)) session.new)
@@ -68,6 +72,7 @@ fn give_frames<D: SectorDevice, E: SectorDevice, W: Write>(
         (W.contents out.old) (W.contents out.new) (Make (Frames buttons times) ∷ []) why) }
     ensures whole { OnOk result ((is_broken session.new ≡ false) × (is_broken_recording recording.new ≡ false) ×
         (length (pending_of session.new) < most_unsaved)) }
+    ensures logged { OnOk result (can_be_logged (pending_of session.new) ≡ true) }
 {
     for _i in 0..times {
         if let Err(why) = give(session, recording, Input::Frame(buttons), out) {
@@ -89,6 +94,7 @@ pub(crate) fn make_move<D: SectorDevice, E: SectorDevice, W: Write>(
     requires whole { is_broken session.old ≡ false }
     requires open { is_broken_recording recording.old ≡ false }
     requires few { length (pending_of session.old) < most_unsaved }
+    requires logged { can_be_logged (pending_of session.old) ≡ true }
     ensures obeyed { OnOk result (Obeys
         (game (D.disk (device_of session.old)) (E.disk (device_of_recording recording.old)) session.old)
         (game (D.disk (device_of session.new)) (E.disk (device_of_recording recording.new)) session.new)
@@ -99,6 +105,7 @@ pub(crate) fn make_move<D: SectorDevice, E: SectorDevice, W: Write>(
         (W.contents out.old) (W.contents out.new) (Make a_move ∷ []) why) }
     ensures whole { OnOk result ((is_broken session.new ≡ false) × (is_broken_recording recording.new ≡ false) ×
         (length (pending_of session.new) < most_unsaved)) }
+    ensures logged { OnOk result (can_be_logged (pending_of session.new) ≡ true) }
 {
     match a_move {
         Move::Frames { buttons, times } => give_frames(session, recording, buttons, times, out),

@@ -1,11 +1,12 @@
 //! Obeying lines.
-ghost use Rattle.std.specs.Prelude.{◌≡◌, ◌<◌, [], ◌∷◌, length, false, IfOk, IfErr, OnOk, OnErr};
+ghost use Rattle.std.specs.Prelude.{◌≡◌, ◌<◌, [], ◌∷◌, length, false, true, IfOk, IfErr, OnOk, OnErr};
 ghost use Rattle.std.specs.Io.KnownBytes.{Appends};
 ghost use Rattle.exact_text.specs.Written.{AppendsProperPrefix};
 ghost use Rattle.machine.specs.Machine.{picture_rows};
 ghost use Rattle.picture_unit.specs.Pgm.{picture_text};
 ghost use Rattle.recording.specs.Accessors.{device_of as device_of_recording, is_broken as is_broken_recording};
 ghost use Rattle.session.specs.Calls.{most_unsaved};
+ghost use Rattle.session.specs.Inputs.{can_be_logged};
 ghost use Rattle.session.specs.Accessors.{device_of, machine_of, pending_of, is_broken};
 ghost use Rattle.streaming.specs.Orders.{order_list};
 ghost use Rattle.streaming.specs.Answers.{last_orders};
@@ -68,6 +69,7 @@ fn obey<D: SectorDevice, E: SectorDevice, W: Write>(
     requires whole { is_broken session.old ≡ false }
     requires open { is_broken_recording recording.old ≡ false }
     requires few { length (pending_of session.old) < most_unsaved }
+    requires logged { can_be_logged (pending_of session.old) ≡ true }
     ensures obeyed { OnOk result (Obeys
         (game (D.disk (device_of session.old)) (E.disk (device_of_recording recording.old)) session.old)
         (game (D.disk (device_of session.new)) (E.disk (device_of_recording recording.new)) session.new)
@@ -78,6 +80,7 @@ fn obey<D: SectorDevice, E: SectorDevice, W: Write>(
         (W.contents out.old) (W.contents out.new) (order_list order) why) }
     ensures whole { OnOk result ((is_broken session.new ≡ false) × (is_broken_recording recording.new ≡ false) ×
         (length (pending_of session.new) < most_unsaved)) }
+    ensures logged { OnOk result (can_be_logged (pending_of session.new) ≡ true) }
 {
     match order {
         None => Ok(()),
@@ -96,6 +99,7 @@ fn obey_lines<D: SectorDevice, E: SectorDevice, R: Read, W: Write>(
     requires whole { is_broken session.old ≡ false }
     requires open { is_broken_recording recording.old ≡ false }
     requires few { length (pending_of session.old) < most_unsaved }
+    requires logged { can_be_logged (pending_of session.old) ≡ true }
     ensures obeyed { IfOk result (λ end. ObeysLines
         (game (D.disk (device_of session.old)) (E.disk (device_of_recording recording.old)) session.old)
         (game (D.disk (device_of session.new)) (E.disk (device_of_recording recording.new)) session.new)
@@ -106,6 +110,7 @@ fn obey_lines<D: SectorDevice, E: SectorDevice, R: Read, W: Write>(
         (R.remaining input.old) (R.remaining input.new) (W.contents out.old) (W.contents out.new) why) }
     ensures whole { OnOk result ((is_broken session.new ≡ false) × (is_broken_recording recording.new ≡ false) ×
         (length (pending_of session.new) < most_unsaved)) }
+    ensures logged { OnOk result (can_be_logged (pending_of session.new) ≡ true) }
 {
     let mut unread = ArrayVec::new();
     for number in 1..u64::MAX {
@@ -132,6 +137,7 @@ fn save_rest<D: SectorDevice, E: SectorDevice, W: Write>(
     requires whole { is_broken session.old ≡ false }
     requires open { is_broken_recording recording.old ≡ false }
     requires few { length (pending_of session.old) < most_unsaved }
+    requires logged { can_be_logged (pending_of session.old) ≡ true }
     ensures obeyed { OnOk result (Obeys
         (game (D.disk (device_of session.old)) (E.disk (device_of_recording recording.old)) session.old)
         (game (D.disk (device_of session.new)) (E.disk (device_of_recording recording.new)) session.new)

@@ -1,9 +1,10 @@
 //! A save of both devices: the recording first.
-ghost use Rattle.std.specs.Prelude.{◌≡◌, ◌+◌, ◌∷◌, [], List, ℕ, length, false, Ok, IfOk, IfErr, OnOk, OnErr};
-ghost use Rattle.machine.specs.declared.input.Input.{Input as GivenInput};
+ghost use Rattle.std.specs.Prelude.{◌≡◌, ◌+◌, ◌∷◌, [], List, ℕ, length, false, true, Ok, IfOk, IfErr, OnOk, OnErr};
+ghost use Rattle.machine.specs.Machine.{Input as GivenInput};
 ghost use Rattle.sector_device.specs.Runs.{HoldsSince};
 ghost use Rattle.recording.specs.Accessors.{device_of as device_of_recording, is_broken as is_broken_recording};
 ghost use Rattle.recording.specs.declared.fault.RecordingFault.TheVariants.{Full};
+ghost use Rattle.session.specs.Inputs.{can_be_logged};
 ghost use Rattle.session.specs.Accessors.{device_of, pending_of, acknowledged_of, is_broken, IsUnchanged};
 ghost use Rattle.script.specs.declared.moves.Move.TheVariants.{Save};
 ghost use Rattle.streaming.specs.declared.order.Order.TheVariants.{Make};
@@ -31,6 +32,7 @@ pub fn save_both<D: SectorDevice, E: SectorDevice>(
 ) -> Result<u64, RecordError>
     requires whole { is_broken session.old ≡ false }
     requires open { is_broken_recording recording.old ≡ false }
+    requires logged { can_be_logged (pending_of session.old) ≡ true }
     ensures saved { IfOk result (λ all. (all ≡ acknowledged_of session.old + length (pending_of session.old)) ×
         (acknowledged_of session.new ≡ all) × (pending_of session.new ≡ [])) }
     ensures whole { OnOk result ((is_broken session.new ≡ false) × (is_broken_recording recording.new ≡ false)) }
@@ -75,6 +77,7 @@ pub(crate) fn save_line<D: SectorDevice, E: SectorDevice, W: Write>(
 ) -> Result<(), RecordError>
     requires whole { is_broken session.old ≡ false }
     requires open { is_broken_recording recording.old ≡ false }
+    requires logged { can_be_logged (pending_of session.old) ≡ true }
     ensures obeyed { OnOk result (Obeys
         (game (D.disk (device_of session.old)) (E.disk (device_of_recording recording.old)) session.old)
         (game (D.disk (device_of session.new)) (E.disk (device_of_recording recording.new)) session.new)

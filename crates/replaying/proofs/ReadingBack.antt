@@ -12,8 +12,7 @@ use Rattle.std.proofs.lemmas.List.Elements.{All-cons, All-nil, All-head, All-tai
 use Rattle.std.proofs.lemmas.List.{replicate-append-replicate}
 use Rattle.std.proofs.lemmas.List.Splits.{slice_split_at, slice_split_none}
 use Rattle.exact_text.specs.Hex.{hex_digit, byte_text}
-use Rattle.machine.specs.declared.input.Input.{Input}
-use Rattle.machine.specs.declared.input.Input.TheVariants.{Frame, Seconds}
+use Rattle.machine.specs.Machine.{Input, Frame, Seconds, Power, State}
 use Rattle.script.specs.Line.{is_count, count_of, byte_of, move_of_line, move_of_words, words_of, frames_of}
 use Rattle.script.specs.Script.{lines_of, moves_from, with_line}
 use Rattle.script.specs.declared.moves.Move.{Move}
@@ -260,6 +259,8 @@ lines_back (Seconds n ∷ inputs) b t widths byte few =
     let none : 0 ≤ most_times = lit≤ tt in
     frames_back b t (seconds_line n ++ lines_after b 0 inputs) (Seconds n ∷ inputs) byte few
     (seconds_back n (lines_after b 0 inputs) inputs width (lines_back inputs b 0 (All-tail HasWidth (Seconds n) inputs widths) byte none))
+lines_back (Power ∷ inputs) b t widths byte few = absurd (All-head HasWidth Power inputs widths)
+lines_back (State machine ∷ inputs) b t widths byte few = absurd (All-head HasWidth (State machine) inputs widths)
 
 pub script_back : TheScriptGivesTheInputsBack
 script_back inputs widths =

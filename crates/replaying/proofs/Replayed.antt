@@ -2,9 +2,8 @@
 use Rattle.std.proofs.Common.{◌≡◌, ℕ, zero, suc, ◌+◌, ◌-◌, ◌<◌, ◌≤◌, ◌^◌, min, List, [], ◌∷◌, ◌++◌, length, take, replicate, refl, sym, ap, subst, ◌∙◌, arith, append-nil, length-append}
 use Rattle.std.proofs.Math.Seq.{take-append-add, take-nil}
 use Rattle.std.proofs.lemmas.List.{take-append-le, take_all, take_min, take-replicate, length-replicate}
-use Rattle.machine.specs.Machine.{MachineState, after, applied}
-use Rattle.machine.specs.declared.input.Input.{Input}
-use Rattle.machine.specs.declared.input.Input.TheVariants.{Frame, Seconds}
+use Rattle.std.proofs.lemmas.List.Elements.{All-append, All-cons, All-nil, All-replicate}
+use Rattle.machine.specs.Machine.{MachineState, Input, Frame, Seconds, PassesTime, after, applied}
 use Rattle.input_entries.specs.Inputs.{frame, seconds}
 use Rattle.input_entries.specs.declared.Entry.{Entry}
 use Rattle.session.specs.Inputs.{inputs_of}
@@ -24,17 +23,18 @@ take_parts (suc n) (x ∷ xs) ys =
 -- ---- some inputs
 
 pub played_nothing : (m : MachineState) → HasPlayed m m
-played_nothing m = record { inputs = []; is = sym (after_none m) }
+played_nothing m = record { inputs = []; passes = All-nil PassesTime; is = sym (after_none m) }
 
 pub played_frames : (old now : MachineState) (buttons count : ℕ) → now ≡ after old (replicate count (Frame buttons)) → HasPlayed old now
-played_frames old now buttons count is = record { inputs = replicate count (Frame buttons); is = is }
+played_frames old now buttons count is = record { inputs = replicate count (Frame buttons); passes = All-replicate PassesTime count (Frame buttons) tt; is = is }
 
 pub played_seconds : (old now : MachineState) (n : ℕ) → now ≡ applied (Seconds n) old → HasPlayed old now
-played_seconds old now n is = record { inputs = Seconds n ∷ []; is = is ∙ sym (after_one old (Seconds n)) }
+played_seconds old now n is = record { inputs = Seconds n ∷ []; passes = All-cons PassesTime (Seconds n) [] tt (All-nil PassesTime); is = is ∙ sym (after_one old (Seconds n)) }
 
 pub played_then : {a b c : MachineState} → HasPlayed a b → HasPlayed b c → HasPlayed a c
 played_then {a} {b} {c} first second = record {
   inputs = first.inputs ++ second.inputs;
+  passes = All-append PassesTime first.inputs second.inputs first.passes second.passes;
   is = second.is ∙ ap (λ m. after m second.inputs) first.is ∙ after_append a first.inputs second.inputs;
 }
 

@@ -3,8 +3,8 @@ use Rattle.std.proofs.Common.{◌≡◌, ◌≢◌, ◌==◌, ◌&&◌, ◌⊎�
 use Rattle.std.proofs.lemmas.List.{replicate-append-replicate}
 use Rattle.std.proofs.lemmas.Bool.{eq-eqb, lt-ltb}
 use Rattle.std.proofs.lemmas.Bool.Decides.{eqb_tells}
-use Rattle.machine.specs.declared.input.Input.{Input}
-use Rattle.machine.specs.declared.input.Input.TheVariants.{Frame, Seconds}
+use Rattle.machine.specs.Machine.{Input}
+use Rattle.machine.specs.Machine.{Frame, Seconds}
 use Rattle.replaying.specs.Script.{frames_line, lines_after, most_times}
 
 -- a frame that lengthens the run

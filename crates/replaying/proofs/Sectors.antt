@@ -4,7 +4,7 @@ use Rattle.std.specs.List.{list_all}
 use Rattle.std.proofs.lemmas.Bool.{cases_Bool, and_parts}
 use Rattle.std.proofs.lemmas.Bool.Decides.{eqb_tells}
 use Rattle.sector_device.specs.DiskState.{sector_at}
-use Rattle.machine.specs.declared.input.Input.{Input}
+use Rattle.machine.specs.Machine.{Input}
 use Rattle.input_entries.specs.Inputs.{inputs, is_entry, all_entries}
 use Rattle.input_entries.specs.declared.StoredEntry.{StoredEntry}
 use Rattle.input_entries.proofs.Runs.{inputs-append}

@@ -7,8 +7,8 @@ use Rattle.std.specs.Io.KnownBytes.{Appends}
 use Rattle.exact_text.specs.Hex.{byte_text}
 use Rattle.exact_text.specs.Written.{AppendsProperPrefix}
 use Rattle.exact_text.proofs.Writes.{appends_nothing, appends_twice, whole_then_prefix, prefix_of_longer}
-use Rattle.machine.specs.declared.input.Input.{Input}
-use Rattle.machine.specs.declared.input.Input.TheVariants.{Frame, Seconds}
+use Rattle.machine.specs.Machine.{Input}
+use Rattle.machine.specs.Machine.{Frame, Seconds}
 use Rattle.replaying.specs.Lines.{HasWritten, HasStopped, lines_behind}
 use Rattle.replaying.specs.Script.{frames_line, lines_after, most_times, seconds_line}
 use Rattle.replaying.specs.Writing.{AppendsPrefix}

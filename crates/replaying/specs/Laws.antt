@@ -2,9 +2,7 @@
 use Rattle.std.specs.Prelude.{◌≡◌, ◌<◌, ◌^◌, ℕ, List, [], Ok, Some}
 use Rattle.std.specs.List.{All}
 use Rattle.sha2.specs.Sha256.{sha256}
-use Rattle.machine.specs.Machine.{start}
-use Rattle.machine.specs.declared.input.Input.{Input}
-use Rattle.machine.specs.declared.input.Input.TheVariants.{Frame, Seconds}
+use Rattle.machine.specs.Machine.{Input, Frame, Seconds, Power, State, start}
 use Rattle.script.specs.Script.{lines_of, moves_from}
 use Rattle.script.specs.declared.moves.Move.{Move}
 use Rattle.recording.specs.Recorded.{recorded}
@@ -14,10 +12,12 @@ use Rattle.playing.specs.Report.{inputs_of_moves}
 use Rattle.replaying.specs.Agreeing.{Agrees}
 use Rattle.replaying.specs.Script.{script_of}
 
--- its buttons are a byte, its seconds a `u32`
+-- a frame whose buttons are a byte, or seconds that a `u32` holds
 abbrev pub HasWidth : Input → Type 0
 HasWidth (Frame buttons) = buttons < 256
 HasWidth (Seconds seconds) = seconds < 2 ^ 32
+HasWidth Power = ⊥
+HasWidth (State machine) = ⊥
 
 -- each line of the script of inputs is right, and the moves of its lines are these inputs
 abbrev pub TheScriptGivesTheInputsBack : Type 0

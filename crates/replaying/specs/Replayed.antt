@@ -1,7 +1,6 @@
 -- What giving a machine the first inputs of a recording makes of it; a reader needs none of this.
-use Rattle.std.specs.Prelude.{◌≡◌, ◌≢◌, ◌≤◌, ◌<◌, ◌-◌, ℕ, List, length, take, Option, None, Some, ⊤}
-use Rattle.machine.specs.Machine.{MachineState, after, start}
-use Rattle.machine.specs.declared.input.Input.{Input}
+use Rattle.std.specs.Prelude.{◌≡◌, ◌≢◌, ◌≤◌, ◌<◌, ◌-◌, ℕ, List, length, take, Option, None, Some, ⊤, All}
+use Rattle.machine.specs.Machine.{MachineState, after, start, Input, PassesTime}
 use Rattle.input_entries.specs.declared.Entry.{Entry}
 use Rattle.recording.specs.declared.fault.RecordingFault.TheVariants.{Device}
 use Rattle.session.specs.Inputs.{inputs_of}
@@ -13,6 +12,7 @@ use Rattle.replaying.specs.Within.{IsBeyond, LeadsUpTo}
 -- it was given some inputs
 pub record HasPlayed (old now : MachineState) : Type 0 where
   pub inputs : List Input
+  pub passes : All PassesTime inputs
   pub is : now ≡ after old inputs
 
 -- it was given as many of these inputs as `most`, and so many more could still be given

@@ -4,7 +4,7 @@ ghost use Rattle.std.specs.Io.KnownBytes.{Appends};
 ghost use Rattle.exact_text.specs.Written.{AppendsProperPrefix};
 ghost use Rattle.input_entries.specs.Inputs.{is_entry, inputs_in, inputs, all_entries};
 ghost use Rattle.input_entries.specs.Sizes.{longest_run};
-ghost use Rattle.machine.specs.declared.input.Input.TheVariants.{Frame, Seconds};
+ghost use Rattle.machine.specs.Machine.{Frame, Seconds};
 ghost use Rattle.session.specs.Inputs.{inputs_of};
 ghost use Rattle.replaying.specs.Script.{frames_line, seconds_line};
 ghost use Rattle.replaying.specs.Lines.{HasWritten, HasStopped};

@@ -1,7 +1,7 @@
 //! The first inputs of a recording, given to a machine.
 ghost use Rattle.std.specs.Prelude.{◌≡◌, ◌∷◌, [], take, true, false, replicate, OnOk, IfErr};
 ghost use Rattle.machine.specs.Machine.{after};
-ghost use Rattle.machine.specs.declared.input.Input.TheVariants.{Frame};
+ghost use Rattle.machine.specs.Machine.{Frame};
 ghost use Rattle.sector_device.specs.DiskState.{HasAnswered};
 ghost use Rattle.sector_device.specs.Looking.{HasLooked};
 ghost use Rattle.input_entries.specs.Inputs.{is_entry, inputs_in, inputs, all_entries, frame, seconds as seconds_entry};

@@ -1,12 +1,13 @@
 -- The steps of beginning a generation.
-use Rattle.std.proofs.Common.{◌≡◌, ◌⊎◌, inl, inr, ⊎_elim, ℕ, ◌+◌, ◌<◌, ◌^◌, List, [], Some, Result, Ok, Err, refl, sym, ap, ◌∙◌, subst, arith}
-use Rattle.std.specs.Prelude.{IfOk, IfErr}
+use Rattle.std.proofs.Common.{◌≡◌, ◌⊎◌, inl, inr, ⊎_elim, ℕ, ◌+◌, ◌<◌, ◌^◌, Bool, true, false, List, [], ◌∷◌, Some, Result, Ok, Err, refl, sym, ap, ◌∙◌, subst, arith}
+use Rattle.std.specs.Prelude.{◌==◌, if◌then◌else◌, IfOk, IfErr}
+use Rattle.std.specs.List.{All}
 use Rattle.std.proofs.lemmas.List.{length-replicate}
+use Rattle.std.proofs.lemmas.List.Elements.{All-nil, All-cons}
 use Rattle.sha2.specs.Sha256.{sha256}
 use Rattle.cartridge.specs.Header.{has_rumble, ram_length_of}
-use Rattle.bank_controllers.specs.CartridgeState.{cartridge_at_power_on}
-use Rattle.machine.specs.Machine.{MachineState, start, after}
-use Rattle.machine.specs.declared.input.Input.{Input}
+use Rattle.bank_controllers.specs.CartridgeState.{IsSameCartridge, cartridge_at_power_on}
+use Rattle.machine.specs.Machine.{MachineState, Frame, Seconds, PassesTime, start, after}
 use Rattle.machine.proofs.KeptByInputs.{by_inputs}
 use Rattle.snapshot.specs.Encoding.{encoded}
 use Rattle.machine.specs.Legal.{IsLegalMachine}
@@ -19,6 +20,8 @@ use Rattle.sector_device.specs.Looking.{HasLooked}
 use Rattle.sector_log.specs.Calls.{HasBegun, HasOldOrNewContent, faults_after as log_faults_after}
 use Rattle.log_format.specs.Content.{content, new_generation}
 use Rattle.log_format.specs.Found.{log_of}
+use Rattle.input_entries.specs.Bytes.{byte}
+use Rattle.input_entries.specs.declared.Entry.{Entry}
 use Rattle.input_entries.specs.declared.StoredEntry.{StoredEntry}
 use Rattle.sector_log.specs.declared.fault.LogFault.{LogFault}
 use Rattle.sector_log.specs.declared.fault.LogFault.TheVariants.{Memory as LogMemory, Device as LogDevice, TooSmall as LogTooSmall, GenerationsUsedUp as LogGenerationsUsedUp, LogFull, Broken as LogBroken}
@@ -27,6 +30,7 @@ use Rattle.session.specs.declared.error.SessionError.{SessionError}
 use Rattle.session.specs.declared.error.SessionError.TheVariants.{Memory, Device, GenerationsUsedUp}
 use Rattle.session.specs.Calls.{IsAtRest, HasOldContentOrGame, StandsAsBefore, faults_after}
 use Rattle.session.specs.Found.{IsNewGameCause}
+use Rattle.session.specs.Inputs.{input_of, inputs_of}
 use Rattle.session.specs.Resting.{IsOfItsRom, Rests}
 use Rattle.session.specs.Stands.{stands, further}
 use Rattle.session.proofs.StandsLaws.{after_none, new_stands}
@@ -105,16 +109,37 @@ own_of_machine rom m of = record {
   ram_length = of.ram_length ∙ ap ram_length_of (sym of.rom);
 }
 
--- no input changes it
-pub own_after : (m : MachineState) (inputs : List Input) → IsOfItsRom m → IsOfItsRom (after m inputs)
-own_after m inputs own = let same = by_inputs m inputs in record {
+pub own_again : (m now : MachineState) → IsSameCartridge m.processor.memory.banks now.processor.memory.banks → IsOfItsRom m → IsOfItsRom now
+own_again m now same own = record {
   kind = same.kind ∙ own.kind ∙ ap kind_of_image (sym same.rom);
   rumble = same.rumble ∙ own.rumble ∙ ap has_rumble (sym same.rom);
   ram_length = same.ram_length ∙ own.ram_length ∙ ap ram_length_of (sym same.rom);
 }
 
-pub rom_after : (m : MachineState) (inputs : List Input) → (after m inputs).processor.memory.banks.rom ≡ m.processor.memory.banks.rom
-rom_after m inputs = (by_inputs m inputs).rom
+-- the inputs of entries pass time
+passes : (b : Bool) (buttons n : ℕ) → PassesTime (if b then Frame buttons else Seconds n)
+passes true buttons n = tt
+passes false buttons n = tt
+
+pub logged_pass : (entries : List Entry) → All PassesTime (inputs_of entries)
+logged_pass [] = All-nil PassesTime
+logged_pass (e ∷ entries) = All-cons PassesTime (input_of e) (inputs_of entries) (passes (byte 0 e.code == 0) _ _) (logged_pass entries)
+
+-- they do not change the cartridge
+pub kept_by_log : (m : MachineState) (entries : List Entry) → IsSameCartridge m.processor.memory.banks (after m (inputs_of entries)).processor.memory.banks
+kept_by_log m entries = by_inputs m (inputs_of entries) (logged_pass entries)
+
+-- a machine of a ROM has the cartridge of the machine at power-on
+pub same_as_start : (rom : List ℕ) (m : MachineState) → m.processor.memory.banks.rom ≡ rom → IsOfItsRom m → IsSameCartridge m.processor.memory.banks (start rom).processor.memory.banks
+same_as_start rom m is own =
+    let fresh = start_own rom in
+    let rom_is : (start rom).processor.memory.banks.rom ≡ m.processor.memory.banks.rom = start_rom rom ∙ sym is in
+    record {
+      rom = rom_is;
+      ram_length = fresh.ram_length ∙ ap ram_length_of rom_is ∙ sym own.ram_length;
+      rumble = fresh.rumble ∙ ap has_rumble rom_is ∙ sym own.rumble;
+      kind = fresh.kind ∙ ap kind_of_image rom_is ∙ sym own.kind;
+    }
 
 -- ---- a generation that was begun
 
@@ -135,7 +160,8 @@ begun_at_rest rom id written m base old now of few id_is written_is begun = reco
 pub begun_rests : (id written : List ℕ) (m : MachineState) (base : ℕ) (old now : DiskState) (log : List StoredEntry) → IsMachineOf m.processor.memory.banks.rom m → base < 2 ^ 64 → id ≡ sha256 m.processor.memory.banks.rom → written ≡ encoded m
     → HasBegun old now id base written → log ≡ [] → Rests now log base [] m
 begun_rests id written m base old now log of few id_is written_is begun empty = record {
-  at_rest = begun_at_rest m.processor.memory.banks.rom id written m base old now of few id_is written_is begun;
+  settled = begun.settled;
+  at_rest = λ logged. begun_at_rest m.processor.memory.banks.rom id written m base old now of few id_is written_is begun;
   log_is = ap log_of begun.holds.content_is ∙ sym empty;
 }
 

@@ -32,7 +32,7 @@ use Rattle.session.specs.declared.error.Damage.TheVariants.{Count, Snapshot, Ent
 use Rattle.session.specs.declared.error.SessionError.{SessionError}
 use Rattle.session.specs.declared.error.SessionError.TheVariants.{Memory, Device, NoSession, TooSmall, OtherCartridge, Damaged, GenerationsUsedUp, Broken, SaveFirst, CountFull, Output}
 use Rattle.session.proofs.StandsLaws.{sound_by, stands_sound, legal_is_snapshot, encoded_is_snapshot}
-use Rattle.session.proofs.Beginnings.{own_after, rom_after, own_of_machine}
+use Rattle.session.proofs.Beginnings.{kept_by_log, own_again, own_of_machine}
 
 -- ---- what was found
 
@@ -257,8 +257,8 @@ pub recovered_machine : (rom : List ℕ) (generation count : ℕ) (seen : Seen) 
 recovered_machine rom generation count seen m recovered =
     let rebuilt = recovered.rebuilt in
     let back : after rebuilt.snapshot (logged seen.log) ≡ m = sym rebuilt.machine_is in (
-      subst (λ (n : MachineState). n.processor.memory.banks.rom ≡ rom) back (rom_after rebuilt.snapshot (logged seen.log) ∙ rebuilt.of.rom),
-      subst IsOfItsRom back (own_after rebuilt.snapshot (logged seen.log) (own_of_machine rom rebuilt.snapshot rebuilt.of)),
+      subst (λ (n : MachineState). n.processor.memory.banks.rom ≡ rom) back ((kept_by_log rebuilt.snapshot (inputs seen.log)).rom ∙ rebuilt.of.rom),
+      subst IsOfItsRom back (own_again rebuilt.snapshot (after rebuilt.snapshot (logged seen.log)) (kept_by_log rebuilt.snapshot (inputs seen.log)) (own_of_machine rom rebuilt.snapshot rebuilt.of)),
     )
 
 -- the device that it was found on can hold it again

@@ -5,8 +5,8 @@ use Rattle.std.proofs.lemmas.Bool.{cases_Bool, and_parts}
 use Rattle.std.proofs.lemmas.Bool.Decides.{nat_tests}
 use Rattle.std.proofs.lemmas.Nat.{from_le_bytes-to_le_bytes_4}
 use Rattle.machine.specs.Machine.{MachineState, after, applied}
-use Rattle.machine.specs.declared.input.Input.{Input}
-use Rattle.machine.specs.declared.input.Input.TheVariants.{Frame, Seconds}
+use Rattle.machine.specs.Machine.{Input}
+use Rattle.machine.specs.Machine.{Frame, Seconds}
 use Rattle.input_entries.specs.Inputs.{frame, seconds, is_entry, inputs_in, inputs}
 use Rattle.log_format.specs.Inputs.{wrong_from}
 use Rattle.input_entries.specs.declared.Entry.{Entry}

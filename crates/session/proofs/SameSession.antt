@@ -2,13 +2,11 @@
 use Rattle.std.proofs.Common.{◌≡◌, ◌≤◌, ◌<◌, ◌+◌, ◌^◌, ℕ, length, true, Vec, Global, sym, ap, subst}
 use Rattle.std.proofs.Props.{props}
 use Rattle.std.specs.Prelude.{vec_capacity}
-use Rattle.std.specs.List.{list_all}
 use Rattle.sha2.specs.Sha256.{sha256}
 use Rattle.machine.specs.Machine.{MachineState}
 use Rattle.snapshot.specs.Encoding.{snapshot_length}
 use Rattle.sector_device.specs.declared.device.SectorDevice.{Ghosts}
 use Rattle.log_format.specs.Content.{need}
-use Rattle.input_entries.specs.Inputs.{is_input}
 use Rattle.sector_log.specs.Accessors.{device_of as device_of_store, is_broken as is_broken_store, id_of, entries_of}
 use Rattle.input_entries.specs.declared.Entry.{Entry}
 use Rattle.sector_log.specs.declared.store.Store.{Store}
@@ -18,7 +16,6 @@ use Rattle.session.specs.declared.session.Session.{Session}
 
 module _ {D : Type 0} {disk : Ghosts D} where
   pub record Facts (store : Store D disk) (machine : MachineState) (pending : Vec Entry Global) (encoded : Vec ℕ Global) (acknowledged : ℕ) : Type 0 where
-    pub inputs : list_all is_input pending.items ≡ true
     pub few : length pending.items ≤ most_unsaved
     pub reserved : most_unsaved ≤ vec_capacity pending
     pub counted : acknowledged + length pending.items < 2 ^ 64
@@ -39,7 +36,6 @@ module _ {D : Type 0} {disk : Ghosts D} where
     pending = pending;
     encoded = encoded;
     acknowledged = acknowledged;
-    inputs = f.inputs;
     few = f.few;
     reserved = f.reserved;
     counted = f.counted;
@@ -53,7 +49,6 @@ module _ {D : Type 0} {disk : Ghosts D} where
 
   abbrev facts_of : (s : Session D disk) → Facts s.store s.machine s.pending s.encoded s.acknowledged
   facts_of s = record {
-    inputs = s.inputs;
     few = s.few;
     reserved = s.reserved;
     counted = s.counted;

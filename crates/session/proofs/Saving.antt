@@ -1,17 +1,16 @@
 -- The steps of an input and of a save.
-use Rattle.std.proofs.Common.{◌≡◌, ◌&&◌, inl, ⊎_elim, ℕ, ◌+◌, ◌<◌, ◌^◌, List, [], ◌∷◌, ◌++◌, length, take, Bool, true, false, Option, Some, None, refl, sym, ap, ◌∙◌, subst, arith, length-append}
-use Rattle.std.specs.List.{list_all}
-use Rattle.std.proofs.lemmas.Bool.{and_parts}
+use Rattle.std.proofs.Common.{◌≡◌, ◌&&◌, inl, inr, ⊎_elim, ℕ, ◌+◌, ◌<◌, ◌^◌, List, [], ◌∷◌, ◌++◌, length, take, Bool, true, false, Option, Some, None, refl, sym, ap, ◌∙◌, subst, arith, length-append}
+use Rattle.std.proofs.lemmas.Bool.{cases_Bool}
+use Rattle.std.proofs.lemmas.List.Elements.{All-nil, All-cons}
 use Rattle.std.proofs.lemmas.List.{take_all, take-map, length-map, length-take-le}
 use Rattle.sha2.specs.Sha256.{sha256}
 use Rattle.bank_controllers.specs.CartridgeState.{IsSameCartridge}
-use Rattle.machine.specs.Machine.{MachineState, after, applied}
-use Rattle.machine.specs.declared.input.Input.{Input}
+use Rattle.machine.specs.Machine.{MachineState, Input, PassesTime, as_input, after, applied}
+use Rattle.machine.specs.declared.input.Input.{Input as PassingInput}
+use Rattle.machine.specs.declared.input.Input.TheVariants.{Frame as FrameInput, Seconds as SecondsInput}
 use Rattle.machine.proofs.KeptByInputs.{by_inputs}
-use Rattle.cartridge.specs.Header.{has_rumble, ram_length_of}
 use Rattle.snapshot.specs.Encoding.{encoded}
 use Rattle.snapshot.specs.Legal.{IsMachineOf}
-use Rattle.snapshot.specs.Table.{kind_of_image}
 use Rattle.sector_device.specs.DiskState.{DiskState}
 use Rattle.sector_device.specs.Runs.{HoldsSince}
 use Rattle.sector_device.proofs.Runs.{holds_since}
@@ -19,14 +18,14 @@ use Rattle.sector_log.specs.Calls.{IsAppended}
 use Rattle.log_format.specs.Appends.{HoldsPrefix}
 use Rattle.log_format.specs.Content.{content, new_generation}
 use Rattle.log_format.specs.Found.{log_of}
-use Rattle.input_entries.specs.Inputs.{is_input}
-use Rattle.log_format.specs.Inputs.{grown}
+use Rattle.input_entries.specs.Inputs.{is_input, all_input}
+use Rattle.log_format.specs.Inputs.{fits, grown}
 use Rattle.input_entries.specs.declared.Entry.{Entry}
 use Rattle.input_entries.specs.declared.StoredEntry.{StoredEntry}
 use Rattle.session.specs.Calls.{IsAtRest, IsSaved}
-use Rattle.session.specs.Inputs.{input_of, inputs_of}
-use Rattle.session.specs.Resting.{IsOfItsRom, Rests}
-use Rattle.session.specs.Stands.{Position, stands, further, StandsWithin}
+use Rattle.session.specs.Inputs.{can_be_logged, fits_log, input_of, inputs_of, no_input}
+use Rattle.session.specs.Resting.{Rests}
+use Rattle.session.specs.Stands.{Position, stands, further, StandsWithin, StandsBetween}
 use Rattle.session.specs.Writing.{HoldsWritten, IsWritten}
 use Rattle.session.proofs.StandsLaws.{after_append, after_none, after_one, logged_append, more_stands}
 use Rattle.session.proofs.Beginnings.{begun_stands, begun_rests}
@@ -48,44 +47,65 @@ leading (Some p) more count m leads =
 
 -- ---- an input
 
-pub same_after : (m now : MachineState) (input : Input) → now ≡ applied input m → IsSameCartridge m.processor.memory.banks now.processor.memory.banks
-same_after m now input is = subst (λ (n : MachineState). IsSameCartridge m.processor.memory.banks n.processor.memory.banks) (after_one m input ∙ sym is) (by_inputs m (input ∷ []))
+pub same_after : (m now : MachineState) (input : Input) → PassesTime input → now ≡ applied input m → IsSameCartridge m.processor.memory.banks now.processor.memory.banks
+same_after m now input passes is =
+    subst (λ (n : MachineState). IsSameCartridge m.processor.memory.banks n.processor.memory.banks) (after_one m input ∙ sym is)
+    (by_inputs m (input ∷ []) (All-cons PassesTime input [] passes (All-nil PassesTime)))
 
-pub own_again : (m now : MachineState) → IsSameCartridge m.processor.memory.banks now.processor.memory.banks → IsOfItsRom m → IsOfItsRom now
-own_again m now same own = record {
-  kind = same.kind ∙ own.kind ∙ ap kind_of_image (sym same.rom);
-  rumble = same.rumble ∙ own.rumble ∙ ap has_rumble (sym same.rom);
-  ram_length = same.ram_length ∙ own.ram_length ∙ ap ram_length_of (sym same.rom);
-}
+pub given_passes : (input : PassingInput) → PassesTime (as_input input)
+given_passes (FrameInput buttons) = tt
+given_passes (SecondsInput n) = tt
 
-pub listed_more : (entries : List Entry) (entry : Entry) → list_all is_input entries ≡ true → is_input entry ≡ true → list_all is_input (entries ++ entry ∷ []) ≡ true
-listed_more [] entry all one = λ i. one i && true
-listed_more (e ∷ entries) entry all one =
-    let parts = and_parts (is_input e) (list_all is_input entries) all in
-    λ i. parts.0 i && listed_more entries entry parts.1 one i
+and_no : (b : Bool) → (b && false) ≡ false
+and_no true = refl
+and_no false = refl
+
+-- one more that is a frame or seconds, and one that is not
+pub logged_more : (entries : List Entry) (entry : Entry) → is_input entry ≡ true → can_be_logged (entries ++ entry ∷ []) ≡ can_be_logged entries
+logged_more [] entry one = λ i. one i && true
+logged_more (e ∷ entries) entry one = λ i. is_input e && logged_more entries entry one i
+
+pub not_logged : (entries : List Entry) (entry : Entry) → is_input entry ≡ false → can_be_logged (entries ++ entry ∷ []) ≡ false
+not_logged [] entry none = λ i. none i && true
+not_logged (e ∷ entries) entry none = (λ i. is_input e && not_logged entries entry none i) ∙ and_no (is_input e)
+
+pub no_input_is_none : is_input no_input ≡ false
+unfolding is_input
+no_input_is_none = refl
 
 pub rests_more :
-    (now : DiskState) (log : List StoredEntry) (acknowledged : ℕ) (pending after_it : List Entry) (entry : Entry) (m then : MachineState) (input : Input)
-    → Rests now log acknowledged pending m → after_it ≡ pending ++ entry ∷ [] → input_of entry ≡ input → then ≡ applied input m → Rests now log acknowledged after_it then
-rests_more now log acknowledged pending after_it entry m then input rests more input_is is =
+    (now : DiskState) (log : List StoredEntry) (acknowledged : ℕ) (pending after_it : List Entry) (entry : Entry) (m then : MachineState) (input : Input) → PassesTime input
+    → Rests now log acknowledged pending m → after_it ≡ pending ++ entry ∷ [] → is_input entry ≡ true → input_of entry ≡ input → then ≡ applied input m → Rests now log acknowledged after_it then
+rests_more now log acknowledged pending after_it entry m then input passes rests more one input_is is =
     let rom = m.processor.memory.banks.rom in
-    let same = same_after m then input is in
-    let from = leading (stands rom (content now.sectors)) (inputs_of pending) (acknowledged + length pending) m rests.at_rest.leads in
+    let same = same_after m then input passes is in
     let inputs_are : inputs_of after_it ≡ inputs_of pending ++ input ∷ [] = ap inputs_of more ∙ logged_append pending (entry ∷ []) ∙ ap (λ (i : Input). inputs_of pending ++ i ∷ []) input_is in
-    let machine_is : after from.position.machine (inputs_of after_it) ≡ then =
-    ap (after from.position.machine) inputs_are ∙ sym (after_append from.position.machine (inputs_of pending) (input ∷ []))
-    ∙ ap (λ (n : MachineState). after n (input ∷ [])) from.machine_is ∙ after_one m input ∙ sym is in
-    let count_is : from.position.count + length (inputs_of after_it) ≡ acknowledged + length after_it =
-    omega (arith, from.count_is, ap length inputs_are, ap length more, length-append (inputs_of pending) (input ∷ []), length-append pending (entry ∷ [])) in
     record {
-      at_rest = record {
-        settled = rests.at_rest.settled;
-        leads = ap (λ (r : List ℕ). further (inputs_of after_it) (stands r (content now.sectors))) same.rom
-            ∙ ap (further (inputs_of after_it)) from.stood
-            ∙ (λ i. Some (record { count = count_is i; machine = machine_is i }));
-      };
+      settled = rests.settled;
+      at_rest = λ logged.
+          let was : can_be_logged pending ≡ true = sym (logged_more pending entry one) ∙ sym (ap can_be_logged more) ∙ logged in
+          let from = leading (stands rom (content now.sectors)) (inputs_of pending) (acknowledged + length pending) m (rests.at_rest was).leads in
+          let machine_is : after from.position.machine (inputs_of after_it) ≡ then =
+          ap (after from.position.machine) inputs_are ∙ sym (after_append from.position.machine (inputs_of pending) (input ∷ []))
+          ∙ ap (λ (n : MachineState). after n (input ∷ [])) from.machine_is ∙ after_one m input ∙ sym is in
+          let count_is : from.position.count + length (inputs_of after_it) ≡ acknowledged + length after_it =
+          omega (arith, from.count_is, ap length inputs_are, ap length more, length-append (inputs_of pending) (input ∷ []), length-append pending (entry ∷ [])) in
+          record {
+            settled = rests.settled;
+            leads = ap (λ (r : List ℕ). further (inputs_of after_it) (stands r (content now.sectors))) same.rom
+                ∙ ap (further (inputs_of after_it)) from.stood
+                ∙ (λ i. Some (record { count = count_is i; machine = machine_is i }));
+          };
       log_is = rests.log_is;
     }
+
+-- behind a power switch, or with another machine
+pub rests_otherwise :
+    (now : DiskState) (log : List StoredEntry) (acknowledged : ℕ) (pending after_it : List Entry) (entry : Entry) (m then : MachineState)
+    → Rests now log acknowledged pending m → after_it ≡ pending ++ entry ∷ [] → entry ≡ no_input → Rests now log acknowledged after_it then
+rests_otherwise now log acknowledged pending after_it entry m then rests more none =
+    let other : can_be_logged after_it ≡ false = ap can_be_logged more ∙ not_logged pending entry (ap is_input none ∙ no_input_is_none) in
+    record { settled = rests.settled; at_rest = λ logged. let clash : true ≡ false = sym logged ∙ other in absurd (cc); log_is = rests.log_is }
 
 -- ---- a save
 
@@ -95,66 +115,95 @@ module _
   abbrev rom : List ℕ
   rom = m.processor.memory.banks.rom
 
-  from : Leading (stands rom (content old.sectors)) (inputs_of pending) (acknowledged + length pending) m
-  from = leading (stands rom (content old.sectors)) (inputs_of pending) (acknowledged + length pending) m rests.at_rest.leads
+  abbrev behind : Position
+  behind = record { count = acknowledged + length pending; machine = m }
 
-  -- none further
-  here : (image : List (List ℕ)) → content image ≡ content old.sectors → StandsWithin rom (stands rom (content old.sectors)) (inputs_of pending) image
-  here image same = record {
-    count = 0;
-    within = omega arith;
-    is = ap (stands rom) same ∙ from.stood
-        ∙ (let count_is : from.position.count ≡ from.position.count + 0 = omega arith in let machine_is = sym (after_none from.position.machine) in λ i. Some (record { count = count_is i; machine = machine_is i }))
-        ∙ ap (further []) (sym from.stood);
-  }
+  -- where the log can hold all that is pending
+  module _ (logged : can_be_logged pending ≡ true) where
+    from : Leading (stands rom (content old.sectors)) (inputs_of pending) (acknowledged + length pending) m
+    from = leading (stands rom (content old.sectors)) (inputs_of pending) (acknowledged + length pending) m (rests.at_rest logged).leads
 
-  -- a prefix further
-  front : (image : List (List ℕ)) → HoldsPrefix old.sectors pending image → StandsWithin rom (stands rom (content old.sectors)) (inputs_of pending) image
-  front image holds =
-      let size : length (take holds.count pending) ≡ holds.count = length-take-le holds.count pending holds.within in
-      let all : length (inputs_of pending) ≡ length pending = length-map pending input_of in
-      let less : from.position.count + length (take holds.count pending) < 2 ^ 64 = omega (arith, size, all, from.count_is, few, holds.within) in
-      record {
-        count = holds.count;
-        within = omega (arith, holds.within, all);
-        is = more_stands rom (content old.sectors) (content image) (take holds.count pending) from.position holds.adds from.stood less
-            ∙ ap (λ (l : List Input). further l (Some from.position)) (sym (take-map input_of holds.count pending))
-            ∙ ap (further (take holds.count (inputs_of pending))) (sym from.stood);
-      }
+    -- none further
+    here : (image : List (List ℕ)) → content image ≡ content old.sectors → StandsWithin rom (stands rom (content old.sectors)) (inputs_of pending) image
+    here image same = record {
+      count = 0;
+      within = omega arith;
+      is = ap (stands rom) same ∙ from.stood
+          ∙ (let count_is : from.position.count ≡ from.position.count + 0 = omega arith in let machine_is = sym (after_none from.position.machine) in λ i. Some (record { count = count_is i; machine = machine_is i }))
+          ∙ ap (further []) (sym from.stood);
+    }
 
-  -- all further
-  whole : (id : List ℕ) (image : List (List ℕ)) → IsMachineOf rom m → id ≡ sha256 rom → content image ≡ Some (new_generation id (acknowledged + length pending) (encoded m)) → StandsWithin rom (stands rom (content old.sectors)) (inputs_of pending) image
-  whole id image of id_is is = record {
-    count = length (inputs_of pending);
-    within = omega arith;
-    is = begun_stands rom id (encoded m) m (acknowledged + length pending) image of few id_is refl is
-        ∙ sym rests.at_rest.leads
-        ∙ ap (λ (l : List Input). further l (stands rom (content old.sectors))) (sym (take_all (length (inputs_of pending)) (inputs_of pending) (omega arith)));
-  }
+    -- a prefix further
+    front : (image : List (List ℕ)) → HoldsPrefix old.sectors pending image → StandsWithin rom (stands rom (content old.sectors)) (inputs_of pending) image
+    front image holds =
+        let size : length (take holds.count pending) ≡ holds.count = length-take-le holds.count pending holds.within in
+        let all : length (inputs_of pending) ≡ length pending = length-map pending input_of in
+        let less : from.position.count + length (take holds.count pending) < 2 ^ 64 = omega (arith, size, all, from.count_is, few, holds.within) in
+        record {
+          count = holds.count;
+          within = omega (arith, holds.within, all);
+          is = more_stands rom (content old.sectors) (content image) (take holds.count pending) from.position holds.adds from.stood less
+              ∙ ap (λ (l : List Input). further l (Some from.position)) (sym (take-map input_of holds.count pending))
+              ∙ ap (further (take holds.count (inputs_of pending))) (sym from.stood);
+        }
 
-  pub written_within : (fits : Bool) (now : DiskState) (id : List ℕ) → (fits ≡ false → IsMachineOf rom m) → id ≡ sha256 rom
-      → HoldsSince old now (HoldsWritten fits old.sectors pending id (acknowledged + length pending) (encoded m)) → HoldsSince old now (StandsWithin rom (stands rom (content old.sectors)) (inputs_of pending))
-  written_within true now id of id_is held = since_weaker held front
-  written_within false now id of id_is held = since_weaker held (λ image. ⊎_elim (here image) (whole id image (of refl) id_is))
+    -- all further
+    whole : (id : List ℕ) (image : List (List ℕ)) → IsMachineOf rom m → id ≡ sha256 rom → content image ≡ Some (new_generation id (acknowledged + length pending) (encoded m)) → StandsWithin rom (stands rom (content old.sectors)) (inputs_of pending) image
+    whole id image of id_is is = record {
+      count = length (inputs_of pending);
+      within = omega arith;
+      is = begun_stands rom id (encoded m) m (acknowledged + length pending) image of few id_is refl is
+          ∙ sym (rests.at_rest logged).leads
+          ∙ ap (λ (l : List Input). further l (stands rom (content old.sectors))) (sym (take_all (length (inputs_of pending)) (inputs_of pending) (omega arith)));
+    }
 
-  -- after an append
-  appended_rests : (now : DiskState) (then : List StoredEntry) → IsAppended old now pending → log_of (content now.sectors) ≡ then → Rests now then (acknowledged + length pending) [] m
-  appended_rests now then appended reads =
-      let all : length (inputs_of pending) ≡ length pending = length-map pending input_of in
-      let less : from.position.count + length pending < 2 ^ 64 = omega (arith, all, from.count_is, few) in
-      record {
-        at_rest = record {
+    within : (fits : Bool) (now : DiskState) (id : List ℕ) → (fits ≡ false → IsMachineOf rom m) → id ≡ sha256 rom
+        → HoldsSince old now (HoldsWritten fits old.sectors pending id (acknowledged + length pending) (encoded m)) → HoldsSince old now (StandsWithin rom (stands rom (content old.sectors)) (inputs_of pending))
+    within true now id of id_is held = since_weaker held front
+    within false now id of id_is held = since_weaker held (λ image. ⊎_elim (here image) (whole id image (of refl) id_is))
+
+    -- after an append
+    appended_rests : (now : DiskState) (then : List StoredEntry) → IsAppended old now pending → log_of (content now.sectors) ≡ then → Rests now then (acknowledged + length pending) [] m
+    appended_rests now then appended reads =
+        let all : length (inputs_of pending) ≡ length pending = length-map pending input_of in
+        let less : from.position.count + length pending < 2 ^ 64 = omega (arith, all, from.count_is, few) in
+        record {
           settled = appended.settled;
-          leads = ap (further []) (more_stands rom (content old.sectors) (content now.sectors) pending from.position appended.adds from.stood less ∙ ap (further (inputs_of pending)) (sym from.stood) ∙ rests.at_rest.leads)
-              ∙ (let same = after_none m in λ i. Some (record { count = acknowledged + length pending + 0; machine = same i }));
-        };
-        log_is = reads;
-      }
+          at_rest = λ none. record {
+            settled = appended.settled;
+            leads = ap (further []) (more_stands rom (content old.sectors) (content now.sectors) pending from.position appended.adds from.stood less ∙ ap (further (inputs_of pending)) (sym from.stood) ∙ (rests.at_rest logged).leads)
+                ∙ (let same = after_none m in λ i. Some (record { count = acknowledged + length pending + 0; machine = same i }));
+          };
+          log_is = reads;
+        }
 
-  pub written_rests : (fits : Bool) (now : DiskState) (id : List ℕ) (then : List StoredEntry) → (fits ≡ false → IsMachineOf rom m) → id ≡ sha256 rom
+  -- each image of a save, by whether the log can hold what is pending
+  abbrev Between : Bool → DiskState → Type 0
+  Between logged now = HoldsSince old now (StandsBetween logged rom (stands rom (content old.sectors)) (inputs_of pending) behind)
+
+  otherwise : (now : DiskState) (id : List ℕ) → IsMachineOf rom m → id ≡ sha256 rom
+      → HoldsSince old now (HoldsWritten false old.sectors pending id (acknowledged + length pending) (encoded m)) → Between false now
+  otherwise now id of id_is held =
+      since_weaker held (λ image. ⊎_elim (λ same. inl (ap (stands rom) same)) (λ new. inr (begun_stands rom id (encoded m) m (acknowledged + length pending) image of few id_is refl new)))
+
+  pub written_within : (fits : Bool) (now : DiskState) (id : List ℕ) → (can_be_logged pending ≡ false → fits ≡ false) → (fits ≡ false → IsMachineOf rom m) → id ≡ sha256 rom
+      → HoldsSince old now (HoldsWritten fits old.sectors pending id (acknowledged + length pending) (encoded m)) → Between (can_be_logged pending) now
+  written_within fits now id unfit of id_is held =
+      elim (cases_Bool (can_be_logged pending)) [
+        | inl can ↦ subst (λ (b : Bool). Between b now) (sym can) (within can fits now id of id_is held)
+        | inr other ↦
+            subst (λ (b : Bool). Between b now) (sym other)
+            (otherwise now id (of (unfit other)) id_is (subst (λ (b : Bool). HoldsSince old now (HoldsWritten b old.sectors pending id (acknowledged + length pending) (encoded m))) (unfit other) held))
+      ]
+
+  pub written_rests : (fits : Bool) (now : DiskState) (id : List ℕ) (then : List StoredEntry) → (can_be_logged pending ≡ false → fits ≡ false) → (fits ≡ false → IsMachineOf rom m) → id ≡ sha256 rom
       → IsWritten fits old now pending id (acknowledged + length pending) (encoded m) log then → Rests now then (acknowledged + length pending) [] m
-  written_rests true now id then of id_is written = appended_rests now then written.0 written.2
-  written_rests false now id then of id_is written = begun_rests id (encoded m) m (acknowledged + length pending) old now then (of refl) few id_is refl written.0 written.1
+  written_rests true now id then unfit of id_is written =
+      elim (cases_Bool (can_be_logged pending)) [
+        | inl can ↦ appended_rests can now then written.0 written.2
+        | inr other ↦ let is : true ≡ false = unfit other in absurd (cc)
+      ]
+  written_rests false now id then unfit of id_is written = begun_rests id (encoded m) m (acknowledged + length pending) old now then (of refl) few id_is refl written.0 written.1
 
   pub written_saved : (fits : Bool) (now : DiskState) (id : List ℕ) (then : List StoredEntry) → id ≡ sha256 rom
       → IsWritten fits old now pending id (acknowledged + length pending) (encoded m) log then → IsSaved fits rom (acknowledged + length pending) m pending old.sectors now.sectors
@@ -163,20 +212,23 @@ module _
       (written.0.holds.content_is ∙ ap (λ (i : List ℕ). Some (new_generation i (acknowledged + length pending) (encoded m))) id_is, written.0.holds.generation_is)
 
   -- a save of nothing
-  pub nothing_within : ((image : List (List ℕ)) → old.since old.moment image → old.image image) → HoldsSince old old (StandsWithin rom (stands rom (content old.sectors)) (inputs_of pending))
-  nothing_within only =
-      holds_since only (record { later = omega arith; each = λ t c le since. inl since }) (λ t c le since. since)
-      (λ image now. here image (ap content (rests.at_rest.settled image now)))
+  pub nothing_within : pending ≡ [] → ((image : List (List ℕ)) → old.since old.moment image → old.image image) → Between (can_be_logged pending) old
+  nothing_within empty only =
+      let can : can_be_logged pending ≡ true = ap can_be_logged empty in
+      subst (λ (b : Bool). Between b old) (sym can)
+      (holds_since only (record { later = omega arith; each = λ t c le since. inl since }) (λ t c le since. since)
+      (λ image now. here can image (ap content (rests.settled image now))))
 
   pub nothing_rests : (none : ℕ) → pending ≡ [] → none ≡ length pending → IsAtRest rom old (acknowledged + none) [] m
   nothing_rests none empty size = record {
-    settled = rests.at_rest.settled;
-    leads = ap (λ (l : List Entry). further (inputs_of l) (stands rom (content old.sectors))) (sym empty) ∙ rests.at_rest.leads
+    settled = rests.settled;
+    leads = ap (λ (l : List Entry). further (inputs_of l) (stands rom (content old.sectors))) (sym empty) ∙ (rests.at_rest (ap can_be_logged empty)).leads
         ∙ (let count_is : acknowledged + length pending ≡ acknowledged + none + 0 = omega (arith, size) in λ i. Some (record { count = count_is i; machine = m }));
   }
 
   -- the same where entries and count have other names
-  module _ (test : List Entry → Bool) (now : DiskState) (id : List ℕ) (entries : List Entry) (all : ℕ) (entries_are : entries ≡ pending) (all_is : all ≡ acknowledged + length pending) (id_is : id ≡ sha256 rom) where
+  module _ (test : List Entry → Bool) (unfit : can_be_logged pending ≡ false → test pending ≡ false) (now : DiskState) (id : List ℕ) (entries : List Entry) (all : ℕ) (entries_are : entries ≡ pending)
+      (all_is : all ≡ acknowledged + length pending) (id_is : id ≡ sha256 rom) where
     renamed : (then : List StoredEntry) → IsWritten (test entries) old now entries id all (encoded m) log then → IsWritten (test pending) old now pending id (acknowledged + length pending) (encoded m) log then
     renamed then written =
         subst (λ (l : List Entry). IsWritten (test l) old now l id (acknowledged + length pending) (encoded m) log then) entries_are
@@ -190,18 +242,25 @@ module _
     rests_after then cleared empty of written =
         subst (λ (n : ℕ). Rests now then n cleared m) (sym all_is)
         (subst (λ (l : List Entry). Rests now then (acknowledged + length pending) l m) (sym empty)
-        (written_rests (test pending) now id then (legal_then of) id_is (renamed then written)))
+        (written_rests (test pending) now id then unfit (legal_then of) id_is (renamed then written)))
 
     pub saved_after : (then : List StoredEntry) → IsWritten (test entries) old now entries id all (encoded m) log then → IsSaved (test pending) rom all m pending old.sectors now.sectors
     saved_after then written =
         subst (λ (n : ℕ). IsSaved (test pending) rom n m pending old.sectors now.sectors) (sym all_is) (written_saved (test pending) now id then id_is (renamed then written))
 
-    pub within_after : (test entries ≡ false → IsMachineOf rom m)
-        → HoldsSince old now (HoldsWritten (test entries) old.sectors entries id all (encoded m)) → HoldsSince old now (StandsWithin rom (stands rom (content old.sectors)) (inputs_of pending))
+    pub within_after : (test entries ≡ false → IsMachineOf rom m) → HoldsSince old now (HoldsWritten (test entries) old.sectors entries id all (encoded m)) → Between (can_be_logged pending) now
     within_after of held =
-        written_within (test pending) now id (legal_then of) id_is
+        written_within (test pending) now id unfit (legal_then of) id_is
         (subst (λ (l : List Entry). HoldsSince old now (HoldsWritten (test l) old.sectors l id (acknowledged + length pending) (encoded m))) entries_are
         (subst (λ (n : ℕ). HoldsSince old now (HoldsWritten (test entries) old.sectors entries id n (encoded m))) all_is held))
+
+pub listed_inputs : (entries : List Entry) → all_input entries → can_be_logged entries ≡ true
+listed_inputs [] all = refl
+listed_inputs (e ∷ entries) all = λ i. all.0 i && listed_inputs entries all.1 i
+
+-- what no log can hold does not fit one
+pub no_fit : (log : List StoredEntry) (entries : List Entry) → can_be_logged entries ≡ false → fits_log log entries ≡ false
+no_fit log entries other = λ i. other i && fits log entries
 
 pub none_left : (entries : List Entry) → length entries ≡ 0 → entries ≡ []
 none_left [] size = refl

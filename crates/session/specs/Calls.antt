@@ -4,12 +4,14 @@ use Rattle.sha2.specs.Sha256.{sha256}
 use Rattle.machine.specs.Machine.{MachineState, start}
 use Rattle.cartridge.specs.Header.{ram_length_of}
 use Rattle.snapshot.specs.Encoding.{encoded, snapshot_length}
+use Rattle.snapshot.specs.Legal.{IsLegalSnapshot, IsFault}
 use Rattle.sector_device.specs.DiskState.{DiskState, Settled, next_count}
 use Rattle.log_format.specs.Content.{ImageContent, content, generation_in, need, new_generation}
 use Rattle.log_format.specs.Appends.{Adds}
 use Rattle.log_format.specs.Found.{log_of}
 use Rattle.log_format.specs.Inputs.{grown}
 use Rattle.input_entries.specs.declared.Entry.{Entry}
+use Rattle.session.specs.declared.error.Damage.TheVariants.{Snapshot}
 use Rattle.session.specs.declared.error.SessionError.{SessionError}
 use Rattle.session.specs.declared.error.SessionError.TheVariants.{Memory, Device, NoSession, TooSmall, OtherCartridge, Damaged, GenerationsUsedUp, Broken, SaveFirst, CountFull, Output}
 use Rattle.session.specs.Inputs.{inputs_of}
@@ -91,6 +93,13 @@ most_unsaved = 3200
 abbrev pub input_answer : (broken : Bool) → (pending all : ℕ) → Result Unit SessionError
 input_answer broken pending all =
     if broken then Err Broken else (if pending == most_unsaved then Err SaveFirst else (if all == 2 ^ 64 - 1 then Err CountFull else Ok tt))
+
+-- to the snapshot of a machine, where an input would be answered so: the first fault of bytes that are no snapshot of this ROM
+abbrev pub IsRestoreAnswer : (rom bytes : List ℕ) → (taken : Result Unit SessionError) → Result Unit SessionError → Type 0
+IsRestoreAnswer rom bytes (Err why) answer = answer ≡ Err why
+IsRestoreAnswer rom bytes (Ok done) (Ok same) = IsLegalSnapshot rom bytes
+IsRestoreAnswer rom bytes (Ok done) (Err (Damaged (Snapshot fault))) = IsFault rom bytes fault
+IsRestoreAnswer rom bytes (Ok done) (Err why) = ⊥
 
 -- why nothing is saved: a call failed before; else the entries don't fit and the generations are used up; else a call failed
 abbrev pub IsSaveCause : SessionError → (broken fits : Bool) → (generation : ℕ) → Type 0

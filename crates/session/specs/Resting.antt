@@ -1,17 +1,18 @@
 -- What a session knows of its device and of its machine; a reader needs none of this.
-use Rattle.std.specs.Prelude.{◌≡◌, ◌≤◌, ℕ, List, [], length, Bool, false}
+use Rattle.std.specs.Prelude.{◌≡◌, ◌≤◌, ℕ, List, [], length, Bool, true, false}
 use Rattle.std.proofs.Props.{props}
 use Rattle.cartridge.specs.Header.{has_rumble, ram_length_of}
 use Rattle.machine.specs.Machine.{MachineState}
 use Rattle.snapshot.specs.Encoding.{snapshot_length}
 use Rattle.snapshot.specs.Table.{kind_of_image}
-use Rattle.sector_device.specs.DiskState.{DiskState}
+use Rattle.sector_device.specs.DiskState.{DiskState, Settled}
 use Rattle.log_format.specs.Content.{content, generation_in, need}
 use Rattle.log_format.specs.Found.{log_of}
 use Rattle.input_entries.specs.Inputs.{inputs}
 use Rattle.input_entries.specs.declared.Entry.{Entry}
 use Rattle.input_entries.specs.declared.StoredEntry.{StoredEntry}
 use Rattle.session.specs.Calls.{IsAtRest}
+use Rattle.session.specs.Inputs.{can_be_logged}
 
 -- kind, motor and length of RAM are those that its ROM asks for
 pub record IsOfItsRom (m : MachineState) : Type 0 where
@@ -23,7 +24,8 @@ pub own_prop : (m : MachineState) → IsProp (IsOfItsRom m)
 own_prop m = hlevel props
 
 pub record Rests (now : DiskState) (log : List StoredEntry) (acknowledged : ℕ) (pending : List Entry) (machine : MachineState) : Type 0 where
-  pub at_rest : IsAtRest machine.processor.memory.banks.rom now acknowledged pending machine
+  pub settled : Settled now
+  pub at_rest : can_be_logged pending ≡ true → IsAtRest machine.processor.memory.banks.rom now acknowledged pending machine
   pub log_is : log_of (content now.sectors) ≡ log
 
 abbrev pub RestsUnlessBroken : DiskState → List StoredEntry → ℕ → List Entry → MachineState → Bool → Type 0

@@ -1,10 +1,10 @@
 -- What an image stands for: a count of inputs, and the machine after them.
-use Rattle.std.specs.Prelude.{◌≡◌, ◌==◌, ◌&&◌, ◌≤◌, ◌+◌, ◌^◌, ℕ, List, length, take, Bool, if◌then◌else◌, nat_lt, Option, Some, None, is_none}
+use Rattle.std.specs.Prelude.{◌≡◌, ◌⊎◌, ◌==◌, ◌&&◌, ◌≤◌, ◌+◌, ◌^◌, ℕ, List, length, take, Bool, true, false, if◌then◌else◌, nat_lt, Option, Some, None, is_none}
 use Rattle.std.specs.List.{list_all}
 use Rattle.std.specs.Str.{bytes_eq}
 use Rattle.sha2.specs.Sha256.{sha256}
 use Rattle.cartridge.specs.Header.{ram_length_of}
-use Rattle.machine.specs.declared.input.Input.{Input}
+use Rattle.machine.specs.Machine.{Input}
 use Rattle.machine.specs.Machine.{MachineState, after}
 use Rattle.snapshot.specs.Encoding.{snapshot_length}
 use Rattle.snapshot.specs.Table.{is_legal, table_of}
@@ -55,3 +55,9 @@ pub record StandsWithin (rom : List ℕ) (from : Option Position) (more : List I
   pub count : ℕ
   pub within : count ≤ length more
   pub is : stands rom (content image) ≡ further (take count more) from
+
+-- While inputs are saved that a log can hold, an image stands for some of them further; while others are, for what it stood for, or for
+-- the position behind them all.
+abbrev pub StandsBetween : (logged : Bool) → (rom : List ℕ) → (from : Option Position) → (more : List Input) → (behind : Position) → (image : List (List ℕ)) → Type 0
+StandsBetween true rom from more behind image = StandsWithin rom from more image
+StandsBetween false rom from more behind image = (stands rom (content image) ≡ from) ⊎ (stands rom (content image) ≡ Some behind)

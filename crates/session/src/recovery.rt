@@ -1,7 +1,7 @@
 //! The machine that a device stands for, from what was found on it.
 ghost use Rattle.std.specs.Prelude.{◌≡◌, ◌<◌, ◌≤◌, ◌+◌, ◌-◌, ◌^◌, length, replicate, None, true, IfOk, IfErr};
 ghost use Rattle.machine.specs.Machine.{after};
-ghost use Rattle.machine.specs.declared.input.Input.TheVariants.{Frame};
+ghost use Rattle.machine.specs.Machine.{Frame};
 ghost use Rattle.snapshot.specs.Encoding.{snapshot_length};
 ghost use Rattle.cartridge.specs.Header.{ram_length_of};
 ghost use Rattle.input_entries.specs.Inputs.{inputs, inputs_in, is_entry};

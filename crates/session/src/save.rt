@@ -8,16 +8,16 @@ ghost use Rattle.sector_device.specs.DiskState.{HasAnswered};
 ghost use Rattle.sector_device.specs.Runs.{HoldsSince};
 ghost use Rattle.log_format.specs.Content.{need};
 ghost use Rattle.input_entries.specs.Inputs.{is_input};
-ghost use Rattle.log_format.specs.Inputs.{fits};
 ghost use Rattle.sector_log.specs.Accessors.{device_of, is_broken, entries_of, generation_of, id_of};
 ghost use Rattle.session.specs.Calls.{IsSaveCause, faults_after};
+ghost use Rattle.session.specs.Inputs.{can_be_logged, fits_log};
 ghost use Rattle.session.specs.Writing.{HoldsWritten, IsWritten};
 
 use crate::begin::fault_of;
 use crate::error::SessionError;
 use machine::Machine;
 use sector_device::SectorDevice;
-use sector_log::{Entry, Store};
+use sector_log::{Entry, Store, are_inputs};
 use snapshot::encode;
 
 /// Adds an entry for which room was reserved.
@@ -29,7 +29,17 @@ pub(crate) fn push(entries: &mut Vec<Entry>, entry: Entry)
     entries.push_reserved(entry);
 }
 
-/// Appends entries to the log if they fit; otherwise writes a snapshot of the machine as a new
+/// Whether the log can hold these entries behind what it holds.
+fn fits_log<D: SectorDevice>(store: &Store<D>, entries: &[Entry]) -> bool
+    ensures { result ≡ fits_log (entries_of store.now) entries.now }
+{
+    if are_inputs(entries) {
+        return store.fits(entries);
+    }
+    false
+}
+
+/// Appends entries to the log if it can hold them; otherwise writes a snapshot of the machine as a new
 /// generation.
 pub(crate) fn write_pending<D: SectorDevice>(
     store: &mut Store<D>,
@@ -39,23 +49,22 @@ pub(crate) fn write_pending<D: SectorDevice>(
     all: u64,
 ) -> Result<(), SessionError>
     requires open { is_broken store.old ≡ false }
-    requires inputs { list_all is_input pending.now ≡ true }
     requires room { length buffer.old ≡ snapshot_length (length machine.now.processor.memory.banks.ram) }
     requires short { length buffer.old < 2 ^ 32 }
     requires large { need (length buffer.old) ≤ length (D.disk (device_of store.old)).sectors }
 
-    ensures cause { IfErr result (λ why. IsSaveCause why false (fits (entries_of store.old) pending.now) (generation_of store.old)) }
+    ensures cause { IfErr result (λ why. IsSaveCause why false (fits_log (entries_of store.old) pending.now) (generation_of store.old)) }
     ensures unchanged { IfErr result (λ why. (why ≡ SessionError.Device) ⊎ (store.new ≡ store.old)) }
     ensures broken { (is_broken store.new ≡ true) ↔ IsErrOf result SessionError.Device }
     ensures images { (D.disk (device_of store.old)).honest →
-        HoldsSince (D.disk (device_of store.old)) (D.disk (device_of store.new)) (HoldsWritten (fits (entries_of store.old) pending.now) (D.disk (device_of store.old)).sectors pending.now (id_of store.old) all (encoded machine.now)) }
+        HoldsSince (D.disk (device_of store.old)) (D.disk (device_of store.new)) (HoldsWritten (fits_log (entries_of store.old) pending.now) (D.disk (device_of store.old)).sectors pending.now (id_of store.old) all (encoded machine.now)) }
     ensures written { OnOk result ((D.disk (device_of store.old)).honest →
-        IsWritten (fits (entries_of store.old) pending.now) (D.disk (device_of store.old)) (D.disk (device_of store.new)) pending.now (id_of store.old) all (encoded machine.now) (entries_of store.old) (entries_of store.new)) }
-    ensures legal { fits (entries_of store.old) pending.now ≡ false → IsLegalMachine machine.now }
+        IsWritten (fits_log (entries_of store.old) pending.now) (D.disk (device_of store.old)) (D.disk (device_of store.new)) pending.now (id_of store.old) all (encoded machine.now) (entries_of store.old) (entries_of store.new)) }
+    ensures legal { fits_log (entries_of store.old) pending.now ≡ false → IsLegalMachine machine.now }
     ensures id { id_of store.new ≡ id_of store.old }
     ensures answered { HasAnswered faults_after (D.disk (device_of store.old)) (D.disk (device_of store.new)) result }
 {
-    if store.fits(pending) {
+    if fits_log(store, pending) {
         return match store.append(pending) {
             Ok(()) => Ok(()),
             Err(why) => Err(fault_of(why)),

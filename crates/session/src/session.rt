@@ -1,27 +1,28 @@
 //! A session: a machine, the inputs that are not saved, and the log on its device.
 ghost use Rattle.std.specs.Prelude.{◌≡◌, ◌↔◌, ◌≤◌, ◌<◌, ◌+◌, ◌-◌, ◌^◌, ◌⊎◌, ◌++◌, ◌∷◌, [], false, true, length, vec_capacity, Ok, Err, OnOk, OnErr, IfOk, IfErr, IsErrOf};
-ghost use Rattle.std.specs.List.{list_all};
 ghost use Rattle.sha2.specs.Sha256.{sha256};
-ghost use Rattle.machine.specs.Machine.{applied};
-ghost use Rattle.snapshot.specs.Encoding.{snapshot_length};
+ghost use Rattle.machine.specs.Machine.{Power, State, as_input, applied};
+ghost use Rattle.snapshot.specs.Encoding.{encoded, snapshot_length};
 ghost use Rattle.snapshot.specs.Legal.{IsMachineOf};
 ghost use Rattle.sector_device.specs.DiskState.{HasAnswered};
 ghost use Rattle.sector_device.specs.Runs.{HoldsSince};
 ghost use Rattle.log_format.specs.Content.{need, content, generation_in};
-ghost use Rattle.input_entries.specs.Inputs.{is_input};
-ghost use Rattle.log_format.specs.Inputs.{fits};
 ghost use Rattle.sector_log.specs.Accessors.{device_of as device_of_store, is_broken as is_broken_store, id_of, entries_of};
-ghost use Rattle.session.specs.Calls.{IsAtRest, IsSaved, IsSaveCause, most_unsaved, input_answer, faults_after};
-ghost use Rattle.session.specs.Inputs.{entry_of, inputs_of};
+ghost use Rattle.session.specs.Calls.{IsAtRest, IsRestoreAnswer, IsSaved, IsSaveCause, most_unsaved, input_answer, faults_after};
+ghost use Rattle.session.specs.Inputs.{can_be_logged, entry_of, fits_log, inputs_of, no_input};
 ghost use Rattle.session.specs.Resting.{IsOfItsRom, own_prop, RestsUnlessBroken, rests_prop};
-ghost use Rattle.session.specs.Stands.{stands, StandsWithin};
+ghost use Rattle.session.specs.declared.error.SessionError.TheVariants.{Memory};
+ghost use Rattle.session.specs.Stands.{stands, StandsBetween};
 
-use crate::entry::entry_of;
-use crate::error::SessionError;
+use crate::entry::{entry_of, no_input};
+use crate::error::{Damage, SessionError};
 use crate::save::{push, write_pending};
+use cartridge::Cartridge;
 use machine::{Input, Machine};
 use sector_device::SectorDevice;
 use sector_log::{Entry, Store};
+use snapshot::{decode_into, powered};
+use std::alloc::Global;
 
 /// The most inputs that can be unsaved.
 pub const MOST_UNSAVED: u64 = 3_200;
@@ -43,12 +44,11 @@ pub struct Counts {
 pub struct Session<D: SectorDevice> {
     pub(crate) store: Store<D>,
     pub(crate) machine: Machine,
-    /// The inputs that are not saved.
+    /// The inputs that are not saved, an entry each.
     pub(crate) pending: Vec<Entry>,
     /// Room for a snapshot.
     pub(crate) encoded: Vec<u8>,
     pub(crate) acknowledged: u64,
-    ghost inputs: { list_all is_input pending.items ≡ true },
     ghost few: { length pending.items ≤ most_unsaved },
     ghost reserved: { most_unsaved ≤ vec_capacity pending },
     ghost counted: { acknowledged + length pending.items < 2 ^ 64 },
@@ -117,19 +117,19 @@ impl<D: SectorDevice> Session<D> {
         &self.machine
     }
 
-    /// The inputs that are not saved, the first of them first.
+    /// The inputs that are not saved, the first of them first. For a power switch or another machine there stands an entry that is no
+    /// input of a log.
     pub fn unsaved(&self) -> &[Entry]
         ensures pending { result.now ≡ pending_of self.now }
-        ensures inputs { list_all is_input result.now ≡ true }
     {
         &self.pending
     }
 
     /// A read-only view of the device. Unless the session is broken, every image of it stands for
-    /// the saved inputs.
+    /// the saved inputs; what they lead to with the unsaved ones is said where these can be logged.
     pub fn device(&self) -> &D
         ensures device { result.now ≡ device_of self.now }
-        ensures rests { is_broken self.now ≡ false → (D.disk (device_of self.now)).honest →
+        ensures rests { is_broken self.now ≡ false → can_be_logged (pending_of self.now) ≡ true → (D.disk (device_of self.now)).honest →
             IsAtRest (rom_of self.now) (D.disk (device_of self.now)) (acknowledged_of self.now) (pending_of self.now) (machine_of self.now) }
     {
         self.store.device()
@@ -150,14 +150,30 @@ impl<D: SectorDevice> Session<D> {
     pub fn input(&mut self, input: Input) -> Result<(), SessionError>
         ensures answer { result ≡ input_answer (is_broken self.old) (length (pending_of self.old))
             (acknowledged_of self.old + length (pending_of self.old)) }
-        ensures machine { OnOk result (machine_of self.new ≡ applied input (machine_of self.old)) }
-        ensures pending { OnOk result (pending_of self.new ≡ pending_of self.old ++ entry_of input ∷ []) }
-        ensures given { OnOk result (inputs_of (pending_of self.new) ≡ inputs_of (pending_of self.old) ++ input ∷ []) }
+        ensures machine { OnOk result (machine_of self.new ≡ applied (as_input input) (machine_of self.old)) }
+        ensures pending { OnOk result (pending_of self.new ≡ pending_of self.old ++ entry_of (as_input input) ∷ []) }
+        ensures given { OnOk result (inputs_of (pending_of self.new) ≡ inputs_of (pending_of self.old) ++ as_input input ∷ []) }
+        ensures logged { OnOk result (can_be_logged (pending_of self.new) ≡ can_be_logged (pending_of self.old)) }
         ensures refused { OnErr result (IsUnchanged self.old self.new) }
         ensures device { device_of self.new ≡ device_of self.old }
         ensures kept { (acknowledged_of self.new ≡ acknowledged_of self.old) × (is_broken self.new ≡ is_broken self.old) ×
             (rom_of self.new ≡ rom_of self.old) }
         ensures log { (log_in self.new ≡ log_in self.old) × (generation_in_use self.new ≡ generation_in_use self.old) }
+    {
+        if let Err(why) = self.takes_input() {
+            return Err(why);
+        }
+        self.machine.apply(input);
+        push(&mut self.pending, entry_of(input));
+        Ok(())
+    }
+
+    // Whether one more input is taken.
+    fn takes_input(&self) -> Result<(), SessionError>
+        ensures answer { result ≡ input_answer (is_broken self.now) (length (pending_of self.now))
+            (acknowledged_of self.now + length (pending_of self.now)) }
+        ensures few { OnOk result (length (pending_of self.now) < most_unsaved) }
+        ensures counted { OnOk result (acknowledged_of self.now + length (pending_of self.now) < 2 ^ 64 - 1) }
     {
         if self.store.is_broken() {
             return Err(SessionError::Broken);
@@ -169,12 +185,72 @@ impl<D: SectorDevice> Session<D> {
         if self.acknowledged + pending as u64 == u64::MAX {
             return Err(SessionError::CountFull);
         }
-        self.machine.apply(input);
-        push(&mut self.pending, entry_of(input));
         Ok(())
     }
 
-    /// Saves what is pending: after the log if it fits, otherwise as a new generation with a
+    /// Goes on with the machine of a snapshot: one input, which no log holds and which is not saved yet. It makes no device call and takes no
+    /// memory; the next save begins a generation with a snapshot.
+    ///
+    /// Condition: the cartridge is the session's own.
+    ///
+    /// Refusals, in this order, none of which changes anything: those of `input`; `Damaged` with `Snapshot`, for bytes that are no legal
+    /// snapshot of the cartridge.
+    pub fn restore(&mut self, bytes: &[u8], cartridge: &Cartridge) -> Result<(), SessionError>
+        requires { rom_of self.old ≡ cartridge.now }
+        ensures answer { IsRestoreAnswer cartridge.now bytes.now (input_answer (is_broken self.old) (length (pending_of self.old))
+            (acknowledged_of self.old + length (pending_of self.old))) result }
+        ensures machine { OnOk result (IsMachineOf cartridge.now (machine_of self.new) × (encoded (machine_of self.new) ≡ bytes.now)) }
+        ensures pending { OnOk result (pending_of self.new ≡ pending_of self.old ++ entry_of (State (machine_of self.new)) ∷ []) }
+        ensures refused { OnErr result (IsUnchanged self.old self.new) }
+        ensures device { device_of self.new ≡ device_of self.old }
+        ensures kept { (acknowledged_of self.new ≡ acknowledged_of self.old) × (is_broken self.new ≡ is_broken self.old) ×
+            (rom_of self.new ≡ rom_of self.old) }
+        ensures log { (log_in self.new ≡ log_in self.old) × (generation_in_use self.new ≡ generation_in_use self.old) }
+    {
+        if let Err(why) = self.takes_input() {
+            return Err(why);
+        }
+        match decode_into(bytes, cartridge, &mut self.machine) {
+            Ok(()) => {
+                push(&mut self.pending, no_input());
+                Ok(())
+            }
+            Err(fault) => Err(SessionError::Damaged(Damage::Snapshot(fault))),
+        }
+    }
+
+    /// Switches the power of the machine off and on: one input, which no log holds and which is not saved yet. It makes no device call; the
+    /// next save begins a generation with a snapshot.
+    ///
+    /// Condition: the cartridge is the session's own.
+    ///
+    /// Refusals: those of `input`, in its order; then `Memory`, for the machine at power-on.
+    pub fn power(&mut self, alloc: Global, cartridge: &Cartridge) -> Result<(), SessionError>
+        requires { rom_of self.old ≡ cartridge.now }
+        ensures answer { (result ≡ input_answer (is_broken self.old) (length (pending_of self.old))
+            (acknowledged_of self.old + length (pending_of self.old))) ⊎ ((result ≡ Err Memory) ×
+            (input_answer (is_broken self.old) (length (pending_of self.old))
+            (acknowledged_of self.old + length (pending_of self.old)) ≡ Ok tt)) }
+        ensures machine { OnOk result (machine_of self.new ≡ applied Power (machine_of self.old)) }
+        ensures pending { OnOk result (pending_of self.new ≡ pending_of self.old ++ entry_of Power ∷ []) }
+        ensures refused { OnErr result (IsUnchanged self.old self.new) }
+        ensures device { device_of self.new ≡ device_of self.old }
+        ensures kept { (acknowledged_of self.new ≡ acknowledged_of self.old) × (is_broken self.new ≡ is_broken self.old) ×
+            (rom_of self.new ≡ rom_of self.old) }
+        ensures log { (log_in self.new ≡ log_in self.old) × (generation_in_use self.new ≡ generation_in_use self.old) }
+    {
+        if let Err(why) = self.takes_input() {
+            return Err(why);
+        }
+        let Ok(machine) = powered(alloc, cartridge, &self.machine) else {
+            return Err(SessionError::Memory);
+        };
+        self.machine = machine;
+        push(&mut self.pending, no_input());
+        Ok(())
+    }
+
+    /// Saves what is pending: after the log if it can hold it, otherwise as a new generation with a
     /// snapshot of the machine. On Ok no power cut loses any of the inputs, and the answer is the
     /// count of all inputs. With nothing pending it makes no device call.
     ///
@@ -185,7 +261,7 @@ impl<D: SectorDevice> Session<D> {
         ensures ok { IfOk result (λ all. (all ≡ acknowledged_of self.old + length (pending_of self.old)) ×
             (acknowledged_of self.new ≡ all) × (pending_of self.new ≡ []) × (is_broken self.old ≡ false) × (is_broken self.new ≡ false)) }
         ensures cause { IfErr result (λ why.
-            IsSaveCause why (is_broken self.old) (fits (log_in self.old) (pending_of self.old)) (generation_in_use self.old)) }
+            IsSaveCause why (is_broken self.old) (fits_log (log_in self.old) (pending_of self.old)) (generation_in_use self.old)) }
         ensures worn { IfErr result (λ why. why ≡ SessionError.GenerationsUsedUp → (D.disk (device_of self.new)).honest →
             generation_in (D.disk (device_of self.new)).sectors ≡ 2 ^ 64 - 1) }
         ensures unchanged { IfErr result (λ why. (why ≡ SessionError.Device) ⊎ IsUnchanged self.old self.new) }
@@ -196,14 +272,17 @@ impl<D: SectorDevice> Session<D> {
         ensures machine { (machine_of self.new ≡ machine_of self.old) × (rom_of self.new ≡ rom_of self.old) }
 
         // what the device stands for: at the start, at each moment, and at Ok
-        ensures stood { is_broken self.old ≡ false → (D.disk (device_of self.old)).honest →
+        ensures stood { is_broken self.old ≡ false → can_be_logged (pending_of self.old) ≡ true → (D.disk (device_of self.old)).honest →
             IsAtRest (rom_of self.old) (D.disk (device_of self.old)) (acknowledged_of self.old) (pending_of self.old) (machine_of self.old) }
         ensures images { is_broken self.old ≡ false → (D.disk (device_of self.old)).honest →
-            HoldsSince (D.disk (device_of self.old)) (D.disk (device_of self.new)) (StandsWithin (rom_of self.old) (stands (rom_of self.old) (content (D.disk (device_of self.old)).sectors)) (inputs_of (pending_of self.old))) }
+            HoldsSince (D.disk (device_of self.old)) (D.disk (device_of self.new))
+            (StandsBetween (can_be_logged (pending_of self.old)) (rom_of self.old)
+            (stands (rom_of self.old) (content (D.disk (device_of self.old)).sectors)) (inputs_of (pending_of self.old))
+            (record { count = acknowledged_of self.old + length (pending_of self.old); machine = machine_of self.old })) }
         ensures rests { IfOk result (λ all. (D.disk (device_of self.old)).honest →
             IsAtRest (rom_of self.old) (D.disk (device_of self.new)) all [] (machine_of self.old)) }
         ensures saved { IfOk result (λ all. (D.disk (device_of self.old)).honest → 0 < length (pending_of self.old) →
-            IsSaved (fits (log_in self.old) (pending_of self.old)) (rom_of self.old) all (machine_of self.old) (pending_of self.old) (D.disk (device_of self.old)).sectors (D.disk (device_of self.new)).sectors) }
+            IsSaved (fits_log (log_in self.old) (pending_of self.old)) (rom_of self.old) all (machine_of self.old) (pending_of self.old) (D.disk (device_of self.old)).sectors (D.disk (device_of self.new)).sectors) }
 
         ensures answered { HasAnswered faults_after (D.disk (device_of self.old)) (D.disk (device_of self.new)) result }
     {
@@ -233,7 +312,7 @@ impl<D: SectorDevice> Session<D> {
     /// The device as it is. What is not saved is lost.
     pub fn into_device(self) -> D
         ensures device { result ≡ device_of self }
-        ensures rests { is_broken self ≡ false → (D.disk result).honest →
+        ensures rests { is_broken self ≡ false → can_be_logged (pending_of self) ≡ true → (D.disk result).honest →
             IsAtRest (rom_of self) (D.disk result) (acknowledged_of self) (pending_of self) (machine_of self) }
     {
         self.store.into_device()

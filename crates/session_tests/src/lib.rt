@@ -16,4 +16,6 @@ mod plays;
 #[cfg(test)]
 mod saves;
 #[cfg(test)]
+mod states;
+#[cfg(test)]
 mod streams;

@@ -9,3 +9,4 @@ pub mod Offsets
 pub mod Machines
 pub mod Decoding
 pub mod PowerOn
+pub mod PowerSwitch

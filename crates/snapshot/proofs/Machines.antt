@@ -73,7 +73,7 @@ unfolding assemble
 in_place_is r bytes m = refl
 
 -- the five requests of IF
-five_back :
+pub five_back :
     (a b c d e : Bool) → let n = digit a + 2 * digit b + 4 * digit c + 8 * digit d + 16 * digit e in
     (is_set n 1 ≡ a) × (is_set n 2 ≡ b) × (is_set n 4 ≡ c) × (is_set n 8 ≡ d) × (is_set n 16 ≡ e)
 five_back a b c d e =

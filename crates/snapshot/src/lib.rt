@@ -10,6 +10,7 @@ mod from_bytes;
 mod laws;
 mod layout;
 mod picture;
+mod power;
 mod registers;
 mod table;
 mod to_bytes;
@@ -21,4 +22,5 @@ pub use laws::{
     a_legal_snapshot_is_a_machine, one_snapshot_is_one_machine, snapshots_are_legal,
     the_start_is_a_machine,
 };
+pub use power::{powered, set_clocks};
 pub use to_bytes::{encode, length};

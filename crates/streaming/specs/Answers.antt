@@ -1,7 +1,7 @@
 -- What a stream answers to its orders.
 use Rattle.std.specs.Prelude.{◌==◌, ◌+◌, ℕ, List, [], ◌∷◌, ◌++◌, length, if◌then◌else◌}
 use Rattle.machine.specs.Machine.{MachineState, after, picture_rows}
-use Rattle.machine.specs.declared.input.Input.{Input}
+use Rattle.machine.specs.Machine.{Input}
 use Rattle.picture_unit.specs.Pgm.{picture_text}
 use Rattle.script.specs.declared.moves.Move.TheVariants.{Save}
 use Rattle.session.specs.Stands.{Position}

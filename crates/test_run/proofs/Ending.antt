@@ -7,7 +7,7 @@ use Rattle.exact_text.proofs.Writes.{appends_twice, whole_then_prefix}
 use Rattle.circular_buffer.specs.Buffer.{keep_last}
 use Rattle.sm83_alu.specs.declared.register_file.Registers.{Registers}
 use Rattle.script.specs.declared.moves.Move.{Move}
-use Rattle.machine.specs.declared.input.Input.TheVariants.{Frame}
+use Rattle.machine.specs.Machine.{Frame}
 use Rattle.machine.specs.Machine.{MachineState, start}
 use Rattle.debugger.specs.Registers.{register_line}
 use Rattle.test_run.specs.declared.ends.End.{End}

@@ -9,8 +9,8 @@ use Rattle.std.proofs.Common.{arith}
 use Rattle.std.specs.Io.KnownBytes.{Appends}
 use Rattle.exact_text.specs.Written.{AppendsProperPrefix}
 use Rattle.exact_text.proofs.Writes.{appends_nothing, appends_twice, prefix_of_longer, whole_then_prefix}
-use Rattle.machine.specs.declared.input.Input.{Input}
-use Rattle.machine.specs.declared.input.Input.TheVariants.{Frame, Seconds}
+use Rattle.machine.specs.Machine.{Input}
+use Rattle.machine.specs.Machine.{Frame, Seconds}
 use Rattle.machine.specs.Machine.{MachineState, seconds_passed}
 use Rattle.machine.specs.Watched.{FrameState, Seen, begun_with, machine_after, seen_in}
 use Rattle.debugger.specs.Registers.{register_line}

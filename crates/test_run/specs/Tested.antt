@@ -2,9 +2,7 @@
 use Rattle.std.specs.Prelude.{ℕ, ◌+◌, ◌==◌, if◌then◌else◌, List, [], ◌∷◌, ◌++◌, replicate, Option, Some, None}
 use Rattle.script.specs.declared.moves.Move.{Move}
 use Rattle.script.specs.declared.moves.Move.TheVariants.{Frames as FramesMove, Seconds as SecondsMove, Save}
-use Rattle.machine.specs.declared.input.Input.{Input}
-use Rattle.machine.specs.declared.input.Input.TheVariants.{Frame, Seconds}
-use Rattle.machine.specs.Machine.{MachineState, seconds_passed, start}
+use Rattle.machine.specs.Machine.{Input, Frame, Seconds, MachineState, seconds_passed, start, Power, State, powered}
 use Rattle.machine.specs.Watched.{Seen, begun_with, machine_after, seen_in}
 use Rattle.memory_map.specs.State.{BusState}
 use Rattle.sm83_processor.specs.declared.processor.Processor.{Processor}
@@ -57,6 +55,8 @@ played_then None p done rest = rest
 unfoldable pub tested : (limit done : ℕ) → List Input → MachineState → Tested
 tested limit done [] m = ended_at m.processor done Frames
 tested limit done (Seconds n ∷ inputs) m = tested limit done inputs (seconds_passed n m)
+tested limit done (Power ∷ inputs) m = tested limit done inputs (powered m)
+tested limit done (State machine ∷ inputs) m = tested limit done inputs machine
 tested limit done (Frame buttons ∷ inputs) m =
     if done == limit then ended_at m.processor done Frames
     else (let seen : Seen = seen_in (begun_with buttons m) in

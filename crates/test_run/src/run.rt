@@ -3,7 +3,7 @@
 ghost use Rattle.std.specs.Prelude.{◌≡◌, ◌≤◌, ◌<◌, ◌++◌, [], ◌∷◌, IfOk, IfErr, OnErr, OnOk, replicate};
 ghost use Rattle.std.specs.Io.KnownBytes.{Appends};
 ghost use Rattle.exact_text.specs.Written.{AppendsProperPrefix};
-ghost use Rattle.machine.specs.declared.input.Input.TheVariants.{Frame};
+ghost use Rattle.machine.specs.Machine.{Frame};
 ghost use Rattle.debugger.specs.Registers.{register_line};
 ghost use Rattle.test_run.specs.Tested.{tested, frames_with, inputs_of_move, inputs_of_moves};
 ghost use Rattle.test_run.specs.Text.{test_text};

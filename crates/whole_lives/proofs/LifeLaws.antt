@@ -5,7 +5,7 @@ use Rattle.std.specs.Prelude.{slice_get}
 use Rattle.std.proofs.Math.Seq.{take-suc}
 use Rattle.std.proofs.lemmas.List.{length-take-le, take_all}
 use Rattle.machine.specs.Machine.{MachineState, after}
-use Rattle.machine.specs.declared.input.Input.{Input}
+use Rattle.machine.specs.Machine.{Input}
 use Rattle.sector_device.specs.DiskState.{DiskState}
 use Rattle.sector_device.specs.Memory.{MemoryState, memory_disk}
 use Rattle.sector_device.specs.Runs.{HoldsSince}

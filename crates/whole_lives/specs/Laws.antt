@@ -2,7 +2,7 @@
 use Rattle.std.specs.Prelude.{◌≡◌, ◌≤◌, ◌+◌, ℕ, List, [], ◌∷◌, ◌++◌, length, take, Option, Some, None, ⊤}
 use Rattle.std.specs.List.{All}
 use Rattle.machine.specs.Machine.{after}
-use Rattle.machine.specs.declared.input.Input.{Input}
+use Rattle.machine.specs.Machine.{Input}
 use Rattle.session.specs.Stands.{Position}
 use Rattle.whole_lives.specs.Lives.{IsLife, inputs_of_round}
 use Rattle.whole_lives.specs.declared.rounds.Round.{Round}

@@ -1,7 +1,7 @@
 -- What a life of a save file is, whatever was cut in it.
 use Rattle.std.specs.Prelude.{◌≡◌, ◌≤◌, ◌+◌, ℕ, List, [], ◌∷◌, length, take, Option, Some, None}
 use Rattle.machine.specs.Machine.{after}
-use Rattle.machine.specs.declared.input.Input.{Input}
+use Rattle.machine.specs.Machine.{Input}
 use Rattle.sector_device.specs.DiskState.{DiskState}
 use Rattle.log_format.specs.Content.{content}
 use Rattle.session.specs.Stands.{Position, stands}

@@ -1,6 +1,6 @@
 -- What one round leaves on a device; a reader needs none of this.
 use Rattle.std.specs.Prelude.{◌≡◌, ◌≤◌, ◌+◌, ◌-◌, ◌^◌, ℕ, List, [], Bool, length, ⊤}
-use Rattle.machine.specs.declared.input.Input.{Input}
+use Rattle.machine.specs.Machine.{Input}
 use Rattle.sector_device.specs.DiskState.{DiskState}
 use Rattle.sector_device.specs.Memory.{MemoryState, memory_disk, image_of}
 use Rattle.log_format.specs.Content.{content, generation_in}

@@ -1,12 +1,13 @@
 use Rattle.std.proofs.Common.{◌≡◌, ◌∙◌, ◌+◌, ◌<◌, ◌≤◌, length, sym, ap, subst, arith}
 use Rattle.cartridge.specs.Header.{ram_length_of}
-use Rattle.bank_controllers.specs.State.{has_clock as has_clock_of}
-use Rattle.machine.specs.Machine.{MachineState}
+use Rattle.bank_controllers.specs.State.{has_clock as has_clock_of, IsClockOf}
+use Rattle.machine.specs.Machine.{MachineState, with_clocks}
 use Rattle.snapshot.specs.Legal.{IsMachineOf}
 use Rattle.battery_files.specs.Battery.{has_clock}
-use Rattle.battery_files.specs.Importing.{clock_in, start_with_ram, with_clocks}
+use Rattle.battery_files.specs.Importing.{clock_in, start_with_ram}
 use Rattle.battery_files.proofs.Files.{file_of_ram, file_with_clocks, more_is_clock, taken_size}
-use Rattle.battery_files.proofs.Machines.{start_with_ram_machine, with_clocks_machine}
+use Rattle.snapshot.proofs.PowerSwitch.{with_clocks_machine}
+use Rattle.battery_files.proofs.Machines.{start_with_ram_machine, clock_of}
 use Rattle.battery_files.proofs.importing.machine_with_battery.Goals as goal
 
 pub returns-then-battery-ram-clause-machine : goal.returns-then-battery-ram-clause-machine
@@ -35,15 +36,27 @@ clock_in-latched-requires c =
     let clock = more_is_clock (has_clock rom) (ram_length_of rom) (length c.args.battery.now) c.in_default.ensures.none.1 more in
     omega (arith, clock.1, c.ram_length-ram.ensures.header)
 
-pub set_clocks-requires-clause-clocked : goal.set_clocks-requires-clause-clocked
-set_clocks-requires-clause-clocked c =
+pub set_clocks-requires-clause-live : goal.set_clocks-requires-clause-live
+set_clocks-requires-clause-live c =
     let rom = c.args.cartridge.now in
     let battery = c.args.battery.now in
     let more : ram_length_of rom < length battery = omega (arith, c.if-battery-ram.false, c.ram_length-ram.ensures.header) in
     let clock = more_is_clock (has_clock rom) (ram_length_of rom) (length battery) c.in_default.ensures.none.1 more in
     let enough = taken_size (has_clock rom) (ram_length_of rom) (length battery) c.in_default.ensures.none.1 in
     let of = start_with_ram_machine rom battery c.in_default.ensures.accepted enough in
-    ap (λ (m : MachineState). has_clock_of m.processor.memory.banks.state.kind) c.in-Ok.ensures.machine ∙ ap has_clock_of of.kind ∙ clock.0
+    clock_of c.in-Ok.machine.processor.memory.banks.state.kind c.clock_in-live.result
+    (ap (λ (m : MachineState). has_clock_of m.processor.memory.banks.state.kind) c.in-Ok.ensures.machine ∙ ap has_clock_of of.kind ∙ clock.0) c.clock_in-live.ensures.legal
+
+pub set_clocks-requires-clause-latched : goal.set_clocks-requires-clause-latched
+set_clocks-requires-clause-latched c =
+    let rom = c.args.cartridge.now in
+    let battery = c.args.battery.now in
+    let more : ram_length_of rom < length battery = omega (arith, c.if-battery-ram.false, c.ram_length-ram.ensures.header) in
+    let clock = more_is_clock (has_clock rom) (ram_length_of rom) (length battery) c.in_default.ensures.none.1 more in
+    let enough = taken_size (has_clock rom) (ram_length_of rom) (length battery) c.in_default.ensures.none.1 in
+    let of = start_with_ram_machine rom battery c.in_default.ensures.accepted enough in
+    clock_of c.in-Ok.machine.processor.memory.banks.state.kind c.clock_in-latched.result
+    (ap (λ (m : MachineState). has_clock_of m.processor.memory.banks.state.kind) c.in-Ok.ensures.machine ∙ ap has_clock_of of.kind ∙ clock.0) c.clock_in-latched.ensures.legal
 
 pub returns-clause-machine : goal.returns-clause-machine
 returns-clause-machine c =
@@ -65,4 +78,6 @@ returns-clause-of c =
     let of = subst (λ (m : MachineState). IsMachineOf rom m) (sym c.in-Ok.ensures.machine) (start_with_ram_machine rom battery c.in_default.ensures.accepted enough) in
     let kind = ap has_clock_of of.kind ∙ clock.0 in
     subst (λ (m : MachineState). IsMachineOf rom m) (sym c.set_clocks.ensures)
-    (with_clocks_machine rom c.in-Ok.machine c.clock_in-live.result c.clock_in-latched.result kind c.clock_in-live.ensures.legal c.clock_in-latched.ensures.legal of)
+    (with_clocks_machine rom c.in-Ok.machine c.clock_in-live.result c.clock_in-latched.result
+    (clock_of c.in-Ok.machine.processor.memory.banks.state.kind c.clock_in-live.result kind c.clock_in-live.ensures.legal)
+    (clock_of c.in-Ok.machine.processor.memory.banks.state.kind c.clock_in-latched.result kind c.clock_in-latched.ensures.legal) of)

@@ -1,7 +1,7 @@
 use Rattle.std.proofs.Common.{sym}
 use Rattle.std.proofs.lemmas.List.Sums.{fold-append}
 use Rattle.machine.specs.Machine.{MachineState, after, applied}
-use Rattle.machine.specs.declared.input.Input.{Input}
+use Rattle.machine.specs.Machine.{Input}
 use Rattle.machine.proofs.laws.inputs_add_up.Goals as goal
 
 pub returns : goal.returns

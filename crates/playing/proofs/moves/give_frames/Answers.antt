@@ -1,5 +1,5 @@
 use Rattle.std.proofs.Common.{◌≡◌, ℕ, replicate, subst, arith}
-use Rattle.machine.specs.declared.input.Input.TheVariants.{Frame}
+use Rattle.machine.specs.Machine.{Frame}
 use Rattle.session.specs.Accessors.{device_of}
 use Rattle.playing.specs.Making.{place, GivesInputs}
 use Rattle.playing.proofs.Making.{makes_nothing}

@@ -1,5 +1,5 @@
 use Rattle.std.proofs.Common.{◌+◌, ◌∷◌, [], length}
-use Rattle.log_format.specs.Inputs.{fits}
+use Rattle.session.specs.Inputs.{fits_log}
 use Rattle.session.specs.Accessors.{device_of, pending_of, acknowledged_of, is_broken, log_in, generation_in_use}
 use Rattle.playing.specs.Making.{place}
 use Rattle.playing.specs.Report.{saved_line}
@@ -36,5 +36,5 @@ returns-in-Err-clause-stopped g c =
     let was = c.args.session.now in
     let now = c.save.new.self in
     save_stopped (place (disk (device_of was)) was) (place (disk (device_of now)) now) (g.R.Report.contents c.args.report.now) (c.in-Err.ensures.images c.requires)
-    g.R.Report.may_fail c.in-Err.why (saved_line (acknowledged_of was + length (pending_of was)) ∷ []) (is_broken was) (fits (log_in was) (pending_of was)) (generation_in_use was) c.requires
+    g.R.Report.may_fail c.in-Err.why (saved_line (acknowledged_of was + length (pending_of was)) ∷ []) (is_broken was) (fits_log (log_in was) (pending_of was)) (generation_in_use was) c.requires
     c.in-Err.ensures.answered c.in-Err.ensures.cause c.in-Err.ensures.worn c.in-Err.ensures.refused.1 c.in-Err.ensures.machine.1 (g.met.D.SectorDevice.counts_now (device_of now))

@@ -1,5 +1,5 @@
 use Rattle.std.proofs.Common.{◌≡◌, ◌+◌, ◌-◌, ◌++◌, ◌∙◌, List, ℕ, refl, ap, arith}
-use Rattle.machine.specs.declared.input.Input.{Input}
+use Rattle.machine.specs.Machine.{Input}
 use Rattle.sector_device.specs.DiskState.{sector_at}
 use Rattle.recording.specs.Format.{entries_at}
 use Rattle.recording.specs.Accessors.{device_of as device_of_recording}

@@ -1,7 +1,7 @@
 use Rattle.std.proofs.Common.{◌≡◌, ◌∷◌, [], ℕ, replicate, subst, arith}
 use Rattle.std.proofs.lemmas.List.{replicate-append-replicate}
-use Rattle.machine.specs.declared.input.Input.{Input}
-use Rattle.machine.specs.declared.input.Input.TheVariants.{Frame}
+use Rattle.machine.specs.Machine.{Input}
+use Rattle.machine.specs.Machine.{Frame}
 use Rattle.session.specs.Accessors.{device_of}
 use Rattle.playing.specs.Making.{place}
 use Rattle.recorded_play.specs.CatchingUp.{Passes}

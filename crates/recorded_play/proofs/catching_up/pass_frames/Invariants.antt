@@ -1,5 +1,5 @@
 use Rattle.std.proofs.Common.{◌≡◌, ◌<◌, length, replicate, false}
-use Rattle.machine.specs.declared.input.Input.TheVariants.{Frame}
+use Rattle.machine.specs.Machine.{Frame}
 use Rattle.session.specs.Accessors.{device_of, pending_of, is_broken}
 use Rattle.playing.specs.Making.{place}
 use Rattle.recorded_play.specs.CatchingUp.{Passes}

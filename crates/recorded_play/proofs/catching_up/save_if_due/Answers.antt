@@ -1,5 +1,5 @@
 use Rattle.std.proofs.Common.{◌≡◌, ◌+◌, ◌∙◌, length, refl, sym, ap, arith, append-nil}
-use Rattle.log_format.specs.Inputs.{fits}
+use Rattle.session.specs.Inputs.{fits_log}
 use Rattle.session.specs.Accessors.{device_of, machine_of, rom_of, pending_of, acknowledged_of, is_broken, log_in, generation_in_use}
 use Rattle.session.proofs.Answering.{answered_value, answered_error}
 use Rattle.session.proofs.StandsLaws.{after_none}
@@ -44,8 +44,8 @@ returns-in-Err-clause-fails g c =
           stopped_by (sym (append-nil given))
           (stopped_failed rom (g.D.SectorDevice.disk (device_of was)) (acknowledged_of was) (pending_of was) (machine_of was) from given played (rom_of was) refl
           moved (acknowledged_of now) (failed.answered.honest.1 played.honest) failed.refused.1 (g.met.D.SectorDevice.counts_now (device_of now)) (failed.images c.requires.whole played.honest));
-      cause = save_stops c.in-Err.why (is_broken was) (fits (log_in was) (pending_of was)) (generation_in_use was) (acknowledged_of was + length (pending_of was) + 0) moved c.requires.whole failed.cause failed.worn;
-      silent = save_not_output c.in-Err.why (is_broken was) (fits (log_in was) (pending_of was)) (generation_in_use was) failed.cause;
+      cause = save_stops c.in-Err.why (is_broken was) (fits_log (log_in was) (pending_of was)) (generation_in_use was) (acknowledged_of was + length (pending_of was) + 0) moved c.requires.whole failed.cause failed.worn;
+      silent = save_not_output c.in-Err.why (is_broken was) (fits_log (log_in was) (pending_of was)) (generation_in_use was) failed.cause;
       later = omega (arith, failed.refused.1);
       calls = answered_error failed.answered (λ n. refl);
     }

@@ -14,6 +14,7 @@ loop-i-init g c =
       whole = c.requires.whole;
       opened = c.requires.open;
       few = c.requires.few;
+      logged = c.requires.logged;
       obeys = frames_none c.args.buttons (game (g.D.SectorDevice.disk (device_of first)) (g.E.SectorDevice.disk (device_of_recording c.args.recording.now)) first) (g.W.Write.contents c.args.out.now)
           (g.met.D.SectorDevice.only_now (device_of first)) (g.met.E.SectorDevice.only_now (device_of_recording c.args.recording.now));
     }
@@ -29,6 +30,7 @@ loop-i-preserved g c =
       whole = c.in_default.ensures.whole.0;
       opened = c.in_default.ensures.whole.1;
       few = c.in_default.ensures.whole.2;
+      logged = c.in_default.ensures.logged;
       obeys = frames_obeyed c.args.buttons c.loop-i._i 1 first now before since
           (obeys_then first there now before (g.W.Write.contents c.loop-i.out) since (frames c.args.buttons c.loop-i._i) (frames c.args.buttons 1) c.loop-i.invariant.obeys c.in_default.ensures.obeyed);
     }

@@ -22,6 +22,7 @@ loop-number-init g c =
       whole = c.requires.whole;
       opened = c.requires.open;
       few = c.requires.few;
+      logged = c.requires.logged;
     }
 
 pub loop-number-preserved : goal.loop-number-preserved
@@ -44,6 +45,7 @@ loop-number-preserved g c =
       whole = c.in_default.ensures.whole.0;
       opened = c.in_default.ensures.whole.1;
       few = c.in_default.ensures.whole.2;
+      logged = c.in_default.ensures.logged;
     }
 
 pub returns-in-Err-clause-stopped : goal.returns-in-Err-clause-stopped

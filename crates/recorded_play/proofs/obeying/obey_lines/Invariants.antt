@@ -1,6 +1,7 @@
-use Rattle.std.proofs.Common.{◌≡◌, ◌<◌, ◌+◌, List, ℕ, length, false}
+use Rattle.std.proofs.Common.{◌≡◌, ◌<◌, ◌+◌, List, ℕ, length, false, true}
 use Rattle.std.specs.List.{All}
 use Rattle.recording.specs.Accessors.{device_of as device_of_recording, is_broken as is_broken_recording}
+use Rattle.session.specs.Inputs.{can_be_logged}
 use Rattle.session.specs.Accessors.{device_of, pending_of, is_broken}
 use Rattle.streaming.specs.Orders.{orders_of, IsRight}
 use Rattle.input_lines.specs.Reading.{left_of, TakesLines}
@@ -24,4 +25,5 @@ invariant-loop-number g l =
       whole : is_broken now ≡ false;
       opened : is_broken_recording l.recording ≡ false;
       few : length (pending_of now) < 3200;
+      logged : can_be_logged (pending_of now) ≡ true;
     }

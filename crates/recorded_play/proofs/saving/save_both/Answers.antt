@@ -3,7 +3,7 @@ use Rattle.recording.specs.Growing.{fits as fits_recording}
 use Rattle.recording.specs.Sizes.{list_sectors_in}
 use Rattle.recording.specs.Accessors.{device_of as device_of_recording, is_broken as is_broken_recording, tail_of, full_of}
 use Rattle.recording.specs.declared.fault.RecordingFault.TheVariants.{Device, Full}
-use Rattle.log_format.specs.Inputs.{fits}
+use Rattle.session.specs.Inputs.{can_be_logged, fits_log}
 use Rattle.session.specs.Accessors.{device_of, machine_of, rom_of, pending_of, acknowledged_of, is_broken, log_in, generation_in_use}
 use Rattle.session.specs.declared.error.SessionError.TheVariants.{Output}
 use Rattle.session.proofs.Answering.{answered_value, answered_error, answered_otherwise, answered_refusal}
@@ -18,7 +18,7 @@ use Rattle.recorded_play.proofs.BothSaved.{append_stops, is_full_of, appending_o
 use Rattle.recorded_play.proofs.saving.save_both.Goals as goal
 
 pub append-requires : goal.append-requires
-append-requires g c = are_all_inputs c.unsaved.result.now c.unsaved.ensures.inputs
+append-requires g c = are_all_inputs c.unsaved.result.now (ap can_be_logged c.unsaved.ensures.pending ∙ c.requires.logged)
 
 -- ---- the append was refused
 
@@ -145,7 +145,7 @@ returns-in-Err-save-clause-halts g c =
     let old = g.E.SectorDevice.disk (device_of_recording c.args.recording.now) in
     let new = g.E.SectorDevice.disk (device_of_recording c.append.new.self) in
     let why = c.in-Err-save.why in
-    let cause = save_stops why (is_broken was) (fits (log_in was) (pending_of was)) (generation_in_use was) (acknowledged_of was + length (pending_of was) + 0) moved c.requires.whole c.in-Err-save.ensures.cause c.in-Err-save.ensures.worn in
+    let cause = save_stops why (is_broken was) (fits_log (log_in was) (pending_of was)) (generation_in_use was) (acknowledged_of was + length (pending_of was) + 0) moved c.requires.whole c.in-Err-save.ensures.cause c.in-Err-save.ensures.worn in
     record {
       stopped = λ rom from given played.
           stopped_by (sym (append-nil given))
@@ -203,4 +203,4 @@ pub returns-in-Err-save-clause-no_output : goal.returns-in-Err-save-clause-no_ou
 returns-in-Err-save-clause-no_output g c = λ is.
     let was = c.args.session.now in
     let same : c.in-Err-save.why ≡ Output = cc in
-    save_not_output c.in-Err-save.why (is_broken was) (fits (log_in was) (pending_of was)) (generation_in_use was) c.in-Err-save.ensures.cause same
+    save_not_output c.in-Err-save.why (is_broken was) (fits_log (log_in was) (pending_of was)) (generation_in_use was) c.in-Err-save.ensures.cause same

@@ -1,5 +1,5 @@
 use Rattle.std.proofs.Common.{◌≡◌, [], ◌∷◌, ap, sym, subst, ◌∙◌, List}
-use Rattle.machine.specs.declared.input.Input.{Input}
+use Rattle.machine.specs.Machine.{Input}
 use Rattle.session.specs.Inputs.{inputs_of}
 use Rattle.session.proofs.Replaying.{frames_of, seconds_back}
 use Rattle.replaying.specs.Lines.{HasWritten, HasStopped}

@@ -1,6 +1,6 @@
 use Rattle.std.proofs.Common.{◌≡◌, ◌+◌, ◌-◌, replicate, ap, ◌∙◌, arith}
 use Rattle.machine.specs.Machine.{MachineState, after}
-use Rattle.machine.specs.declared.input.Input.TheVariants.{Frame}
+use Rattle.machine.specs.Machine.{Frame}
 use Rattle.session.proofs.Replaying.{frames_left, no_frames}
 use Rattle.replaying.proofs.replay.play_frames.Goals as goal
 

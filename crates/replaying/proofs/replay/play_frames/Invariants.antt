@@ -1,6 +1,6 @@
 use Rattle.std.proofs.Common.{◌≡◌, ◌-◌, replicate}
 use Rattle.machine.specs.Machine.{after}
-use Rattle.machine.specs.declared.input.Input.TheVariants.{Frame}
+use Rattle.machine.specs.Machine.{Frame}
 use Rattle.replaying.proofs.replay.play_frames.Given as goal
 
 abbrev pub invariant-loop-i : goal.invariant-loop-i

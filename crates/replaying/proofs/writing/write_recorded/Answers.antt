@@ -1,7 +1,7 @@
 use Rattle.std.proofs.Common.{◌≡◌, ◌+◌, ◌≤◌, ◌++◌, ◌∙◌, ⊎_elim, refl, sym, ap, subst, arith, ℕ, List, [], Err, Option}
 use Rattle.std.specs.Io.KnownBytes.{Appends}
 use Rattle.exact_text.specs.Written.{AppendsProperPrefix}
-use Rattle.machine.specs.declared.input.Input.{Input}
+use Rattle.machine.specs.Machine.{Input}
 use Rattle.sector_device.proofs.Looking.{looked_self, looked_then, has_looked}
 use Rattle.recording.specs.Accessors.{device_of, is_broken}
 use Rattle.session.proofs.Answering.{answered_nothing, answered_both, answered_then}

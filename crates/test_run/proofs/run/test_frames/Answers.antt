@@ -1,5 +1,5 @@
 use Rattle.std.proofs.Common.{◌≡◌, ◌-◌, ◌+◌, [], ◌∷◌, replicate, arith}
-use Rattle.machine.specs.declared.input.Input.TheVariants.{Frame}
+use Rattle.machine.specs.Machine.{Frame}
 use Rattle.test_run.proofs.Reaching.{frames_all, frames_next, left_none, over_anyway, reached_nothing, reached_then, stops_then}
 use Rattle.test_run.proofs.run.test_frames.Goals as goal
 

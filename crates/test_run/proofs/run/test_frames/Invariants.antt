@@ -1,5 +1,5 @@
 use Rattle.std.proofs.Common.{◌-◌, replicate}
-use Rattle.machine.specs.declared.input.Input.TheVariants.{Frame}
+use Rattle.machine.specs.Machine.{Frame}
 use Rattle.test_run.specs.declared.run.Went.TheVariants.{On}
 use Rattle.test_run.specs.Playing.{HasReached}
 use Rattle.test_run.proofs.run.test_frames.Given as goal

@@ -1,40 +1,38 @@
 use Rattle.std.proofs.Common.{◌++◌, ◌∷◌, [], refl, sym, ap, ◌∙◌}
-use Rattle.std.specs.List.{list_all}
 use Rattle.sha2.specs.Sha256.{sha256}
 use Rattle.snapshot.specs.Encoding.{snapshot_length}
-use Rattle.input_entries.specs.Inputs.{is_input}
 use Rattle.sector_log.specs.Accessors.{device_of as device_of_store, entries_of}
-use Rattle.machine.specs.declared.input.Input.{Input}
-use Rattle.session.specs.Inputs.{inputs_of}
+use Rattle.machine.specs.Machine.{Input, as_input}
+use Rattle.session.specs.Inputs.{can_be_logged, inputs_of}
 use Rattle.session.proofs.StandsLaws.{logged_append}
-use Rattle.session.proofs.Saving.{same_after, own_again, listed_more, rests_more}
+use Rattle.session.proofs.Beginnings.{own_again}
+use Rattle.session.proofs.Saving.{given_passes, logged_more, same_after, rests_more}
 use Rattle.session.proofs.session.Session.input.Goals as goal
-
-pub invariant_of-self-clause-inputs : goal.invariant_of-self-clause-inputs
-invariant_of-self-clause-inputs g c =
-    ap (list_all is_input) c.push.ensures.items ∙ listed_more c.args.self.now.pending.items c.entry_of.result c.args.self.now.inputs c.entry_of.ensures.is_input
 
 pub invariant_of-self-clause-room : goal.invariant_of-self-clause-room
 invariant_of-self-clause-room g c =
-    c.args.self.now.room ∙ ap snapshot_length (sym (same_after c.args.self.now.machine c.apply.new.self c.args.input c.apply.ensures).ram_length)
+    c.args.self.now.room ∙ ap snapshot_length (sym (same_after c.args.self.now.machine c.apply.new.self (as_input c.args.input) (given_passes c.args.input) c.apply.ensures).ram_length)
 
 pub invariant_of-self-clause-id : goal.invariant_of-self-clause-id
 invariant_of-self-clause-id g c =
-    c.args.self.now.id ∙ ap sha256 (sym (same_after c.args.self.now.machine c.apply.new.self c.args.input c.apply.ensures).rom)
+    c.args.self.now.id ∙ ap sha256 (sym (same_after c.args.self.now.machine c.apply.new.self (as_input c.args.input) (given_passes c.args.input) c.apply.ensures).rom)
 
 pub invariant_of-self-clause-own : goal.invariant_of-self-clause-own
 invariant_of-self-clause-own g c =
-    own_again c.args.self.now.machine c.apply.new.self (same_after c.args.self.now.machine c.apply.new.self c.args.input c.apply.ensures) c.args.self.now.own
+    own_again c.args.self.now.machine c.apply.new.self (same_after c.args.self.now.machine c.apply.new.self (as_input c.args.input) (given_passes c.args.input) c.apply.ensures) c.args.self.now.own
 
 pub invariant_of-self-clause-rests : goal.invariant_of-self-clause-rests
 invariant_of-self-clause-rests g c = λ whole honest.
     rests_more (g.D.SectorDevice.disk (device_of_store c.args.self.now.store)) (entries_of c.args.self.now.store) c.args.self.now.acknowledged c.args.self.now.pending.items c.push.new.entries.items
-    c.entry_of.result c.args.self.now.machine c.apply.new.self c.args.input (c.args.self.now.rests whole honest) c.push.ensures.items c.entry_of.ensures.input c.apply.ensures
+    c.entry_of.result c.args.self.now.machine c.apply.new.self (as_input c.args.input) (given_passes c.args.input) (c.args.self.now.rests whole honest) c.push.ensures.items c.entry_of.ensures.is_input c.entry_of.ensures.input c.apply.ensures
 
 pub returns-clause-kept : goal.returns-clause-kept
-returns-clause-kept g c = (refl, refl, (same_after c.args.self.now.machine c.apply.new.self c.args.input c.apply.ensures).rom)
+returns-clause-kept g c = (refl, refl, (same_after c.args.self.now.machine c.apply.new.self (as_input c.args.input) (given_passes c.args.input) c.apply.ensures).rom)
 
 pub returns-clause-given : goal.returns-clause-given
 returns-clause-given g c =
     ap inputs_of c.push.ensures.items ∙ logged_append c.args.self.now.pending.items (c.entry_of.result ∷ [])
     ∙ ap (λ (i : Input). inputs_of c.args.self.now.pending.items ++ i ∷ []) c.entry_of.ensures.input
+
+pub returns-clause-logged : goal.returns-clause-logged
+returns-clause-logged g c = ap can_be_logged c.push.ensures.items ∙ logged_more c.args.self.now.pending.items c.entry_of.result c.entry_of.ensures.is_input

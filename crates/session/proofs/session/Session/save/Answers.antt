@@ -1,14 +1,14 @@
 use Rattle.std.proofs.Common.{rules, Ok, Err, ◌≡◌, ◌≤◌, ◌<◌, ◌+◌, ◌-◌, ◌^◌, [], ℕ, false, true, refl, inl, inr, ⊎_elim, sym, ap, ◌∙◌, subst, arith, length, drop}
 use Rattle.std.proofs.lemmas.Bool.Decides.{nat_tests}
 use Rattle.log_format.specs.Content.{need, generation_in, last_generation}
-use Rattle.log_format.specs.Inputs.{fits}
 use Rattle.sector_log.specs.Accessors.{device_of as device_of_store, is_broken as is_broken_store, entries_of, generation_of, id_of}
 use Rattle.session.specs.Calls.{IsSaveCause}
+use Rattle.session.specs.Inputs.{fits_log}
 use Rattle.session.specs.Resting.{Rests}
 use Rattle.session.specs.declared.error.SessionError.{SessionError}
 use Rattle.session.specs.declared.error.SessionError.TheVariants.{Device}
 use Rattle.session.proofs.Beginnings.{machine_of_rom}
-use Rattle.session.proofs.Saving.{rests_after, saved_after, within_after, nothing_within, nothing_rests, none_left, buffer_length}
+use Rattle.session.proofs.Saving.{rests_after, saved_after, within_after, nothing_within, nothing_rests, no_fit, none_left, buffer_length}
 use Rattle.session.proofs.session.Session.save.Goals as goal
 
 pub returns-then-is_empty-clause-nothing : goal.returns-then-is_empty-clause-nothing
@@ -22,7 +22,9 @@ pub returns-then-is_empty-clause-images : goal.returns-then-is_empty-clause-imag
 returns-then-is_empty-clause-images g c = λ whole honest.
     let self = c.args.self.now in
     let size : c.len.result ≡ length self.pending.items = search rules in
+    let none : length self.pending.items ≡ 0 = grind (arith, nat_tests) in
     nothing_within (g.D.SectorDevice.disk (device_of_store self.store)) (entries_of self.store) self.acknowledged self.pending.items self.machine (self.rests whole honest) self.counted
+    (none_left self.pending.items none)
     (g.met.D.SectorDevice.only_now (device_of_store self.store))
 
 pub returns-then-is_empty-clause-rests : goal.returns-then-is_empty-clause-rests
@@ -62,7 +64,7 @@ invariant_of-self-in-Ok-clause-rests g c = λ whole_now honest_now.
     let size : c.len.result ≡ length self.pending.items = search rules in
     let honest = c.in-Ok.ensures.answered.honest.0 honest_now in
     rests_after (g.D.SectorDevice.disk (device_of_store self.store)) (entries_of self.store) self.acknowledged self.pending.items self.machine (self.rests (sym c.is_broken.ensures ∙ c.if-is_broken.false) honest) self.counted
-    (fits (entries_of self.store)) (g.D.SectorDevice.disk (device_of_store c.write_pending.new.store)) (id_of self.store) c.deref.result.now (self.acknowledged + c.len.result) c.deref.ensures.value (ap (λ (n : ℕ). self.acknowledged + n) size) self.id
+    (fits_log (entries_of self.store)) (no_fit (entries_of self.store) self.pending.items) (g.D.SectorDevice.disk (device_of_store c.write_pending.new.store)) (id_of self.store) c.deref.result.now (self.acknowledged + c.len.result) c.deref.ensures.value (ap (λ (n : ℕ). self.acknowledged + n) size) self.id
     (entries_of c.write_pending.new.store) c.clear.new.self.items c.clear.ensures.items (λ e. machine_of_rom self.machine.processor.memory.banks.rom self.machine refl self.own (c.in-Ok.ensures.legal e)) (c.in-Ok.ensures.written honest)
 
 pub invariant_of-self-in-Err-1 : goal.invariant_of-self-in-Err-1
@@ -72,7 +74,6 @@ invariant_of-self-in-Err-1 g c =
     let kept : self.encoded.len ≡ length self.encoded.items = search rules in
     let same = buffer_length c.write_pending.new.buffer (drop (length c.write_pending.new.buffer) self.encoded.items) self.encoded.len long ∙ kept in
     record {
-      inputs = self.inputs;
       few = self.few;
       reserved = self.reserved;
       counted = self.counted;
@@ -96,15 +97,15 @@ returns-in-Ok-clause-rests g c = λ honest.
     let self = c.args.self.now in
     let size : c.len.result ≡ length self.pending.items = search rules in
     (rests_after (g.D.SectorDevice.disk (device_of_store self.store)) (entries_of self.store) self.acknowledged self.pending.items self.machine (self.rests (sym c.is_broken.ensures ∙ c.if-is_broken.false) honest) self.counted
-    (fits (entries_of self.store)) (g.D.SectorDevice.disk (device_of_store c.write_pending.new.store)) (id_of self.store) c.deref.result.now (self.acknowledged + c.len.result) c.deref.ensures.value (ap (λ (n : ℕ). self.acknowledged + n) size) self.id
-    (entries_of c.write_pending.new.store) [] refl (λ e. machine_of_rom self.machine.processor.memory.banks.rom self.machine refl self.own (c.in-Ok.ensures.legal e)) (c.in-Ok.ensures.written honest)).at_rest
+    (fits_log (entries_of self.store)) (no_fit (entries_of self.store) self.pending.items) (g.D.SectorDevice.disk (device_of_store c.write_pending.new.store)) (id_of self.store) c.deref.result.now (self.acknowledged + c.len.result) c.deref.ensures.value (ap (λ (n : ℕ). self.acknowledged + n) size) self.id
+    (entries_of c.write_pending.new.store) [] refl (λ e. machine_of_rom self.machine.processor.memory.banks.rom self.machine refl self.own (c.in-Ok.ensures.legal e)) (c.in-Ok.ensures.written honest)).at_rest refl
 
 pub returns-in-Ok-clause-saved : goal.returns-in-Ok-clause-saved
 returns-in-Ok-clause-saved g c = λ honest some.
     let self = c.args.self.now in
     let size : c.len.result ≡ length self.pending.items = search rules in
     saved_after (g.D.SectorDevice.disk (device_of_store self.store)) (entries_of self.store) self.acknowledged self.pending.items self.machine (self.rests (sym c.is_broken.ensures ∙ c.if-is_broken.false) honest) self.counted
-    (fits (entries_of self.store)) (g.D.SectorDevice.disk (device_of_store c.write_pending.new.store)) (id_of self.store) c.deref.result.now (self.acknowledged + c.len.result) c.deref.ensures.value (ap (λ (n : ℕ). self.acknowledged + n) size) self.id
+    (fits_log (entries_of self.store)) (no_fit (entries_of self.store) self.pending.items) (g.D.SectorDevice.disk (device_of_store c.write_pending.new.store)) (id_of self.store) c.deref.result.now (self.acknowledged + c.len.result) c.deref.ensures.value (ap (λ (n : ℕ). self.acknowledged + n) size) self.id
     (entries_of c.write_pending.new.store) (c.in-Ok.ensures.written honest)
 
 pub returns-in-Ok-clause-images : goal.returns-in-Ok-clause-images
@@ -112,7 +113,7 @@ returns-in-Ok-clause-images g c = λ whole honest.
     let self = c.args.self.now in
     let size : c.len.result ≡ length self.pending.items = search rules in
     within_after (g.D.SectorDevice.disk (device_of_store self.store)) (entries_of self.store) self.acknowledged self.pending.items self.machine (self.rests whole honest) self.counted
-    (fits (entries_of self.store)) (g.D.SectorDevice.disk (device_of_store c.write_pending.new.store)) (id_of self.store) c.deref.result.now (self.acknowledged + c.len.result) c.deref.ensures.value (ap (λ (n : ℕ). self.acknowledged + n) size) self.id
+    (fits_log (entries_of self.store)) (no_fit (entries_of self.store) self.pending.items) (g.D.SectorDevice.disk (device_of_store c.write_pending.new.store)) (id_of self.store) c.deref.result.now (self.acknowledged + c.len.result) c.deref.ensures.value (ap (λ (n : ℕ). self.acknowledged + n) size) self.id
     (λ e. machine_of_rom self.machine.processor.memory.banks.rom self.machine refl self.own (c.in-Ok.ensures.legal e)) (c.in-Ok.ensures.images honest)
 
 pub returns-in-Err-clause-images : goal.returns-in-Err-clause-images
@@ -120,7 +121,7 @@ returns-in-Err-clause-images g c = λ whole honest.
     let self = c.args.self.now in
     let size : c.len.result ≡ length self.pending.items = search rules in
     within_after (g.D.SectorDevice.disk (device_of_store self.store)) (entries_of self.store) self.acknowledged self.pending.items self.machine (self.rests whole honest) self.counted
-    (fits (entries_of self.store)) (g.D.SectorDevice.disk (device_of_store c.write_pending.new.store)) (id_of self.store) c.deref.result.now (self.acknowledged + c.len.result) c.deref.ensures.value (ap (λ (n : ℕ). self.acknowledged + n) size) self.id
+    (fits_log (entries_of self.store)) (no_fit (entries_of self.store) self.pending.items) (g.D.SectorDevice.disk (device_of_store c.write_pending.new.store)) (id_of self.store) c.deref.result.now (self.acknowledged + c.len.result) c.deref.ensures.value (ap (λ (n : ℕ). self.acknowledged + n) size) self.id
     (λ e. machine_of_rom self.machine.processor.memory.banks.rom self.machine refl self.own (c.in-Err.ensures.legal e)) (c.in-Err.ensures.images honest)
 
 pub returns-in-Err-clause-unchanged : goal.returns-in-Err-clause-unchanged
@@ -135,7 +136,7 @@ returns-in-Err-clause-worn g c = λ worn honest_now.
     (λ (device : c.in-Err.why ≡ Device). absurd (cc))
     (λ same.
     let honest = c.write_pending.ensures.answered.honest.0 honest_now in
-    let cause = subst (λ (why : SessionError). IsSaveCause why false (fits (entries_of self.store) c.deref.result.now) (generation_of self.store)) worn c.in-Err.ensures.cause in
+    let cause = subst (λ (why : SessionError). IsSaveCause why false (fits_log (entries_of self.store) c.deref.result.now) (generation_of self.store)) worn c.in-Err.ensures.cause in
     let there = self.store.stored whole honest in
     subst (λ s. generation_in (g.D.SectorDevice.disk (device_of_store s)).sectors ≡ 2 ^ 64 - 1) (sym same) (ap last_generation there.chosen_is ∙ cause.2))
     c.in-Err.ensures.unchanged

@@ -1,12 +1,12 @@
 use Rattle.std.proofs.Common.{◌∙◌, ap}
 use Rattle.machine.specs.declared.machine_without_memory.MachineWithoutMemory.{MachineWithoutMemory}
 use Rattle.machine.specs.MachineStores.{restored}
-use Rattle.battery_files.proofs.Machines.{clocked, clocked_legal, clocks_restored}
-use Rattle.battery_files.proofs.importing.set_clocks.Goals as goal
+use Rattle.snapshot.proofs.PowerSwitch.{clocked, clocked_legal, clocks_restored}
+use Rattle.snapshot.proofs.power.set_clocks.Goals as goal
 
 pub restore-requires : goal.restore-requires
 restore-requires c =
-    clocked_legal c.args.machine.now.processor.memory.banks c.state-state.result c.args.live c.args.latched c.requires.clocked c.requires.live c.requires.latched c.state-state.ensures.legal
+    clocked_legal c.args.machine.now.processor.memory.banks c.state-state.result c.args.live c.args.latched c.requires.live c.requires.latched c.state-state.ensures.legal
 
 pub returns : goal.returns
 returns c =

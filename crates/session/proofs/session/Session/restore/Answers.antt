@@ -1,0 +1,46 @@
+use Rattle.std.proofs.Common.{◌≡◌, ◌∙◌, Result, Ok, sym, ap, subst}
+use Rattle.sha2.specs.Sha256.{sha256}
+use Rattle.cartridge.specs.Header.{has_rumble, ram_length_of}
+use Rattle.snapshot.specs.Encoding.{snapshot_length}
+use Rattle.snapshot.specs.Legal.{IsLegalSnapshot}
+use Rattle.snapshot.specs.Table.{kind_of_image}
+use Rattle.snapshot.proofs.Machines.{encoded_legal}
+use Rattle.sector_log.specs.Accessors.{device_of as device_of_store, entries_of}
+use Rattle.session.specs.Calls.{IsRestoreAnswer}
+use Rattle.session.specs.declared.error.SessionError.{SessionError}
+use Rattle.session.proofs.Beginnings.{own_of_machine}
+use Rattle.session.proofs.Saving.{rests_otherwise}
+use Rattle.session.proofs.session.Session.restore.Goals as goal
+
+pub decode_into-requires : goal.decode_into-requires
+decode_into-requires g c =
+    let own = c.args.self.now.own in
+    record {
+      rom = c.requires;
+      kind = own.kind ∙ ap kind_of_image c.requires;
+      rumble = own.rumble ∙ ap has_rumble c.requires;
+      ram_length = own.ram_length ∙ ap ram_length_of c.requires;
+    }
+
+pub invariant_of-self-clause-room : goal.invariant_of-self-clause-room
+invariant_of-self-clause-room g c =
+    let own = c.args.self.now.own in
+    c.args.self.now.room ∙ ap snapshot_length (own.ram_length ∙ ap ram_length_of c.requires ∙ sym c.in-Ok.ensures.ok.0.ram_length)
+
+pub invariant_of-self-clause-id : goal.invariant_of-self-clause-id
+invariant_of-self-clause-id g c = c.args.self.now.id ∙ ap sha256 (c.requires ∙ sym c.in-Ok.ensures.ok.0.rom)
+
+pub invariant_of-self-clause-own : goal.invariant_of-self-clause-own
+invariant_of-self-clause-own g c = own_of_machine c.args.cartridge.now c.decode_into.new.machine c.in-Ok.ensures.ok.0
+
+pub invariant_of-self-clause-rests : goal.invariant_of-self-clause-rests
+invariant_of-self-clause-rests g c = λ whole honest.
+    rests_otherwise (g.D.SectorDevice.disk (device_of_store c.args.self.now.store)) (entries_of c.args.self.now.store) c.args.self.now.acknowledged c.args.self.now.pending.items c.push.new.entries.items
+    c.no_input.result c.args.self.now.machine c.decode_into.new.machine (c.args.self.now.rests whole honest) c.push.ensures.items c.no_input.ensures
+
+pub returns-in-Ok-clause-answer : goal.returns-in-Ok-clause-answer
+returns-in-Ok-clause-answer g c =
+    let rom = c.args.cartridge.now in
+    let bytes = c.args.bytes.now in
+    subst (λ (taken : Result Unit SessionError). IsRestoreAnswer rom bytes taken (Ok tt)) c.in_default.ensures.answer
+    (subst (λ encoded. IsLegalSnapshot rom encoded) c.in-Ok.ensures.ok.1 (encoded_legal rom c.decode_into.new.machine c.in-Ok.ensures.ok.0))
