@@ -72,7 +72,7 @@ fn a_state_is_saved_whole_or_not_at_all(rt: HostRuntime) {
     same!(rt; calls, 96);
     resumes_at(&rt, alloc, into_device(session), &cartridge, 9, &behind);
     // Opening takes three calls, beginning 96, the first save two.
-    for k in [101, 102, 140, 195] {
+    for k in [101, 102, 140, 194] {
         let Switched { mut session, .. } = given_more(&rt, alloc, &cartridge, k);
         same!(rt; session.save(), Err(SessionError::Device));
         let device = into_device(session);
