@@ -35,7 +35,7 @@ import build as speed_roms
 from assemble import Assembler
 from check import SAYS, glyphs, letters
 from gbkeep import Picture
-from timed_game import SaveTime, TimedGame
+from timed_game import SaveTime, TimedGame, given_until, lines_of
 
 NEEDED = []
 for program, package in (('chromium', 'chromium'), ('chromedriver', 'chromium-driver')):
@@ -783,7 +783,8 @@ class OtherClock(TimedGame):
     def __init__(self, path, trace):
         self.header = type('Header', (), {'has_clock': staticmethod(lambda: True)})
         self.time, self.notice, self.trouble, self.asked, self.passed = SaveTime(path), None, None, 0, 0
-        self.date, self.ran, self.resumed, self.count = trace['now'], 500.25, trace['count'], trace['count']
+        self.date, self.ran = trace['now'], 500.25
+        self.resumed = self.count = self.saved = trace['count']
         self.elapsed = lambda: self.ran
 
         def answered(_, question):
@@ -797,6 +798,7 @@ class OtherClock(TimedGame):
         self.passed, self.count = count, self.count + 1
 
     def save(self):
+        self.saved = self.count
         return self.count
 
 
@@ -828,6 +830,236 @@ class Clocks(WithBrowser):
         self.assertGreater(len({tuple(row[:2]) for row in wanted}), 3)
 
 
+class Rewound(WithBrowser):
+    def rewind(self, states):
+        return self.page.wait_for('return await gbkeep.rewind(given[0])', states)
+
+    def saved_as_shown(self, name):
+        """Whether the SAVE of the page is, for the program, the game that the page shows."""
+        save = self.room / 'rewound.gbkeep'
+        save.write_bytes(self.page.export())
+        shown = self.program.shows(self.carts[name], save)
+        self.assertEqual((int(shown['inputs']), shown['state']), (self.page.count(), self.page.state()))
+
+    def at_power_on(self):
+        """A SAVE that begins with what the battery of the page's demo keeps."""
+        save, battery, begun = (self.room / f'power.{end}' for end in ('gbkeep', 'sav', 'begun'))
+        for path in (battery, begun):
+            path.unlink(missing_ok=True)
+        save.write_bytes(self.page.export())
+        self.program.do('export', DEMO, save, battery)
+        self.assertTrue(any(battery.read_bytes()), 'the battery keeps nothing')
+        self.program.do('import', DEMO, battery, begun)
+        return begun
+
+    def test_power(self):
+        """Power off and on: the machine is the one at power-on with the battery's RAM, and goes on as the program. The button asks first."""
+        page, inputs = self.play('demo'), any_inputs(random.Random(SEED), 8)
+        for buttons, frames in ((0, 200), (['Start'], 5), (['Right'], 400)):
+            page.press(buttons, frames)
+        begun = self.at_power_on()
+        count, state = page.count(), page.state()
+        self.assertEqual(page.wait_for('return await gbkeep.power()'), count + 1)
+        self.assertEqual(page.state(), self.program.shows(DEMO, begun)['state'])
+        self.assertNotEqual(page.state(), state)
+        for buttons, frames in inputs:
+            page.press(buttons, frames)
+        shown, picture = self.program.after(DEMO, inputs, begun)
+        self.assertEqual((page.save(), page.state(), page.picture()), (count + 1 + sum(frames for _, frames in inputs), shown['state'], picture))
+        self.saved_as_shown('demo')
+        begun, count, state = self.at_power_on(), page.count(), page.state()
+        is_asked = "return document.getElementById('question').open"
+        page.click('#power')
+        page.until(lambda: page.js(is_asked), 'nothing is asked')
+        page.click('#no')
+        page.until(lambda: not page.js(is_asked), 'the question stays')
+        self.assertEqual((page.save(), page.state()), (count, state))
+        page.click('#power')
+        page.until(lambda: page.js(is_asked), 'nothing is asked')
+        page.click('#yes')
+        page.until_text('The power was switched off and on')
+        self.assertEqual((page.save(), page.state(), page.state_of()), (count + 1, self.program.shows(DEMO, begun)['state'], 'paused'))
+        # a power switch that was not meant
+        self.assertEqual(self.rewind(1), count + 2)
+        self.assertEqual(page.state_of(), 'paused')
+        self.saved_as_shown('demo')
+
+    def test_rewind(self):
+        """A rewound game has the states that it had, goes on from them as the program plays, and is the same game after a SIGKILL."""
+        kind, cart = type(self), self.carts['scrolling']
+        page, inputs = self.play('scrolling'), [(1 << number % 8, 6) for number in range(12)]
+        states = [page.state()]
+        for buttons, frames in inputs:
+            page.press(buttons, frames)
+            states.append(page.state())
+        self.assertGreater(len(set(states)), 6)
+        page.press(0, 4)
+        self.assertEqual(self.rewind(1), 77)
+        self.assertEqual(page.state(), states[12])
+        self.assertEqual(self.rewind(5), 78)
+        self.assertEqual(page.state(), states[7])
+        page.press(0x81, 9)
+        shown, picture = self.program.after(cart, [*inputs[:7], (0x81, 9)])
+        self.assertEqual((page.state(), page.picture()), (shown['state'], picture))
+        self.assertEqual(page.save(), 87)
+        self.saved_as_shown('scrolling')
+        # not saved by a call: the second's save does it
+        self.assertEqual(self.rewind(3), 88)
+        self.assertEqual(page.state(), states[6])
+        page.until(lambda: page.saved() == 88, 'a rewound game is never saved')
+        kind.browser.kill()
+        kind.browser = Browser(kind.room / 'profile', *kind.more)
+        self.page = page = Page(kind.browser)
+        self.play('scrolling')
+        self.assertEqual((page.count(), page.saved(), page.state()), (88, 88, states[6]))
+        self.saved_as_shown('scrolling')
+        with self.assertRaisesRegex(AssertionError, 'no older state'):
+            self.rewind(1)
+
+    def test_rewind_a_minute(self):
+        """597 states are kept, and no more."""
+        page, cart = self.play('busy'), self.carts['busy']
+        page.press(0, 4_000)
+        self.assertEqual(self.rewind(10_000), 4_001)
+        there, before, behind = (self.program.after(cart, [(0, 3_996 - 6 * states)])[0]['state'] for states in (596, 597, 595))
+        self.assertEqual(page.state(), there)
+        self.assertNotIn(there, (before, behind))
+        with self.assertRaisesRegex(AssertionError, 'no older state'):
+            self.rewind(1)
+        self.assertEqual(page.press(0, 3), 4_004)
+        self.assertEqual(self.rewind(1), 4_005)
+        self.assertEqual(page.state(), there)
+
+    def plays(self, frames):
+        count = self.page.count()
+        self.page.until(lambda: self.page.count() > count + frames, 'it never runs')
+
+    def rewound_by(self):
+        line = self.page.until_text('Rewound by')
+        return float(re.search(r'by ([0-9.]+) seconds', line)[1])
+
+    def test_rewind_by_hand(self):
+        """R, the button and the trigger rewind while they are held; the count and what is saved only grow."""
+        page = self.play('demo', '')
+        self.browser.find_element(By.ID, 'screen').click()
+        begun = page.count()
+        self.plays(240)
+        ActionChains(self.browser.driver).key_down('r').perform()
+        page.until_text('Rewinding.')
+        count = saved = 0
+        until = time.monotonic() + 2.5
+        while time.monotonic() < until:
+            status = page.status()
+            self.assertGreaterEqual(int(status['count']), count)
+            self.assertGreaterEqual(int(status['saved']), saved)
+            count, saved = int(status['count']), int(status['saved'])
+        ActionChains(self.browser.driver).key_up('r').perform()
+        self.assertGreater(self.rewound_by(), 1)
+        self.assertGreater(saved, begun + 240)
+        self.plays(180)
+        button = self.browser.find_element(By.ID, 'rewind')
+        ActionChains(self.browser.driver).click_and_hold(button).pause(0.7).release().perform()
+        self.assertGreater(self.rewound_by(), 0.2)
+        self.assertEqual(page.js('return document.activeElement.id'), 'screen')
+        self.plays(180)
+        page.js("""
+            window.held = new Set([6]);
+            navigator.getGamepads = () => [{ mapping: 'standard', axes: [0, 0, 0, 0], buttons: [...Array(17).keys()].map((one) => ({ pressed: held.has(one) })) }];""")
+        page.until_text('Rewinding.')
+        time.sleep(0.5)
+        page.js('held.clear()')
+        self.assertGreater(self.rewound_by(), 0.2)
+        self.plays(60)
+        page.click('#pause')
+        page.until_state('paused')
+        self.saved_as_shown('demo')
+        # in a pause: by the key, and a second by the button
+        page.js("document.getElementById('screen').focus()")
+        count = page.count()
+        self.hold('r', 0.5)
+        self.rewound_by()
+        self.assertGreater(page.count(), count)
+        self.assertEqual(page.state_of(), 'paused')
+        page = self.play('passes')
+        page.press(0, 90)
+        page.js("document.getElementById('rewind').focus()")
+        ActionChains(self.browser.driver).send_keys(Keys.ENTER).perform()
+        self.assertEqual(self.rewound_by(), 1.0)
+        self.assertEqual((page.count(), page.js('return document.activeElement.id')), (91, 'rewind'))
+        self.assertEqual(page.state(), self.program.after(self.carts['passes'], [(0, 30)])[0]['state'])
+
+    def test_rewound_clock(self):
+        """The seconds since the state are given again."""
+        began = time.time()
+        page, opened = self.play('clock', ''), time.time()
+        page.until(lambda: page.saved() > 540, 'nothing was ever saved', 60)
+        page.click('#pause')
+        page.until_state('paused')
+        self.rewind(70)
+        page.save()
+        image, ended = page.export(), time.time()
+        save = self.room / 'clock.gbkeep'
+        save.write_bytes(image)
+        seconds = clock_of(self.program, self.carts['clock'], save)
+        self.assertTrue(ended - opened - 3 <= seconds <= ended - began + 1, (seconds, ended - opened, ended - began))
+
+    def test_clock_lines(self):
+        """Of a game that is rewound, wherever it is killed, what stands beside it says until when the clock of its SAVE was given."""
+        chance = random.Random(SEED)
+        traces = [[(chance.choice(['wait', 'frames', 'state', 'back', 'save']), chance.randrange(60)) for _ in range(50)] for _ in range(300)]
+        found = self.listed().wait_for(CLOCK_LINES, traces)
+        self.assertGreater(len(found), 3_000)
+        for text, count, until in found:
+            self.assertEqual(given_until(lines_of(text), count), until, (text, count))
+
+
+CLOCK_LINES = '''
+const { Clock } = await import('./clock.js');
+// what stands beside a game, how many inputs its SAVE has, and until when the clock of that SAVE was given
+const found = [];
+for (const trace of given[0]) {
+  let [text, ran, count] = ['', 500.25, 0];
+  let saved = null;
+  const write = (other) => {
+    text = other;
+    if (saved !== null) { found.push([text, saved.count, saved.until]); }
+  };
+  const clock = new Clock({ read: () => text, write }, count, () => 1000000.5, () => ran);
+  await clock.begin(() => null);
+  let until = clock.until;
+  saved = { count, until };
+  let states = [until];
+  for (const [what, number] of trace) {
+    if (what === 'wait') {
+      ran += number / 16;
+    } else if (what === 'frames') {
+      count += number;
+    } else if (what === 'state') {
+      states.push(until);
+    } else if (what === 'back') {
+      states = states.slice(0, 1 + number % states.length);
+      until = states.at(-1);
+      count += 1;
+      clock.goBack(until);
+    } else {
+      const passed = clock.claim(count);
+      if (passed > 0) {
+        until += passed;
+        count += 1;
+        clock.given();
+      }
+      if (until !== Math.floor(1000000.5 + ran - 500.25)) { throw new Error(`the clock was given ${until}`); }
+      if (count > saved.count) {
+        saved = { count, until };
+        found.push([text, count, until]);
+        clock.saved(count);
+      }
+    }
+  }
+}
+return found;'''
+
+
 class Killed(WithBrowser):
     def test_kills(self):
         """Killed at random moments during play, the page goes on with at least what it had shown as saved."""
@@ -841,6 +1073,8 @@ class Killed(WithBrowser):
             begun, until = page.saved(), time.monotonic() + chance.uniform(0.3, 3)
             while time.monotonic() < until:
                 told = max(told, page.saved())
+                if number % 4 == 2:
+                    page.js('gbkeep.rewind(2).catch(() => {})')
             kind.browser.kill()
             self.assertGreaterEqual(told, begun)
             kind.browser = Browser(kind.room / 'profile', *kind.more)
@@ -876,7 +1110,10 @@ class Killed(WithBrowser):
                     page.open(server.url('?cart=demo.gb&speed=max'))
                     self.assertEqual(page.state_of(), 'playing', page.status())
                     self.assertGreaterEqual(page.saved(), told, f'kill {number}: what was shown as saved is gone')
-                    notes.calls_left = chance.randint(1, 6)
+                    # in a save of frames, or in one behind a power switch, which writes a whole state
+                    notes.calls_left = chance.randint(1, 90 if number % 4 else 6)
+                    if number % 4:
+                        page.js('gbkeep.power().catch(() => {})')
                 self.assertTrue(notes.held.wait(20), 'the page makes no calls')
                 told = max(told, page.saved())
                 kind.browser.kill()
@@ -1349,7 +1586,7 @@ def main():
     if wanted in (['measure'], ['shots']):
         suite.addTest({'measure': Measured, 'shots': Shots}[wanted[0]]())
     else:
-        for kind in (Playing, Files, Clocks, Traced, Room, Around, Firefox, Killed):
+        for kind in (Playing, Files, Clocks, Rewound, Traced, Room, Around, Firefox, Killed):
             names = [name for name in loader.getTestCaseNames(kind) if not wanted or name.removeprefix('test_') in wanted]
             suite.addTests(map(kind, names))
     if suite.countTestCases() == 0:

@@ -128,6 +128,11 @@ export class Clock {
     this.written = this.claimed;
   }
 
+  /** The game goes back to a state whose clock had been given until then: the seconds since are given again, in front of the next save. */
+  goBack(until) {
+    this.until = until;
+  }
+
   /** So many inputs are saved: an older copy can be told from the game. */
   saved(count) {
     if (!this.isStill && count > this.written.count && this.written.until === this.until && this.write([{ count, until: this.until }])) {

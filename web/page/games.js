@@ -12,6 +12,7 @@
 // An image is never written over by another one. What is played is changed by one write of the index, so that a cut leaves the old or the new.
 import { Clock, hasClock } from './clock.js';
 import { PICTURE_LENGTH, SECTOR, Session, sectorsNeeded } from './library.js';
+import { Past } from './past.js';
 import { Refused } from './refusals.js';
 
 const MOST_SECTORS = 65536;
@@ -322,17 +323,21 @@ export async function takeIn(library, image) {
 /** A game that is open: nobody else can open it. `count` is how many inputs it has, `saved` how many of them are saved. */
 export class Game {
   /** Goes on with a game, or begins it where there is none, or `isNew` is true; `rom` is null where its cartridge is here. `ask` answers a question about
-   * the clock. */
-  static async open(library, { id, rom, name, isNew, isTimed, ask }) {
+   * the clock. `hasPast` says whether it can be rewound. */
+  static async open(library, { id, rom, name, isNew, isTimed, hasPast, ask }) {
     if (rom) {
       sectorsNeeded(library, rom);
     }
     return locked(id ?? await sha256(rom), rom !== null, async (folder, index) => {
       const game = new Game();
-      Object.assign(game, { library, folder, index, isTimed, ask, calls: 0, shown: -Infinity, notice: null });
+      Object.assign(game, { library, folder, index, isTimed, ask, past: null, calls: 0, shown: -Infinity, notice: null });
       try {
         await game.takeCartridge(rom, name);
         await game.takeImage(isNew);
+        if (hasPast) {
+          game.past = new Past(game.session.stateLength);
+          game.keepState();
+        }
         return game;
       } catch (error) {
         game.drop();
@@ -469,10 +474,44 @@ export class Game {
     this.keep();
   }
 
-  /** Frames with these buttons. */
+  /** Frames with these buttons. States are kept on the way. */
   frames(buttons, count) {
-    this.session.frames(buttons, count);
-    this.count += count;
+    for (let left = count; left > 0;) {
+      const some = Math.min(left, this.past?.left() ?? left);
+      this.session.frames(buttons, some);
+      this.count += some;
+      left -= some;
+      if (this.past?.played(some)) {
+        this.keepState();
+      }
+    }
+  }
+
+  /** Switches the power off and on. */
+  power() {
+    this.session.power();
+    this.count += 1;
+    this.keepState();
+  }
+
+  /** Keeps the state in which the game is, so that it can be rewound to it. */
+  keepState() {
+    this.past?.keep(this.clock?.until ?? 0, (bytes) => this.session.stateInto(bytes));
+  }
+
+  /** Goes back by so many of the states that are kept, as far as there are any. Answers by how many frames it went back; null where there is no older
+   * state. */
+  rewind(states) {
+    const state = this.past?.before(states) ?? null;
+    if (state === null) {
+      return null;
+    }
+    this.session.restore(state.bytes);
+    this.count += 1;
+    const { frame } = this.past;
+    this.past.goTo(state);
+    this.clock?.goBack(state.until);
+    return frame - this.past.frame;
   }
 
   /** Gives the clock the seconds that have passed, saves, and answers the count of inputs that are saved. */
@@ -547,6 +586,8 @@ export class Game {
     this.resume();
     this.resumed = this.count;
     await this.takeClock();
+    this.past?.clear();
+    this.keepState();
   }
 
   /** Makes an image of these bytes, with the time of the image `from`, and tells the index what it is. */

@@ -13,6 +13,7 @@ export const KEYS = [
   ['Backspace', 'Select', 'Backspace', 'Select'],
   ['Enter', 'Start', 'Enter', 'Start'],
   ['KeyF', 'Fast', 'F', 'while it is held: as fast as it goes'],
+  ['KeyR', 'Rewind', 'R', 'while it is held: back, by a minute at most'],
   ['KeyP', 'Pause', 'P', 'pause, and on'],
   ['KeyS', 'Picture', 'S', 'a picture, as PNG'],
   ['F1', 'Keys', 'F1', 'these keys'],
@@ -25,8 +26,9 @@ export const KEYS = [
 const ACTIONS = new Map([...KEYS.map(([code, action]) => [code, action]), ['NumpadEnter', 'Start']]);
 // a gamepad's buttons in the standard layout, for bits 0 to 7; A and B as they lie on a Game Boy
 const PAD = [15, 14, 12, 13, 1, 0, 8, 9];
-// the right shoulder
+// the triggers
 const PAD_FAST = 7;
+const PAD_REWIND = 6;
 const STICK = 0.49;
 
 const bitOf = (name) => (BUTTONS.includes(name) ? 1 << BUTTONS.indexOf(name) : 0);
@@ -42,12 +44,14 @@ export function byteOf(names) {
 }
 
 export class Held {
-  /** `act` is called with what else a key does. */
-  constructor(picture, pad, act) {
+  /** `rewind` is the button that rewinds while it is held; `act` is called with what else a key does. */
+  constructor(picture, pad, rewind, act) {
     this.keys = new Set();
     this.touches = new Map();
     // what was pressed since the last look, also where it is up again
     this.taken = 0;
+    this.isBackTaken = false;
+    this.isBackHeld = false;
     this.pad = pad;
     picture.addEventListener('keydown', (event) => this.keyDown(event, act));
     picture.addEventListener('keyup', (event) => this.keys.delete(ACTIONS.get(event.code)));
@@ -55,7 +59,20 @@ export class Held {
     for (const kind of ['pointerdown', 'pointermove', 'pointerup', 'pointercancel']) {
       pad.addEventListener(kind, (event) => this.touch(event));
     }
-    pad.addEventListener('contextmenu', (event) => event.preventDefault());
+    for (const kind of ['pointerdown', 'pointerup', 'pointercancel', 'lostpointercapture']) {
+      rewind.addEventListener(kind, (event) => this.holdBack(event, rewind));
+    }
+    for (const one of [pad, rewind]) {
+      one.addEventListener('contextmenu', (event) => event.preventDefault());
+    }
+  }
+
+  holdBack(event, rewind) {
+    this.isBackHeld = event.type === 'pointerdown' && event.button === 0;
+    if (this.isBackHeld) {
+      this.isBackTaken = true;
+      rewind.setPointerCapture(event.pointerId);
+    }
   }
 
   keyDown(event, act) {
@@ -67,9 +84,10 @@ export class Held {
     if (event.repeat) {
       return;
     }
-    if (BUTTONS.includes(action) || action === 'Fast') {
+    if (BUTTONS.includes(action) || action === 'Fast' || action === 'Rewind') {
       this.keys.add(action);
       this.taken |= bitOf(action);
+      this.isBackTaken ||= action === 'Rewind';
     } else {
       act(action);
     }
@@ -97,24 +115,33 @@ export class Held {
   gamepads() {
     let held = 0;
     let isFast = false;
+    let isBack = false;
     for (const pad of navigator.getGamepads?.() ?? []) {
       if (pad?.mapping === 'standard') {
         PAD.forEach((button, bit) => { held |= Number(pad.buttons[button]?.pressed ?? false) << bit; });
         const [across, down] = pad.axes;
         held |= (across > STICK) | ((across < -STICK) << 1) | ((down < -STICK) << 2) | ((down > STICK) << 3);
         isFast ||= pad.buttons[PAD_FAST]?.pressed ?? false;
+        isBack ||= pad.buttons[PAD_REWIND]?.pressed ?? false;
       }
     }
-    return { held, isFast };
+    return { held, isFast, isBack };
   }
 
-  /** The buttons that are held or were pressed since the last look, and whether the game is to run fast. */
+  /** Whether the game is to be rewound. */
+  isBack() {
+    return this.isBackHeld || this.isBackTaken || this.keys.has('Rewind') || this.gamepads().isBack;
+  }
+
+  /** The buttons that are held or were pressed since the last look, and whether the game is to run fast, or to be rewound. */
   look() {
+    const isBack = this.isBack();
+    this.isBackTaken = false;
     const { held, isFast } = this.gamepads();
     const names = [...this.keys, ...this.touches.values()];
     const all = names.reduce((byte, name) => byte | bitOf(name), held | this.taken);
     this.taken = 0;
-    return { held: all, isFast: isFast || names.includes('Fast') };
+    return { held: all, isFast: isFast || names.includes('Fast'), isBack };
   }
 
   /** Nothing is held: the game was left. */
@@ -122,5 +149,7 @@ export class Held {
     this.keys.clear();
     this.touches.clear();
     this.taken = 0;
+    this.isBackTaken = false;
+    this.isBackHeld = false;
   }
 }

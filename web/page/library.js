@@ -137,6 +137,16 @@ export class Session {
     check(this.library.calls.gbkeep_session_seconds(this.at, seconds));
   }
 
+  /** Switches the power off and on, as one input. */
+  power() {
+    check(this.library.calls.gbkeep_session_power(this.at));
+  }
+
+  /** Goes on with the machine of a state, as one input. Bytes that are no state of the cartridge are refused, and nothing changes. */
+  restore(bytes) {
+    this.library.with([bytes], (at) => check(this.library.calls.gbkeep_session_restore(this.at, at, BigInt(bytes.length))));
+  }
+
   /** How many inputs it has, saved and unsaved. */
   count() {
     return Number(BigInt.asUintN(64, this.library.calls.gbkeep_session_count(this.at)));
@@ -168,9 +178,16 @@ export class Session {
 
   /** A copy of the state: the snapshot of the machine. */
   state() {
-    return this.library.with([this.stateLength], (at) => {
+    const bytes = new Uint8Array(this.stateLength);
+    this.stateInto(bytes);
+    return bytes;
+  }
+
+  /** Copies the state into bytes of its length. */
+  stateInto(bytes) {
+    this.library.with([this.stateLength], (at) => {
       check(this.library.calls.gbkeep_session_state(this.at, at, BigInt(this.stateLength)));
-      return this.library.bytes(at, this.stateLength).slice();
+      bytes.set(this.library.bytes(at, this.stateLength));
     });
   }
 }

@@ -6,6 +6,9 @@ import { Refused, lineOf } from './refusals.js';
 const MOST_ROM = 8 << 20;
 const MOST_FILE = 65536 * 512;
 const ROM_LENGTH = 2;
+const FRAMES_A_SECOND = 4194304 / 70224;
+// a second of play is about as many of the states that a game can be rewound to
+const STATES_A_SECOND = 10;
 const DEMO = 'demo.gb';
 
 const $ = (id) => document.getElementById(id);
@@ -70,6 +73,8 @@ let last = null;
 let palette = 0;
 // the game that is open: its title, and whether it is paused
 let playing = null;
+// while it is rewound: by how many frames so far, and whether there is an older state; else null
+let rewinding = null;
 
 function remembered(name) {
   try {
@@ -283,6 +288,7 @@ async function play(what) {
     throw error;
   }
   playing = { title: got.title, name: got.name, isPaused: isTest };
+  rewinding = null;
   $('pause').disabled = false;
   $('title').textContent = got.title;
   document.title = `${got.title}: gbkeep`;
@@ -345,6 +351,26 @@ const does = {
     shown(got);
     say(stateNow(), got.notice ?? `Back to the slot: ${got.count} inputs. The game before is kept.`);
   },
+  async Rewind() {
+    const got = await ask('rewind', { states: STATES_A_SECOND });
+    shown(got);
+    sayRewound(got.rewound, false);
+  },
+  async Power() {
+    const wasPaused = playing.isPaused;
+    await pause(true);
+    const agrees = await questioned('Switch the power off and on? The game begins at its title; what the cartridge keeps by its battery stays.');
+    try {
+      if (agrees && playing) {
+        shown(await ask('power'));
+      }
+    } finally {
+      await pause(wasPaused);
+    }
+    if (agrees && playing) {
+      say(stateNow(), 'The power was switched off and on.');
+    }
+  },
   async 'Full screen'() {
     if (document.fullscreenElement) {
       await document.exitFullscreen();
@@ -382,19 +408,42 @@ function resized() {
   fit($('screen'), { width: room.width, height: room.height - pad });
 }
 
-/** The next moment of the page: what is held goes to the worker, one moment at a time. */
+function sayRewound(frames, isOldest) {
+  const end = isOldest ? ': there is no older state.' : '.';
+  say(stateNow(), `Rewound by ${(frames / FRAMES_A_SECOND).toFixed(1)} seconds${end}`);
+}
+
+/** The next moment of the page: what is held goes to the worker, one moment at a time. A paused game can be rewound, too. */
 let isAsked = false;
 async function moment() {
   requestAnimationFrame(moment);
-  if (playing && !playing.isPaused && !isAsked && document.visibilityState === 'visible') {
-    isAsked = true;
-    try {
-      shown(await ask('tick', held.look()));
-    } catch {
-      // the worker has told why it stopped
-    }
-    isAsked = false;
+  if (!playing || isAsked || document.visibilityState !== 'visible') {
+    return;
   }
+  const isBack = held.isBack();
+  if (rewinding && !isBack) {
+    sayRewound(rewinding.frames, rewinding.isOldest);
+    rewinding = null;
+  }
+  if (playing.isPaused && !isBack) {
+    return;
+  }
+  isAsked = true;
+  try {
+    const got = await ask('tick', held.look());
+    shown(got);
+    if (playing && got.rewound !== undefined) {
+      if (!rewinding) {
+        say(stateNow(), 'Rewinding.');
+        rewinding = { frames: 0, isOldest: false };
+      }
+      rewinding.frames += got.rewound ?? 0;
+      rewinding.isOldest ||= got.rewound === null;
+    }
+  } catch {
+    // the worker has told why it stopped
+  }
+  isAsked = false;
 }
 
 /** Asks the browser once to keep what is here, and says what it answers. */
@@ -481,6 +530,21 @@ window.gbkeep = {
       return place.count;
     });
   },
+  /** Switches the power off and on; kept, with the count of inputs, when it was. */
+  power: () => ask('power').then((place) => {
+    shown(place);
+    return place.count;
+  }),
+  /** Goes back by so many of the states that are kept, or to the oldest; kept, with the count of inputs, when it did. */
+  rewind: (states = 1) => {
+    if (!Number.isSafeInteger(states) || states < 1) {
+      throw new TypeError('states is a number from 1 on');
+    }
+    return ask('rewind', { states }).then((place) => {
+      shown(place);
+      return place.count;
+    });
+  },
   /** Saves; kept, with the count of inputs, when all calls were made. */
   save: () => ask('save').then((place) => {
     shown(place);
@@ -496,10 +560,10 @@ window.gbkeep = {
 
 // ---- the page begins
 
-const held = new Held($('screen'), $('pad'), act);
+const held = new Held($('screen'), $('pad'), $('rewind'), act);
 
 function connect() {
-  const clicks = { pause: 'Pause', 'keep-slot': 'Keep slot', 'go-back': 'Go back', export: 'Export', shot: 'Picture', full: 'Full screen', help: 'Keys' };
+  const clicks = { pause: 'Pause', 'keep-slot': 'Keep slot', 'go-back': 'Go back', power: 'Power', export: 'Export', shot: 'Picture', full: 'Full screen', help: 'Keys' };
   for (const [id, name] of Object.entries(clicks)) {
     $(id).addEventListener('click', (event) => {
       act(name);
@@ -509,6 +573,14 @@ function connect() {
       }
     });
   }
+  $('rewind').addEventListener('click', (event) => {
+    // a mouse or a finger has held it; a keyboard, or what speaks the page, can't
+    if (event.detail === 0) {
+      act('Rewind');
+    } else if (playing) {
+      $('screen').focus();
+    }
+  });
   $('close').addEventListener('click', () => tried(async () => {
     try {
       say('closed', '');

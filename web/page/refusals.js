@@ -15,6 +15,7 @@ const OWN = {
   load: ['gbkeep.wasm can\'t be loaded', 'it is missing on the server, or the browser refuses it', 'serve the whole folder, and open the page anew'],
   cartridge: ['the cartridge of this SAVE is not here', 'a SAVE is taken in beside its cartridge', 'open the cartridge first, then the SAVE'],
   empty: ['the slot is empty', 'nothing was kept in it', 'keep the game in the slot first'],
+  oldest: ['there is no older state', 'a game can be rewound by a minute at most, and not to before it was opened', 'play on'],
   closed: ['no game is open', 'there is nothing to play', 'open a cartridge'],
   long: ['device size', 'a SAVE has 65,536 sectors of 512 bytes at most', 'choose a SAVE'],
 };

@@ -13,6 +13,8 @@ const PIECE = 8;
 const FAST_PIECE = 11;
 const MOST_LATE = 250;
 const PICTURE_TIME = 1000 / 60;
+// how long each state is shown while the game is rewound, in milliseconds: a second of play goes by in a third of one
+const REWIND_TIME = 1000 / 30;
 
 let library = null;
 let loading = null;
@@ -30,6 +32,8 @@ let since = 0;
 let played = 0;
 let kept = 0;
 let drawn = 0;
+// when it was rewound last
+let wentBack = 0;
 // something is done that no frame may come between
 let isBusy = false;
 // frames that were asked for: {buttons, left, call}
@@ -103,6 +107,10 @@ function keep() {
 /** A frame, or some where they are alike; then a save where one is due. */
 function play(held, count) {
   game.frames(held, count);
+  keepWhereDue();
+}
+
+function keepWhereDue() {
   const unsaved = game.count - game.saved;
   if (unsaved >= MOST_UNSAVED || (unsaved >= FRAMES_A_SAVE && now() - kept >= 1000)) {
     keep();
@@ -168,13 +176,32 @@ pump.port1.onmessage = () => {
   pumps();
 };
 
-/** A moment of the page's: the frames that are due by the clock, or, fast, as many as there is time for. */
-function tick({ held, isFast }) {
+/** A moment in which the game is to be rewound: it goes to the state before, where the last was shown for long enough. `rewound` is by how many frames it
+ * went back; null where there is no older state. */
+function rewindABit() {
+  let rewound = 0;
+  if (now() - wentBack >= REWIND_TIME) {
+    wentBack = now();
+    rewound = game.rewind(1);
+    if (rewound !== null) {
+      keepWhereDue();
+      showPicture();
+    }
+  }
+  countAnew();
+  return { ...place(), rewound };
+}
+
+/** A moment of the page's: the frames that are due by the clock, or, fast, as many as there is time for; or the state before. */
+function tick({ held, isFast, isBack }) {
   buttons = held;
-  if (game === null || isBusy || isPaused || isMax) {
+  if (game === null || isBusy || isMax || (isPaused && !isBack)) {
     return game === null ? {} : place();
   }
   return guarded(() => {
+    if (isBack) {
+      return rewindABit();
+    }
     if (isFast) {
       playUntil(now() + FAST_PIECE, Infinity);
       countAnew();
@@ -238,7 +265,8 @@ const answers = {
   async open({ id = null, rom = null, name = null, anew = false, paused = false, max = false, test = false }) {
     close();
     isTest = test;
-    game = await Game.open(await loaded(), { id, rom, name, isNew: anew, isTimed: !isTest, ask });
+    // a game that runs as fast as it goes would copy its states most of the time
+    game = await Game.open(await loaded(), { id, rom, name, isNew: anew, isTimed: !isTest, hasPast: !max, ask });
     stopped = null;
     isPaused = paused;
     isMax = max;
@@ -269,6 +297,23 @@ const answers = {
   state: () => guarded((one) => one.state()),
   picture: () => guarded((one) => one.picture()),
   image: () => guarded((one) => one.image()),
+  power() {
+    open().power();
+    guarded(keepWhereDue);
+    countAnew();
+    showPicture();
+    return place();
+  },
+  rewind({ states }) {
+    const rewound = open().rewind(states);
+    if (rewound === null) {
+      throw Refused.own('oldest');
+    }
+    guarded(keepWhereDue);
+    countAnew();
+    showPicture();
+    return { ...place(), rewound };
+  },
   async keepSlot() {
     await open().keepSlot();
     return place();
