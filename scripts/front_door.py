@@ -258,11 +258,9 @@ def shell(room, line, **more):
 
 def clone(room, program):
     """What of the clone the blocks need, with this program at bin/gbkeep."""
-    for path in ('README.md', 'Makefile', 'crates.txt', 'examples', 'players', 'testers', 'docs', 'completions', 'packaging'):
+    for path in ('README.md', 'Makefile', 'crates.txt', 'examples', 'players', 'testers', 'docs', 'completions', 'packaging', 'scripts', 'web'):
         copy = shutil.copytree if os.path.isdir(path) else shutil.copy
         copy(path, os.path.join(room, path))
-    os.makedirs(os.path.join(room, 'scripts/second_storage'))
-    shutil.copy('scripts/second_storage/save_files.py', os.path.join(room, 'scripts/second_storage'))
     os.makedirs(os.path.join(room, 'bin'))
     os.makedirs(os.path.join(room, 'crates/command_line/src'))
     shutil.copy(WORDS, os.path.join(room, WORDS))
