@@ -129,9 +129,11 @@ class Call:
 
     def __init__(self, name, head, contract, enums, behind, equations, causes, bodies):
         error = re.search(r'(\w+)(?:<[\w, ]+>)?>\s*(?:where.*)?$', head.rpartition('->')[2].strip(), re.S)[1]
+        # the fault of what a type parameter stands for has no variants here
+        of_a_parameter = re.search(r'\b(?:Self|[A-Z])::Fault>', head.rpartition('->')[2])
         error = behind.get(error, error)
         self.clauses = set(re.findall(r'ensures (\w+) \{', contract)) or {'the only one'}
-        self.variants = enums.get(error, {error})
+        self.variants = {'Fault'} if of_a_parameter else enums.get(error, {error})
         # what stands before an arrow is asked, and not told
         told = re.sub(r'\bIs\w+ [\w.]+ →', '→', contract)
         used = re.findall(r'\bIs\w+', told) + [causes[name] for name in re.findall(r'\b[A-Z]\w+', told) if name in causes]
@@ -155,6 +157,7 @@ class Sources:
         specs = {crate: ''.join(definitions_in(path.read_text()) for path in sorted((Path('crates') / crate / 'specs').glob('*.antt'))) for crate in self.crates}
         equations = {crate: equations_of(text) for crate, text in specs.items()}
         causes = {crate: causes_of(text) for crate, text in specs.items()}
+        self.stops = possible('IsStop', equations['playing'], enums['SessionError'])
         self.calls, self.others = {}, 0
         for crate, (_, own) in zip(self.crates, parts):
             # what hands something back may be another crate's
@@ -192,8 +195,8 @@ def wanted_of(key, known):
     if key == ('whole_lives', 'live') or call.can is None and not call.order and not call.variants & HOLDS_OTHERS:
         return None
     wanted = (call.can if call.can is not None else set(call.order) or call.variants) - HOLDS_OTHERS
-    # a play and a stream make moves, which stop for reasons of their own
-    return wanted | known.calls['playing', 'make_move'].can if key[1] in ('play', 'stream') and 'make_move' in call.calls else wanted
+    # a play and a stream make moves on a session, which stop for reasons of their own
+    return wanted | known.stops if key[1] in ('play', 'stream') and 'make_move' in call.calls else wanted
 
 
 def differences(table, known):

@@ -4,7 +4,7 @@ use Rattle.cartridge.specs.Accepted.{IsAccepted}
 use Rattle.sector_device.specs.DiskState.{DiskState}
 use Rattle.streaming.specs.declared.obeying.End.{End}
 use Rattle.recorded_play.specs.Whole.{HasRecorded, HasStopped, IsRecordCause}
-use Rattle.recorded_play.specs.Obeying.{told_as}
+use Rattle.recorded_play.specs.Steps.{told_as}
 use Rattle.recorded_play.specs.declared.error.RecordError.{RecordError}
 use Rattle.recorded_play.specs.declared.error.RecordError.TheVariants.{Session, Recording, Behind, Line, Input}
 use Rattle.playing.proofs.Telling.{keeps_same}

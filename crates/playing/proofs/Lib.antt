@@ -5,4 +5,5 @@ pub mod Telling
 pub mod Stops
 pub mod Making
 mod Steps
+pub mod Going
 pub mod Wholes

@@ -4,9 +4,9 @@ use Rattle.std.proofs.Math.Seq.{take-suc}
 use Rattle.std.proofs.lemmas.List.{replicate-append-replicate}
 use Rattle.machine.specs.Machine.{Input}
 use Rattle.script.specs.declared.moves.Move.{Move}
-use Rattle.session.specs.declared.error.SessionError.{SessionError}
-use Rattle.playing.specs.Making.{Place, all_of, Makes, StopsMaking, GivesInputs, StopsAmongInputs, MakesMoves, StopsAmongMoves}
+use Rattle.playing.specs.Making.{count_of, Makes, StopsMaking, GivesInputs, StopsAmongInputs, MakesMoves, StopsAmongMoves}
 use Rattle.playing.specs.Report.{unsaved_behind, lines_of_inputs, inputs_of_move, inputs_of_moves, unsaved_behind_move, unsaved_behind_moves, lines_of_move, lines_of_moves}
+use Rattle.playing.specs.declared.playable.Playable.{Ghosts}
 use Rattle.playing.proofs.ReportLaws.{inputs_append, unsaved_append, lines_append, unsaved_moves, lines_moves}
 use Rattle.playing.proofs.Making.{Asked, makes_by, stops_by, does_then, stops_among_more, stops_before_more}
 
@@ -30,14 +30,14 @@ all_frames input i n less =
     let e : i + 1 + (n - (i + 1)) ≡ n = omega arith in
     ap (λ (l : List Input). l ++ replicate (n - (i + 1)) input) (one_frame_more input i) ∙ replicate-append-replicate (i + 1) (n - (i + 1)) input ∙ ap (λ (k : ℕ). replicate k input) e
 
-module _ (a b c : Place) (x y z : Option (List ℕ)) (input : Input) (i : ℕ) (so_far : GivesInputs a b x y (replicate i input)) where
-  pub frame_given : GivesInputs b c y z (input ∷ []) → GivesInputs a c x z (replicate (i + 1) input)
-  frame_given one = subst (GivesInputs a c x z) (one_frame_more input i) (does_then inputs a b c x y z (replicate i input) (input ∷ []) so_far one)
+module _ {G F : Type 0} (game : Ghosts G F) (a b c : G) (x y z : Option (List ℕ)) (input : Input) (i : ℕ) (so_far : GivesInputs game a b x y (replicate i input)) where
+  pub frame_given : GivesInputs game b c y z (input ∷ []) → GivesInputs game a c x z (replicate (i + 1) input)
+  frame_given one = subst (GivesInputs game a c x z) (one_frame_more input i) (does_then game inputs a b c x y z (replicate i input) (input ∷ []) so_far one)
 
-  pub frame_stopped : (may_fail : Type 0) (why : SessionError) (n : ℕ) → i < n → StopsAmongInputs b c y z may_fail (input ∷ []) why → StopsAmongInputs a c x z may_fail (replicate n input) why
+  pub frame_stopped : (may_fail : Type 0) (why : F) (n : ℕ) → i < n → StopsAmongInputs game b c y z may_fail (input ∷ []) why → StopsAmongInputs game a c x z may_fail (replicate n input) why
   frame_stopped may_fail why n less stop =
-      subst (λ (l : List Input). StopsAmongInputs a c x z may_fail l why) (all_frames input i n less)
-      (stops_before_more inputs a c x z may_fail (replicate i input ++ input ∷ []) (replicate (n - (i + 1)) input) why (stops_among_more inputs a b c x y z may_fail (replicate i input) (input ∷ []) why so_far stop))
+      subst (λ (l : List Input). StopsAmongInputs game a c x z may_fail l why) (all_frames input i n less)
+      (stops_before_more game inputs a c x z may_fail (replicate i input ++ input ∷ []) (replicate (n - (i + 1)) input) why (stops_among_more game inputs a b c x y z may_fail (replicate i input) (input ∷ []) why so_far stop))
 
 -- ---- moves
 
@@ -52,12 +52,12 @@ moves_asked = record {
 }
 
 -- one move
-module _ {a b : Place} {x y : Option (List ℕ)} (m : Move) where
-  pub move_made : Makes a b x y (inputs_of_move m) (unsaved_behind_move (length a.pending) m) (lines_of_move (all_of a) (length a.pending) m) → MakesMoves a b x y (m ∷ [])
-  move_made made = makes_by (sym (append-nil (inputs_of_move m))) refl (sym (append-nil (lines_of_move (all_of a) (length a.pending) m))) made
+module _ {G F : Type 0} (game : Ghosts G F) {a b : G} {x y : Option (List ℕ)} (m : Move) where
+  pub move_made : Makes game a b x y (inputs_of_move m) (unsaved_behind_move (game.unsaved a) m) (lines_of_move (count_of game a) (game.unsaved a) m) → MakesMoves game a b x y (m ∷ [])
+  move_made made = makes_by game (sym (append-nil (inputs_of_move m))) refl (sym (append-nil (lines_of_move (count_of game a) (game.unsaved a) m))) made
 
-  pub move_stopped : {may_fail : Type 0} {why : SessionError} → StopsMaking a b x y may_fail (inputs_of_move m) (lines_of_move (all_of a) (length a.pending) m) why → StopsAmongMoves a b x y may_fail (m ∷ []) why
-  move_stopped stop = stops_by (sym (append-nil (inputs_of_move m))) (sym (append-nil (lines_of_move (all_of a) (length a.pending) m))) stop
+  pub move_stopped : {may_fail : Type 0} {why : F} → StopsMaking game a b x y may_fail (inputs_of_move m) (lines_of_move (count_of game a) (game.unsaved a) m) why → StopsAmongMoves game a b x y may_fail (m ∷ []) why
+  move_stopped stop = stops_by game (sym (append-nil (inputs_of_move m))) (sym (append-nil (lines_of_move (count_of game a) (game.unsaved a) m))) stop
 
 split : (moves : List Move) (i : ℕ) → take i moves ++ drop i moves ≡ moves
 split moves zero = refl
@@ -70,11 +70,11 @@ one_move_more moves i d less = let next : suc i ≡ i + 1 = omega arith in sym (
 all_moves : (moves : List Move) (i : ℕ) (d : Move) → i < length moves → (take i moves ++ get_or moves i d ∷ []) ++ drop (i + 1) moves ≡ moves
 all_moves moves i d less = ap (λ (l : List Move). l ++ drop (i + 1) moves) (one_move_more moves i d less) ∙ split moves (i + 1)
 
-module _ (a b c : Place) (x y z : Option (List ℕ)) (moves : List Move) (i : ℕ) (d : Move) (less : i < length moves) (so_far : MakesMoves a b x y (take i moves)) where
-  pub next_made : MakesMoves b c y z (get_or moves i d ∷ []) → MakesMoves a c x z (take (i + 1) moves)
-  next_made one = subst (MakesMoves a c x z) (one_move_more moves i d less) (does_then moves_asked a b c x y z (take i moves) (get_or moves i d ∷ []) so_far one)
+module _ {G F : Type 0} (game : Ghosts G F) (a b c : G) (x y z : Option (List ℕ)) (moves : List Move) (i : ℕ) (d : Move) (less : i < length moves) (so_far : MakesMoves game a b x y (take i moves)) where
+  pub next_made : MakesMoves game b c y z (get_or moves i d ∷ []) → MakesMoves game a c x z (take (i + 1) moves)
+  next_made one = subst (MakesMoves game a c x z) (one_move_more moves i d less) (does_then game moves_asked a b c x y z (take i moves) (get_or moves i d ∷ []) so_far one)
 
-  pub next_stopped : (may_fail : Type 0) (why : SessionError) → StopsAmongMoves b c y z may_fail (get_or moves i d ∷ []) why → StopsAmongMoves a c x z may_fail moves why
+  pub next_stopped : (may_fail : Type 0) (why : F) → StopsAmongMoves game b c y z may_fail (get_or moves i d ∷ []) why → StopsAmongMoves game a c x z may_fail moves why
   next_stopped may_fail why stop =
-      subst (λ (l : List Move). StopsAmongMoves a c x z may_fail l why) (all_moves moves i d less)
-      (stops_before_more moves_asked a c x z may_fail (take i moves ++ get_or moves i d ∷ []) (drop (i + 1) moves) why (stops_among_more moves_asked a b c x y z may_fail (take i moves) (get_or moves i d ∷ []) why so_far stop))
+      subst (λ (l : List Move). StopsAmongMoves game a c x z may_fail l why) (all_moves moves i d less)
+      (stops_before_more game moves_asked a c x z may_fail (take i moves ++ get_or moves i d ∷ []) (drop (i + 1) moves) why (stops_among_more game moves_asked a b c x y z may_fail (take i moves) (get_or moves i d ∷ []) why so_far stop))

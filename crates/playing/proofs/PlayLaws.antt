@@ -1,5 +1,5 @@
 -- How a play goes on over one save, over one input, and over several.
-use Rattle.std.proofs.Common.{◌≡◌, inl, inr, ⊎_elim, Bool, true, ℕ, ◌+◌, ◌-◌, ◌≤◌, List, [], ◌∷◌, ◌++◌, length, take, drop, Some, Result, Ok, Err, OnOk, sym, ap, ◌∙◌, subst, arith, length-append, length-drop, append-nil}
+use Rattle.std.proofs.Common.{◌≡◌, inl, inr, ⊎_elim, Bool, true, ℕ, ◌+◌, ◌≤◌, List, [], ◌∷◌, ◌++◌, length, take, drop, Some, Result, Ok, Err, OnOk, sym, ap, ◌∙◌, subst, arith, length-append, length-drop, append-nil}
 use Rattle.std.proofs.Math.Seq.{take-add}
 use Rattle.std.proofs.lemmas.Bool.{cases_Bool}
 use Rattle.std.proofs.lemmas.List.{take_all, drop_all, drop-append-le, take-append-le, length-take-le}

@@ -4,52 +4,56 @@ use Rattle.std.specs.Io.KnownBytes.{Appends}
 use Rattle.exact_text.specs.Written.{AppendsProperPrefix}
 use Rattle.machine.specs.Machine.{Input}
 use Rattle.script.specs.declared.moves.Move.{Move}
-use Rattle.session.specs.declared.error.SessionError.{SessionError}
 use Rattle.session.specs.declared.error.SessionError.TheVariants.{Output}
-use Rattle.playing.specs.Making.{Place, all_of, Makes, StopsMaking, MakesMoves, StopsAmongMoves}
+use Rattle.playing.specs.Making.{count_of, Makes, StopsMaking, MakesMoves, StopsAmongMoves}
 use Rattle.playing.specs.Report.{Line, resumed_line, inputs_of_moves, unsaved_behind_moves, lines_of_moves, last_line, report_lines}
-use Rattle.playing.proofs.Making.{makes_by, makes_then, makes_line, stops_at_line, stops_before, stops_by, stops_then}
+use Rattle.playing.specs.declared.playable.Playable.{Ghosts}
+use Rattle.playing.proofs.Making.{advances_count, makes_by, makes_then, makes_line, stops_at_line, stops_before, stops_by, stops_then}
 
-module _ (a : Place) (x y : Option (List ℕ)) (all : ℕ) (all_is : all ≡ all_of a) (none : a.pending ≡ []) (only : (image : List (List ℕ)) → a.disk.since a.disk.moment image → a.disk.image image) where
-  count_is : all ≡ a.acknowledged
-  count_is = omega (arith, all_is, ap length none)
+module _ {G F : Type 0} (game : Ghosts G F) (a : G) (x y : Option (List ℕ)) (all : ℕ) (all_is : all ≡ count_of game a) (none : game.unsaved a ≡ 0) where
+  count_is : all ≡ game.acknowledged a
+  count_is = omega (arith, all_is, none)
 
-  pub resumed_made : Appends x y (resumed_line all).text → Makes a a x y [] (length a.pending) (resumed_line a.acknowledged ∷ [])
-  resumed_made written = makes_line a x y only (resumed_line a.acknowledged) (omega arith) (subst (λ (n : ℕ). Appends x y (resumed_line n).text) count_is written)
+  pub resumed_made : Appends x y (resumed_line all).text → Makes game a a x y [] (game.unsaved a) (resumed_line (game.acknowledged a) ∷ [])
+  resumed_made written = makes_line game a x y (resumed_line (game.acknowledged a)) (omega arith) (subst (λ (n : ℕ). Appends x y (resumed_line n).text) count_is written)
 
-  pub resumed_failed : {may_fail : Type 0} (inputs : List Input) (lines : List Line) → may_fail → AppendsProperPrefix x y (resumed_line all).text → StopsMaking a a x y may_fail inputs (resumed_line a.acknowledged ∷ lines) Output
-  resumed_failed inputs lines fails part =
-      stops_before inputs lines (stops_at_line a x y only (resumed_line a.acknowledged) fails (subst (λ (n : ℕ). AppendsProperPrefix x y (resumed_line n).text) count_is part))
+  pub resumed_failed : {may_fail : Type 0} (inputs : List Input) (lines : List Line) → game.told_as game.unwritten ≡ Output → may_fail → AppendsProperPrefix x y (resumed_line all).text
+      → StopsMaking game a a x y may_fail inputs (resumed_line (game.acknowledged a) ∷ lines) game.unwritten
+  resumed_failed inputs lines is fails part =
+      stops_before game inputs lines (stops_at_line game a x y (resumed_line (game.acknowledged a)) is fails (subst (λ (n : ℕ). AppendsProperPrefix x y (resumed_line n).text) count_is part))
 
-module _ (a b : Place) (x y z : Option (List ℕ)) (moves : List Move) (none : a.pending ≡ []) (resumed : Makes a a x y [] (length a.pending) (resumed_line a.acknowledged ∷ [])) where
+module _ {G F : Type 0} (game : Ghosts G F) (a b : G) (x y z : Option (List ℕ)) (moves : List Move) (none : game.unsaved a ≡ 0) (resumed : Makes game a a x y [] (game.unsaved a) (resumed_line (game.acknowledged a) ∷ [])) where
+  abbrev first : ℕ
+  first = game.acknowledged a
+
   -- what is written for the moves
-  moves_lines : lines_of_moves (all_of a) (length a.pending) moves ≡ lines_of_moves a.acknowledged 0 moves
+  moves_lines : lines_of_moves (count_of game a) (game.unsaved a) moves ≡ lines_of_moves first 0 moves
   moves_lines =
-      let all : all_of a ≡ a.acknowledged = omega (arith, ap length none) in
-      ap (λ (n : ℕ). lines_of_moves n (length a.pending) moves) all ∙ ap (λ (n : ℕ). lines_of_moves a.acknowledged n moves) (ap length none)
+      let all : count_of game a ≡ first = omega (arith, none) in
+      ap (λ (n : ℕ). lines_of_moves n (game.unsaved a) moves) all ∙ ap (λ (n : ℕ). lines_of_moves first n moves) none
 
   -- they were refused
-  pub play_stopped : (may_fail : Type 0) (why : SessionError) → StopsAmongMoves a b y z may_fail moves why → StopsMaking a b x z may_fail (inputs_of_moves moves) (report_lines a.acknowledged moves) why
+  pub play_stopped : (may_fail : Type 0) (why : F) → StopsAmongMoves game a b y z may_fail moves why → StopsMaking game a b x z may_fail (inputs_of_moves moves) (report_lines first moves) why
   play_stopped may_fail why stop =
-      let last = last_line (a.acknowledged + length (inputs_of_moves moves)) (unsaved_behind_moves 0 moves) in
-      stops_by (append-nil (inputs_of_moves moves)) refl (stops_before [] last (stops_by refl (ap (λ (l : List Line). resumed_line a.acknowledged ∷ l) moves_lines) (stops_then resumed stop)))
+      let last = last_line (first + length (inputs_of_moves moves)) (unsaved_behind_moves 0 moves) in
+      stops_by game (append-nil (inputs_of_moves moves)) refl (stops_before game [] last (stops_by game refl (ap (λ (l : List Line). resumed_line first ∷ l) moves_lines) (stops_then game resumed stop)))
 
   -- they were made
-  module _ (made : MakesMoves a b y z moves) where
+  module _ (made : MakesMoves game a b y z moves) where
     abbrev pub last_there : List Line
-    last_there = last_line (all_of b) (length b.pending)
+    last_there = last_line (count_of game b) (game.unsaved b)
 
-    report_is : (resumed_line a.acknowledged ∷ []) ++ (lines_of_moves (all_of a) (length a.pending) moves ++ last_there) ≡ report_lines a.acknowledged moves
+    report_is : (resumed_line first ∷ []) ++ (lines_of_moves (count_of game a) (game.unsaved a) moves ++ last_there) ≡ report_lines first moves
     report_is =
-        let all : all_of b ≡ a.acknowledged + length (inputs_of_moves moves) = omega (arith, made.all_is, ap length none) in
-        let left : length b.pending ≡ unsaved_behind_moves 0 moves = made.unsaved_is ∙ ap (λ (n : ℕ). unsaved_behind_moves n moves) (ap length none) in
-        ap (λ (l : List Line). resumed_line a.acknowledged ∷ (l ++ last_there)) moves_lines
-        ∙ ap (λ (n : ℕ). resumed_line a.acknowledged ∷ (lines_of_moves a.acknowledged 0 moves ++ last_line n (length b.pending))) all
-        ∙ ap (λ (n : ℕ). resumed_line a.acknowledged ∷ (lines_of_moves a.acknowledged 0 moves ++ last_line (a.acknowledged + length (inputs_of_moves moves)) n)) left
+        let all : count_of game b ≡ first + length (inputs_of_moves moves) = omega (arith, advances_count game made.advances, none) in
+        let left : game.unsaved b ≡ unsaved_behind_moves 0 moves = made.unsaved_is ∙ ap (λ (n : ℕ). unsaved_behind_moves n moves) none in
+        ap (λ (l : List Line). resumed_line first ∷ (l ++ last_there)) moves_lines
+        ∙ ap (λ (n : ℕ). resumed_line first ∷ (lines_of_moves first 0 moves ++ last_line n (game.unsaved b))) all
+        ∙ ap (λ (n : ℕ). resumed_line first ∷ (lines_of_moves first 0 moves ++ last_line (first + length (inputs_of_moves moves)) n)) left
 
-    pub play_made : (c : Place) (w : Option (List ℕ)) → Makes b c z w [] 0 last_there → Makes a c x w (inputs_of_moves moves) 0 (report_lines a.acknowledged moves)
-    play_made c w last = makes_by (append-nil (inputs_of_moves moves)) refl report_is (makes_then resumed (makes_then made last))
+    pub play_made : (c : G) (w : Option (List ℕ)) → Makes game b c z w [] 0 last_there → Makes game a c x w (inputs_of_moves moves) 0 (report_lines first moves)
+    play_made c w last = makes_by game (append-nil (inputs_of_moves moves)) refl report_is (makes_then game resumed (makes_then game made last))
 
     -- and the save behind them was refused
-    pub play_not_saved : (c : Place) (w : Option (List ℕ)) (may_fail : Type 0) (why : SessionError) → StopsMaking b c z w may_fail [] last_there why → StopsMaking a c x w may_fail (inputs_of_moves moves) (report_lines a.acknowledged moves) why
-    play_not_saved c w may_fail why stop = stops_by (append-nil (inputs_of_moves moves)) report_is (stops_then resumed (stops_then made stop))
+    pub play_not_saved : (c : G) (w : Option (List ℕ)) (may_fail : Type 0) (why : F) → StopsMaking game b c z w may_fail [] last_there why → StopsMaking game a c x w may_fail (inputs_of_moves moves) (report_lines first moves) why
+    play_not_saved c w may_fail why stop = stops_by game (append-nil (inputs_of_moves moves)) report_is (stops_then game resumed (stops_then game made stop))

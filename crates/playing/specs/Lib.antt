@@ -1,3 +1,4 @@
 pub mod Report
 pub mod Played
+pub mod Going
 pub mod Making

@@ -1,88 +1,78 @@
--- What moves that are made leave of a session and of its report.
-use Rattle.std.specs.Prelude.{◌≡◌, ◌≤◌, ◌+◌, ℕ, List, ◌++◌, length, Option, Ok, Err, All}
+-- What moves that are made leave of a game and of its report.
+use Rattle.std.specs.Prelude.{◌≡◌, ◌≤◌, ◌+◌, ℕ, List, [], ◌∷◌, Option, All}
 use Rattle.std.specs.Io.KnownBytes.{Appends}
-use Rattle.machine.specs.Machine.{MachineState, after}
-use Rattle.machine.specs.Machine.{Input}
-use Rattle.sector_device.specs.DiskState.{DiskState, HasAnswered}
-use Rattle.sector_device.specs.declared.device.SectorDevice.{Ghosts}
-use Rattle.input_entries.specs.declared.Entry.{Entry}
+use Rattle.machine.specs.Machine.{Input, applied}
 use Rattle.script.specs.declared.moves.Move.{Move}
-use Rattle.session.specs.Calls.{faults_after}
-use Rattle.session.specs.Stands.{Position}
-use Rattle.session.specs.Accessors.{machine_of, pending_of, acknowledged_of}
-use Rattle.session.specs.declared.error.SessionError.{SessionError}
 use Rattle.session.specs.declared.error.SessionError.TheVariants.{Output}
-use Rattle.session.specs.declared.session.Session.{Session}
-use Rattle.playing.specs.Played.{IsPlayed, IsStop, Going, Stopped}
 use Rattle.playing.specs.Report.{Line, texts, unsaved_behind, lines_of_inputs, inputs_of_moves, unsaved_behind_moves, lines_of_moves, HasTold}
+use Rattle.playing.specs.declared.playable.Playable.{Ghosts}
 
--- where a session is
-pub record Place : Type 1 where
-  pub disk : DiskState
-  pub acknowledged : ℕ
-  pub pending : List Entry
-  pub machine : MachineState
+module _ {G F : Type 0} (game : Ghosts G F) where
+  abbrev pub count_of : G → ℕ
+  count_of a = game.acknowledged a + game.unsaved a
 
-abbrev pub all_of : Place → ℕ
-all_of p = p.acknowledged + length p.pending
+  -- ---- one input, and one save
 
-module _ {D : Type 0} {disk : Ghosts D} where
-  abbrev pub place : DiskState → Session D disk → Place
-  place now s = record { disk = now; acknowledged = acknowledged_of s; pending = pending_of s; machine = machine_of s }
+  pub record IsGiven (a b : G) (input : Input) : Type 0 where
+    pub gives : game.gives a b input
+    pub machine_is : game.machine b ≡ applied input (game.machine a)
+    pub acknowledged_is : game.acknowledged b ≡ game.acknowledged a
+    pub unsaved_is : game.unsaved b ≡ game.unsaved a + 1
 
--- These inputs were given, so many are unsaved after them, and these lines were written: what was known of a report before them, and since.
-pub record Makes (old new : Place) (before since : Option (List ℕ)) (inputs : List Input) (unsaved : ℕ) (lines : List Line) : Type 0 where
-  -- a play goes on: each image at each moment stands for some of its inputs, with these after them
-  pub going : (rom : List ℕ) (from : Position) (given : List Input) → IsPlayed rom old.disk old.acknowledged old.pending old.machine from given
-      → Going rom old.disk new.disk new.acknowledged new.pending new.machine from (given ++ inputs)
-  -- the machine is the one after these inputs
-  pub machine_is : new.machine ≡ after old.machine inputs
-  -- each of them is counted
-  pub all_is : all_of new ≡ all_of old + length inputs
-  -- so many are unsaved
-  pub unsaved_is : length new.pending ≡ unsaved
-  -- the lines were written whole, and nothing else
-  pub answered : Appends before since (texts lines)
-  -- each count that they tell is saved
-  pub are_saved : All (λ line. line.told ≤ new.acknowledged) lines
-  -- what was saved stays saved
-  pub later : old.acknowledged ≤ new.acknowledged
-  -- no call of the device failed
-  pub calls : HasAnswered {T = Unit {0}} faults_after old.disk new.disk (Ok tt)
-  -- the cartridge stays
-  pub rom : new.machine.processor.memory.banks.rom ≡ old.machine.processor.memory.banks.rom
+  pub record IsSaved (a b : G) : Type 0 where
+    pub saves : game.saves a b
+    pub machine_is : game.machine b ≡ game.machine a
+    pub acknowledged_is : game.acknowledged b ≡ count_of a
+    pub unsaved_is : game.unsaved b ≡ 0
 
--- One of these inputs, a save among them or a line was refused, after those before it.
-pub record StopsMaking (old new : Place) (before since : Option (List ℕ)) (may_fail : Type 0) (inputs : List Input) (lines : List Line) (why : SessionError) : Type 0 where
-  -- a play stops: each image at each moment stands for some of its inputs and of these, and each that is left at least for what is saved
-  pub stopped : (rom : List ℕ) (from : Position) (given : List Input) → IsPlayed rom old.disk old.acknowledged old.pending old.machine from given
-      → Stopped rom old.disk new.disk new.acknowledged from (given ++ inputs)
-  -- the first of the lines were written, each telling a count that is saved
-  pub told : HasTold why new.acknowledged lines before since
-  -- the generations are used up, a call failed, these inputs are more than can be counted, or a line failed
-  pub cause : IsStop why (all_of old + length inputs) new.disk
-  -- the last of these only where a line may fail
-  pub output : why ≡ Output → may_fail
-  -- what was saved stays saved
-  pub later : old.acknowledged ≤ new.acknowledged
-  -- a call of the device failed if that is the cause, and else none
-  pub calls : HasAnswered {T = Unit {0}} faults_after old.disk new.disk (Err why)
-  -- the cartridge stays
-  pub rom : new.machine.processor.memory.banks.rom ≡ old.machine.processor.memory.banks.rom
+  -- ---- several
 
--- ---- by what was asked for
+  -- these inputs were given one after the other, with some saves between them
+  pub data Advances : G → G → List Input → Type 0 where
+    stays : (a : G) → Advances a a []
+    by_input : {a b c : G} {input : Input} {more : List Input} → IsGiven a b input → Advances b c more → Advances a c (input ∷ more)
+    by_save : {a b c : G} {more : List Input} → IsSaved a b → Advances b c more → Advances a c more
 
--- these inputs were given, and each save was made and told that was due among them
-abbrev pub GivesInputs : (old new : Place) → (before since : Option (List ℕ)) → List Input → Type 0
-GivesInputs old new before since inputs = Makes old new before since inputs (unsaved_behind (length old.pending) inputs) (lines_of_inputs (all_of old) (length old.pending) inputs)
+  -- an input among these, a save or a line was refused
+  pub data Stops : G → G → List Input → F → Type 0 where
+    at_input : {a b : G} {input : Input} {more : List Input} {why : F} → game.refuses a b input why → game.acknowledged b ≡ game.acknowledged a → Stops a b (input ∷ more) why
+    at_save : {a b : G} {more : List Input} {why : F} → game.fails a b why → game.acknowledged b ≡ game.acknowledged a → Stops a b more why
+    at_line : (a : G) (more : List Input) → Stops a a more game.unwritten
+    past_input : {a b c : G} {input : Input} {more : List Input} {why : F} → IsGiven a b input → Stops b c more why → Stops a c (input ∷ more) why
+    past_save : {a b c : G} {more : List Input} {why : F} → IsSaved a b → Stops b c more why → Stops a c more why
 
-abbrev pub StopsAmongInputs : (old new : Place) → (before since : Option (List ℕ)) → (may_fail : Type 0) → List Input → SessionError → Type 0
-StopsAmongInputs old new before since may_fail inputs why = StopsMaking old new before since may_fail inputs (lines_of_inputs (all_of old) (length old.pending) inputs) why
+  -- ---- with a report
 
--- these moves were made
-abbrev pub MakesMoves : (old new : Place) → (before since : Option (List ℕ)) → List Move → Type 0
-MakesMoves old new before since moves =
-    Makes old new before since (inputs_of_moves moves) (unsaved_behind_moves (length old.pending) moves) (lines_of_moves (all_of old) (length old.pending) moves)
+  -- These inputs were given, so many are unsaved after them, and these lines were written: what was known of a report before them, and since.
+  pub record Makes (old new : G) (before since : Option (List ℕ)) (inputs : List Input) (unsaved : ℕ) (lines : List Line) : Type 0 where
+    pub advances : Advances old new inputs
+    pub unsaved_is : game.unsaved new ≡ unsaved
+    -- the lines were written whole, and nothing else
+    pub answered : Appends before since (texts lines)
+    -- each count that they tell is saved
+    pub are_saved : All (λ line. line.told ≤ game.acknowledged new) lines
 
-abbrev pub StopsAmongMoves : (old new : Place) → (before since : Option (List ℕ)) → (may_fail : Type 0) → List Move → SessionError → Type 0
-StopsAmongMoves old new before since may_fail moves why = StopsMaking old new before since may_fail (inputs_of_moves moves) (lines_of_moves (all_of old) (length old.pending) moves) why
+  -- One of these inputs, a save among them or a line was refused, after those before it.
+  pub record StopsMaking (old new : G) (before since : Option (List ℕ)) (may_fail : Type 0) (inputs : List Input) (lines : List Line) (why : F) : Type 0 where
+    pub stops : Stops old new inputs why
+    -- the first of the lines were written, each telling a count that is saved
+    pub told : HasTold (game.told_as why) (game.acknowledged new) lines before since
+    -- a line was refused only where one may fail
+    pub output : game.told_as why ≡ Output → may_fail
+
+  -- ---- by what was asked for
+
+  -- these inputs were given, and each save was made and told that was due among them
+  abbrev pub GivesInputs : (old new : G) → (before since : Option (List ℕ)) → List Input → Type 0
+  GivesInputs old new before since inputs = Makes old new before since inputs (unsaved_behind (game.unsaved old) inputs) (lines_of_inputs (count_of old) (game.unsaved old) inputs)
+
+  abbrev pub StopsAmongInputs : (old new : G) → (before since : Option (List ℕ)) → (may_fail : Type 0) → List Input → F → Type 0
+  StopsAmongInputs old new before since may_fail inputs why = StopsMaking old new before since may_fail inputs (lines_of_inputs (count_of old) (game.unsaved old) inputs) why
+
+  -- these moves were made
+  abbrev pub MakesMoves : (old new : G) → (before since : Option (List ℕ)) → List Move → Type 0
+  MakesMoves old new before since moves =
+      Makes old new before since (inputs_of_moves moves) (unsaved_behind_moves (game.unsaved old) moves) (lines_of_moves (count_of old) (game.unsaved old) moves)
+
+  abbrev pub StopsAmongMoves : (old new : G) → (before since : Option (List ℕ)) → (may_fail : Type 0) → List Move → F → Type 0
+  StopsAmongMoves old new before since may_fail moves why = StopsMaking old new before since may_fail (inputs_of_moves moves) (lines_of_moves (count_of old) (game.unsaved old) moves) why

@@ -3,9 +3,11 @@
 #![tactic(auto)]
 
 mod moves;
+mod playable;
 mod played;
 mod report;
 
-pub use moves::{make_move, make_moves};
+pub use moves::{give, make_move, make_moves, save_line};
+pub use playable::Playable;
 pub use played::play;
 pub use report::{Report, Silent, write_resumed, write_saved};

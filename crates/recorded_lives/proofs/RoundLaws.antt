@@ -29,7 +29,7 @@ use Rattle.streaming.specs.declared.obeying.End.{End}
 use Rattle.streaming.specs.declared.obeying.End.TheVariants.{Whole, Wrong, Failed}
 use Rattle.replaying.specs.Agreeing.{Agrees}
 use Rattle.recorded_play.specs.Agreeing.{AllAgree, recorded_inputs}
-use Rattle.recorded_play.specs.Obeying.{told_as}
+use Rattle.recorded_play.specs.Steps.{told_as}
 use Rattle.recorded_play.specs.Whole.{behind, IsTakenUp, HasRecorded, HasStopped, IsNotTakenUp, TakeUpImage, IsRecordCause, IsEndCause}
 use Rattle.recorded_play.specs.declared.error.RecordError.{RecordError}
 use Rattle.recorded_play.specs.declared.error.RecordError.TheVariants.{Session, Recording, Behind, Line as WrongLine, Input as FailedInput}

@@ -14,11 +14,12 @@ use Rattle.session.specs.Inputs.{inputs_of}
 use Rattle.session.proofs.Writes.{since_weaker}
 use Rattle.playing.specs.Played.{Reaches, Stopped}
 use Rattle.playing.proofs.PlayLaws.{reaches_none}
-use Rattle.playing.specs.Making.{Place, all_of}
+use Rattle.playing.specs.Going.{Place, all_of}
 use Rattle.replaying.specs.Agreeing.{Agrees}
 use Rattle.recorded_play.specs.Steps.{Game, power_on, HoldsFirst, HoldsSaved, Records, IsFull, IsInStep, IsBehind, StopsAppend}
 use Rattle.recorded_play.proofs.Recordings.{unsaved, holds_first, holds_here, saved_all, first_none, records_by}
-use Rattle.recorded_play.proofs.Stepping.{IsNow, reached_agrees, save_reaches, behind_by}
+use Rattle.playing.proofs.Going.{IsNow}
+use Rattle.recorded_play.proofs.Stepping.{reached_agrees, save_reaches, behind_by}
 
 -- why an append stops a play
 pub append_stops : (why : RecordingFault) (broken fits : Bool) → broken ≡ false → IsAppendCause why broken fits → StopsAppend why

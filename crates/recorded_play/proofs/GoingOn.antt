@@ -12,8 +12,7 @@ use Rattle.session.specs.Stands.{Position}
 use Rattle.session.proofs.Writes.{since_weaker}
 use Rattle.session.proofs.Beginnings.{since_then}
 use Rattle.playing.proofs.PlayLaws.{begun_played, all_saved}
-use Rattle.playing.specs.Making.{Place, all_of}
-use Rattle.recorded_play.specs.Steps.{IsPlayedAt}
+use Rattle.playing.specs.Going.{Place, all_of, IsPlayedAt}
 use Rattle.session.specs.declared.error.SessionError.TheVariants.{Memory, Device, NoSession, TooSmall, OtherCartridge, Damaged, GenerationsUsedUp, Broken, SaveFirst, CountFull, Output}
 use Rattle.recorded_play.specs.CatchingUp.{recorded_in, FailsRecorded, HasCaughtUp, IsCatchUpStop}
 use Rattle.recorded_play.specs.GoingOn.{GoesOn, StopsGoingOn, IsGoOnCause}

@@ -1,9 +1,6 @@
 pub mod Recordings
 pub mod Stepping
-pub mod Doing
 pub mod BothSaved
-pub mod OneInput
-pub mod Wholes
 pub mod Passing
 pub mod GoingOn
 pub mod TakenUp

@@ -4,87 +4,40 @@ use Rattle.std.specs.Prelude.{IfOk, IfErr}
 use Rattle.std.specs.List.{list_all}
 use Rattle.std.proofs.lemmas.Bool.{cases_Bool, and_parts}
 use Rattle.std.proofs.Math.Seq.{take-suc}
-use Rattle.std.proofs.lemmas.List.{length-map, replicate-append-replicate, take-append-drop}
-use Rattle.machine.specs.Machine.{MachineState, Input, Frame, Seconds, PassesTime, after, applied}
+use Rattle.std.proofs.lemmas.List.{replicate-append-replicate, take-append-drop}
+use Rattle.machine.specs.Machine.{Input, Frame, Seconds}
 use Rattle.sector_device.specs.DiskState.{DiskState, HasAnswered, sector_at}
 use Rattle.sector_device.specs.Looking.{HasLooked, LooksOnly}
 use Rattle.sector_device.proofs.Looking.{looked_then, looked_self}
 use Rattle.input_entries.specs.Inputs.{inputs, inputs_in, is_entry, frame, seconds}
-use Rattle.input_entries.specs.declared.Entry.{Entry}
 use Rattle.input_entries.specs.declared.StoredEntry.{StoredEntry}
 use Rattle.recording.specs.Calls.{IsReadCause, faults_after as faults_after_recording}
 use Rattle.recording.specs.Format.{entries_at, entries_in, is_list_sector, has_front}
 use Rattle.recording.specs.Recorded.{entries, entries_up_to}
 use Rattle.recording.specs.declared.fault.RecordingFault.{RecordingFault}
 use Rattle.recording.specs.declared.fault.RecordingFault.TheVariants.{Memory, Device, TooSmall, NotBlank, NoRecording, OtherCartridge, Full, Broken}
-use Rattle.session.specs.Calls.{faults_after}
-use Rattle.session.specs.Inputs.{input_of, inputs_of}
+use Rattle.session.specs.Inputs.{inputs_of}
 use Rattle.session.specs.declared.error.SessionError.{SessionError}
-use Rattle.session.specs.declared.error.SessionError.TheVariants.{CountFull}
 use Rattle.session.proofs.Answering.{answered_both, answered_nothing, answered_error, answered_otherwise, answered_refused, answered_refusal, answered_value}
 use Rattle.session.proofs.Replaying.{frames_of, seconds_back}
-use Rattle.session.proofs.Saving.{same_after}
-use Rattle.session.proofs.StandsLaws.{after_append, after_none, after_one, logged_append}
+use Rattle.session.proofs.StandsLaws.{logged_append}
 use Rattle.playing.specs.Played.{IsStop}
-use Rattle.playing.proofs.PlayLaws.{IsOneMore, going_nowhere, going_input, going_then, going_by, stopped_then, stopped_by, stopped_more, stopped_here}
-use Rattle.playing.proofs.Stops.{stops_among, full_stops, full_not_output}
-use Rattle.playing.specs.Making.{Place, all_of}
-use Rattle.recorded_play.specs.CatchingUp.{given_by, given_by_all, recorded_in, Goes, Fails, Passes, PassesRecorded, FailsRecorded, HasCaughtUp, IsCatchUpStop}
+use Rattle.playing.proofs.Going.{IsNow, goes_nowhere, goes_then, no_further_then, no_further_more}
+use Rattle.playing.proofs.PlayLaws.{stopped_then, stopped_by, stopped_more, stopped_here}
+use Rattle.playing.proofs.Stops.{stops_among}
+use Rattle.playing.specs.Going.{Place, all_of, Goes}
+use Rattle.recorded_play.specs.CatchingUp.{given_by, given_by_all, recorded_in, Fails, Passes, PassesRecorded, FailsRecorded, HasCaughtUp, IsCatchUpStop}
 use Rattle.recorded_play.specs.declared.error.RecordError.{RecordError}
 use Rattle.recorded_play.specs.declared.error.RecordError.TheVariants.{Session, Recording, Behind, Line, Input as FailedInput}
-use Rattle.recorded_play.proofs.Stepping.{IsNow}
-
-pub goes_nothing : (a : Place) → IsNow a.disk → Goes a a []
-goes_nothing a only = record {
-  going = λ rom from given played. going_nowhere rom a.disk a.acknowledged a.pending a.machine from given played only;
-  machine_is = sym (after_none a.machine);
-  all_is = omega arith;
-  later = omega arith;
-  calls = answered_nothing;
-  rom = refl;
-}
-
-pub goes_then : (a b c : Place) (first second : List Input) → Goes a b first → Goes b c second → Goes a c (first ++ second)
-goes_then a b c first second one two = record {
-  going = λ rom from given played.
-      let before = one.going rom from given played in
-      going_by (append_assoc given first second)
-      (going_then rom a.disk b.disk c.disk c.acknowledged c.pending c.machine from (given ++ first) second before.moments (two.going rom from (given ++ first) before.played));
-  machine_is = two.machine_is ∙ ap (λ (m : MachineState). after m second) one.machine_is ∙ after_append a.machine first second;
-  all_is = omega (arith, two.all_is, one.all_is, length-append first second);
-  later = omega (arith, one.later, two.later);
-  calls = answered_both one.calls two.calls;
-  rom = two.rom ∙ one.rom;
-}
 
 pub goes_by : {a b : Place} {more more' : List Input} → more ≡ more' → Goes a b more → Goes a b more'
 goes_by {a} {b} same goes = subst (Goes a b) same goes
 
 pub fails_then : (a b c : Place) (first second : List Input) (why : SessionError) → Goes a b first → Fails b c second why → Fails a c (first ++ second) why
-fails_then a b c first second why one two = record {
-  stopped = λ rom from given played.
-      let before = one.going rom from given played in
-      stopped_by (append_assoc given first second)
-      (stopped_then rom a.disk b.disk c.disk c.acknowledged from (given ++ first) second before.moments (two.stopped rom from (given ++ first) before.played));
-  cause =
-      let size : all_of b + length second ≤ all_of a + length (first ++ second) = omega (arith, one.all_is, length-append first second) in
-      stops_among why (all_of b + length second) (all_of a + length (first ++ second)) c.disk size two.cause;
-  silent = two.silent;
-  later = omega (arith, one.later, two.later);
-  calls = answered_refused one.calls two.calls (λ n. refl);
-}
+fails_then a b c first second why one two = record { no_further = no_further_then a b c first second why one two.no_further; silent = two.silent }
 
 pub fails_more : (a b : Place) (first second : List Input) (why : SessionError) → Fails a b first why → Fails a b (first ++ second) why
-fails_more a b first second why fails = record {
-  stopped = λ rom from given played.
-      stopped_by (append_assoc given first second) (stopped_more rom a.disk b.disk b.acknowledged from (given ++ first) second (fails.stopped rom from given played));
-  cause =
-      let size : all_of a + length first ≤ all_of a + length (first ++ second) = omega (arith, length-append first second) in
-      stops_among why (all_of a + length first) (all_of a + length (first ++ second)) b.disk size fails.cause;
-  silent = fails.silent;
-  later = fails.later;
-  calls = fails.calls;
-}
+fails_more a b first second why fails = record { no_further = no_further_more a b first second why fails.no_further; silent = fails.silent }
 
 pub fails_by : {a b : Place} {more more' : List Input} {why : SessionError} → more ≡ more' → Fails a b more why → Fails a b more' why
 fails_by {a} {b} {more} {more'} {why} same fails = subst (λ (l : List Input). Fails a b l why) same fails
@@ -104,7 +57,7 @@ drop_both (suc k) (i ∷ first) second =
     drop_both k first second ∙ ap (λ (n : ℕ). drop k first ++ drop n second) e
 
 pub passes_nothing : (a : Place) (skip : ℕ) → IsNow a.disk → Passes a a skip skip []
-passes_nothing a skip only = record { goes = goes_by (nothing_of skip) (goes_nothing a only); left_is = omega arith }
+passes_nothing a skip only = record { goes = goes_by (nothing_of skip) (goes_nowhere a only); left_is = omega arith }
   where
     nothing_of : (k : ℕ) → [] ≡ drop {A = Input} k []
     nothing_of zero = refl
@@ -165,31 +118,6 @@ given_none entry is = rw is refl
 
 -- ---- one input
 
-abbrev pub place_with : Place → List Entry → MachineState → Place
-place_with a more machine = record { disk = a.disk; acknowledged = a.acknowledged; pending = more; machine = machine }
-
-pub input_goes : (a : Place) (more : List Entry) (machine : MachineState) (input : Input) → PassesTime input → IsOneMore a.pending more input → machine ≡ applied input a.machine → IsNow a.disk
-    → Goes a (place_with a more machine) (input ∷ [])
-input_goes a more machine input passes one machine_is only =
-    let same = same_after a.machine machine input passes machine_is in
-    record {
-      going = λ rom from given played. going_input rom a.disk a.acknowledged a.pending more a.machine machine from given input played one machine_is same.rom only;
-      machine_is = machine_is ∙ sym (after_one a.machine input);
-      all_is = omega (arith, one.size);
-      later = omega arith;
-      calls = answered_nothing;
-      rom = same.rom;
-    }
-
-pub input_fails : (a : Place) (input : Input) (why : SessionError) → why ≡ CountFull → all_of a ≡ 2 ^ 64 - 1 → IsNow a.disk → Fails a a (input ∷ []) why
-input_fails a input why is full only = record {
-  stopped = λ rom from given played. stopped_more rom a.disk a.disk a.acknowledged from given (input ∷ []) (stopped_here rom a.disk a.acknowledged a.pending a.machine from given played only);
-  cause = full_stops why (all_of a + 1) a.disk is (omega (arith, full));
-  silent = full_not_output why is;
-  later = omega arith;
-  calls = answered_refusal (λ n. ap (λ (w : SessionError). faults_after w n) is);
-}
-
 -- one that the session has
 skipped : (skip : ℕ) (input : Input) → 0 < skip → [] ≡ drop skip (input ∷ [])
 skipped zero input some = absurd (omega arith)
@@ -197,17 +125,17 @@ skipped (suc zero) input some = refl
 skipped (suc (suc k)) input some = refl
 
 pub passes_skipped : (a : Place) (skip left : ℕ) (input : Input) → 0 < skip → left ≡ skip - 1 → IsNow a.disk → Passes a a skip left (input ∷ [])
-passes_skipped a skip left input some is only = record { goes = goes_by (skipped skip input some) (goes_nothing a only); left_is = omega (arith, is) }
+passes_skipped a skip left input some is only = record { goes = goes_by (skipped skip input some) (goes_nowhere a only); left_is = omega (arith, is) }
 
 pub first_given : (skip : ℕ) (input : Input) → (0 < skip → ⊥) → input ∷ [] ≡ drop skip (input ∷ [])
 first_given zero input none = refl
 first_given (suc k) input none = absurd (none (omega arith))
 
-pub passes_given : (a m b : Place) (skip : ℕ) (input : Input) → (0 < skip → ⊥) → Goes a m (input ∷ []) → Goes m b [] → Passes a b skip 0 (input ∷ [])
-passes_given a m b skip input none one two = record { goes = goes_by (first_given skip input none) (goes_then a m b (input ∷ []) [] one two); left_is = omega (arith, none) }
+pub passes_given : (a b : Place) (skip : ℕ) (input : Input) → (0 < skip → ⊥) → Goes a b (input ∷ []) → Passes a b skip 0 (input ∷ [])
+passes_given a b skip input none goes = record { goes = goes_by (first_given skip input none) goes; left_is = omega (arith, none) }
 
-pub fails_given : (a m b : Place) (skip : ℕ) (input : Input) (why : SessionError) → (0 < skip → ⊥) → Goes a m (input ∷ []) → Fails m b [] why → Fails a b (drop skip (input ∷ [])) why
-fails_given a m b skip input why none one two = fails_by (first_given skip input none) (fails_then a m b (input ∷ []) [] why one two)
+pub fails_given : (a b : Place) (skip : ℕ) (input : Input) (why : SessionError) → (0 < skip → ⊥) → Fails a b (input ∷ []) why → Fails a b (drop skip (input ∷ [])) why
+fails_given a b skip input why none fails = fails_by (first_given skip input none) fails
 
 -- ---- runs
 
@@ -289,12 +217,12 @@ passes_reading a b old new skip left passed recorded same looked answered passes
 pub fails_giving : (a b : Place) (old new : DiskState) (skip : ℕ) (passed recorded : List Input) (why : SessionError) → (old.honest → passed ≡ recorded) → (old.honest → HasLooked old new) → HasAnswered {T = Unit {0}} faults_after_recording old new (Ok tt)
     → Fails a b (drop skip passed) why → FailsRecorded a b old new skip recorded (Session why)
 fails_giving a b old new skip passed recorded why same looked answered fails = record {
-  stopped = λ honest rom from given played. stopped_by (ap (λ (l : List Input). given ++ drop skip l) (same honest)) (fails.stopped rom from given played);
-  cause = λ honest. (subst (λ (l : List Input). IsStop why (all_of a + length (drop skip l)) b.disk) (same honest) fails.cause, fails.silent);
+  stopped = λ honest rom from given played. stopped_by (ap (λ (l : List Input). given ++ drop skip l) (same honest)) (fails.no_further.stopped rom from given played);
+  cause = λ honest. (subst (λ (l : List Input). IsStop why (all_of a + length (drop skip l)) b.disk) (same honest) fails.no_further.cause, fails.silent);
   kind = tt;
   looks = λ honest. looks_of (looked honest);
-  later = fails.later;
-  save_calls = answered_error fails.calls (λ n. refl);
+  later = fails.no_further.later;
+  save_calls = answered_error fails.no_further.calls (λ n. refl);
   recording_calls = answered_otherwise answered (λ n. refl);
 }
 
@@ -436,12 +364,12 @@ module _ (a b c : Place) (old new : DiskState) (skip left : ℕ) (recorded : Lis
       let same : old.honest → drop skip one.passed ++ [] ≡ drop a.acknowledged recorded =
       λ honest. append-nil (drop skip one.passed) ∙ ap (λ (n : ℕ). drop n one.passed) skip_is ∙ ap (drop a.acknowledged) (one.passed_is honest) in
       record {
-        stopped = λ honest rom from given played. stopped_by (ap (λ (l : List Input). given ++ l) (same honest)) (fails.stopped rom from given played);
-        cause = λ honest. (subst (λ (l : List Input). IsStop why (all_of a + length l) c.disk) (same honest) fails.cause, fails.silent);
+        stopped = λ honest rom from given played. stopped_by (ap (λ (l : List Input). given ++ l) (same honest)) (fails.no_further.stopped rom from given played);
+        cause = λ honest. (subst (λ (l : List Input). IsStop why (all_of a + length l) c.disk) (same honest) fails.no_further.cause, fails.silent);
         kind = tt;
         looks = one.looks;
-        later = fails.later;
-        save_calls = answered_error fails.calls (λ n. refl);
+        later = fails.no_further.later;
+        save_calls = answered_error fails.no_further.calls (λ n. refl);
         recording_calls = answered_otherwise one.calls (λ n. refl);
       }
 

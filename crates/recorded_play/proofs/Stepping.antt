@@ -1,36 +1,41 @@
 -- How a SAVE and a recording come on together, and where they stop.
-use Rattle.std.proofs.Common.{◌≡◌, ℕ, ◌+◌, ◌≤◌, List, [], ◌++◌, length, take, drop, Option, None, Some, refl, sym, ap, ◌∙◌, subst, arith, append_assoc, append-nil, length-append}
+use Rattle.std.proofs.Common.{◌≡◌, ℕ, ◌+◌, ◌≤◌, List, [], ◌∷◌, ◌++◌, length, take, drop, Option, None, Some, refl, sym, ap, ◌∙◌, subst, arith, append_assoc, append-nil, length-append}
 use Rattle.std.proofs.lemmas.List.{take-take, take-map, take-append-le, length-take-le, length-map}
 use Rattle.std.specs.Option.{option_map}
 use Rattle.sha2.specs.Sha256.{sha256}
-use Rattle.machine.specs.Machine.{MachineState, start, after}
-use Rattle.machine.specs.Machine.{Input}
+use Rattle.machine.specs.Machine.{MachineState, Input, start, after}
 use Rattle.sector_device.specs.DiskState.{DiskState}
 use Rattle.sector_device.specs.Runs.{HoldsSince}
+use Rattle.sector_device.specs.declared.device.SectorDevice.{Ghosts as Disks}
 use Rattle.log_format.specs.Content.{content}
 use Rattle.input_entries.specs.declared.Entry.{Entry}
+use Rattle.recording.specs.Accessors.{device_of as device_of_recording}
 use Rattle.recording.specs.Recorded.{recorded}
+use Rattle.session.specs.Accessors.{device_of}
 use Rattle.session.specs.Inputs.{input_of, inputs_of}
 use Rattle.session.specs.Stands.{Position, stands}
+use Rattle.session.specs.declared.error.SessionError.{SessionError}
 use Rattle.session.specs.declared.error.SessionError.TheVariants.{Output}
-use Rattle.session.proofs.Answering.{answered_both, answered_nothing, answered_otherwise, answered_refused}
+use Rattle.session.proofs.Answering.{answered_both, answered_error, answered_nothing, answered_refusal, answered_refused, answered_value}
 use Rattle.session.proofs.StandsLaws.{after_append, after_none}
 use Rattle.session.proofs.Writes.{since_weaker}
 use Rattle.session.proofs.Beginnings.{since_then}
+use Rattle.playing.specs.Going.{Place, all_of, Goes, GoesNoFurther}
+use Rattle.playing.specs.Making.{Advances, Stops}
+use Rattle.playing.specs.Making.Advances.{stays, by_input, by_save}
+use Rattle.playing.specs.Making.Stops.{at_input, at_save, at_line, past_input, past_save}
 use Rattle.playing.specs.Played.{Reaches}
-use Rattle.playing.proofs.PlayLaws.{going_nowhere, going_then, going_by, stopped_after, stopped_then, stopped_by, stopped_more}
+use Rattle.playing.specs.declared.playable.Playable.{Ghosts}
+use Rattle.playing.proofs.Going.{IsNow}
+use Rattle.playing.proofs.PlayLaws.{going_nowhere, going_then, going_by, stopped_here, stopped_then, stopped_by, stopped_more}
 use Rattle.playing.proofs.Stops.{stops_among}
-use Rattle.playing.specs.Making.{all_of}
 use Rattle.replaying.specs.Agreeing.{Agrees}
 use Rattle.recorded_play.specs.Agreeing.{AllAgree}
-use Rattle.recorded_play.specs.Steps.{Game, power_on, HoldsFirst, IsFull, IsInStep, IsBehind, Comes, Halts, IsRecordStop}
+use Rattle.recorded_play.specs.Steps.{Game, game, power_on, HoldsFirst, HoldsSaved, IsFull, IsInStep, IsBehind, Comes, Halts, IsRecordStop, told_as}
 use Rattle.recorded_play.specs.declared.error.RecordError.{RecordError}
 use Rattle.recorded_play.specs.declared.error.RecordError.TheVariants.{Session, Recording, Behind, Line, Input as FailedInput}
-use Rattle.recorded_play.proofs.Recordings.{first_since_here, first_more, holds_here, records_by, records_then}
-
--- no call of a device that is at this moment
-abbrev pub IsNow : DiskState → Type 0
-IsNow now = (image : List (List ℕ)) → now.since now.moment image → now.image image
+use Rattle.recorded_play.specs.declared.recorded_game.RecordedGame.{RecordedGame}
+use Rattle.recorded_play.proofs.Recordings.{first_since_here, first_more, holds_here, records_by, records_then, saved_more}
 
 -- ---- what agrees
 
@@ -175,9 +180,6 @@ comes_then a b c first second one two = record {
   rom = two.rom ∙ one.rom;
 }
 
-pub comes_by : {a b : Game} {more more' : List Input} → more ≡ more' → Comes a b more → Comes a b more'
-comes_by {a} {b} same comes = subst (Comes a b) same comes
-
 pub record_stops_among : (why : RecordError) (less all : ℕ) (now : DiskState) → less ≤ all → IsRecordStop why less now → IsRecordStop why all now
 record_stops_among (Session why) less all now more stop = stops_among why less all now more stop
 record_stops_among (Recording why) less all now more stop = stop
@@ -235,18 +237,83 @@ halts_more a b first second why halts = record {
   recording_calls = halts.recording_calls;
 }
 
-pub halts_by : {a b : Game} {more more' : List Input} {why : RecordError} → more ≡ more' → Halts a b more why → Halts a b more' why
-halts_by {a} {b} {more} {more'} {why} same halts = subst (λ (l : List Input). Halts a b l why) same halts
-
--- an output that failed behind them
-pub halts_at_output : (a b : Game) (more : List Input) → Comes a b more → IsNow b.recording → Halts a b more (Session Output)
-halts_at_output a b more comes only = record {
+-- a line that could not be written
+pub halts_at_line : (a : Game) (more : List Input) → IsNow a.save.disk → IsNow a.recording → Halts a a more (Session Output)
+halts_at_line a more only_save only_recording = record {
   stopped = λ rom from given played.
-      stopped_after rom a.save.disk b.save.disk b.save.acknowledged b.save.pending b.save.machine from (given ++ more) (comes.going rom from given played);
-  behind = λ rom all step. behind_after rom a b all more comes step only;
+      stopped_more rom a.save.disk a.save.disk a.save.acknowledged from given more (stopped_here rom a.save.disk a.save.acknowledged a.save.pending a.save.machine from given played only_save);
+  behind = λ rom all step. behind_more rom a a all more (behind_here rom a all step only_recording);
   cause = tt;
   full = λ is. absurd (cc);
-  later = comes.later;
-  save_calls = answered_otherwise comes.save_calls (λ n. refl);
-  recording_calls = answered_otherwise comes.recording_calls (λ n. refl);
+  later = omega arith;
+  save_calls = answered_refusal (λ n. refl);
+  recording_calls = answered_refusal (λ n. refl);
 }
+
+-- ---- an input
+
+-- a game whose session alone went on
+abbrev moved : Game → Place → Game
+moved a b = record { save = b; recording = a.recording }
+
+-- which makes no call of either device
+module _ (a : Game) (b : Place) (input : Input) (goes : Goes a.save b (input ∷ [])) (count_is : b.acknowledged ≡ a.save.acknowledged) (only_recording : IsNow a.recording) where
+  pub input_comes : inputs_of b.pending ≡ inputs_of a.save.pending ++ input ∷ [] → Comes a (moved a b) (input ∷ [])
+  input_comes more_is = record {
+    going = goes.going;
+    records = λ rom all held.
+        let next : HoldsSaved rom a.recording b.acknowledged b.pending (all ++ input ∷ []) =
+        subst (λ (n : ℕ). HoldsSaved rom a.recording n b.pending (all ++ input ∷ [])) (sym count_is) (saved_more rom a.recording a.save.acknowledged a.save.pending b.pending all (input ∷ []) held more_is) in
+        record { moments = first_since_here rom a.recording b.acknowledged b.pending (all ++ input ∷ []) next only_recording; holds = next };
+    machine_is = goes.machine_is;
+    all_is = goes.all_is;
+    later = goes.later;
+    save_calls = answered_value goes.calls;
+    recording_calls = answered_nothing;
+    rom = goes.rom;
+  }
+
+-- one that is refused leaves the game as it was
+pub input_halts : (a : Game) (b : Place) (input : Input) (why : SessionError) → GoesNoFurther a.save b (input ∷ []) why → b ≡ a.save → IsNow a.recording → Halts a (moved a b) (input ∷ []) (Session why)
+input_halts a b input why stop same only_recording = record {
+  stopped = stop.stopped;
+  behind = λ rom all step.
+      subst (λ (p : Place). IsBehind rom a (moved a p) (all ++ input ∷ [])) (sym same) (behind_more rom a a all (input ∷ []) (behind_here rom a all step only_recording));
+  cause = stop.cause;
+  full = λ is. absurd (cc);
+  later = stop.later;
+  save_calls = answered_error stop.calls (λ n. refl);
+  recording_calls = answered_refusal (λ n. refl);
+}
+
+-- only a line that could not be written is told as one
+pub told_output : (why : RecordError) → told_as why ≡ Output → why ≡ Session Output
+told_output (Session why) is = ap Session is
+told_output (Recording why) is = cc
+told_output (Behind count) is = cc
+told_output (Line number) is = cc
+told_output FailedInput is = cc
+
+-- ---- all steps of a game
+
+module _ {D E : Type 0} {disk : Disks D} {others : Disks E} where
+  abbrev at : RecordedGame D E disk others → Game
+  at a = game a.session a.recording
+
+module _ {D E : Type 0} {disk : Disks D} {others : Disks E} {dict : Ghosts (RecordedGame D E disk others) RecordError} (only : (d : D) → IsNow (disk.disk d)) (only_recording : (e : E) → IsNow (others.disk e))
+    (gives : (a b : RecordedGame D E disk others) (input : Input) → dict.gives a b input → Comes (game a.session a.recording) (game b.session b.recording) (input ∷ []))
+    (saves : (a b : RecordedGame D E disk others) → dict.saves a b → Comes (game a.session a.recording) (game b.session b.recording) []) where
+  pub comes_all : (a b : RecordedGame D E disk others) (inputs : List Input) → Advances dict a b inputs → Comes (at a) (at b) inputs
+  comes_all a b inputs (stays s) = comes_nothing (at a) (only (device_of a.session)) (only_recording (device_of_recording a.recording))
+  comes_all a c inputs (by_input {b = b} {input = input} {more = more} one rest) = comes_then (at a) (at b) (at c) (input ∷ []) more (gives a b input one.gives) (comes_all b c more rest)
+  comes_all a c inputs (by_save {b = b} one rest) = comes_then (at a) (at b) (at c) [] inputs (saves a b one.saves) (comes_all b c inputs rest)
+
+  module _ (refuses : (a b : RecordedGame D E disk others) (input : Input) (why : RecordError) → dict.refuses a b input why → Halts (game a.session a.recording) (game b.session b.recording) (input ∷ []) why)
+      (fails : (a b : RecordedGame D E disk others) (why : RecordError) → dict.fails a b why → Halts (game a.session a.recording) (game b.session b.recording) [] why) (unwritten_is : dict.unwritten ≡ Session Output) where
+    pub halts_all : (a b : RecordedGame D E disk others) (inputs : List Input) (why : RecordError) → Stops dict a b inputs why → Halts (at a) (at b) inputs why
+    halts_all a b inputs why (at_input {input = input} {more = more} refused same) = halts_more (at a) (at b) (input ∷ []) more why (refuses a b input why refused)
+    halts_all a b inputs why (at_save failed same) = halts_more (at a) (at b) [] inputs why (fails a b why failed)
+    halts_all a b inputs why (at_line s more) =
+        subst (λ (w : RecordError). Halts (at a) (at a) inputs w) (sym unwritten_is) (halts_at_line (at a) inputs (only (device_of a.session)) (only_recording (device_of_recording a.recording)))
+    halts_all a c inputs why (past_input {b = b} {input = input} {more = more} one rest) = halts_then (at a) (at b) (at c) (input ∷ []) more why (gives a b input one.gives) (halts_all b c more why rest)
+    halts_all a c inputs why (past_save {b = b} one rest) = halts_then (at a) (at b) (at c) [] inputs why (saves a b one.saves) (halts_all b c inputs why rest)

@@ -37,7 +37,8 @@ use Rattle.recorded_play.specs.GoingOn.{GoesOn, StopsGoingOn, IsGoOnCause, GoesO
 use Rattle.recorded_play.specs.Whole.{IsTakenUp, HasTakenUp, IsNotTakenUp, IsTakeUpCause, IsForeign, IsStopAtRecorded, IsBehindBy}
 use Rattle.recorded_play.specs.declared.error.RecordError.{RecordError}
 use Rattle.recorded_play.specs.declared.error.RecordError.TheVariants.{Session, Recording, Behind, Line, Input as FailedInput}
-use Rattle.recorded_play.proofs.Stepping.{IsNow, entries_of, reached_agrees}
+use Rattle.playing.proofs.Going.{IsNow}
+use Rattle.recorded_play.proofs.Stepping.{entries_of, reached_agrees}
 use Rattle.recorded_play.proofs.Passing.{looks_of}
 
 none_taken : (n : ℕ) → take {A = Input} n [] ≡ []

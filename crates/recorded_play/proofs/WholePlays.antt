@@ -1,8 +1,8 @@
 -- A whole recorded play: from a game that is taken up to what is left.
 use Rattle.std.proofs.Common.{◌≡◌, inl, inr, ℕ, suc, ◌+◌, ◌-◌, List, [], ◌∷◌, ◌++◌, length, take, drop, Option, Some, sym, ap, ◌∙◌, subst, arith, length-append, length-drop}
 use Rattle.std.proofs.lemmas.List.{take_all, drop_all, take-append-drop}
+use Rattle.std.specs.List.{All}
 use Rattle.std.specs.Io.KnownBytes.{Appends}
-use Rattle.exact_text.proofs.Writes.{appends_twice}
 use Rattle.machine.specs.Machine.{MachineState, start, after}
 use Rattle.machine.specs.Machine.{Input}
 use Rattle.sector_device.specs.DiskState.{DiskState}
@@ -16,22 +16,22 @@ use Rattle.session.proofs.Writes.{since_weaker}
 use Rattle.session.proofs.Beginnings.{since_then}
 use Rattle.playing.specs.Played.{PlayImage, Reaches}
 use Rattle.playing.specs.Report.{Line, texts, resumed_line, HasTold}
+use Rattle.playing.proofs.Going.{IsNow, none_left}
 use Rattle.playing.proofs.PlayLaws.{begun_played, all_saved, reaches_more, reaches_none}
 use Rattle.playing.proofs.Telling.{told_by}
-use Rattle.streaming.specs.Orders.{orders_of}
+use Rattle.input_lines.specs.Reading.{ReadsLines}
+use Rattle.streaming.specs.Orders.{orders_of, IsRight}
+use Rattle.streaming.specs.Reading.{ReadsTo}
 use Rattle.streaming.specs.Answers.{inputs_of_orders, lines_of_orders, ended, stream_lines}
-use Rattle.playing.specs.Making.{all_of}
-use Rattle.streaming.specs.Obeying.{answers_from}
-use Rattle.streaming.specs.declared.order.Order.{Order}
+use Rattle.playing.specs.Going.{all_of, IsPlayedAt}
 use Rattle.streaming.specs.declared.obeying.End.{End}
-use Rattle.streaming.proofs.Wholes.{ended_gives}
+use Rattle.streaming.proofs.Wholes.{stream_at}
 use Rattle.recorded_play.specs.Agreeing.{AllAgree, recorded_inputs}
-use Rattle.recorded_play.specs.Steps.{Game, IsPlayedAt, HoldsFirst, HoldsSaved, IsFull, IsInStep, Comes, Halts, IsRecordStop}
-use Rattle.recorded_play.specs.Obeying.{told_as, Streams, StopsStream}
+use Rattle.recorded_play.specs.Steps.{Game, HoldsFirst, HoldsSaved, IsFull, IsInStep, Comes, Halts, IsRecordStop, told_as}
 use Rattle.recorded_play.specs.Whole.{behind, IsTakenUp, HoldsAll, HasTakenUp, HasRecorded, HasStopped, IsEndCause}
 use Rattle.recorded_play.specs.declared.error.RecordError.{RecordError}
 use Rattle.recorded_play.specs.declared.error.RecordError.TheVariants.{Session, Recording, Behind, Line as WrongLine, Input as FailedInput}
-use Rattle.recorded_play.proofs.Stepping.{IsNow, comes_by, behind_after, behind_agree}
+use Rattle.recorded_play.proofs.Stepping.{behind_after, behind_agree}
 use Rattle.recorded_play.proofs.TakenUp.{begun_from, recorded_leads}
 
 module _ (rom : List ℕ) (save recording : DiskState) (a b : Game) (before_in since_in before since : Option (List ℕ))
@@ -49,11 +49,11 @@ module _ (rom : List ℕ) (save recording : DiskState) (a b : Game) (before_in s
   all_from : all_of a.save ≡ from.count
   all_from = omega (arith, ap length none)
 
-  lines_from : (orders : List Order) → resumed_line (all_of a.save) ∷ answers_from a.save (ended (length a.save.pending) orders) ≡ stream_lines (behind up.at up.more) orders
-  lines_from orders =
-      ap (λ (n : ℕ). resumed_line n ∷ lines_of_orders a.save.machine n (length a.save.pending) (ended (length a.save.pending) orders)) all_from
-      ∙ ap (λ (n : ℕ). resumed_line from.count ∷ lines_of_orders a.save.machine from.count n (ended n orders)) (ap length none)
-      ∙ ap (λ (p : Position). stream_lines p orders) from_is
+  lines_from : (lines : List (List ℕ)) → stream_at a.save lines ≡ stream_lines (behind up.at up.more) (orders_of lines)
+  lines_from lines =
+      ap (λ (n : ℕ). resumed_line from.count ∷ lines_of_orders a.save.machine n (length a.save.pending) (ended (length a.save.pending) (orders_of lines))) all_from
+      ∙ ap (λ (n : ℕ). resumed_line from.count ∷ lines_of_orders a.save.machine from.count n (ended n (orders_of lines))) (ap length none)
+      ∙ ap (λ (p : Position). stream_lines p (orders_of lines)) from_is
 
   -- an image that stands for some inputs from there stands for some more from where the SAVE was
   further_back : (least : ℕ) (given : List Input) (image : List (List ℕ)) → Reaches rom from least given image → Reaches rom up.at (length up.more + least) (up.more ++ given) image
@@ -152,73 +152,73 @@ module _ (rom : List ℕ) (save recording : DiskState) (a b : Game) (before_in s
     pub stopped_full : (more : List Input) (why : RecordError) → Halts a b more why → why ≡ Recording Full → IsFull rom b.recording (taken.played ++ more)
     stopped_full more why halts is = halts.full is rom taken.played holds
 
-  -- ---- to an end
+  -- ---- with the lines
 
-  pub recorded_to : (end : End) → Streams a b before_in since_in before since end → b.save.pending ≡ [] → HasRecorded rom save b.save.disk recording b.recording end before_in since_in before since
-  recorded_to end streams saved =
-      let orders = orders_of streams.lines in
-      let all = ended (length a.save.pending) orders in
-      let given = inputs_of_orders orders in
-      let gives : inputs_of_orders all ≡ given = ended_gives (length a.save.pending) orders in
-      let comes : Comes a b given = comes_by gives streams.obeys.comes in
-      record {
-        lines = streams.lines;
-        right = streams.right;
-        read = streams.read;
-        at = up.at;
-        of_rom = up.of_rom;
-        stood = up.stood;
-        more = up.more;
-        taken_up = up.taken_up;
-        answered =
-            subst (λ (l : List Line). Appends before since (texts l)) (lines_from orders)
-            (appends_twice before streams.resumed since (resumed_line (all_of a.save)).text (texts (answers_from a.save all)) streams.begins streams.obeys.answered);
-        rests = λ honest.
-            let rests = all_saved rom b.save.disk b.save.acknowledged b.save.pending b.save.machine from given (comes.going rom from [] (begun honest)).played saved in
-            let count_is : from.count + length given ≡ up.at.count + length (up.more ++ given) = omega (arith, up.count_is, length-append up.more given) in
-            let machine_is : after from.machine given ≡ after up.at.machine (up.more ++ given) = ap (λ (m : MachineState). after m given) up.machine_is ∙ after_append up.at.machine up.more given in
-            subst (λ (m : MachineState). IsAtRest rom b.save.disk (up.at.count + length (up.more ++ given)) [] m) machine_is
-            (subst (λ (n : ℕ). IsAtRest rom b.save.disk n [] (after from.machine given)) count_is rests);
-        images = λ honest. images_since given honest (comes.going rom from [] (begun honest)).moments;
-        recorded = λ honest recording_honest. ended_holds honest recording_honest given comes saved;
-      }
+  module _ (lines : List (List ℕ)) (right : All IsRight lines) where
+    abbrev given : List Input
+    given = inputs_of_orders (orders_of lines)
 
-  -- ---- stopped
+    -- to an end
+    pub recorded_to : (end : End) → ReadsTo end lines before_in since_in → Appends before since (texts (stream_at a.save lines)) → Comes a b given → length b.save.pending ≡ 0
+        → HasRecorded rom save b.save.disk recording b.recording end before_in since_in before since
+    recorded_to end read answered comes unsaved =
+        let saved = none_left b.save.pending unsaved in
+        record {
+          lines = lines;
+          right = right;
+          read = read;
+          at = up.at;
+          of_rom = up.of_rom;
+          stood = up.stood;
+          more = up.more;
+          taken_up = up.taken_up;
+          answered = subst (λ (l : List Line). Appends before since (texts l)) (lines_from lines) answered;
+          rests = λ honest.
+              let rests = all_saved rom b.save.disk b.save.acknowledged b.save.pending b.save.machine from given (comes.going rom from [] (begun honest)).played saved in
+              let count_is : from.count + length given ≡ up.at.count + length (up.more ++ given) = omega (arith, up.count_is, length-append up.more given) in
+              let machine_is : after from.machine given ≡ after up.at.machine (up.more ++ given) = ap (λ (m : MachineState). after m given) up.machine_is ∙ after_append up.at.machine up.more given in
+              subst (λ (m : MachineState). IsAtRest rom b.save.disk (up.at.count + length (up.more ++ given)) [] m) machine_is
+              (subst (λ (n : ℕ). IsAtRest rom b.save.disk n [] (after from.machine given)) count_is rests);
+          images = λ honest. images_since given honest (comes.going rom from [] (begun honest)).moments;
+          recorded = λ honest recording_honest. ended_holds honest recording_honest given comes saved;
+        }
 
-  pub stopped_record : (why : RecordError) → (save.honest → save.image save.sectors) → (recording.honest → recording.image recording.sectors) → StopsStream a b before_in since_in before since why → HasStopped rom save b.save.disk recording b.recording why before_in since_in before since
-  stopped_record why save_here recording_here stops =
-      let orders = orders_of stops.lines in
-      let given = inputs_of_orders orders in
-      let least : ℕ = b.save.acknowledged - a.save.acknowledged in
-      let saved_is : b.save.acknowledged ≡ up.at.count + length up.more + least = omega (arith, stops.halts.later, up.count_is) in
-      let all_is : all_of a.save + length given ≡ up.at.count + length up.more + length given = omega (arith, all_from, up.count_is) in
-      record {
-        lines = stops.lines;
-        right = stops.right;
-        unread = stops.more;
-        read = stops.read;
-        at = up.at;
-        of_rom = up.of_rom;
-        stood = up.stood;
-        more = up.more;
-        taken_up = up.taken_up;
-        cause = subst (λ (n : ℕ). IsRecordStop why n b.save.disk) all_is stops.halts.cause;
-        full = λ is honest recording_honest. stopped_full honest recording_honest given why stops.halts is;
-        least = least;
-        told = told_by (lines_from orders) (subst (λ (n : ℕ). HasTold (told_as why) n (resumed_line (all_of a.save) ∷ answers_from a.save (ended (length a.save.pending) orders)) before since) saved_is stops.told);
-        images = λ honest. images_since given honest (stops.halts.stopped rom from [] (begun honest)).moments;
-        left = λ honest image here.
-            let stopped = stops.halts.stopped rom from [] (begun honest) in
-            let same : stopped.least ≡ least = omega (arith, stopped.acknowledged_is, saved_is, up.count_is) in
-            subst (λ (n : ℕ). Reaches rom up.at (length up.more + n) (up.more ++ given) image) same (further_back stopped.least given image (stopped.images image here));
-        recorded = λ honest recording_honest agree image here.
-            subst (λ (n : ℕ). HoldsFirst rom n ((up.taken_up honest recording_honest).played ++ given) image) saved_is (stopped_holds honest recording_honest (save_here honest) (recording_here recording_honest) agree given why stops.halts image here);
-      }
+    -- stopped
+    module _ (why : RecordError) (save_here : save.honest → save.image save.sectors) (recording_here : recording.honest → recording.image recording.sectors)
+        (unread : List ℕ) (read : ReadsLines lines unread before_in since_in) (told : HasTold (told_as why) b.save.acknowledged (stream_at a.save lines) before since) (halts : Halts a b given why) where
+      pub stopped_record : HasStopped rom save b.save.disk recording b.recording why before_in since_in before since
+      stopped_record =
+          let least : ℕ = b.save.acknowledged - a.save.acknowledged in
+          let saved_is : b.save.acknowledged ≡ up.at.count + length up.more + least = omega (arith, halts.later, up.count_is) in
+          let all_is : all_of a.save + length given ≡ up.at.count + length up.more + length given = omega (arith, all_from, up.count_is) in
+          record {
+            lines = lines;
+            right = right;
+            unread = unread;
+            read = read;
+            at = up.at;
+            of_rom = up.of_rom;
+            stood = up.stood;
+            more = up.more;
+            taken_up = up.taken_up;
+            cause = subst (λ (n : ℕ). IsRecordStop why n b.save.disk) all_is halts.cause;
+            full = λ is honest recording_honest. stopped_full honest recording_honest given why halts is;
+            least = least;
+            told = told_by (lines_from lines) (subst (λ (n : ℕ). HasTold (told_as why) n (stream_at a.save lines) before since) saved_is told);
+            images = λ honest. images_since given honest (halts.stopped rom from [] (begun honest)).moments;
+            left = λ honest image here.
+                let stopped = halts.stopped rom from [] (begun honest) in
+                let same : stopped.least ≡ least = omega (arith, stopped.acknowledged_is, saved_is, up.count_is) in
+                subst (λ (n : ℕ). Reaches rom up.at (length up.more + n) (up.more ++ given) image) same (further_back stopped.least given image (stopped.images image here));
+            recorded = λ honest recording_honest agree image here.
+                subst (λ (n : ℕ). HoldsFirst rom n ((up.taken_up honest recording_honest).played ++ given) image) saved_is (stopped_holds honest recording_honest (save_here honest) (recording_here recording_honest) agree given why halts image here);
+          }
 
-  -- as the refusal of a play
-  pub stopped_end : (why : RecordError) → (save.honest → save.image save.sectors) → (recording.honest → recording.image recording.sectors) → StopsStream a b before_in since_in before since why → IsEndCause why rom save b.save.disk recording b.recording before_in since_in before since
-  stopped_end (Session why) save_here recording_here stops = stopped_record (Session why) save_here recording_here stops
-  stopped_end (Recording why) save_here recording_here stops = stopped_record (Recording why) save_here recording_here stops
-  stopped_end (Behind count) save_here recording_here stops = stops.halts.cause
-  stopped_end (WrongLine number) save_here recording_here stops = absurd stops.halts.cause
-  stopped_end FailedInput save_here recording_here stops = absurd stops.halts.cause
+-- as the refusal of a play
+pub as_refusal : (why : RecordError) (rom : List ℕ) (save now recording now_recording : DiskState) (before_in since_in before since : Option (List ℕ)) (all : ℕ) → IsRecordStop why all now
+    → HasStopped rom save now recording now_recording why before_in since_in before since → IsEndCause why rom save now recording now_recording before_in since_in before since
+as_refusal (Session why) rom save now recording now_recording before_in since_in before since all cause stopped = stopped
+as_refusal (Recording why) rom save now recording now_recording before_in since_in before since all cause stopped = stopped
+as_refusal (Behind count) rom save now recording now_recording before_in since_in before since all cause stopped = cause
+as_refusal (WrongLine number) rom save now recording now_recording before_in since_in before since all cause stopped = absurd cause
+as_refusal FailedInput rom save now recording now_recording before_in since_in before since all cause stopped = absurd cause

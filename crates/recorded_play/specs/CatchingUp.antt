@@ -1,6 +1,5 @@
 -- A session that is given what its recording has beyond it.
 use Rattle.std.specs.Prelude.{◌≡◌, ◌≤◌, ◌+◌, ◌-◌, ℕ, List, [], ◌∷◌, ◌++◌, length, drop, if◌then◌else◌, Ok, Err}
-use Rattle.machine.specs.Machine.{after}
 use Rattle.machine.specs.Machine.{Input}
 use Rattle.sector_device.specs.DiskState.{DiskState, HasAnswered}
 use Rattle.sector_device.specs.Looking.{LooksOnly}
@@ -8,14 +7,13 @@ use Rattle.input_entries.specs.Inputs.{is_entry, inputs_in, inputs}
 use Rattle.input_entries.specs.declared.StoredEntry.{StoredEntry}
 use Rattle.recording.specs.Recorded.{entries}
 use Rattle.recording.specs.declared.fault.RecordingFault.TheVariants.{Device}
-use Rattle.session.specs.Calls.{faults_after}
 use Rattle.session.specs.Inputs.{inputs_of}
 use Rattle.session.specs.Stands.{Position}
 use Rattle.session.specs.declared.error.SessionError.{SessionError}
 use Rattle.session.specs.declared.error.SessionError.TheVariants.{Output}
-use Rattle.playing.specs.Played.{IsStop, Going, Stopped}
-use Rattle.playing.specs.Making.{Place, all_of}
-use Rattle.recorded_play.specs.Steps.{IsPlayedAt, IsOfDevices, save_faults_after, recording_faults_after}
+use Rattle.playing.specs.Going.{Place, all_of, IsPlayedAt, Goes, GoesNoFurther}
+use Rattle.playing.specs.Played.{IsStop, Stopped}
+use Rattle.recorded_play.specs.Steps.{IsOfDevices, save_faults_after, recording_faults_after}
 use Rattle.recorded_play.specs.declared.error.RecordError.{RecordError}
 use Rattle.recorded_play.specs.declared.error.RecordError.TheVariants.{Session, Recording}
 
@@ -31,22 +29,10 @@ given_by_all (entry ∷ list) = given_by entry ++ given_by_all list
 abbrev pub recorded_in : DiskState → List Input
 recorded_in now = inputs_of (inputs (entries now.sectors))
 
--- these inputs were given
-pub record Goes (old new : Place) (more : List Input) : Type 0 where
-  pub going : (rom : List ℕ) (from : Position) (given : List Input) → IsPlayedAt rom old from given → Going rom old.disk new.disk new.acknowledged new.pending new.machine from (given ++ more)
-  pub machine_is : new.machine ≡ after old.machine more
-  pub all_is : all_of new ≡ all_of old + length more
-  pub later : old.acknowledged ≤ new.acknowledged
-  pub calls : HasAnswered {T = Unit {0}} faults_after old.disk new.disk (Ok tt)
-  pub rom : new.machine.processor.memory.banks.rom ≡ old.machine.processor.memory.banks.rom
-
 -- one of these inputs, or a save among them, was refused
 pub record Fails (old new : Place) (more : List Input) (why : SessionError) : Type 0 where
-  pub stopped : (rom : List ℕ) (from : Position) (given : List Input) → IsPlayedAt rom old from given → Stopped rom old.disk new.disk new.acknowledged from (given ++ more)
-  pub cause : IsStop why (all_of old + length more) new.disk
+  pub no_further : GoesNoFurther old new more why
   pub silent : why ≡ Output → ⊥
-  pub later : old.acknowledged ≤ new.acknowledged
-  pub calls : HasAnswered {T = Unit {0}} faults_after old.disk new.disk (Err why)
 
 -- these inputs were passed over, of which so many were skipped, and the others given; so many of the next are to be skipped
 pub record Passes (old new : Place) (skip left : ℕ) (passed : List Input) : Type 0 where

@@ -1,6 +1,5 @@
 pub mod Agreeing
 pub mod Steps
-pub mod Obeying
 pub mod Whole
 -- what only the code needs
 pub mod CatchingUp

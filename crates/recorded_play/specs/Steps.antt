@@ -8,14 +8,18 @@ use Rattle.sector_device.specs.declared.device.SectorDevice.{Ghosts}
 use Rattle.input_entries.specs.declared.Entry.{Entry}
 use Rattle.recording.specs.Calls.{faults_after as faults_after_recording}
 use Rattle.recording.specs.Growing.{fits_image}
+use Rattle.recording.specs.Accessors.{device_of as device_of_recording}
+use Rattle.recording.specs.declared.recording.Recording.{Recording as RecordedInputs}
 use Rattle.recording.specs.declared.fault.RecordingFault.{RecordingFault}
 use Rattle.recording.specs.declared.fault.RecordingFault.TheVariants.{Device, Full}
 use Rattle.session.specs.Calls.{faults_after as faults_after_save}
 use Rattle.session.specs.Inputs.{inputs_of}
 use Rattle.session.specs.Stands.{Position}
+use Rattle.session.specs.declared.error.SessionError.{SessionError}
+use Rattle.session.specs.declared.error.SessionError.TheVariants.{Device as DeviceOfSession}
 use Rattle.session.specs.declared.session.Session.{Session as PlaySession}
-use Rattle.playing.specs.Played.{IsPlayed, IsStop, Going, Stopped, Reaches}
-use Rattle.playing.specs.Making.{Place, place, all_of}
+use Rattle.playing.specs.Going.{Place, place, all_of, IsPlayedAt}
+use Rattle.playing.specs.Played.{IsStop, Going, Stopped, Reaches}
 use Rattle.recorded_play.specs.Agreeing.{recorded_inputs}
 use Rattle.recorded_play.specs.declared.error.RecordError.{RecordError}
 use Rattle.recorded_play.specs.declared.error.RecordError.TheVariants.{Session, Recording, Behind, Line, Input as FailedInput}
@@ -25,17 +29,13 @@ pub record Game : Type 1 where
   pub save : Place
   pub recording : DiskState
 
-module _ {D : Type 0} {disk : Ghosts D} where
-  abbrev pub game : (save recording : DiskState) → PlaySession D disk → Game
-  game save recording s = record { save = place save s; recording = recording }
+module _ {D E : Type 0} {disk : Ghosts D} {others : Ghosts E} where
+  abbrev pub game : PlaySession D disk → RecordedInputs E others → Game
+  game s r = record { save = place s; recording = others.disk (device_of_recording r) }
 
 -- no input
 abbrev pub power_on : (rom : List ℕ) → Position
 power_on rom = record { count = 0; machine = start rom }
-
--- these inputs from there were given to the session there, which saved the first of them
-abbrev pub IsPlayedAt : (rom : List ℕ) → Place → Position → List Input → Type 0
-IsPlayedAt rom p from given = IsPlayed rom p.disk p.acknowledged p.pending p.machine from given
 
 -- ---- the recording
 
@@ -113,6 +113,14 @@ recording_faults_after (Behind count) faults = faults
 recording_faults_after (Line number) faults = faults
 recording_faults_after FailedInput faults = faults
 
+-- only a line that could not be written is written in part: to a report every other refusal is what a failed call is
+abbrev pub told_as : RecordError → SessionError
+told_as (Session why) = why
+told_as (Recording why) = DeviceOfSession
+told_as (Behind count) = DeviceOfSession
+told_as (Line number) = DeviceOfSession
+told_as FailedInput = DeviceOfSession
+
 -- the recording stops a game where a call of its device fails, or where the inputs don't fit it
 abbrev pub StopsAppend : RecordingFault → Type 0
 StopsAppend Device = ⊤
@@ -142,7 +150,7 @@ pub record Comes (old new : Game) (more : List Input) : Type 0 where
   pub recording_calls : HasAnswered {T = Unit {0}} recording_faults_after old.recording new.recording (Ok tt)
   pub rom : new.save.machine.processor.memory.banks.rom ≡ old.save.machine.processor.memory.banks.rom
 
--- one of these inputs, or a save or an output among them, was refused
+-- one of these inputs, or a save or a line among them, was refused
 pub record Halts (old new : Game) (more : List Input) (why : RecordError) : Type 0 where
   -- each image that is left of the SAVE has what was acknowledged
   pub stopped : (rom : List ℕ) (from : Position) (given : List Input) → IsPlayedAt rom old.save from given

@@ -28,12 +28,11 @@ use Rattle.streaming.specs.Answers.{inputs_of_orders, stream_lines}
 use Rattle.streaming.specs.declared.obeying.End.{End}
 use Rattle.streaming.specs.declared.obeying.End.TheVariants.{Wrong, Failed}
 use Rattle.recorded_play.specs.Agreeing.{AllAgree, recorded_inputs}
-use Rattle.recorded_play.specs.Steps.{HoldsFirst, IsFull, IsOfDevices, IsRecordStop}
-use Rattle.recorded_play.specs.Obeying.{told_as}
+use Rattle.recorded_play.specs.Steps.{HoldsFirst, IsFull, IsOfDevices, IsRecordStop, told_as}
 use Rattle.recorded_play.specs.declared.error.RecordError.{RecordError}
 use Rattle.recorded_play.specs.declared.error.RecordError.TheVariants.{Session, Recording, Behind, Line as WrongLine, Input as FailedInput}
 use Rattle.recorded_play.specs.declared.error.RecordRefused.{RecordRefused}
-use Rattle.recorded_play.specs.declared.taking_up.RecordedGame.{RecordedGame}
+use Rattle.recorded_play.specs.declared.recorded_game.RecordedGame.{RecordedGame}
 
 -- these inputs further
 abbrev pub behind : Position → List Input → Position

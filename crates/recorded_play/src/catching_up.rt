@@ -6,32 +6,16 @@ ghost use Rattle.recording.specs.Format.{entries_at};
 ghost use Rattle.recording.specs.Accessors.{device_of as device_of_recording, is_broken as is_broken_recording, used_of, full_of, tail_of, count_of};
 ghost use Rattle.session.specs.Calls.{most_unsaved};
 ghost use Rattle.session.specs.Accessors.{device_of, machine_of, pending_of, acknowledged_of, is_broken};
-ghost use Rattle.playing.specs.Making.{place, all_of};
-ghost use Rattle.recorded_play.specs.CatchingUp.{given_by, given_by_all, recorded_in, Passes, Fails, Goes, PassesRecorded, FailsRecorded, HasCaughtUp};
+ghost use Rattle.playing.specs.Going.{place};
+ghost use Rattle.recorded_play.specs.CatchingUp.{given_by, given_by_all, recorded_in, Passes, Fails, PassesRecorded, FailsRecorded, HasCaughtUp};
 
 use crate::error::RecordError;
 use input_entries::{Logged, StoredEntry};
 use machine::Input;
+use playing::{Silent, give, save_line};
 use recording::Recording;
 use sector_device::SectorDevice;
-use session::{MOST_UNSAVED, Session, SessionError};
-
-/// Saves, if 3,200 are unsaved.
-fn save_if_due<D: SectorDevice>(session: &mut Session<D>) -> Result<(), SessionError>
-    requires whole { is_broken session.old ≡ false }
-    requires few { length (pending_of session.old) ≤ most_unsaved }
-    ensures goes { OnOk result (Goes (place (D.disk (device_of session.old)) session.old) (place (D.disk (device_of session.new)) session.new) []) }
-    ensures fails { IfErr result (λ why. Fails (place (D.disk (device_of session.old)) session.old) (place (D.disk (device_of session.new)) session.new) [] why) }
-    ensures whole { OnOk result ((is_broken session.new ≡ false) × (length (pending_of session.new) < most_unsaved)) }
-{
-    if session.counts().pending < MOST_UNSAVED {
-        return Ok(());
-    }
-    match session.save() {
-        Ok(_) => Ok(()),
-        Err(why) => Err(why),
-    }
-}
+use session::{Session, SessionError};
 
 /// Passes over one recorded input: if `skip` is 0 it is given, and 3,200 unsaved ones are saved;
 /// otherwise the session has it. Returns how many more are to be skipped.
@@ -42,17 +26,14 @@ fn pass<D: SectorDevice>(
 ) -> Result<u64, SessionError>
     requires whole { is_broken session.old ≡ false }
     requires few { length (pending_of session.old) < most_unsaved }
-    ensures passes { IfOk result (λ left. Passes (place (D.disk (device_of session.old)) session.old) (place (D.disk (device_of session.new)) session.new) skip left (as_input input ∷ [])) }
-    ensures fails { IfErr result (λ why. Fails (place (D.disk (device_of session.old)) session.old) (place (D.disk (device_of session.new)) session.new) (drop skip (as_input input ∷ [])) why) }
+    ensures passes { IfOk result (λ left. Passes (place session.old) (place session.new) skip left (as_input input ∷ [])) }
+    ensures fails { IfErr result (λ why. Fails (place session.old) (place session.new) (drop skip (as_input input ∷ [])) why) }
     ensures whole { OnOk result ((is_broken session.new ≡ false) × (length (pending_of session.new) < most_unsaved)) }
 {
     if skip > 0 {
         return Ok(skip - 1);
     }
-    if let Err(why) = session.input(input) {
-        return Err(why);
-    }
-    match save_if_due(session) {
+    match give(session, input, &mut Silent) {
         Ok(()) => Ok(0),
         Err(why) => Err(why),
     }
@@ -67,8 +48,8 @@ fn pass_frames<D: SectorDevice>(
 ) -> Result<u64, SessionError>
     requires whole { is_broken session.old ≡ false }
     requires few { length (pending_of session.old) < most_unsaved }
-    ensures passes { IfOk result (λ left. Passes (place (D.disk (device_of session.old)) session.old) (place (D.disk (device_of session.new)) session.new) skip left (replicate times (Frame buttons))) }
-    ensures fails { IfErr result (λ why. Fails (place (D.disk (device_of session.old)) session.old) (place (D.disk (device_of session.new)) session.new) (drop skip (replicate times (Frame buttons))) why) }
+    ensures passes { IfOk result (λ left. Passes (place session.old) (place session.new) skip left (replicate times (Frame buttons))) }
+    ensures fails { IfErr result (λ why. Fails (place session.old) (place session.new) (drop skip (replicate times (Frame buttons))) why) }
     ensures whole { OnOk result ((is_broken session.new ≡ false) × (length (pending_of session.new) < most_unsaved)) }
 {
     let mut left = skip;
@@ -89,8 +70,8 @@ fn pass_entry<D: SectorDevice>(
 ) -> Result<u64, SessionError>
     requires whole { is_broken session.old ≡ false }
     requires few { length (pending_of session.old) < most_unsaved }
-    ensures passes { IfOk result (λ left. Passes (place (D.disk (device_of session.old)) session.old) (place (D.disk (device_of session.new)) session.new) skip left (given_by entry.now)) }
-    ensures fails { IfErr result (λ why. Fails (place (D.disk (device_of session.old)) session.old) (place (D.disk (device_of session.new)) session.new) (drop skip (given_by entry.now)) why) }
+    ensures passes { IfOk result (λ left. Passes (place session.old) (place session.new) skip left (given_by entry.now)) }
+    ensures fails { IfErr result (λ why. Fails (place session.old) (place session.new) (drop skip (given_by entry.now)) why) }
     ensures whole { OnOk result ((is_broken session.new ≡ false) × (length (pending_of session.new) < most_unsaved)) }
 {
     match entry.logged() {
@@ -108,8 +89,8 @@ fn pass_entries<D: SectorDevice>(
 ) -> Result<u64, SessionError>
     requires whole { is_broken session.old ≡ false }
     requires few { length (pending_of session.old) < most_unsaved }
-    ensures passes { IfOk result (λ left. Passes (place (D.disk (device_of session.old)) session.old) (place (D.disk (device_of session.new)) session.new) skip left (given_by_all entries.now)) }
-    ensures fails { IfErr result (λ why. Fails (place (D.disk (device_of session.old)) session.old) (place (D.disk (device_of session.new)) session.new) (drop skip (given_by_all entries.now)) why) }
+    ensures passes { IfOk result (λ left. Passes (place session.old) (place session.new) skip left (given_by_all entries.now)) }
+    ensures fails { IfErr result (λ why. Fails (place session.old) (place session.new) (drop skip (given_by_all entries.now)) why) }
     ensures whole { OnOk result ((is_broken session.new ≡ false) × (length (pending_of session.new) < most_unsaved)) }
 {
     let mut left = skip;
@@ -135,11 +116,11 @@ fn pass_sector<D: SectorDevice, E: SectorDevice>(
     requires one { 1 ≤ number }
     requires used { number ≤ used_of recording.old }
     ensures passes { IfOk result (λ left. PassesRecorded
-        (place (D.disk (device_of session.old)) session.old) (place (D.disk (device_of session.new)) session.new)
+        (place session.old) (place session.new)
         (E.disk (device_of_recording recording.old)) (E.disk (device_of_recording recording.new)) skip left
         (given_by_all (entries_at number (sector_at (E.disk (device_of_recording recording.old)).sectors number)))) }
     ensures fails { IfErr result (λ why. FailsRecorded
-        (place (D.disk (device_of session.old)) session.old) (place (D.disk (device_of session.new)) session.new)
+        (place session.old) (place session.new)
         (E.disk (device_of_recording recording.old)) (E.disk (device_of_recording recording.new)) skip
         (given_by_all (entries_at number (sector_at (E.disk (device_of_recording recording.old)).sectors number))) why) }
     ensures whole { OnOk result ((is_broken session.new ≡ false) × (is_broken_recording recording.new ≡ false) ×
@@ -165,11 +146,11 @@ fn pass_all<D: SectorDevice, E: SectorDevice>(
     requires open { is_broken_recording recording.old ≡ false }
     requires few { length (pending_of session.old) < most_unsaved }
     ensures passes { OnOk result ((left : ℕ) × PassesRecorded
-        (place (D.disk (device_of session.old)) session.old) (place (D.disk (device_of session.new)) session.new)
+        (place session.old) (place session.new)
         (E.disk (device_of_recording recording.old)) (E.disk (device_of_recording recording.new)) skip left
         (recorded_in (E.disk (device_of_recording recording.old)))) }
     ensures fails { IfErr result (λ why. FailsRecorded
-        (place (D.disk (device_of session.old)) session.old) (place (D.disk (device_of session.new)) session.new)
+        (place session.old) (place session.new)
         (E.disk (device_of_recording recording.old)) (E.disk (device_of_recording recording.new)) skip
         (recorded_in (E.disk (device_of_recording recording.old))) why) }
     ensures whole { OnOk result ((is_broken session.new ≡ false) × (is_broken_recording recording.new ≡ false) ×
@@ -196,10 +177,10 @@ pub(crate) fn catch_up<D: SectorDevice, E: SectorDevice>(
     requires open { is_broken_recording recording.old ≡ false }
     requires none { pending_of session.old ≡ [] }
     ensures caught_up { OnOk result (HasCaughtUp
-        (place (D.disk (device_of session.old)) session.old) (place (D.disk (device_of session.new)) session.new)
+        (place session.old) (place session.new)
         (E.disk (device_of_recording recording.old)) (E.disk (device_of_recording recording.new))) }
     ensures fails { IfErr result (λ why. FailsRecorded
-        (place (D.disk (device_of session.old)) session.old) (place (D.disk (device_of session.new)) session.new)
+        (place session.old) (place session.new)
         (E.disk (device_of_recording recording.old)) (E.disk (device_of_recording recording.new)) (acknowledged_of session.old)
         (recorded_in (E.disk (device_of_recording recording.old))) why) }
     ensures whole { OnOk result ((is_broken session.new ≡ false) × (is_broken_recording recording.new ≡ false) × (pending_of session.new ≡ [])) }
@@ -208,8 +189,8 @@ pub(crate) fn catch_up<D: SectorDevice, E: SectorDevice>(
     if let Err(why) = pass_all(session, recording, count) {
         return Err(why);
     }
-    match session.save() {
-        Ok(_) => Ok(()),
+    match save_line(session, &mut Silent) {
+        Ok(()) => Ok(()),
         Err(why) => Err(RecordError::Session(why)),
     }
 }

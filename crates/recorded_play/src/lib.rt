@@ -6,13 +6,13 @@
 
 mod catching_up;
 pub mod error;
-mod giving;
-mod obeying;
 mod recorded;
+pub mod recorded_game;
 mod saving;
-pub mod taking_up;
+mod taking_up;
 
 pub use error::{RecordError, RecordRefused};
 pub use recorded::record;
+pub use recorded_game::RecordedGame;
 pub use saving::save_both;
-pub use taking_up::{RecordedGame, take_up};
+pub use taking_up::take_up;

@@ -9,13 +9,13 @@ ghost use Rattle.recorded_play.specs.Steps.{save_faults_after, recording_faults_
 ghost use Rattle.recorded_play.specs.Whole.{HasRecorded, IsRecordCause, save_left, recording_left};
 
 use crate::error::{RecordError, RecordRefused};
-use crate::obeying::record_on;
-use crate::taking_up::{RecordedGame, take_up};
+use crate::recorded_game::RecordedGame;
+use crate::taking_up::take_up;
 use cartridge::Cartridge;
 use sector_device::SectorDevice;
 use std::alloc::Global;
 use std::io::{Read, Write};
-use streaming::End;
+use streaming::{End, stream_on};
 
 /// What is left of a game that stops.
 fn stopped<D: SectorDevice, E: SectorDevice>(
@@ -70,7 +70,7 @@ pub fn record<D: SectorDevice, E: SectorDevice, R: Read, W: Write>(
         Ok(game) => game,
         Err(refused) => return Err(refused),
     };
-    match record_on(&mut game.session, &mut game.recording, input, out) {
+    match stream_on(&mut game, input, out) {
         Ok(End::Whole) => Ok(game),
         Ok(End::Wrong(number)) => Err(stopped(game, RecordError::Line(number))),
         Ok(End::Failed) => Err(stopped(game, RecordError::Input)),

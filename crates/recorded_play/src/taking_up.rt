@@ -12,18 +12,12 @@ ghost use Rattle.recorded_play.specs.Whole.{HasTakenUp, IsNotTakenUp, save_left,
 
 use crate::catching_up::catch_up;
 use crate::error::{RecordError, RecordRefused};
+use crate::recorded_game::RecordedGame;
 use cartridge::Cartridge;
 use recording::{Recording, open_recording};
 use sector_device::SectorDevice;
 use session::{Look, Session, look_at};
 use std::alloc::Global;
-
-/// A game that is recorded: its session, and the recording of its inputs.
-#[derive(Drop)]
-pub struct RecordedGame<D: SectorDevice, E: SectorDevice> {
-    pub session: Session<D>,
-    pub recording: Recording<E>,
-}
 
 /// Resumes the game that was looked at, and gives it what the recording has beyond it.
 fn resume_and_catch_up<D: SectorDevice, E: SectorDevice>(

@@ -3,10 +3,9 @@ use Rattle.std.proofs.Common.{◌≡◌, ℕ, ◌+◌, List, [], ◌∷◌, ◌+
 use Rattle.std.specs.Prelude.{⊤}
 use Rattle.machine.specs.Machine.{MachineState, after}
 use Rattle.machine.specs.Machine.{Input}
-use Rattle.session.specs.declared.error.SessionError.{SessionError}
 use Rattle.session.proofs.StandsLaws.{after_append, after_none}
-use Rattle.playing.specs.Making.{Place}
 use Rattle.playing.specs.Report.{Line}
+use Rattle.playing.specs.declared.playable.Playable.{Ghosts}
 use Rattle.playing.proofs.Making.{Asked, does_then, stops_among_more, stops_before_more}
 use Rattle.streaming.specs.Orders.{orders_in, orders_of}
 use Rattle.streaming.proofs.OrderLines.{orders_more}
@@ -53,24 +52,25 @@ orders_asked = record {
   lines_append = lines_append;
 }
 
-pub obeys_then : (a b c : Place) (x y z : Option (List ℕ)) (first second : List Order) → Obeys a b x y first → Obeys b c y z second → Obeys a c x z (first ++ second)
-obeys_then a b c x y z first second one two = does_then orders_asked a b c x y z first second one two
+module _ {G F : Type 0} (game : Ghosts G F) where
+  pub obeys_then : (a b c : G) (x y z : Option (List ℕ)) (first second : List Order) → Obeys game a b x y first → Obeys game b c y z second → Obeys game a c x z (first ++ second)
+  obeys_then a b c x y z first second one two = does_then game orders_asked a b c x y z first second one two
 
-pub stops_then : (a b c : Place) (x y z : Option (List ℕ)) (first second : List Order) (why : SessionError) → Obeys a b x y first → StopsAmong b c y z second why → StopsAmong a c x z (first ++ second) why
-stops_then a b c x y z first second why one two = stops_among_more orders_asked a b c x y z ⊤ first second why one two
+  pub stops_then : (a b c : G) (x y z : Option (List ℕ)) (first second : List Order) (why : F) → Obeys game a b x y first → StopsAmong game b c y z second why → StopsAmong game a c x z (first ++ second) why
+  stops_then a b c x y z first second why one two = stops_among_more game orders_asked a b c x y z ⊤ first second why one two
 
--- and before others
-pub stops_before : (a b : Place) (x y : Option (List ℕ)) (first second : List Order) (why : SessionError) → StopsAmong a b x y first why → StopsAmong a b x y (first ++ second) why
-stops_before a b x y first second why stop = stops_before_more orders_asked a b x y ⊤ first second why stop
+  -- and before others
+  pub stops_before : (a b : G) (x y : Option (List ℕ)) (first second : List Order) (why : F) → StopsAmong game a b x y first why → StopsAmong game a b x y (first ++ second) why
+  stops_before a b x y first second why stop = stops_before_more game orders_asked a b x y ⊤ first second why stop
 
--- ---- the orders of one line more
+  -- ---- the orders of one line more
 
-line_then : (lines : List (List ℕ)) (line : List ℕ) (more : List Order) → orders_in line ≡ more → orders_of lines ++ more ≡ orders_of (lines ++ line ∷ [])
-line_then lines line more e = ap (λ (l : List Order). orders_of lines ++ l) (sym e) ∙ sym (orders_more lines line)
+  line_then : (lines : List (List ℕ)) (line : List ℕ) (more : List Order) → orders_in line ≡ more → orders_of lines ++ more ≡ orders_of (lines ++ line ∷ [])
+  line_then lines line more e = ap (λ (l : List Order). orders_of lines ++ l) (sym e) ∙ sym (orders_more lines line)
 
-pub line_obeyed : (a b c : Place) (x y z : Option (List ℕ)) (lines : List (List ℕ)) (line : List ℕ) (more : List Order) → orders_in line ≡ more → Obeys a b x y (orders_of lines) → Obeys b c y z more → Obeys a c x z (orders_of (lines ++ line ∷ []))
-line_obeyed a b c x y z lines line more e one two = subst (Obeys a c x z) (line_then lines line more e) (obeys_then a b c x y z (orders_of lines) more one two)
+  pub line_obeyed : (a b c : G) (x y z : Option (List ℕ)) (lines : List (List ℕ)) (line : List ℕ) (more : List Order) → orders_in line ≡ more → Obeys game a b x y (orders_of lines) → Obeys game b c y z more → Obeys game a c x z (orders_of (lines ++ line ∷ []))
+  line_obeyed a b c x y z lines line more e one two = subst (Obeys game a c x z) (line_then lines line more e) (obeys_then a b c x y z (orders_of lines) more one two)
 
-pub line_stopped : (a b c : Place) (x y z : Option (List ℕ)) (lines : List (List ℕ)) (line : List ℕ) (more : List Order) (why : SessionError) → orders_in line ≡ more → Obeys a b x y (orders_of lines) → StopsAmong b c y z more why
-    → StopsAmong a c x z (orders_of (lines ++ line ∷ [])) why
-line_stopped a b c x y z lines line more why e one two = subst (λ (l : List Order). StopsAmong a c x z l why) (line_then lines line more e) (stops_then a b c x y z (orders_of lines) more why one two)
+  pub line_stopped : (a b c : G) (x y z : Option (List ℕ)) (lines : List (List ℕ)) (line : List ℕ) (more : List Order) (why : F) → orders_in line ≡ more → Obeys game a b x y (orders_of lines) → StopsAmong game b c y z more why
+      → StopsAmong game a c x z (orders_of (lines ++ line ∷ [])) why
+  line_stopped a b c x y z lines line more why e one two = subst (λ (l : List Order). StopsAmong game a c x z l why) (line_then lines line more e) (stops_then a b c x y z (orders_of lines) more why one two)

@@ -8,6 +8,6 @@ pub mod order;
 mod streamed;
 
 pub use error::{StreamError, StreamRefused};
-pub use obeying::End;
+pub use obeying::{End, stream_on};
 pub use order::{Order, read_order};
 pub use streamed::stream;

@@ -19,7 +19,7 @@ use Rattle.session.proofs.StandsLaws.{after_append, after_none}
 use Rattle.whole_lives.proofs.RoundLaws.{stood_before, stands_here}
 use Rattle.whole_lives.specs.Lives.{inputs_of_round, IsRoundBy, IsRound, IsLife, HasLived, LeavesLife, LeavesSomeLife}
 use Rattle.whole_lives.specs.Laws.{survivors_of, survivors, IsTakenUpFrom, NeverFalls, NoLifeLosesWhatWasSaved}
-use Rattle.whole_lives.specs.Refusals.{IsFresh, IsLast, IsLifeStop, IsStanding, IsOutOfMemory}
+use Rattle.whole_lives.specs.Refusals.{IsFresh, IsLast, IsLifeStop, IsOutOfMemory}
 use Rattle.whole_lives.specs.Rounds.{LeavesRound, IsRoundRefusal}
 use Rattle.whole_lives.specs.declared.rounds.Round.{Round}
 use Rattle.whole_lives.specs.declared.rounds.RoundEnd.{RoundEnd}

@@ -7,7 +7,7 @@ use Rattle.recording.specs.Accessors.{device_of as device_of_recording}
 use Rattle.session.specs.Accessors.{device_of}
 use Rattle.session.specs.declared.error.SessionError.TheVariants.{Device}
 use Rattle.streaming.specs.declared.obeying.End.TheVariants.{Whole}
-use Rattle.recorded_play.specs.Obeying.{told_as}
+use Rattle.recorded_play.specs.Steps.{told_as}
 use Rattle.recorded_play.specs.Whole.{HasRecorded, IsRecordCause}
 use Rattle.recorded_play.specs.declared.error.RecordError.{RecordError}
 use Rattle.recorded_play.specs.declared.error.RecordRefused.{RecordRefused}

@@ -4,7 +4,7 @@ use Rattle.sector_device.specs.DiskState.{sector_at}
 use Rattle.recording.specs.Format.{entries_at}
 use Rattle.recording.specs.Accessors.{device_of as device_of_recording}
 use Rattle.session.specs.Accessors.{device_of}
-use Rattle.playing.specs.Making.{place}
+use Rattle.playing.specs.Going.{place}
 use Rattle.recorded_play.specs.CatchingUp.{given_by_all, recorded_in}
 use Rattle.recorded_play.proofs.Passing.{given_up_to, up_to_next, up_to_all, up_to_rest, recorded_begins, recorded_at, recorded_then, recorded_fails, recorded_is, fails_at, fails_is}
 use Rattle.recorded_play.proofs.catching_up.pass_all.Goals as goal
@@ -17,7 +17,7 @@ loop-number-init g c =
       opened = c.requires.open;
       few = c.requires.few;
       same = refl;
-      passes = recorded_begins (place (g.D.SectorDevice.disk (device_of first)) first) (g.E.SectorDevice.disk (device_of_recording c.args.recording.now)) c.args.skip (g.met.D.SectorDevice.only_now (device_of first));
+      passes = recorded_begins (place first) (g.E.SectorDevice.disk (device_of_recording c.args.recording.now)) c.args.skip (g.met.D.SectorDevice.only_now (device_of first));
     }
 
 pub pass_sector-requires-clause-used : goal.pass_sector-requires-clause-used
@@ -31,9 +31,9 @@ loop-number-preserved g c =
     let old = g.E.SectorDevice.disk (device_of_recording c.args.recording.now) in
     let mid = g.E.SectorDevice.disk (device_of_recording c.loop-number.recording) in
     let new = g.E.SectorDevice.disk (device_of_recording c.pass_sector.new.recording) in
-    let a = place (g.D.SectorDevice.disk (device_of first)) first in
-    let b = place (g.D.SectorDevice.disk (device_of there)) there in
-    let z = place (g.D.SectorDevice.disk (device_of now)) now in
+    let a = place first in
+    let b = place there in
+    let z = place now in
     let n = c.loop-number.number in
     let one = c.loop-number.invariant.passes in
     record {
@@ -55,7 +55,7 @@ returns-clause-passes g c =
     let new = g.E.SectorDevice.disk (device_of_recording c.loop-number.recording) in
     let all : c.loop-number.number ≡ c.sectors_used-used.result = omega (arith, c.loop-number-test.false, c.loop-number.auto.number-end) in (
       c.loop-number.left,
-      recorded_is (place (g.D.SectorDevice.disk (device_of first)) first) (place (g.D.SectorDevice.disk (device_of now)) now) old new c.args.skip c.loop-number.left (given_up_to c.loop-number.number old.sectors) (recorded_in old)
+      recorded_is (place first) (place now) old new c.args.skip c.loop-number.left (given_up_to c.loop-number.number old.sectors) (recorded_in old)
           (λ honest. ap (λ (n : ℕ). given_up_to n old.sectors) all ∙ up_to_all c.sectors_used-used.result old (c.sectors_used-used.ensures.whole honest)) c.loop-number.invariant.passes,
     )
 
@@ -67,9 +67,9 @@ returns-in-Err-clause-fails g c =
     let old = g.E.SectorDevice.disk (device_of_recording c.args.recording.now) in
     let mid = g.E.SectorDevice.disk (device_of_recording c.loop-number.recording) in
     let new = g.E.SectorDevice.disk (device_of_recording c.pass_sector.new.recording) in
-    let a = place (g.D.SectorDevice.disk (device_of first)) first in
-    let b = place (g.D.SectorDevice.disk (device_of there)) there in
-    let z = place (g.D.SectorDevice.disk (device_of now)) now in
+    let a = place first in
+    let b = place there in
+    let z = place now in
     let n = c.loop-number.number in
     let one = c.loop-number.invariant.passes in
     let sector : List Input = given_by_all (entries_at (n + 1) (sector_at old.sectors (n + 1))) in

@@ -1,7 +1,7 @@
 use Rattle.std.proofs.Common.{[], ap}
 use Rattle.std.proofs.lemmas.List.{take_all}
 use Rattle.session.specs.Accessors.{device_of}
-use Rattle.playing.specs.Making.{place}
+use Rattle.playing.specs.Going.{place}
 use Rattle.recorded_play.specs.CatchingUp.{given_by_all}
 use Rattle.recorded_play.proofs.Passing.{passes_nothing, passes_by, passes_entry, fails_entry}
 use Rattle.recorded_play.proofs.catching_up.pass_entries.Goals as goal
@@ -12,7 +12,7 @@ loop-entry-init g c =
     record {
       whole = c.requires.whole;
       few = c.requires.few;
-      passes = passes_nothing (place (g.D.SectorDevice.disk (device_of first)) first) c.args.skip (g.met.D.SectorDevice.only_now (device_of first));
+      passes = passes_nothing (place first) c.args.skip (g.met.D.SectorDevice.only_now (device_of first));
     }
 
 pub loop-entry-preserved : goal.loop-entry-preserved
@@ -24,7 +24,7 @@ loop-entry-preserved g c =
       whole = c.in-Ok.ensures.whole.0;
       few = c.in-Ok.ensures.whole.1;
       passes =
-          passes_entry (place (g.D.SectorDevice.disk (device_of first)) first) (place (g.D.SectorDevice.disk (device_of there)) there) (place (g.D.SectorDevice.disk (device_of now)) now)
+          passes_entry (place first) (place there) (place now)
           c.args.skip c.loop-entry.left c.in-Ok.next c.args.entries.now c.loop-entry.entry-index (record { code = [] }) c.loop-entry-test.true c.loop-entry.invariant.passes c.in-Ok.ensures.passes;
     }
 
@@ -37,5 +37,5 @@ returns-in-Err-clause-fails g c =
     let first = c.args.session.now in
     let there = c.loop-entry.session in
     let now = c.pass_entry.new.session in
-    fails_entry (place (g.D.SectorDevice.disk (device_of first)) first) (place (g.D.SectorDevice.disk (device_of there)) there) (place (g.D.SectorDevice.disk (device_of now)) now)
+    fails_entry (place first) (place there) (place now)
     c.args.skip c.loop-entry.left c.args.entries.now c.loop-entry.entry-index (record { code = [] }) c.in-Err.why c.loop-entry-test.true c.loop-entry.invariant.passes c.in-Err.ensures.fails

@@ -1,6 +1,6 @@
 use Rattle.std.proofs.Common.{◌≡◌, ◌<◌, length, take, false}
-use Rattle.session.specs.Accessors.{device_of, pending_of, is_broken}
-use Rattle.playing.specs.Making.{place}
+use Rattle.session.specs.Accessors.{pending_of, is_broken}
+use Rattle.playing.specs.Going.{place}
 use Rattle.recorded_play.specs.CatchingUp.{given_by_all, Passes}
 use Rattle.recorded_play.proofs.catching_up.pass_entries.Given as goal
 
@@ -12,5 +12,5 @@ invariant-loop-entry g l =
     record {
       whole : is_broken now ≡ false;
       few : length (pending_of now) < 3200;
-      passes : Passes (place (g.D.SectorDevice.disk (device_of first)) first) (place (g.D.SectorDevice.disk (device_of now)) now) l.skip l.left (given_by_all (take l.entry-index l.entries));
+      passes : Passes (place first) (place now) l.skip l.left (given_by_all (take l.entry-index l.entries));
     }

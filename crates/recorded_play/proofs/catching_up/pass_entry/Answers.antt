@@ -1,7 +1,7 @@
 use Rattle.std.proofs.Common.{refl}
 use Rattle.session.specs.Accessors.{device_of}
 use Rattle.playing.proofs.Stops.{if_err}
-use Rattle.playing.specs.Making.{place}
+use Rattle.playing.specs.Going.{place}
 use Rattle.recorded_play.proofs.Passing.{if_ok, passes_by, passes_nothing, given_frames, given_seconds, given_none, fails_in}
 use Rattle.recorded_play.proofs.catching_up.pass_entry.Goals as goal
 
@@ -30,4 +30,4 @@ returns-in-Some-Seconds-clause-fails g c =
 pub returns-in-None-clause-passes : goal.returns-in-None-clause-passes
 returns-in-None-clause-passes g c =
     let was = c.args.session.now in
-    passes_by (given_none c.args.entry.now (c.in-None.ensures.none refl)) (passes_nothing (place (g.D.SectorDevice.disk (device_of was)) was) c.args.skip (g.met.D.SectorDevice.only_now (device_of was)))
+    passes_by (given_none c.args.entry.now (c.in-None.ensures.none refl)) (passes_nothing (place was) c.args.skip (g.met.D.SectorDevice.only_now (device_of was)))

@@ -1,7 +1,7 @@
 use Rattle.std.proofs.Common.{◌≡◌, ◌<◌, length, replicate, false}
 use Rattle.machine.specs.Machine.{Frame}
-use Rattle.session.specs.Accessors.{device_of, pending_of, is_broken}
-use Rattle.playing.specs.Making.{place}
+use Rattle.session.specs.Accessors.{pending_of, is_broken}
+use Rattle.playing.specs.Going.{place}
 use Rattle.recorded_play.specs.CatchingUp.{Passes}
 use Rattle.recorded_play.proofs.catching_up.pass_frames.Given as goal
 
@@ -13,5 +13,5 @@ invariant-loop-i g l =
     record {
       whole : is_broken now ≡ false;
       few : length (pending_of now) < 3200;
-      passes : Passes (place (g.D.SectorDevice.disk (device_of first)) first) (place (g.D.SectorDevice.disk (device_of now)) now) l.skip l.left (replicate l._i (Frame l.buttons));
+      passes : Passes (place first) (place now) l.skip l.left (replicate l._i (Frame l.buttons));
     }

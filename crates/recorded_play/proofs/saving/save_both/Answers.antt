@@ -10,7 +10,7 @@ use Rattle.session.proofs.Answering.{answered_value, answered_error, answered_ot
 use Rattle.session.proofs.StandsLaws.{after_none}
 use Rattle.playing.proofs.PlayLaws.{going_saved, going_by, stopped_failed, stopped_here, stopped_by}
 use Rattle.playing.proofs.Stops.{save_stops, save_not_output}
-use Rattle.playing.specs.Making.{place}
+use Rattle.playing.specs.Going.{place}
 use Rattle.recorded_play.specs.Steps.{game, power_on}
 use Rattle.recorded_play.proofs.Recordings.{are_all_inputs}
 use Rattle.recorded_play.proofs.Stepping.{behind_agree, behind_after}
@@ -28,7 +28,7 @@ returns-in-Err-clause-halts g c =
     let disk = g.D.SectorDevice.disk (device_of was) in
     let old = g.E.SectorDevice.disk (device_of_recording c.args.recording.now) in
     let new = g.E.SectorDevice.disk (device_of_recording c.append.new.self) in
-    let a = game disk old was in
+    let a = game was c.args.recording.now in
     record {
       stopped = λ rom from given played.
           stopped_by (sym (append-nil given)) (stopped_here rom disk (acknowledged_of was) (pending_of was) (machine_of was) from given played (g.met.D.SectorDevice.only_now (device_of was)));
@@ -50,7 +50,7 @@ returns-in-Err-clause-recorded g c = λ rom all step.
     let was = c.args.session.now in
     let old = g.E.SectorDevice.disk (device_of_recording c.args.recording.now) in
     let new = g.E.SectorDevice.disk (device_of_recording c.append.new.self) in
-    recording_moves rom (game (g.D.SectorDevice.disk (device_of was)) old was) all step new
+    recording_moves rom (game was c.args.recording.now) all step new
     (appending_of old new (pending_of was) c.unsaved.result.now c.unsaved.ensures.pending (c.append.ensures.images c.requires.open step.holds.honest))
 
 pub returns-in-Err-clause-moved : goal.returns-in-Err-clause-moved
@@ -58,7 +58,7 @@ returns-in-Err-clause-moved g c = λ rom all step.
     let was = c.args.session.now in
     let old = g.E.SectorDevice.disk (device_of_recording c.args.recording.now) in
     let new = g.E.SectorDevice.disk (device_of_recording c.append.new.self) in
-    save_stays rom (game (g.D.SectorDevice.disk (device_of was)) old was) all step new
+    save_stays rom (game was c.args.recording.now) all step new
     (appending_of old new (pending_of was) c.unsaved.result.now c.unsaved.ensures.pending (c.append.ensures.images c.requires.open step.holds.honest))
     (g.met.E.SectorDevice.counts_now (device_of_recording c.append.new.self)) (g.met.D.SectorDevice.only_now (device_of was))
 
@@ -67,8 +67,8 @@ returns-in-Err-clause-agree g c = λ rom all step.
     let was = c.args.session.now in
     let old = g.E.SectorDevice.disk (device_of_recording c.args.recording.now) in
     let new = g.E.SectorDevice.disk (device_of_recording c.append.new.self) in
-    let a = game (g.D.SectorDevice.disk (device_of was)) old was in
-    behind_agree rom a (game (g.D.SectorDevice.disk (device_of was)) new was) (all ++ [])
+    let a = game was c.args.recording.now in
+    behind_agree rom a (game was c.append.new.self) (all ++ [])
     (behind_appended rom a all step new (appending_of old new (pending_of was) c.unsaved.result.now c.unsaved.ensures.pending (c.append.ensures.images c.requires.open step.holds.honest))
     (g.met.E.SectorDevice.counts_now (device_of_recording c.append.new.self)) (c.append.ensures.answered.honest.1 step.holds.honest))
 
@@ -106,7 +106,7 @@ returns-in-Ok-clause-recorded g c = λ rom all step.
     let was = c.args.session.now in
     let old = g.E.SectorDevice.disk (device_of_recording c.args.recording.now) in
     let new = g.E.SectorDevice.disk (device_of_recording c.append.new.self) in
-    recording_moves rom (game (g.D.SectorDevice.disk (device_of was)) old was) all step new
+    recording_moves rom (game was c.args.recording.now) all step new
     (appending_of old new (pending_of was) c.unsaved.result.now c.unsaved.ensures.pending (c.append.ensures.images c.requires.open step.holds.honest))
 
 pub returns-in-Ok-clause-moved : goal.returns-in-Ok-clause-moved
@@ -121,7 +121,7 @@ returns-in-Ok-clause-moved g c = λ rom all step.
     going_saved rom disk (acknowledged_of was) (pending_of was) (machine_of was) (power_on rom) all played (rom_of was) refl
     (g.D.SectorDevice.disk (device_of now)) c.in-Ok.count (acknowledged_of now) (pending_of now) (machine_of now)
     (c.in-Ok.ensures.answered.honest.1 played.honest) c.in-Ok.ensures.ok.0 c.in-Ok.ensures.ok.1 c.in-Ok.ensures.ok.2 c.in-Ok.ensures.machine.0 (c.in-Ok.ensures.rests played.honest) (c.in-Ok.ensures.images c.requires.whole played.honest) in
-    save_moves rom (game disk old was) all step new
+    save_moves rom (game was c.args.recording.now) all step new
     (appending_of old new (pending_of was) c.unsaved.result.now c.unsaved.ensures.pending (c.append.ensures.images c.requires.open step.holds.honest))
     (c.append.ensures.answered.honest.1 step.holds.honest) (appended_of old new (pending_of was) c.unsaved.result.now c.unsaved.ensures.pending (c.in_default.ensures.appended.appended step.holds.honest))
     (g.D.SectorDevice.disk (device_of now)) going.moments
@@ -130,8 +130,8 @@ pub returns-in-Ok-clause-agree : goal.returns-in-Ok-clause-agree
 returns-in-Ok-clause-agree g c = λ rom all step.
     let was = c.args.session.now in
     let now = c.save.new.self in
-    let a = game (g.D.SectorDevice.disk (device_of was)) (g.E.SectorDevice.disk (device_of_recording c.args.recording.now)) was in
-    let b = game (g.D.SectorDevice.disk (device_of now)) (g.E.SectorDevice.disk (device_of_recording c.append.new.self)) now in
+    let a = game was c.args.recording.now in
+    let b = game now c.append.new.self in
     behind_agree rom a b (all ++ []) (behind_after rom a b all [] (returns-in-Ok-clause-comes g c) step (g.met.E.SectorDevice.only_now (device_of_recording c.append.new.self)))
 
 -- ---- the save was refused
@@ -153,10 +153,10 @@ returns-in-Err-save-clause-halts g c =
           moved (acknowledged_of now) (c.in-Err-save.ensures.answered.honest.1 played.honest) c.in-Err-save.ensures.refused.1 (g.met.D.SectorDevice.counts_now (device_of now)) (c.in-Err-save.ensures.images c.requires.whole played.honest));
       behind = λ rom all step.
           let played = step.played in
-          behind_failed rom (game disk old was) all step new
+          behind_failed rom (game was c.args.recording.now) all step new
           (appending_of old new (pending_of was) c.unsaved.result.now c.unsaved.ensures.pending (c.append.ensures.images c.requires.open step.holds.honest))
           (c.append.ensures.answered.honest.1 step.holds.honest) (appended_of old new (pending_of was) c.unsaved.result.now c.unsaved.ensures.pending (c.in_default.ensures.appended.appended step.holds.honest))
-          (place moved now) c.in-Err-save.ensures.refused.1
+          (place now) c.in-Err-save.ensures.refused.1
           (stopped_failed rom disk (acknowledged_of was) (pending_of was) (machine_of was) (power_on rom) all played (rom_of was) refl
           moved (acknowledged_of now) (c.in-Err-save.ensures.answered.honest.1 played.honest) c.in-Err-save.ensures.refused.1 (g.met.D.SectorDevice.counts_now (device_of now)) (c.in-Err-save.ensures.images c.requires.whole played.honest));
       cause = cause;
@@ -171,7 +171,7 @@ returns-in-Err-save-clause-recorded g c = λ rom all step.
     let was = c.args.session.now in
     let old = g.E.SectorDevice.disk (device_of_recording c.args.recording.now) in
     let new = g.E.SectorDevice.disk (device_of_recording c.append.new.self) in
-    recording_moves rom (game (g.D.SectorDevice.disk (device_of was)) old was) all step new
+    recording_moves rom (game was c.args.recording.now) all step new
     (appending_of old new (pending_of was) c.unsaved.result.now c.unsaved.ensures.pending (c.append.ensures.images c.requires.open step.holds.honest))
 
 pub returns-in-Err-save-clause-moved : goal.returns-in-Err-save-clause-moved
@@ -186,7 +186,7 @@ returns-in-Err-save-clause-moved g c = λ rom all step.
     let stopped =
     stopped_failed rom disk (acknowledged_of was) (pending_of was) (machine_of was) (power_on rom) all played (rom_of was) refl
     moved (acknowledged_of now) (c.in-Err-save.ensures.answered.honest.1 played.honest) c.in-Err-save.ensures.refused.1 (g.met.D.SectorDevice.counts_now (device_of now)) (c.in-Err-save.ensures.images c.requires.whole played.honest) in
-    save_moves rom (game disk old was) all step new
+    save_moves rom (game was c.args.recording.now) all step new
     (appending_of old new (pending_of was) c.unsaved.result.now c.unsaved.ensures.pending (c.append.ensures.images c.requires.open step.holds.honest))
     (c.append.ensures.answered.honest.1 step.holds.honest) (appended_of old new (pending_of was) c.unsaved.result.now c.unsaved.ensures.pending (c.in_default.ensures.appended.appended step.holds.honest))
     moved stopped.moments
@@ -195,8 +195,8 @@ pub returns-in-Err-save-clause-agree : goal.returns-in-Err-save-clause-agree
 returns-in-Err-save-clause-agree g c = λ rom all step.
     let was = c.args.session.now in
     let now = c.save.new.self in
-    let a = game (g.D.SectorDevice.disk (device_of was)) (g.E.SectorDevice.disk (device_of_recording c.args.recording.now)) was in
-    let b = game (g.D.SectorDevice.disk (device_of now)) (g.E.SectorDevice.disk (device_of_recording c.append.new.self)) now in
+    let a = game was c.args.recording.now in
+    let b = game now c.append.new.self in
     behind_agree rom a b (all ++ []) ((returns-in-Err-save-clause-halts g c).behind rom all step)
 
 pub returns-in-Err-save-clause-no_output : goal.returns-in-Err-save-clause-no_output

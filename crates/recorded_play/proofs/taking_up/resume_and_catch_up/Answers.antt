@@ -5,7 +5,7 @@ use Rattle.recording.specs.Accessors.{device_of as device_of_recording}
 use Rattle.session.specs.Stands.{Position}
 use Rattle.session.specs.Accessors.{device_of, machine_of, acknowledged_of, device_of_look, machine_of_look, count_of_look, generation_of_look}
 use Rattle.session.proofs.Answering.{answered_both, answered_error, answered_refusal, answered_refused, answered_value}
-use Rattle.playing.specs.Making.{place}
+use Rattle.playing.specs.Going.{place}
 use Rattle.recorded_play.specs.CatchingUp.{recorded_in}
 use Rattle.recorded_play.specs.GoingOn.{GoesOn, StopsGoingOn}
 use Rattle.recorded_play.specs.Steps.{save_faults_after, recording_faults_after}
@@ -48,10 +48,10 @@ returns-in-Ok-catch_up-clause-goes g c =
     let recording = g.E.SectorDevice.disk (device_of_recording c.args.recording) in
     let new = g.E.SectorDevice.disk (device_of_recording c.catch_up.new.recording) in
     let taken = c.in-Ok.ensures in
-    let a = place (disk (device_of s)) s in
+    let a = place s in
     let up : IsResumed c.args.cartridge.now old a = record { none = taken.begun.0; rom_is = taken.begun.2; honest = taken.answered.honest.1; rests = taken.rests; images = taken.images } in
     subst (λ (p : Position). GoesOn c.args.cartridge.now old (disk (device_of now)) recording new p (acknowledged_of now) (machine_of now)) (λ i. record { count = taken.same.0 i; machine = taken.same.1 i })
-    (goes_on c.args.cartridge.now old a (place (disk (device_of now)) now) recording new up c.in-Ok-catch_up.ensures.whole.2 c.in-Ok-catch_up.ensures.caught_up)
+    (goes_on c.args.cartridge.now old a (place now) recording new up c.in-Ok-catch_up.ensures.whole.2 c.in-Ok-catch_up.ensures.caught_up)
 
 pub returns-in-Ok-catch_up-clause-whole : goal.returns-in-Ok-catch_up-clause-whole
 returns-in-Ok-catch_up-clause-whole g c =
@@ -77,13 +77,13 @@ returns-in-Err-catch_up-clause-stops g c =
     let new = other (device_of_recording c.catch_up.new.recording) in
     let taken = c.in-Ok.ensures in
     let why = c.in-Err-catch_up.why in
-    let a = place (disk (device_of s)) s in
+    let a = place s in
     let at : Position = record { count = count_of_look look; machine = machine_of_look look } in
     let up : IsResumed rom old a = record { none = taken.begun.0; rom_is = taken.begun.2; honest = taken.answered.honest.1; rests = taken.rests; images = taken.images } in
     subst (λ d. StopsGoingOn rom old (disk d) recording (other c.into_device-in-Err-catch_up-2.result) at why) (sym c.into_device-in-Err-catch_up.ensures.device)
     (subst (λ e. StopsGoingOn rom old (disk (device_of now)) recording (other e) at why) (sym c.into_device-in-Err-catch_up-2.ensures)
     (subst (λ (p : Position). StopsGoingOn rom old (disk (device_of now)) recording new p why) (λ i. record { count = taken.same.0 i; machine = taken.same.1 i })
-    (stops_catching_up rom old a (place (disk (device_of now)) now) recording new up why c.in-Err-catch_up.ensures.fails)))
+    (stops_catching_up rom old a (place now) recording new up why c.in-Err-catch_up.ensures.fails)))
 
 pub returns-in-Err-catch_up-clause-save_answered : goal.returns-in-Err-catch_up-clause-save_answered
 returns-in-Err-catch_up-clause-save_answered g c =

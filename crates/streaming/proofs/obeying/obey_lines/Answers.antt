@@ -1,9 +1,7 @@
 use Rattle.std.proofs.Common.{◌≡◌, ◌∷◌, ◌++◌, ◌+◌, [], length, inl, inr, refl, arith, length-append}
 use Rattle.std.proofs.lemmas.List.Elements.{All-nil}
-use Rattle.session.specs.Accessors.{device_of}
 use Rattle.streaming.specs.Orders.{IsRight, order_list}
 use Rattle.input_lines.specs.Reading.{left_of}
-use Rattle.playing.specs.Making.{place}
 use Rattle.input_lines.proofs.Takings.{takes_none, takes_more, reads_left, reads_rest}
 use Rattle.playing.proofs.Stops.{handed_on}
 use Rattle.streaming.proofs.OrderLines.{right_more, reads_wrong}
@@ -12,23 +10,18 @@ use Rattle.streaming.proofs.Compositions.{line_obeyed, line_stopped}
 use Rattle.streaming.proofs.obeying.obey_lines.Goals as goal
 
 pub loop-number-init : goal.loop-number-init
-loop-number-init g c =
-    let first = c.args.session.now in
-    record {
-      lines = [];
-      right = All-nil IsRight;
-      number = refl;
-      taken = takes_none (g.R.Read.remaining c.args.input.now) c.new-unread.result.items c.new-unread.ensures;
-      obeys = makes_nothing (place (g.D.SectorDevice.disk (device_of first)) first) (g.W.Write.contents c.args.out.now) (g.met.D.SectorDevice.only_now (device_of first));
-      whole = c.requires.whole;
-      few = c.requires.few;
-    }
+loop-number-init g c = record {
+  lines = [];
+  right = All-nil IsRight;
+  number = refl;
+  taken = takes_none (g.R.Read.remaining c.args.input.now) c.new-unread.result.items c.new-unread.ensures;
+  obeys = makes_nothing g.G.Playable c.args.game.now (g.W.Write.contents c.args.out.now);
+  whole = c.requires.whole;
+  few = c.requires.few;
+}
 
 pub loop-number-preserved : goal.loop-number-preserved
 loop-number-preserved g c =
-    let first = c.args.session.now in
-    let there = c.loop-number.session in
-    let now = c.obey.new.session in
     let so_far = c.loop-number.invariant in
     let next = c.in-Line.ensures in
     record {
@@ -39,7 +32,7 @@ loop-number-preserved g c =
           takes_more so_far.lines next.0 (g.R.Read.remaining c.args.input.now) (left_of c.loop-number.unread.items (g.R.Read.remaining c.loop-number.input))
           (left_of c.read_next.new.unread.items (g.R.Read.remaining c.read_next.new.input)) so_far.taken next.3;
       obeys =
-          line_obeyed (place (g.D.SectorDevice.disk (device_of first)) first) (place (g.D.SectorDevice.disk (device_of there)) there) (place (g.D.SectorDevice.disk (device_of now)) now)
+          line_obeyed g.G.Playable c.args.game.now c.loop-number.game c.obey.new.game
           (g.W.Write.contents c.args.out.now) (g.W.Write.contents c.loop-number.out) (g.W.Write.contents c.obey.new.out) so_far.lines next.0 (order_list c.in-Line.order) next.2 so_far.obeys c.in_ok-obey-in-Line.ensures.obeyed;
       whole = c.in_ok-obey-in-Line.ensures.whole.0;
       few = c.in_ok-obey-in-Line.ensures.whole.1;
@@ -47,9 +40,6 @@ loop-number-preserved g c =
 
 pub returns-in_err-obey-in-Line-clause-stopped : goal.returns-in_err-obey-in-Line-clause-stopped
 returns-in_err-obey-in-Line-clause-stopped g c =
-    let first = c.args.session.now in
-    let there = c.loop-number.session in
-    let now = c.obey.new.session in
     let so_far = c.loop-number.invariant in
     let next = c.in-Line.ensures in
     let unread = c.read_next.new.unread.items in
@@ -63,7 +53,7 @@ returns-in_err-obey-in-Line-clause-stopped g c =
           reads_left (so_far.lines ++ next.0 ∷ []) unread (g.R.Read.remaining c.args.input.now) since
           (takes_more so_far.lines next.0 (g.R.Read.remaining c.args.input.now) (left_of c.loop-number.unread.items (g.R.Read.remaining c.loop-number.input)) (left_of unread since) so_far.taken next.3);
       stops =
-          line_stopped (place (g.D.SectorDevice.disk (device_of first)) first) (place (g.D.SectorDevice.disk (device_of there)) there) (place (g.D.SectorDevice.disk (device_of now)) now)
+          line_stopped g.G.Playable c.args.game.now c.loop-number.game c.obey.new.game
           (g.W.Write.contents c.args.out.now) (g.W.Write.contents c.loop-number.out) (g.W.Write.contents c.obey.new.out) so_far.lines next.0 (order_list c.in-Line.order) c.in_err-obey-in-Line.field-0.0 next.2 so_far.obeys c.in_err-obey-in-Line.ensures.stopped;
     })
 

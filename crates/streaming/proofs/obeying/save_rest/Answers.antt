@@ -1,6 +1,4 @@
-use Rattle.std.proofs.Common.{◌≡◌, ℕ, length, ◌∙◌, sym, ap, subst}
-use Rattle.session.specs.Accessors.{device_of, pending_of}
-use Rattle.playing.specs.Making.{place}
+use Rattle.std.proofs.Common.{◌≡◌, ℕ, ◌∙◌, sym, subst}
 use Rattle.playing.proofs.Making.{makes_nothing}
 use Rattle.streaming.specs.Answers.{last_orders}
 use Rattle.streaming.specs.Obeying.{Obeys}
@@ -8,8 +6,7 @@ use Rattle.streaming.proofs.obeying.save_rest.Goals as goal
 
 pub returns-then-counts-eq0-clause-obeyed : goal.returns-then-counts-eq0-clause-obeyed
 returns-then-counts-eq0-clause-obeyed g c =
-    let was = c.args.session.now in
-    let here = place (g.D.SectorDevice.disk (device_of was)) was in
+    let here = c.args.game.now in
     let out = g.W.Write.contents c.args.out.now in
-    let none : length (pending_of was) ≡ 0 = sym (ap (λ r. r.pending) c.counts.ensures) ∙ c.if-counts-eq0.true in
-    subst (λ (n : ℕ). Obeys here here out out (last_orders n)) (sym none) (makes_nothing here out (g.met.D.SectorDevice.only_now (device_of was)))
+    let none : g.G.Playable.unsaved here ≡ 0 = sym c.counts.ensures.pending ∙ c.if-counts-eq0.true in
+    subst (λ (n : ℕ). Obeys g.G.Playable here here out out (last_orders n)) (sym none) (makes_nothing g.G.Playable here out)

@@ -1,8 +1,6 @@
-use Rattle.std.proofs.Common.{inl, [], length, ap}
+use Rattle.std.proofs.Common.{inl, []}
 use Rattle.std.proofs.KnownBytes.{Consumes-nil}
 use Rattle.std.proofs.lemmas.List.Elements.{All-nil}
-use Rattle.session.specs.Accessors.{device_of, pending_of}
-use Rattle.playing.specs.Making.{place}
 use Rattle.playing.proofs.Stops.{handed_on}
 use Rattle.playing.proofs.Wholes.{resumed_made, resumed_failed}
 use Rattle.streaming.specs.Answers.{ended}
@@ -14,25 +12,24 @@ use Rattle.streaming.proofs.obeying.stream_on.Goals as goal
 
 pub returns-in-Err-clause-stopped : goal.returns-in-Err-clause-stopped
 returns-in-Err-clause-stopped g c =
-    let was = c.args.session.now in
-    let a = place (g.D.SectorDevice.disk (device_of was)) was in
-    record {
+    let game = g.G.Playable in
+    let a = c.args.game.now in
+    rw c.unwritten.ensures.is
+    (record {
       lines = [];
       right = All-nil IsRight;
       more = [];
       read = inl (Consumes-nil (g.R.Read.remaining c.args.input.now));
       stops =
-          resumed_failed a (g.W.Write.contents c.args.out.now) (g.W.Write.contents c.write_resumed.new.out) c.counts.result.all (ap (λ r. r.all) c.counts.ensures) c.requires.none (g.met.D.SectorDevice.only_now (device_of was))
-          [] (answers_from a (ended (length (pending_of was)) [])) tt c.in-Err.ensures.err;
-    }
+          resumed_failed game a (g.W.Write.contents c.args.out.now) (g.W.Write.contents c.write_resumed.new.out) c.counts.result.all c.counts.ensures.all c.requires.none
+          [] (answers_from game a (ended (game.unsaved a) [])) c.unwritten.ensures.told tt c.in-Err.ensures.err;
+    })
 
 pub returns-in_err-end-clause-stopped : goal.returns-in_err-end-clause-stopped
 returns-in_err-end-clause-stopped g c =
-    let disk = g.D.SectorDevice.disk in
-    let was = c.args.session.now in
-    let now = c.obey_lines.new.session in
-    let a = place (disk (device_of was)) was in
-    let b = place (disk (device_of now)) now in
+    let game = g.G.Playable in
+    let a = c.args.game.now in
+    let b = c.obey_lines.new.game in
     let x = g.W.Write.contents c.args.out.now in
     let y = g.W.Write.contents c.write_resumed.new.out in
     let z = g.W.Write.contents c.obey_lines.new.out in
@@ -46,18 +43,15 @@ returns-in_err-end-clause-stopped g c =
       more = stop.more;
       read = stop.read;
       stops =
-          stops_behind a x y (resumed_made a x y c.counts.result.all (ap (λ r. r.all) c.counts.ensures) c.requires.none (g.met.D.SectorDevice.only_now (device_of was)) c.in_default.ensures.ok)
-          b z stop.lines why (stops_before a b y z orders (last_behind a orders) why stop.stops);
+          stops_behind game a x y (resumed_made game a x y c.counts.result.all c.counts.ensures.all c.requires.none c.in_default.ensures.ok)
+          b z stop.lines why (stops_before game a b y z orders (last_behind game a orders) why stop.stops);
     })
 
 pub returns-clause-streamed : goal.returns-clause-streamed
 returns-clause-streamed g c =
-    let disk = g.D.SectorDevice.disk in
-    let was = c.args.session.now in
-    let there = c.obey_lines.new.session in
-    let now = c.save_rest.new.session in
-    let a = place (disk (device_of was)) was in
-    let b = place (disk (device_of now)) now in
+    let game = g.G.Playable in
+    let a = c.args.game.now in
+    let b = c.save_rest.new.game in
     let x = g.W.Write.contents c.args.out.now in
     let y = g.W.Write.contents c.write_resumed.new.out in
     let w = g.W.Write.contents c.save_rest.new.out in
@@ -67,19 +61,16 @@ returns-clause-streamed g c =
       right = made.right;
       read = made.read;
       makes =
-          streams_behind a x y (resumed_made a x y c.counts.result.all (ap (λ r. r.all) c.counts.ensures) c.requires.none (g.met.D.SectorDevice.only_now (device_of was)) c.in_default.ensures.ok)
+          streams_behind game a x y (resumed_made game a x y c.counts.result.all c.counts.ensures.all c.requires.none c.in_default.ensures.ok)
           b w made.lines c.in_ok-save_rest.ensures.saved.1
-          (ended_obeyed a (place (disk (device_of there)) there) b y (g.W.Write.contents c.obey_lines.new.out) w (orders_of made.lines) made.obeys c.in_ok-save_rest.ensures.obeyed);
+          (ended_obeyed game a c.obey_lines.new.game b y (g.W.Write.contents c.obey_lines.new.out) w (orders_of made.lines) made.obeys c.in_ok-save_rest.ensures.obeyed);
     }
 
 pub returns-in_err-save_rest-clause-stopped : goal.returns-in_err-save_rest-clause-stopped
 returns-in_err-save_rest-clause-stopped g c =
-    let disk = g.D.SectorDevice.disk in
-    let was = c.args.session.now in
-    let there = c.obey_lines.new.session in
-    let now = c.save_rest.new.session in
-    let a = place (disk (device_of was)) was in
-    let b = place (disk (device_of now)) now in
+    let game = g.G.Playable in
+    let a = c.args.game.now in
+    let b = c.save_rest.new.game in
     let x = g.W.Write.contents c.args.out.now in
     let y = g.W.Write.contents c.write_resumed.new.out in
     let w = g.W.Write.contents c.save_rest.new.out in
@@ -93,7 +84,7 @@ returns-in_err-save_rest-clause-stopped g c =
       more = read.0;
       read = read.1;
       stops =
-          stops_behind a x y (resumed_made a x y c.counts.result.all (ap (λ r. r.all) c.counts.ensures) c.requires.none (g.met.D.SectorDevice.only_now (device_of was)) c.in_default.ensures.ok)
+          stops_behind game a x y (resumed_made game a x y c.counts.result.all c.counts.ensures.all c.requires.none c.in_default.ensures.ok)
           b w made.lines why
-          (ended_stopped a (place (disk (device_of there)) there) b y (g.W.Write.contents c.obey_lines.new.out) w (orders_of made.lines) why made.obeys c.in_err-save_rest.ensures.stopped);
+          (ended_stopped game a c.obey_lines.new.game b y (g.W.Write.contents c.obey_lines.new.out) w (orders_of made.lines) why made.obeys c.in_err-save_rest.ensures.stopped);
     })

@@ -1,11 +1,11 @@
-use Rattle.std.proofs.Common.{◌≡◌, ◌⊎◌, true, inl, inr, ⊎_elim, List, sym, ap, ◌∙◌, subst}
+use Rattle.std.proofs.Common.{inl, inr, ⊎_elim, List, sym, ap, ◌∙◌, subst}
 use Rattle.script.specs.declared.moves.Move.{Move}
 use Rattle.sector_device.specs.Memory.{memory_disk, image_of}
 use Rattle.sector_device.specs.MemoryDevice.{memory}
 use Rattle.sector_device.specs.declared.memory.MemoryDevice.{MemoryDevice}
 use Rattle.playing.specs.Report.{inputs_of_moves}
 use Rattle.whole_lives.specs.Lives.{inputs_of_round}
-use Rattle.whole_lives.specs.Refusals.{IsOutOfMemory, IsStanding}
+use Rattle.whole_lives.specs.Refusals.{IsOutOfMemory}
 use Rattle.whole_lives.specs.Rounds.{LeavesRound, IsRoundRefusal}
 use Rattle.whole_lives.proofs.RoundLaws.{round_fused, round_cut, cut_image, each_moved, each_fused, refusal_fused}
 use Rattle.whole_lives.proofs.rounds.one_round.Goals as goal

@@ -1,5 +1,6 @@
 use Rattle.std.proofs.Common.{◌≡◌, ◌⊎◌, inl, inr, ⊎_elim, ◌≤◌, ◌+◌, ℕ, [], length, Some, None, refl, sym, ap, ◌∙◌, subst, arith}
 use Rattle.sector_device.specs.Memory.{memory_disk}
+use Rattle.sector_device.specs.RecordLaws.{only_last}
 use Rattle.sector_device.specs.MemoryDevice.{memory}
 use Rattle.sector_device.specs.declared.memory.MemoryDevice.{MemoryDevice}
 use Rattle.log_format.specs.Content.{content, generation_in}
@@ -10,6 +11,7 @@ use Rattle.session.specs.declared.error.SessionError.TheVariants.{Device}
 use Rattle.session.proofs.Beginnings.{if_ok, if_err}
 use Rattle.playing.specs.Played.{IsPlayed}
 use Rattle.playing.specs.Report.{inputs_of_moves}
+use Rattle.playing.proofs.Going.{goes_all, no_further_at_all}
 use Rattle.playing.proofs.PlayLaws.{begun_played}
 use Rattle.whole_lives.specs.Refusals.{IsStanding, IsSoundStop, CountsLifeFaults}
 use Rattle.whole_lives.specs.Rounds.{Leaves, LeavesRound, IsRoundRefusal}
@@ -60,15 +62,16 @@ returns-in-Err-clause-sound c =
 
 pub returns-in-Ok-made-clause-leaves : goal.returns-in-Ok-made-clause-leaves
 returns-in-Ok-made-clause-leaves c =
+    let goes = goes_all (λ d. only_last d.at_start.items d.recorded.items) (λ a b input one. one) (λ a b one. one) c.in-Ok.session c.make_moves-made.new.game (inputs_of_moves c.args.moves.now) c.in-Ok-made.ensures.made.advances in
     let rom = c.args.cartridge.now in
     let s = c.in-Ok.session in
-    let now = c.make_moves-made.new.session in
+    let now = c.make_moves-made.new.game in
     let inputs = inputs_of_moves c.args.moves.now in
     let from : Position = record { count = acknowledged_of s; machine = machine_of s } in
     let begun : IsPlayed rom (memory_disk (memory (device_of s))) (acknowledged_of s) (pending_of s) (machine_of s) from [] =
     begun_played rom (memory_disk (memory (device_of s))) (acknowledged_of s) (pending_of s) (machine_of s) tt c.in-Ok.ensures.begun.2 c.in-Ok.ensures.begun.0 (c.in-Ok.ensures.rests tt) in
     let left : Leaves rom (memory_disk (memory (device_of now))) (acknowledged_of now) from inputs =
-    leaves_played rom (memory_disk (memory (device_of now))) (acknowledged_of now) (pending_of now) (machine_of now) from inputs (c.in-Ok-made.ensures.made.going rom from [] begun).played in
+    leaves_played rom (memory_disk (memory (device_of now))) (acknowledged_of now) (pending_of now) (machine_of now) from inputs (goes.going rom from [] begun).played in
     let all = ap (λ r. r.all) c.counts-resumed.ensures in
     let none = ap length c.in-Ok.ensures.begun.0 in
     round_ended rom (memory c.args.device) (memory c.into_device-device.result) (machine_of s) (acknowledged_of s) c.counts-resumed.result.all c.counts.result.acknowledged (acknowledged_of now) c.args.known inputs
@@ -77,40 +80,43 @@ returns-in-Ok-made-clause-leaves c =
 
 pub returns-in-Ok-made-clause-stand : goal.returns-in-Ok-made-clause-stand
 returns-in-Ok-made-clause-stand c = λ each.
+    let goes = goes_all (λ d. only_last d.at_start.items d.recorded.items) (λ a b input one. one) (λ a b one. one) c.in-Ok.session c.make_moves-made.new.game (inputs_of_moves c.args.moves.now) c.in-Ok-made.ensures.made.advances in
     let rom = c.args.cartridge.now in
     let s = c.in-Ok.session in
-    let now = c.make_moves-made.new.session in
+    let now = c.make_moves-made.new.game in
     let inputs = inputs_of_moves c.args.moves.now in
     let from : Position = record { count = acknowledged_of s; machine = machine_of s } in
     let begun : IsPlayed rom (memory_disk (memory (device_of s))) (acknowledged_of s) (pending_of s) (machine_of s) from [] =
     begun_played rom (memory_disk (memory (device_of s))) (acknowledged_of s) (pending_of s) (machine_of s) tt c.in-Ok.ensures.begun.2 c.in-Ok.ensures.begun.0 (c.in-Ok.ensures.rests tt) in
     let left : Leaves rom (memory_disk (memory (device_of now))) (acknowledged_of now) from inputs =
-    leaves_played rom (memory_disk (memory (device_of now))) (acknowledged_of now) (pending_of now) (machine_of now) from inputs (c.in-Ok-made.ensures.made.going rom from [] begun).played in
+    leaves_played rom (memory_disk (memory (device_of now))) (acknowledged_of now) (pending_of now) (machine_of now) from inputs (goes.going rom from [] begun).played in
     each_moved rom (device_of now) c.into_device-device.result c.into_device-device.ensures.device (each_left rom (memory_disk (memory (device_of now))) (acknowledged_of now) from inputs left)
 
 pub returns-in-Ok-made-clause-ended : goal.returns-in-Ok-made-clause-ended
 returns-in-Ok-made-clause-ended c =
+    let goes = goes_all (λ d. only_last d.at_start.items d.recorded.items) (λ a b input one. one) (λ a b one. one) c.in-Ok.session c.make_moves-made.new.game (inputs_of_moves c.args.moves.now) c.in-Ok-made.ensures.made.advances in
     let rom = c.args.cartridge.now in
     let s = c.in-Ok.session in
     let from : Position = record { count = acknowledged_of s; machine = machine_of s } in
     let begun : IsPlayed rom (memory_disk (memory (device_of s))) (acknowledged_of s) (pending_of s) (machine_of s) from [] =
     begun_played rom (memory_disk (memory (device_of s))) (acknowledged_of s) (pending_of s) (machine_of s) tt c.in-Ok.ensures.begun.2 c.in-Ok.ensures.begun.0 (c.in-Ok.ensures.rests tt) in
-    let played = (c.in-Ok-made.ensures.made.going rom from [] begun).played in
+    let played = (goes.going rom from [] begun).played in
     inr (subst (λ (d : MemoryDevice). IsStanding rom (memory d)) (sym c.into_device-device.ensures.device) (_, played.stands_is))
 
 -- ---- stopped
 
 pub returns-in-Err-made-clause-leaves : goal.returns-in-Err-made-clause-leaves
 returns-in-Err-made-clause-leaves c =
+    let stop = no_further_at_all (λ d. only_last d.at_start.items d.recorded.items) (λ a b input one. one) (λ a b one. one) (λ a b input why one. one) (λ a b why one. one) refl c.in-Ok.session c.make_moves-made.new.game (inputs_of_moves c.args.moves.now) c.in-Err-made.why c.in-Err-made.ensures.stopped.stops in
     let rom = c.args.cartridge.now in
     let s = c.in-Ok.session in
-    let now = c.make_moves-made.new.session in
+    let now = c.make_moves-made.new.game in
     let inputs = inputs_of_moves c.args.moves.now in
     let from : Position = record { count = acknowledged_of s; machine = machine_of s } in
     let begun : IsPlayed rom (memory_disk (memory (device_of s))) (acknowledged_of s) (pending_of s) (machine_of s) from [] =
     begun_played rom (memory_disk (memory (device_of s))) (acknowledged_of s) (pending_of s) (machine_of s) tt c.in-Ok.ensures.begun.2 c.in-Ok.ensures.begun.0 (c.in-Ok.ensures.rests tt) in
     let left : Leaves rom (memory_disk (memory (device_of now))) (acknowledged_of now) from inputs =
-    leaves_stopped rom (memory_disk (memory (device_of s))) (memory_disk (memory (device_of now))) (acknowledged_of now) from inputs (c.in-Err-made.ensures.stopped.stopped rom from [] begun) in
+    leaves_stopped rom (memory_disk (memory (device_of s))) (memory_disk (memory (device_of now))) (acknowledged_of now) from inputs (stop.stopped rom from [] begun) in
     let all = ap (λ r. r.all) c.counts-resumed.ensures in
     let none = ap length c.in-Ok.ensures.begun.0 in
     let end : RoundEnd = record { resumed = Some c.counts-resumed.result.all; saved = c.counts.result.acknowledged } in
@@ -123,15 +129,16 @@ returns-in-Err-made-clause-leaves c =
 
 pub returns-in-Err-made-clause-refused : goal.returns-in-Err-made-clause-refused
 returns-in-Err-made-clause-refused c =
+    let stop = no_further_at_all (λ d. only_last d.at_start.items d.recorded.items) (λ a b input one. one) (λ a b one. one) (λ a b input why one. one) (λ a b why one. one) refl c.in-Ok.session c.make_moves-made.new.game (inputs_of_moves c.args.moves.now) c.in-Err-made.why c.in-Err-made.ensures.stopped.stops in
     let rom = c.args.cartridge.now in
     let s = c.in-Ok.session in
-    let now = c.make_moves-made.new.session in
+    let now = c.make_moves-made.new.game in
     let inputs = inputs_of_moves c.args.moves.now in
     let from : Position = record { count = acknowledged_of s; machine = machine_of s } in
     let begun : IsPlayed rom (memory_disk (memory (device_of s))) (acknowledged_of s) (pending_of s) (machine_of s) from [] =
     begun_played rom (memory_disk (memory (device_of s))) (acknowledged_of s) (pending_of s) (machine_of s) tt c.in-Ok.ensures.begun.2 c.in-Ok.ensures.begun.0 (c.in-Ok.ensures.rests tt) in
     let left : Leaves rom (memory_disk (memory (device_of now))) (acknowledged_of now) from inputs =
-    leaves_stopped rom (memory_disk (memory (device_of s))) (memory_disk (memory (device_of now))) (acknowledged_of now) from inputs (c.in-Err-made.ensures.stopped.stopped rom from [] begun) in
+    leaves_stopped rom (memory_disk (memory (device_of s))) (memory_disk (memory (device_of now))) (acknowledged_of now) from inputs (stop.stopped rom from [] begun) in
     let all = ap (λ r. r.all) c.counts-resumed.ensures in
     let none = ap length c.in-Ok.ensures.begun.0 in
     let end : RoundEnd = record { resumed = Some c.counts-resumed.result.all; saved = c.counts.result.acknowledged } in
@@ -144,14 +151,15 @@ returns-in-Err-made-clause-refused c =
 
 pub returns-in-Err-made-clause-cause : goal.returns-in-Err-made-clause-cause
 returns-in-Err-made-clause-cause c =
+    let stop = no_further_at_all (λ d. only_last d.at_start.items d.recorded.items) (λ a b input one. one) (λ a b one. one) (λ a b input why one. one) (λ a b why one. one) refl c.in-Ok.session c.make_moves-made.new.game (inputs_of_moves c.args.moves.now) c.in-Err-made.why c.in-Err-made.ensures.stopped.stops in
     let rom = c.args.cartridge.now in
     let s = c.in-Ok.session in
-    let now = c.make_moves-made.new.session in
+    let now = c.make_moves-made.new.game in
     let inputs = inputs_of_moves c.args.moves.now in
     let from : Position = record { count = acknowledged_of s; machine = machine_of s } in
     let none = ap length c.in-Ok.ensures.begun.0 in
     let all : acknowledged_of s + length (pending_of s) + length inputs ≡ from.count + length inputs = omega (arith, none) in
-    let refused = moves_refuse rom (memory c.args.device) (memory (device_of now)) inputs from (acknowledged_of s + length (pending_of s) + length inputs) c.in-Err-made.why (stands_here rom (memory c.args.device) from (c.in-Ok.ensures.stands tt)) all c.in-Err-made.ensures.stopped.output c.in-Err-made.ensures.stopped.cause in
+    let refused = moves_refuse rom (memory c.args.device) (memory (device_of now)) inputs from (acknowledged_of s + length (pending_of s) + length inputs) c.in-Err-made.why (stands_here rom (memory c.args.device) from (c.in-Ok.ensures.stands tt)) all c.in-Err-made.ensures.stopped.output stop.cause in
     if_err c.ended_by-in-Err-made.result c.ended_by-in-Err-made.ensures.refused
     (λ r is.
     subst (λ (d : MemoryDevice). IsRoundRefusal rom (memory_disk (memory c.args.device)) inputs (memory_disk (memory d)).sectors r.why) (sym (is.0 ∙ c.into_device-device.ensures.device))
@@ -172,28 +180,31 @@ returns-in-Err-clause-cause c =
 
 pub returns-in-Err-made-clause-stand : goal.returns-in-Err-made-clause-stand
 returns-in-Err-made-clause-stand c =
+    let stop = no_further_at_all (λ d. only_last d.at_start.items d.recorded.items) (λ a b input one. one) (λ a b one. one) (λ a b input why one. one) (λ a b why one. one) refl c.in-Ok.session c.make_moves-made.new.game (inputs_of_moves c.args.moves.now) c.in-Err-made.why c.in-Err-made.ensures.stopped.stops in
     let rom = c.args.cartridge.now in
     let s = c.in-Ok.session in
-    let now = c.make_moves-made.new.session in
+    let now = c.make_moves-made.new.game in
     let inputs = inputs_of_moves c.args.moves.now in
     let from : Position = record { count = acknowledged_of s; machine = machine_of s } in
     let begun : IsPlayed rom (memory_disk (memory (device_of s))) (acknowledged_of s) (pending_of s) (machine_of s) from [] =
     begun_played rom (memory_disk (memory (device_of s))) (acknowledged_of s) (pending_of s) (machine_of s) tt c.in-Ok.ensures.begun.2 c.in-Ok.ensures.begun.0 (c.in-Ok.ensures.rests tt) in
     let left : Leaves rom (memory_disk (memory (device_of now))) (acknowledged_of now) from inputs =
-    leaves_stopped rom (memory_disk (memory (device_of s))) (memory_disk (memory (device_of now))) (acknowledged_of now) from inputs (c.in-Err-made.ensures.stopped.stopped rom from [] begun) in
+    leaves_stopped rom (memory_disk (memory (device_of s))) (memory_disk (memory (device_of now))) (acknowledged_of now) from inputs (stop.stopped rom from [] begun) in
     if_ok c.ended_by-in-Err-made.result c.ended_by-in-Err-made.ensures.ended
     (λ r is each. each_moved rom (device_of now) r.0 (is.0 ∙ c.into_device-device.ensures.device) (each_left rom (memory_disk (memory (device_of now))) (acknowledged_of now) from inputs left))
 
 pub returns-in-Err-made-clause-sound : goal.returns-in-Err-made-clause-sound
 returns-in-Err-made-clause-sound c =
+    let stop = no_further_at_all (λ d. only_last d.at_start.items d.recorded.items) (λ a b input one. one) (λ a b one. one) (λ a b input why one. one) (λ a b why one. one) refl c.in-Ok.session c.make_moves-made.new.game (inputs_of_moves c.args.moves.now) c.in-Err-made.why c.in-Err-made.ensures.stopped.stops in
     if_err c.ended_by-in-Err-made.result c.ended_by-in-Err-made.ensures.refused
-    (λ r is each. subst (λ (why : SessionError). IsSoundStop why) (sym is.1) (moves_sound_stop c.in-Err-made.why (acknowledged_of c.in-Ok.session + length (pending_of c.in-Ok.session) + length (inputs_of_moves c.args.moves.now)) (memory_disk (memory (device_of c.make_moves-made.new.session))) c.in-Err-made.ensures.stopped.output c.in-Err-made.ensures.stopped.cause))
+    (λ r is each. subst (λ (why : SessionError). IsSoundStop why) (sym is.1) (moves_sound_stop c.in-Err-made.why (acknowledged_of c.in-Ok.session + length (pending_of c.in-Ok.session) + length (inputs_of_moves c.args.moves.now)) (memory_disk (memory (device_of c.make_moves-made.new.game))) c.in-Err-made.ensures.stopped.output stop.cause))
 
 pub returns-in-Err-made-clause-faults_ok : goal.returns-in-Err-made-clause-faults_ok
 returns-in-Err-made-clause-faults_ok c =
+    let stop = no_further_at_all (λ d. only_last d.at_start.items d.recorded.items) (λ a b input one. one) (λ a b one. one) (λ a b input why one. one) (λ a b why one. one) refl c.in-Ok.session c.make_moves-made.new.game (inputs_of_moves c.args.moves.now) c.in-Err-made.why c.in-Err-made.ensures.stopped.stops in
     let s = c.in-Ok.session in
-    let now = c.make_moves-made.new.session in
-    let grown : (device_of s).faults ≤ (device_of now).faults = least_after c.in-Err-made.why (device_of s).faults (device_of now).faults (device_of s).faults_fit c.in-Err-made.ensures.stopped.calls.faults in
+    let now = c.make_moves-made.new.game in
+    let grown : (device_of s).faults ≤ (device_of now).faults = least_after c.in-Err-made.why (device_of s).faults (device_of now).faults (device_of s).faults_fit stop.calls.faults in
     if_ok c.ended_by-in-Err-made.result c.ended_by-in-Err-made.ensures.ended
     (λ r is.
     let moved : r.0.faults ≡ (device_of now).faults = ap (λ (d : MemoryDevice). d.faults) (is.0 ∙ c.into_device-device.ensures.device) in
@@ -201,11 +212,12 @@ returns-in-Err-made-clause-faults_ok c =
 
 pub returns-in-Err-made-clause-faults : goal.returns-in-Err-made-clause-faults
 returns-in-Err-made-clause-faults c =
+    let stop = no_further_at_all (λ d. only_last d.at_start.items d.recorded.items) (λ a b input one. one) (λ a b one. one) (λ a b input why one. one) (λ a b why one. one) refl c.in-Ok.session c.make_moves-made.new.game (inputs_of_moves c.args.moves.now) c.in-Err-made.why c.in-Err-made.ensures.stopped.stops in
     let s = c.in-Ok.session in
-    let now = c.make_moves-made.new.session in
+    let now = c.make_moves-made.new.game in
     let first = c.args.device.faults in
     let counted : CountsLifeFaults first (device_of now).faults c.in-Err-made.why =
-    counts_refusal c.in-Err-made.why first (device_of s).faults (device_of now).faults (omega (arith, c.in-Ok.ensures.answered.faults_ok)) (device_of s).faults_fit c.in-Err-made.ensures.stopped.calls.faults in
+    counts_refusal c.in-Err-made.why first (device_of s).faults (device_of now).faults (omega (arith, c.in-Ok.ensures.answered.faults_ok)) (device_of s).faults_fit stop.calls.faults in
     if_err c.ended_by-in-Err-made.result c.ended_by-in-Err-made.ensures.refused
     (λ r is.
     let moved : r.device.faults ≡ (device_of now).faults = ap (λ (d : MemoryDevice). d.faults) (is.0 ∙ c.into_device-device.ensures.device) in
@@ -219,15 +231,16 @@ returns-in-Err-clause-kept c =
 
 pub returns-in-Err-made-clause-kept : goal.returns-in-Err-made-clause-kept
 returns-in-Err-made-clause-kept c =
+    let stop = no_further_at_all (λ d. only_last d.at_start.items d.recorded.items) (λ a b input one. one) (λ a b one. one) (λ a b input why one. one) (λ a b why one. one) refl c.in-Ok.session c.make_moves-made.new.game (inputs_of_moves c.args.moves.now) c.in-Err-made.why c.in-Err-made.ensures.stopped.stops in
     let rom = c.args.cartridge.now in
     let s = c.in-Ok.session in
-    let now = c.make_moves-made.new.session in
+    let now = c.make_moves-made.new.game in
     let inputs = inputs_of_moves c.args.moves.now in
     let from : Position = record { count = acknowledged_of s; machine = machine_of s } in
     let begun : IsPlayed rom (memory_disk (memory (device_of s))) (acknowledged_of s) (pending_of s) (machine_of s) from [] =
     begun_played rom (memory_disk (memory (device_of s))) (acknowledged_of s) (pending_of s) (machine_of s) tt c.in-Ok.ensures.begun.2 c.in-Ok.ensures.begun.0 (c.in-Ok.ensures.rests tt) in
     let left : Leaves rom (memory_disk (memory (device_of now))) (acknowledged_of now) from inputs =
-    leaves_stopped rom (memory_disk (memory (device_of s))) (memory_disk (memory (device_of now))) (acknowledged_of now) from inputs (c.in-Err-made.ensures.stopped.stopped rom from [] begun) in
+    leaves_stopped rom (memory_disk (memory (device_of s))) (memory_disk (memory (device_of now))) (acknowledged_of now) from inputs (stop.stopped rom from [] begun) in
     if_err c.ended_by-in-Err-made.result c.ended_by-in-Err-made.ensures.refused
     (λ r is each. each_moved rom (device_of now) r.device (is.0 ∙ c.into_device-device.ensures.device) (each_left rom (memory_disk (memory (device_of now))) (acknowledged_of now) from inputs left))
 
@@ -248,5 +261,11 @@ returns-in-Err-clause-memory c =
 
 pub returns-in-Err-made-clause-memory : goal.returns-in-Err-made-clause-memory
 returns-in-Err-made-clause-memory c =
+    let stop = no_further_at_all (λ d. only_last d.at_start.items d.recorded.items) (λ a b input one. one) (λ a b one. one) (λ a b input why one. one) (λ a b why one. one) refl c.in-Ok.session c.make_moves-made.new.game (inputs_of_moves c.args.moves.now) c.in-Err-made.why c.in-Err-made.ensures.stopped.stops in
     if_err c.ended_by-in-Err-made.result c.ended_by-in-Err-made.ensures.refused
-    (λ r is memory. absurd (no_memory_stops_moves c.in-Err-made.why _ _ c.in-Err-made.ensures.stopped.cause (sym is.1 ∙ memory)))
+    (λ r is memory. absurd (no_memory_stops_moves c.in-Err-made.why _ _ stop.cause (sym is.1 ∙ memory)))
+
+pub returns-in-Ok-made-clause-faults_ok : goal.returns-in-Ok-made-clause-faults_ok
+returns-in-Ok-made-clause-faults_ok c =
+    let goes = goes_all (λ d. only_last d.at_start.items d.recorded.items) (λ a b input one. one) (λ a b one. one) c.in-Ok.session c.make_moves-made.new.game (inputs_of_moves c.args.moves.now) c.in-Ok-made.ensures.made.advances in
+    omega (arith, c.in-Ok.ensures.answered.faults_ok, goes.calls.faults_ok, ap (λ (d : MemoryDevice). d.faults) c.into_device-device.ensures.device)
