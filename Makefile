@@ -18,7 +18,8 @@ help:
 	@echo '  make play            plays a cartridge in a window (CART=examples/demo/demo.gb SAVE=NAME.gbkeep; without SAVE, the game is kept in'
 	@echo '                       ~/.local/share/gbkeep; needs python3-pygame)'
 	@echo '  make install         puts program, window, tools, man page and completion below PREFIX (PREFIX=$(PREFIX))'
-	@echo '  make libretro        leaves bin/gbkeep_libretro.so, a core for RetroArch and its kind (needs a C compiler and retroarch-dev)'
+	@echo '  make libretro        proves the library, and leaves bin/gbkeep_libretro.so, a core for RetroArch and its kind (needs a C compiler and'
+	@echo '                       retroarch-dev)'
 	@echo '  make library         proves the library for C, and leaves bin/libgbkeep.a, bin/libgbkeep.so, bin/gbkeep.h and bin/gbkeep.pc (needs a C'
 	@echo '                       compiler)'
 	@echo '  make web             proves the library, and leaves dist/web, a page that plays in a browser from any web server (docs/BROWSER.md)'
@@ -52,8 +53,9 @@ help:
 	@echo '                       folder that a linux-image of Debian was unpacked into; scripts/second_storage/cards.py says what it needs)'
 	@echo '  make test-web        plays by the page in Chromium, kills it, and gives it wrong files, a full disk and no network (eight minutes; needs chromium,'
 	@echo '                       chromium-driver, python3-selenium)'
-	@echo '  make test-libretro   plays the demo by the core, kills it at each point, and gives it a program that answers garbage (two minutes; needs'
-	@echo '                       what make libretro needs, and a compiler with the sanitizers); in RetroArch, where that is there'
+	@echo '  make test-libretro   plays the demo by the core, with states, slow and failing disks, kills at each kind of call, and garbage (two minutes; needs'
+	@echo '                       what make libretro needs, and a compiler with the sanitizers)'
+	@echo '  make test-retroarch  plays by the core in RetroArch: states, rewind, run-ahead, reset, killed and gone on (two minutes; needs retroarch, xvfb)'
 
 ARGS ?= step data/rom.gb 2
 
@@ -126,7 +128,7 @@ play: bin/gbkeep
 CC ?= cc
 LIBRETRO ?= /usr/include/libretro-common
 
-$(OUT)/gbkeep_libretro.so: scripts/libretro.py players/libretro/gbkeep_libretro.c players/libretro/faults_h.py players/faults.py
+$(OUT)/gbkeep_libretro.so: $(OUT)/libgbkeep.so scripts/libretro.py players/libretro/gbkeep_libretro.c players/libretro/faults_h.py players/faults.py
 	CC="$(CC)" LIBRETRO="$(LIBRETRO)" python3 -B scripts/libretro.py $(ARCH)
 
 libretro: $(OUT)/gbkeep_libretro.so
@@ -177,7 +179,9 @@ test-window: bin/gbkeep
 test-libretro: bin/gbkeep bin/gbkeep_libretro.so
 	CC="$(CC)" python3 -B players/libretro/test_libretro.py bin/gbkeep bin/gbkeep_libretro.so
 	CC="$(CC)" LIBRETRO="$(LIBRETRO)" python3 -B players/libretro/test_garbage.py
-	if command -v retroarch > /dev/null; then python3 -B players/libretro/test_retroarch.py bin/gbkeep bin/gbkeep_libretro.so; else echo 'there is no retroarch: it was not tried'; fi
+
+test-retroarch: bin/gbkeep bin/gbkeep_libretro.so
+	python3 -B players/libretro/test_retroarch.py bin/gbkeep bin/gbkeep_libretro.so
 
 memory: bin/gbkeep
 	cd crates/refused_memory && $(RT) run > /dev/null
@@ -214,4 +218,4 @@ test:
 	python3 -B scripts/second_storage/refused_memory.py $(PROGRAM)/out/gbkeep_program crates/refused_memory/out/refused_memory
 	RT=$(RT) python3 -B scripts/dist.py passed $(PROGRAM)/out/gbkeep_program
 
-.PHONY: help build demo play install libretro dist run check edits test bench compare hostile fuzz strace memory test-window test-libretro library test-library test-arm64 test-packages test-reproducible test-slow-disk test-cards web test-web
+.PHONY: help build demo play install libretro dist run check edits test bench compare hostile fuzz strace memory test-window test-libretro library test-library test-arm64 test-packages test-reproducible test-slow-disk test-libretro test-retroarch test-cards web test-web

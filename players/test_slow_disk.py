@@ -3,7 +3,7 @@
 before its sync was made.
 
 usage: test_slow_disk.py GBKEEP [core|window]
-       test_slow_disk.py play CORE CART FOLDER SECONDS      (for the test itself)
+       test_slow_disk.py play CORE CART FOLDER SECONDS AHEAD     (for the test itself)
 
 It needs a C compiler; for the core, bin/gbkeep_libretro.so; for the window what test_window.py needs. The status is 1 where something comes late or early."""
 import json
@@ -64,9 +64,9 @@ def slowed(room):
     return dict(os.environ, LD_PRELOAD=str(library), SLOW_LOG=str(log)), log
 
 
-def play(core, cart, folder, seconds):
-    """Plays by the core at a Game Boy's speed, and prints what came when."""
-    from test_libretro import FrontEnd
+def play(core, cart, folder, seconds, ahead):
+    """Plays by the core at a Game Boy's speed, so many frames ahead and back, and prints what came when."""
+    from test_libretro import UNWANTED, WANTED, FrontEnd
     front = FrontEnd(core, folder, messages='all')
     front.load(cart)
     front.looks = False
@@ -74,8 +74,17 @@ def play(core, cart, folder, seconds):
     shown, begun = len(front.told), time.monotonic()
     frames = 0
     while time.monotonic() < begun + float(seconds):
-        before = time.monotonic()
-        front.frames(frames // 30 & 1, 1)
+        before, buttons = time.monotonic(), frames // 30 & 1
+        if int(ahead) == 0:
+            front.frames(buttons, 1)
+        else:
+            front.wanted = UNWANTED
+            front.frames(buttons, 1)
+            state = front.state()
+            front.frames(buttons, int(ahead) - 1)
+            front.wanted = WANTED
+            front.frames(buttons, 1)
+            front.restore(state)
         frames += 1
         longest = max(longest, time.monotonic() - before)
         late += time.monotonic() > begun + (frames + 1) / FRAMES_A_SECOND
@@ -90,20 +99,21 @@ def play(core, cart, folder, seconds):
 def with_core(program, room):
     clock = room / 'clock.gb'
     clock.write_bytes(Assembler().assemble(CLOCK))
-    for cart in (CART, clock):
+    for cart, ahead in ((CART, 0), (clock, 0), (CART, 2)):
         env, log = slowed(room)
-        folder = room / f'core-{cart.stem}'
+        folder = room / f'core-{cart.stem}-{ahead}'
         folder.mkdir()
-        done = subprocess.run([sys.executable, '-B', __file__, 'play', CORE, cart, folder, str(SECONDS)], env=dict(env, GBKEEP=program), capture_output=True, text=True)
+        done = subprocess.run([sys.executable, '-B', __file__, 'play', CORE, cart, folder, str(SECONDS), str(ahead)], env=dict(env, GBKEEP=program), capture_output=True,
+                              text=True)
         if done.returncode != 0:
             sys.exit(done.stdout + done.stderr)
         got = json.loads(done.stdout)
         rate = got['frames'] / got['seconds']
         saves = [when for when, text in got['told'] if text.startswith('saved ')]
-        print(f'core, {cart.stem}: {rate:.1f} frames a second, {got["late"]} of {got["frames"]} more than a frame late, the longest {got["longest"] * 1000:.0f} ms; '
+        print(f'core, {cart.stem}{f", {ahead} frames ahead" if ahead else ""}: {rate:.1f} frames a second, {got["late"]} of {got["frames"]} more than a frame late, the longest {got["longest"] * 1000:.0f} ms; '
               f'{len(saves)} saves in {got["seconds"]:.0f} s', flush=True)
         expect('the pace', (abs(rate - FRAMES_A_SECOND) < 0.5, got['longest'] < LATE), (True, True))
-        # one save a second, and a clock takes three syncs more
+        # one save a second, and a clock takes four syncs more
         expect('saves', len(saves) >= (SECONDS - 2) // (1 if cart == CART else 3), True)
         if cart == CART:
             syncs = [float(line.split()[1]) for line in log.read_text().splitlines() if float(line.split()[1]) > got['begun']]
@@ -145,7 +155,7 @@ def with_window(program, room):
 
 def main():
     words = sys.argv[1:]
-    if len(words) == 5 and words[0] == 'play':
+    if len(words) == 6 and words[0] == 'play':
         return play(*words[1:])
     if not 1 <= len(words) <= 2:
         sys.exit(__doc__)

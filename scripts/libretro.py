@@ -1,4 +1,4 @@
-"""Leaves bin/gbkeep_libretro.so: a libretro core, for RetroArch and its kind.
+"""Leaves bin/gbkeep_libretro.so: a libretro core, for RetroArch and its kind, with libgbkeep.a and gbkeep.h of the same folder.
 
 usage: libretro.py [arm64]     arm64: for aarch64, in bin/arm64
 
@@ -11,7 +11,9 @@ from pathlib import Path
 
 TOP = Path(__file__).resolve().parent.parent
 SOURCES = TOP / 'players/libretro'
-FLAGS = ['-std=c11', '-O2', '-Wall', '-Wextra', '-fPIC', '-pthread', '-shared', '-s', '-Wl,-z,relro,-z,now', f'-ffile-prefix-map={TOP}=.']
+# the core stays in memory once it is there: a thread that waits for a disk may outlive the game
+FLAGS = ['-std=c11', '-O2', '-Wall', '-Wextra', '-Werror', '-fPIC', '-pthread', '-shared', '-s', '-Wl,-z,relro,-z,now,-z,nodelete', '-Wl,--gc-sections',
+         f'-ffile-prefix-map={TOP}=.']
 sys.path.insert(0, str(TOP / 'scripts/arm64'))
 import target  # noqa: E402
 
@@ -28,8 +30,10 @@ def main():
     with tempfile.TemporaryDirectory(dir=out) as folder:
         with open(f'{folder}/faults.h', 'wb') as table:
             subprocess.run([sys.executable, '-B', SOURCES / 'faults_h.py'], stdout=table, check=True)
-        made = Path(folder) / 'gbkeep_libretro.so'
-        status = subprocess.run([compiler, *FLAGS, f'-I{folder}', f'-I{headers}', '-o', made, SOURCES / 'gbkeep_libretro.c']).returncode
+        made, names = Path(folder) / 'gbkeep_libretro.so', Path(folder) / 'core.map'
+        names.write_text('{ global: retro_*; local: *; };\n', encoding='utf-8')
+        status = subprocess.run([compiler, *FLAGS, f'-Wl,--version-script={names}', f'-I{folder}', f'-I{out}', f'-I{headers}', '-o', made,
+                                 SOURCES / 'gbkeep_libretro.c', out / 'libgbkeep.a']).returncode
         if status != 0:
             sys.exit(f'libretro.py: {compiler} ended with status {status}')
         if words:

@@ -1,14 +1,13 @@
 /* A libretro core: front ends such as RetroArch and Kodi play a game of gbkeep's by it.
  *
- * The core owns no game. It starts `gbkeep stream` on a SAVE in the front end's save folder (begun by `gbkeep new` where there is none), gives it each
- * input, and `save` every second and at the end: this is the keeper. What reads or writes the game is the proved program alone: so the front end is
- * handed no save memory, which it would write unsafely, and there are no states.
+ * The game is a session of libgbkeep, which is proved: it takes each input, draws, gives and takes states, and hands out the writes and syncs by which a
+ * SAVE in the front end's save folder keeps the game. The core makes these, in their order, in a thread: so play goes on while a sync lasts. `saved N` is
+ * told once the last of them was made. The front end is handed no save memory, which it would write unsafely; what it sees of the memory is a copy.
  *
- * A sync can take long, and the keeper answers nothing meanwhile. So the pictures come from a second program, the player: `gbkeep debug` on a copy of
- * SAVE in memory, which gets the same inputs and keeps nothing. Nobody waits for the keeper but at the end, and `saved N` is told when it says so.
- * SAVE.time, for a cartridge with a clock, is written by a thread. Where no player can be had, the pictures come from the keeper.
+ * The thread has one job at a time: the calls of a save; SAVE.time, for a cartridge with a clock; or a session that is taken up anew. A disk that takes a minute ends the game, and is left
+ * behind with all that it needs, since nobody can end a call of a disk that does not answer. `gbkeep import` alone is still run as a program.
  *
- * Nothing waits for ever: each read and write has a limit of time, and a program that ends is shown in its own words, with what to do. */
+ * A front end that runs ahead by a second instance has that one load the same game: it gets a machine without a SAVE. */
 #define _GNU_SOURCE
 #include <errno.h>
 #include <fcntl.h>
@@ -24,22 +23,21 @@
 #include <stdio.h>
 #include <stdlib.h>
 #include <string.h>
+#include <sys/file.h>
 #include <sys/random.h>
-#include <sys/socket.h>
 #include <sys/stat.h>
-#include <sys/time.h>
 #include <sys/wait.h>
 #include <time.h>
 #include <unistd.h>
-#include "libretro.h"
 #include "faults.h"
+#include "gbkeep.h"
+#include "libretro.h"
 
 #ifndef GBKEEP_PROGRAM
 #define GBKEEP_PROGRAM "gbkeep"
 #endif
 
-#ifndef READ_MILLISECONDS
-#define READ_MILLISECONDS 5000
+#ifndef END_MILLISECONDS
 #define END_MILLISECONDS 10000
 #endif
 
@@ -49,18 +47,27 @@
 #define SAVE_MILLISECONDS 60000
 #endif
 
+/* A session keeps each call that it has handed out, some 1,100 bytes: after so many it is taken up anew. */
+#ifndef MOST_CALLS
+#define MOST_CALLS 32768
+#endif
+
 /* the names that every C library from 2018 on has, where the newest ones have others, too */
 #if defined __GLIBC__ && defined __x86_64__
-__asm__(".symver pthread_create, pthread_create@GLIBC_2.2.5\n.symver pthread_join, pthread_join@GLIBC_2.2.5");
+__asm__(".symver pthread_create, pthread_create@GLIBC_2.2.5\n.symver pthread_join, pthread_join@GLIBC_2.2.5\n.symver pthread_detach, pthread_detach@GLIBC_2.2.5");
 #elif defined __GLIBC__ && defined __aarch64__
-__asm__(".symver pthread_create, pthread_create@GLIBC_2.17\n.symver pthread_join, pthread_join@GLIBC_2.17");
+__asm__(".symver pthread_create, pthread_create@GLIBC_2.17\n.symver pthread_join, pthread_join@GLIBC_2.17\n.symver pthread_detach, pthread_detach@GLIBC_2.17");
 #endif
 
 extern char **environ;
 
-enum { WIDTH = 160, HEIGHT = 144, SHADES = WIDTH * HEIGHT, HEAD_BYTES = 13, PICTURE_BYTES = 46093, SILENCE = 800, MOST_LINE = 64 };
+enum { WIDTH = 160, HEIGHT = 144, SHADES = WIDTH * HEIGHT, SILENCE = 800, SECTOR = 512, MOST_ROM = 0x800000, MOST_SECTORS = 65536, MOST_FILES = 4096 };
 /* the seconds between two saves are an option: half a minute is the longest that is offered, an hour the longest that is taken */
 enum { FRAMES_A_SAVE_SECOND = 60, MOST_SAVE_SECONDS = 3600 };
+/* a front end that runs ahead plays up to six frames, mostly, and goes back, for each one that it shows */
+enum { MOST_AHEAD = 8 };
+/* A session takes 3,200 unsaved inputs. From the first number on a save is due; at the second one is waited for, and there is room for the clock. */
+enum { MANY_UNSAVED = 1600, MOST_UNSAVED = 3000 };
 /* as many inputs as a SAVE may have beyond the last line of SAVE.time where the power was cut: those of half a minute, and some */
 enum { INPUTS_BETWEEN = 2000 };
 /* a leap of the date that is not taken; an earlier date that is no fault, since clocks are set right all the time */
@@ -68,11 +75,12 @@ enum { YEAR = 366 * 86400, NO_FAULT = 60 };
 enum { MOST_TIME_BYTES = 512, MOST_TIME_LINES = 8 };
 /* so few seconds are given to the clock while the game goes on: of the line that SAVE.time has before, a power cut may leave the count too small */
 enum { FEW_SECONDS = 5 };
-/* lines that wait for the keeper: those of two minutes. What is shown at once has room on the smallest screen. */
-enum { MOST_WAITING = 1 << 16, MOST_SHOWN = 64, MOST_SAVE_BYTES = 65536 * 512 };
+/* what is shown at once has room on the smallest screen */
+enum { MOST_SHOWN = 64, MOST_LINE = 64 };
+/* where a state has what the front end may look at (docs/SNAPSHOT.md) */
+enum { NUMBER = 8, STATE_MORE = 2 * NUMBER, STATE_IE = 22, STATE_VRAM = 128, STATE_WRAM = 8320, STATE_OAM = 16512, STATE_HRAM = 16672, STATE_CART_RAM = 22607 };
 static const long long LAST_SECOND = 99999999999, MOST_SECONDS = 0xffffffff;
 static const double FRAMES_A_SECOND = 4194304.0 / 70224;
-static const char PICTURE_HEAD[] = "P2\n160 144\n3\n";
 
 /* darkest first */
 static const uint32_t PALETTES[][4] = {
@@ -111,48 +119,68 @@ struct time_line {
     long long seconds;
 };
 
-/* A program that was started, and what it has answered. */
-struct child {
-    pid_t pid;
-    int in, out, errors;
-    bool has_resumed;
-    /* what was read and not yet taken */
-    uint8_t unread[PICTURE_BYTES + 4096];
-    size_t unread_bytes;
-    bool has_picture;
+enum work { NO_WORK, SAVE, CLAIM, NOTE, RENEW };
+enum outcome { RUNNING, DONE, FAILED, LEFT };
+
+/* What the thread does. Once it is left, the thread frees it: it has all that it needs. */
+struct job {
+    enum work work;
+    atomic_int outcome;
+    pthread_t thread;
+    bool has_thread, is_told_slow;
+    long long since;
+    /* the file of SAVE, and of a save its calls */
+    int file;
+    uint32_t sectors;
+    gbkeep_call *calls;
+    size_t count, room;
+    /* what SAVE.time is to have */
+    char clock_file[PATH_MAX];
+    struct time_line lines[2];
+    int line_count;
+    /* a session that was taken up anew */
+    gbkeep_session *fresh;
 };
 
 enum news { NEWS, REFUSAL };
 enum messages { REFUSALS_ONLY, NONE, ALL };
-enum clock_work { NO_WORK, CLAIM, NOTE };
 
 static struct {
-    struct child keeper, player;
+    /* a session, or of a second instance a machine */
+    gbkeep_session *session;
+    gbkeep_machine *machine;
+    struct job *job;
+    int file;
+    uint8_t *rom, *image, *state;
+    size_t rom_length, state_length, calls;
+    /* the image is what the calls that were handed out leave of SAVE */
+    uint32_t sectors;
     char cart[PATH_MAX], save[PATH_MAX], clock_file[PATH_MAX];
     bool has_clock, gives_time_away, is_new, imports;
     enum messages messages;
-    unsigned palette, frames, save_frames;
-    unsigned long long count, saved;
-    /* the save that was asked for, until it is answered: its count, since when, and whether the player was told that it is slow */
-    bool is_saving, is_told_slow, is_noted;
-    unsigned long long asked;
-    long long asked_since;
-    /* lines for the keeper that it has not yet taken */
-    char waiting[MOST_WAITING];
-    size_t waiting_bytes;
+    unsigned palette, save_frames, shown_frames;
+    /* The number of the last frame, which a state takes back, and of the one before the last save; and how many were played since that. */
+    unsigned long long frame, saved_frame, played;
+    /* inputs: all, those that no save was asked for, and those that are saved */
+    unsigned long long count, asked, saved;
+    /* the save that was asked for: until when the clock was given, whether SAVE.time is to be told of it */
+    long long asked_until;
+    bool is_noted, renews;
+    /* a state or the power switch is unsaved: the next save writes a whole state */
+    bool is_whole;
     /* the clock's time: until when it was given, what SAVE.time says of that, and the session's own time */
     long long given_until, opened_milliseconds, began_milliseconds;
     struct time_line written;
     bool clock_stands;
-    /* what the thread writes into SAVE.time, and how that ended */
-    enum clock_work work;
-    struct time_line lines[2];
-    int line_count;
-    pthread_t thread;
-    atomic_int is_written;
     uint8_t shades[SHADES];
     char fault[512], shown[MOST_SHOWN + 1];
-} game;
+} game = {.file = -1};
+
+/* the address space, as far as the front end sees it; it outlives a game, since the front end has its address */
+static uint8_t view[0x10000];
+
+/* threads that were left behind */
+static atomic_int left;
 
 /* ---- what is told */
 
@@ -173,8 +201,10 @@ static void tell(enum news kind, unsigned frames, const char *more, const char *
 }
 
 static bool fits(const char *pattern, const char *line) {
-    /* N stands for a number, XX for two hexadecimal digits */
+    /* N stands for a number, XX for two hexadecimal digits; the library leaves out a number at the end */
     for (; *pattern; pattern++) {
+        if (strcmp(pattern, " N") == 0 && !*line)
+            return true;
         if (*pattern == 'N') {
             if (*line < '0' || *line > '9')
                 return false;
@@ -205,8 +235,8 @@ static void cut_short(char *text, size_t least) {
     memcpy(text + length, end, sizeof end);
 }
 
-/* The program's line, and what docs/COMMANDS.md says to do about it: shortly on the screen, whole in the log. */
-static void fail_with(const char *line, const char *command) {
+/* A line of the program's, and what docs/COMMANDS.md says to do about it: shortly on the screen, whole in the log. Answers false. */
+static bool fail_with(const char *line, const char *command) {
     const char *text = strncmp(line, "gbkeep: ", 8) == 0 ? line + 8 : line;
     const struct fault *found = NULL;
     char shown[700];
@@ -226,6 +256,148 @@ static void fail_with(const char *line, const char *command) {
     cut_short(shown, strlen(text) < MOST_SHOWN / 2 ? strlen(text) + 1 : MOST_SHOWN / 2);
     memcpy(game.shown, shown, MOST_SHOWN);
     tell(REFUSAL, 600, game.fault, "%s", game.shown);
+    return false;
+}
+
+/* The same for a code of the library, in the program's words. */
+static bool fail_by(uint32_t code, const char *command) {
+    char line[MOST_LINE];
+    uint32_t sectors = 0;
+    switch (code) {
+    case GBKEEP_ROM_LENGTH:
+        snprintf(line, sizeof line, "rom length %zu", game.rom_length);
+        break;
+    case GBKEEP_CARTRIDGE_TYPE:
+        snprintf(line, sizeof line, "cartridge type %02X", game.rom[0x147]);
+        break;
+    case GBKEEP_RAM_CODE:
+        snprintf(line, sizeof line, "ram code %02X", game.rom[0x149]);
+        break;
+    case GBKEEP_TOO_MANY_BANKS:
+        snprintf(line, sizeof line, "too many banks %zu", game.rom_length / 0x4000);
+        break;
+    case GBKEEP_TOO_SMALL:
+        gbkeep_session_sectors(game.rom, game.rom_length, &sectors);
+        snprintf(line, sizeof line, "too small, %lu sectors needed", (unsigned long)sectors);
+        break;
+    default:
+        snprintf(line, sizeof line, "%.*s", (int)strcspn(gbkeep_fault_text(code), ":"), gbkeep_fault_text(code));
+    }
+    return fail_with(line, command);
+}
+
+/* ---- files */
+
+static long long milliseconds_of(clockid_t clock) {
+    struct timespec now;
+    if (clock_gettime(clock, &now) || now.tv_sec < 0 || now.tv_sec > LAST_SECOND)
+        return 0;
+    return now.tv_sec * 1000LL + now.tv_nsec / 1000000;
+}
+
+static long long milliseconds(void) {
+    return milliseconds_of(CLOCK_MONOTONIC);
+}
+
+static void close_one(int *fd) {
+    if (*fd >= 0)
+        close(*fd);
+    *fd = -1;
+}
+
+/* What is known of a file, by a call that every C library from 2018 on has; a mode of 0 where there is none. */
+static struct statx about(int folder, const char *name, int flags) {
+    struct statx there;
+    if (statx(folder, name, flags, STATX_BASIC_STATS, &there) != 0)
+        memset(&there, 0, sizeof there);
+    return there;
+}
+
+static struct statx about_open(int fd) {
+    return about(fd, "", AT_EMPTY_PATH);
+}
+
+static bool exists(const char *path) {
+    return about(AT_FDCWD, path, AT_SYMLINK_NOFOLLOW).stx_mode != 0;
+}
+
+static bool write_at(int fd, const uint8_t *bytes, size_t size, off_t at) {
+    for (size_t done = 0; done < size;) {
+        ssize_t more = pwrite(fd, bytes + done, size - done, at + (off_t)done);
+        if (more < 0 && errno == EINTR)
+            continue;
+        if (more <= 0)
+            return false;
+        done += (size_t)more;
+    }
+    return true;
+}
+
+static bool read_at(int fd, uint8_t *bytes, size_t size) {
+    for (size_t done = 0; done < size;) {
+        ssize_t more = pread(fd, bytes + done, size - done, (off_t)done);
+        if (more < 0 && errno == EINTR)
+            continue;
+        if (more <= 0)
+            return false;
+        done += (size_t)more;
+    }
+    return true;
+}
+
+/* Locks an open file, so that no other open file of it is locked; on a file system without locks there is nothing to hold. */
+static bool lock(int fd) {
+    return flock(fd, LOCK_EX | LOCK_NB) == 0 || errno == EOPNOTSUPP || errno == ENOSYS;
+}
+
+/* Splits a path: opens its folder, and leaves the name of the file. */
+static int open_folder(char path[PATH_MAX], const char **name) {
+    char *slash = strrchr(path, '/');
+    *name = slash ? slash + 1 : path;
+    if (slash)
+        *slash = 0;
+    return open(slash ? *path ? path : "/" : ".", O_RDONLY | O_DIRECTORY | O_CLOEXEC);
+}
+
+/* Whether the name is still that of the empty file that keeps it, and that of somebody who makes files here. */
+static bool is_kept(int folder, const char *name, int keeper, int made) {
+    struct statx held = about_open(keeper), named = about(folder, name, AT_SYMLINK_NOFOLLOW), own = about_open(made);
+    return held.stx_mode != 0 && held.stx_size == 0 && held.stx_ino == named.stx_ino && held.stx_dev_major == named.stx_dev_major
+        && held.stx_dev_minor == named.stx_dev_minor && held.stx_uid == own.stx_uid;
+}
+
+/* Makes a file of these bytes durable under a name that nobody has, and then gives it its own. What has that name is replaced, and its permissions stay;
+ * where there is a keeper, only that one. */
+static bool put_file(int folder, const char *name, const void *bytes, size_t size, int keeper) {
+    char made[48];
+    unsigned long long number;
+    if (getrandom(&number, sizeof number, 0) != sizeof number)
+        return false;
+    snprintf(made, sizeof made, ".gbkeep-%016llx.new", number);
+    int fd = openat(folder, made, O_WRONLY | O_CREAT | O_EXCL | O_NOFOLLOW | O_CLOEXEC, 0666);
+    if (fd < 0)
+        return false;
+    unsigned mode = keeper < 0 ? about(folder, name, AT_SYMLINK_NOFOLLOW).stx_mode : 0;
+    bool good = (mode == 0 || fchmod(fd, mode & 0777) == 0) && write_at(fd, bytes, size, 0) && fsync(fd) == 0;
+    good = good && (keeper < 0 || is_kept(folder, name, keeper, fd));
+    good = close(fd) == 0 && good && renameat(folder, made, folder, name) == 0;
+    if (!good)
+        unlinkat(folder, made, 0);
+    return good && fsync(folder) == 0;
+}
+
+/* The first bytes of a plain file, `most` and one more; NULL where it can't be read. */
+static uint8_t *read_file(const char *path, size_t most, size_t *length) {
+    int fd = open(path, O_RDONLY | O_NONBLOCK | O_CLOEXEC | O_NOCTTY);
+    struct statx found = about_open(fd);
+    *length = found.stx_size > most ? most + 1 : (size_t)found.stx_size;
+    uint8_t *bytes = fd >= 0 && S_ISREG(found.stx_mode) ? malloc(*length + 1) : NULL;
+    if (bytes && !read_at(fd, bytes, *length)) {
+        free(bytes);
+        bytes = NULL;
+    }
+    close_one(&fd);
+    return bytes;
 }
 
 /* ---- programs */
@@ -241,155 +413,244 @@ static const char *program_name(void) {
     return size > 0 && (size_t)size < sizeof beside && access(beside, X_OK) == 0 ? beside : GBKEEP_PROGRAM;
 }
 
-static void close_one(int *fd) {
-    if (*fd >= 0)
-        close(*fd);
-    *fd = -1;
-}
-
-/* Starts the program with these words. Its input is a socket, since a pipe whose reader is gone would end the front end by a signal. */
-static bool start(struct child *child, char *const words[]) {
-    int in[2] = {-1, -1}, out[2] = {-1, -1}, errors[2] = {-1, -1};
+/* Runs a command to its end, with no input and no output but its refusal, which is shown. One that does not end is ended. */
+static bool run_command(char *const words[]) {
+    char line[300] = "";
+    int errors[2], status = 0;
+    pid_t pid, ended = 0;
     posix_spawn_file_actions_t files;
-    posix_spawnattr_t how;
-    memset(child, 0, sizeof *child);
-    child->in = child->out = child->errors = -1;
-    if (socketpair(AF_UNIX, SOCK_STREAM | SOCK_CLOEXEC, 0, in) || pipe2(out, O_CLOEXEC) || pipe2(errors, O_CLOEXEC)) {
-        for (int one = 0; one < 2; one++)
-            close_one(&in[one]), close_one(&out[one]), close_one(&errors[one]);
-        fail_with("no pipe could be had", "");
-        return false;
-    }
+    if (pipe2(errors, O_CLOEXEC))
+        return fail_with("no pipe could be had", "");
     posix_spawn_file_actions_init(&files);
-    posix_spawn_file_actions_adddup2(&files, in[1], 0);
-    posix_spawn_file_actions_adddup2(&files, out[1], 1);
+    posix_spawn_file_actions_addopen(&files, 0, "/dev/null", O_RDONLY, 0);
+    posix_spawn_file_actions_addopen(&files, 1, "/dev/null", O_WRONLY, 0);
     posix_spawn_file_actions_adddup2(&files, errors[1], 2);
-    posix_spawnattr_init(&how);
-    /* a Ctrl-C is for the front end: the program goes on, and saves what is unsaved when its input ends */
-    posix_spawnattr_setpgroup(&how, 0);
-    posix_spawnattr_setflags(&how, POSIX_SPAWN_SETPGROUP);
-    int failed = posix_spawnp(&child->pid, program_name(), &files, &how, words, environ);
-    posix_spawnattr_destroy(&how);
+    int failed = posix_spawnp(&pid, program_name(), &files, NULL, words, environ);
     posix_spawn_file_actions_destroy(&files);
-    close(in[1]), close(out[1]), close(errors[1]);
-    child->in = in[0], child->out = out[0], child->errors = errors[0];
-    struct timeval limit = {READ_MILLISECONDS / 1000, 0};
-    setsockopt(child->in, SOL_SOCKET, SO_SNDTIMEO, &limit, sizeof limit);
+    close_one(&errors[1]);
     if (failed) {
-        child->pid = 0;
-        close_one(&child->in), close_one(&child->out), close_one(&child->errors);
-        char line[300];
+        close_one(&errors[0]);
         snprintf(line, sizeof line, "%s can't be started: %s", program_name(), strerror(failed));
-        fail_with(line, "");
+        return fail_with(line, "");
     }
-    return failed == 0;
-}
-
-static long long milliseconds_of(clockid_t clock) {
-    struct timespec now;
-    if (clock_gettime(clock, &now) || now.tv_sec < 0 || now.tv_sec > LAST_SECOND)
-        return 0;
-    return now.tv_sec * 1000LL + now.tv_nsec / 1000000;
-}
-
-static long long milliseconds(void) {
-    return milliseconds_of(CLOCK_MONOTONIC);
-}
-
-/* What can be read within the limit: -1 where nothing came. */
-static ssize_t read_within(int fd, void *bytes, size_t size, long long until) {
-    for (;;) {
+    long long until = milliseconds() + END_MILLISECONDS;
+    for (size_t got = 0; got + 1 < sizeof line;) {
+        struct pollfd wanted = {errors[0], POLLIN, 0};
         long long left = until - milliseconds();
-        struct pollfd wanted = {fd, POLLIN, 0};
-        int ready = left > 0 ? poll(&wanted, 1, (int)left) : 0;
-        if (ready < 0 && errno == EINTR)
+        ssize_t more = left > 0 && poll(&wanted, 1, (int)left) > 0 ? read(errors[0], line + got, sizeof line - 1 - got) : 0;
+        if (more < 0 && errno == EINTR)
             continue;
-        if (ready <= 0)
-            return -1;
-        ssize_t got = read(fd, bytes, size);
-        if (got >= 0 || errno != EINTR)
-            return got;
-    }
-}
-
-/* Waits for the end of a program, which is killed where it does not come; its line, if it has one, is in `line`. */
-static int end_of_program(struct child *child, char *line, size_t size) {
-    long long until = milliseconds() + END_MILLISECONDS;
-    size_t got = 0;
-    close_one(&child->in);
-    while (got + 1 < size) {
-        ssize_t more = read_within(child->errors, line + got, size - 1 - got, until);
         if (more <= 0)
             break;
         got += (size_t)more;
     }
-    line[got] = 0;
+    close_one(&errors[0]);
     line[strcspn(line, "\n")] = 0;
-    int status = 0;
-    pid_t ended = 0;
-    while (child->pid > 0 && (ended = waitpid(child->pid, &status, WNOHANG)) == 0 && milliseconds() < until)
+    while ((ended = waitpid(pid, &status, WNOHANG)) == 0 && milliseconds() < until)
         poll(NULL, 0, 5);
-    if (child->pid > 0 && ended == 0) {
-        kill(child->pid, SIGKILL);
-        waitpid(child->pid, &status, 0);
+    if (ended == 0) {
+        kill(pid, SIGKILL);
+        waitpid(pid, &status, 0);
     }
-    child->pid = 0;
-    close_one(&child->out);
-    close_one(&child->errors);
-    return status;
+    /* a front end that waits for all its children may have taken the status */
+    if (ended < 0 ? exists(words[5]) : WIFEXITED(status) && WEXITSTATUS(status) == 0)
+        return true;
+    return fail_with(line[0] ? line : "the program was ended", words[1]);
 }
 
-/* Ends the program that shows the game, which has nothing to keep. */
-static void end_player(void) {
-    char line[300];
-    if (game.player.pid > 0) {
-        kill(game.player.pid, SIGKILL);
-        end_of_program(&game.player, line, sizeof line);
-    }
-}
+/* ---- the thread */
 
-static bool save_game(void);
-
-/* Ends a program that no longer does what it is asked, and shows why. Without its keeper no game is shown; without its player the game is saved. */
-static void give_up(struct child *child, const char *why) {
-    char line[300], other[300];
-    int status = end_of_program(child, line, sizeof line);
-    if (child == &game.player && game.keeper.pid > 0 && save_game())
-        end_of_program(&game.keeper, other, sizeof other);
-    end_player();
-    if (line[0])
-        fail_with(line, "stream");
-    else if (WIFSIGNALED(status) && !why)
-        fail_with("the program was ended by a signal", "");
-    else
-        fail_with(why ? why : "the program has ended", "");
-}
-
-/* Runs a command to its end; what it prints is in `text`. */
-static bool run_command(char *const words[], char *text, size_t size) {
-    static struct child child;
-    char line[300];
-    size_t got = 0;
-    if (!start(&child, words))
+/* Syncs SAVE, which then has to have a name still, and its length: it has not where another file was put in its place, or it was removed or cut short. */
+static bool sync_save(const struct job *job) {
+    if (fdatasync(job->file) != 0)
         return false;
-    close_one(&child.in);
-    long long until = milliseconds() + END_MILLISECONDS;
-    while (got + 1 < size) {
-        ssize_t more = read_within(child.out, text + got, size - 1 - got, until);
-        if (more <= 0)
-            break;
-        got += (size_t)more;
-    }
-    text[got] = 0;
-    int status = end_of_program(&child, line, sizeof line);
-    if (!WIFEXITED(status) || WEXITSTATUS(status) != 0) {
-        fail_with(line[0] ? line : "the program was ended", words[1]);
-        return false;
+    struct statx found = about_open(job->file);
+    return found.stx_mode != 0 && found.stx_nlink > 0 && found.stx_size == (unsigned long long)job->sectors * SECTOR;
+}
+
+/* Makes the calls that the session handed out, each before the next. After one that fails none is made. */
+static bool make_calls(struct job *job) {
+    for (size_t at = 0; at < job->count; at++) {
+        const gbkeep_call *call = &job->calls[at];
+        if (atomic_load(&job->outcome) == LEFT)
+            return false;
+        if (call->kind == GBKEEP_WRITE ? !write_at(job->file, call->bytes, SECTOR, (off_t)call->sector * SECTOR) : !sync_save(job))
+            return false;
     }
     return true;
 }
 
-/* ---- lines of a stream */
+static int read_clock_file(const char *path, struct time_line lines[MOST_TIME_LINES]);
+
+/* Puts these lines in the place of SAVE.time, durably. A file of somebody else's stays, and so does a link. */
+static bool write_clock_file(const char *file, const struct time_line lines[], int count) {
+    struct time_line old[MOST_TIME_LINES];
+    char path[PATH_MAX], text[MOST_TIME_BYTES] = "";
+    const char *name;
+    if (read_clock_file(file, old) < 0)
+        return false;
+    if (!realpath(file, path))
+        snprintf(path, sizeof path, "%s", file);
+    for (int one = 0; one < count; one++)
+        snprintf(text + strlen(text), sizeof text - strlen(text), "%llu %lld\n", lines[one].count, lines[one].seconds);
+    int folder = open_folder(path, &name);
+    bool good = folder >= 0 && put_file(folder, name, text, strlen(text), -1);
+    close_one(&folder);
+    return good;
+}
+
+static void free_job(struct job *job) {
+    close_one(&job->file);
+    free(job->calls);
+    free(job);
+}
+
+static void *work(void *given) {
+    struct job *job = given;
+    int running = RUNNING;
+    bool good = false;
+    if (job->work == SAVE)
+        good = make_calls(job);
+    else if (job->work == RENEW)
+        good = gbkeep_session_resume(game.rom, game.rom_length, game.image, (size_t)game.sectors * SECTOR, &job->fresh) == GBKEEP_DONE;
+    else
+        good = write_clock_file(job->clock_file, job->lines, job->line_count);
+    if (!atomic_compare_exchange_strong(&job->outcome, &running, good ? DONE : FAILED)) {
+        free_job(job);
+        atomic_fetch_sub(&left, 1);
+    }
+    return NULL;
+}
+
+/* Has a thread do this; where there can be none, it is done at once. */
+static void begin_work(enum work kind) {
+    struct job *job = game.job;
+    sigset_t all, before;
+    job->work = kind, job->file = game.file, job->sectors = game.sectors, job->is_told_slow = false, job->since = milliseconds();
+    memcpy(job->clock_file, game.clock_file, sizeof job->clock_file);
+    atomic_store(&job->outcome, RUNNING);
+    /* signals are for the front end's threads */
+    sigfillset(&all);
+    sigprocmask(SIG_SETMASK, &all, &before);
+    job->has_thread = pthread_create(&job->thread, NULL, work, job) == 0;
+    sigprocmask(SIG_SETMASK, &before, NULL);
+    if (!job->has_thread)
+        work(job);
+}
+
+/* Leaves the thread to itself: it makes no further call, and frees what it has, the file and its lock, whenever the one that it is in ends. */
+static void leave_work(void) {
+    int running = RUNNING;
+    pthread_t thread = game.job->thread;
+    bool has_thread = game.job->has_thread;
+    atomic_fetch_add(&left, 1);
+    if (!atomic_compare_exchange_strong(&game.job->outcome, &running, LEFT)) {
+        atomic_fetch_sub(&left, 1);
+        return;
+    }
+    if (has_thread)
+        pthread_detach(thread);
+    game.job = NULL;
+    game.file = -1;
+}
+
+/* ---- the game */
+
+/* Ends the game. What is unsaved is lost. */
+static void end_game(void) {
+    struct job *job = game.job;
+    /* what takes a session up reads the game, and comes to its end */
+    if (job && job->work != NO_WORK && job->work != RENEW)
+        leave_work();
+    job = game.job;
+    if (job) {
+        if (job->work != NO_WORK && job->has_thread)
+            pthread_join(job->thread, NULL);
+        gbkeep_session_free(job->fresh);
+        /* the file is the game's */
+        job->file = -1;
+        free_job(job);
+        game.job = NULL;
+    }
+    gbkeep_session_free(game.session);
+    gbkeep_machine_free(game.machine);
+    close_one(&game.file);
+    free(game.rom), free(game.image), free(game.state);
+    game.session = NULL, game.machine = NULL, game.rom = game.image = game.state = NULL;
+}
+
+/* Ends it for this reason. */
+static bool give_up(const char *line) {
+    end_game();
+    return fail_with(line, "stream");
+}
+
+static bool give_up_by(uint32_t code) {
+    fail_by(code, "stream");
+    end_game();
+    return false;
+}
+
+/* Takes the calls that the session hands out, for the thread. */
+static bool take_calls(gbkeep_session *session) {
+    struct job *job = game.job;
+    for (;; job->count++, game.calls++) {
+        if (job->count == job->room) {
+            size_t room = 2 * job->room + 256;
+            gbkeep_call *calls = realloc(job->calls, room * sizeof *calls);
+            if (!calls)
+                return false;
+            job->calls = calls, job->room = room;
+        }
+        gbkeep_call *call = &job->calls[job->count];
+        gbkeep_session_next_call(session, call);
+        if (call->kind == GBKEEP_NO_CALL)
+            return true;
+        if (call->kind == GBKEEP_WRITE && call->sector >= game.sectors)
+            return false;
+        if (call->kind == GBKEEP_WRITE)
+            memcpy(game.image + (size_t)call->sector * SECTOR, call->bytes, SECTOR);
+    }
+}
+
+/* Has the thread save what is unsaved. SAVE.time is to name the save where nothing else is written there for it. */
+static bool ask_save(bool is_noted) {
+    uint64_t count = 0;
+    /* behind a state a save has all of the machine, and nothing has to be played again to take the session up from it */
+    game.renews = game.calls > MOST_CALLS && gbkeep_session_state(game.session, game.state, game.state_length) == GBKEEP_DONE
+        && gbkeep_session_restore(game.session, game.state, game.state_length) == GBKEEP_DONE;
+    game.count += game.renews;
+    game.job->count = 0;
+    uint32_t code = gbkeep_session_save(game.session, &count);
+    /* for want of memory the inputs stay unsaved, and are saved by the next one */
+    if (code != GBKEEP_DONE && code != GBKEEP_NO_MEMORY)
+        return give_up_by(code);
+    if (!take_calls(game.session))
+        return give_up("no memory");
+    if (code == GBKEEP_DONE)
+        game.asked = count, game.is_whole = false;
+    game.renews = game.renews && code == GBKEEP_DONE;
+    game.played = 0, game.saved_frame = game.frame;
+    game.is_noted = is_noted, game.asked_until = game.given_until;
+    begin_work(SAVE);
+    return true;
+}
+
+/* Goes on with the session that was taken up from SAVE's sectors as they were saved last, by the state that the old one has now. */
+static bool go_on(gbkeep_session *fresh) {
+    uint64_t count = gbkeep_session_count(fresh);
+    if (gbkeep_session_state(game.session, game.state, game.state_length) != GBKEEP_DONE
+        || gbkeep_session_restore(fresh, game.state, game.state_length) != GBKEEP_DONE) {
+        gbkeep_session_free(fresh);
+        return true;
+    }
+    gbkeep_session_free(game.session);
+    game.session = fresh;
+    game.asked = count, game.count = count + 1;
+    return ask_save(false);
+}
+
+/* ---- the cartridge's clock */
 
 /* A number in decimal digits, `most` at most; false where none is there. What follows it is at `text` then. */
 static bool take_number(const char **text, unsigned long long most, unsigned long long *number) {
@@ -407,160 +668,13 @@ static bool take_number(const char **text, unsigned long long most, unsigned lon
     return true;
 }
 
-/* The count of a line `WORD COUNT`. */
-static bool counts(const char *line, const char *word, unsigned long long *count) {
-    size_t length = strlen(word);
-    const char *at = line + length;
-    return strncmp(line, word, length) == 0 && take_number(&at, ULLONG_MAX, count) && strcmp(at, "\n") == 0;
-}
-
-/* Takes a line of the keeper's, `resumed N` and then `saved N`, or of the player's, `resumed N` and then `done`. */
-static bool take_line(struct child *child, const char *line) {
-    unsigned long long count;
-    if (child == &game.player && child->has_resumed)
-        return strcmp(line, "done\n") == 0;
-    if (!counts(line, child->has_resumed ? "saved " : "resumed ", &count))
-        return false;
-    if (child == &game.player)
-        return child->has_resumed = count == game.count;
-    if (!child->has_resumed)
-        game.count = count, child->has_resumed = true;
-    game.saved = count;
-    return true;
-}
-
-/* Takes the answers that are whole; false where one is none of gbkeep's. */
-static bool take_answers(struct child *child) {
-    size_t taken = 0;
-    bool good = true;
-    while (good && taken < child->unread_bytes) {
-        const uint8_t *answer = child->unread + taken;
-        size_t left = child->unread_bytes - taken;
-        bool is_picture = answer[0] == 'P';
-        const uint8_t *newline = memchr(answer, '\n', left);
-        size_t length = is_picture ? PICTURE_BYTES : newline ? (size_t)(newline - answer) + 1 : 0;
-        if (length == 0 || left < length)
-            break;
-        if (is_picture) {
-            good = child->has_resumed && memcmp(answer, PICTURE_HEAD, HEAD_BYTES) == 0;
-            for (int at = 0; good && at < SHADES; at++)
-                game.shades[at] = answer[HEAD_BYTES + 2 * at] & 3;
-            child->has_picture = good;
-        } else {
-            char line[MOST_LINE] = "";
-            memcpy(line, answer, length < MOST_LINE ? length : MOST_LINE - 1);
-            good = length < MOST_LINE && take_line(child, line);
-        }
-        taken += length;
-    }
-    child->unread_bytes -= taken;
-    memmove(child->unread, child->unread + taken, child->unread_bytes);
-    return good;
-}
-
-/* Reads some of the answers; false where the program is at its end, or gives none in time. */
-static bool read_answers(struct child *child, long long until) {
-    ssize_t got = read_within(child->out, child->unread + child->unread_bytes, sizeof child->unread - child->unread_bytes, until);
-    if (got <= 0) {
-        give_up(child, got < 0 ? "the program does not answer" : NULL);
-        return false;
-    }
-    child->unread_bytes += (size_t)got;
-    if (take_answers(child) && child->unread_bytes < sizeof child->unread)
-        return true;
-    if (child->pid > 0)
-        kill(child->pid, SIGKILL);
-    give_up(child, "the program answers what no gbkeep answers");
-    return false;
-}
-
-/* Whether the program has answered something, or ended. */
-static bool has_answered(struct child *child) {
-    struct pollfd wanted = {child->out, POLLIN, 0};
-    return poll(&wanted, 1, 0) > 0;
-}
-
-/* Gives the player a line. */
-static bool show_by(const char *format, ...) {
-    char line[MOST_LINE];
-    va_list words;
-    va_start(words, format);
-    int size = vsnprintf(line, sizeof line, format, words);
-    va_end(words);
-    for (int sent = 0; sent < size;) {
-        ssize_t more = send(game.player.in, line + sent, (size_t)(size - sent), MSG_NOSIGNAL);
-        if (more < 0 && errno == EINTR)
-            continue;
-        if (more < 0) {
-            give_up(&game.player, NULL);
-            return false;
-        }
-        sent += (int)more;
-    }
-    return true;
-}
-
-/* Gives the keeper as many of the lines that wait as it takes now. */
-static bool give_lines(void) {
-    size_t sent = 0;
-    while (sent < game.waiting_bytes) {
-        ssize_t more = send(game.keeper.in, game.waiting + sent, game.waiting_bytes - sent, MSG_NOSIGNAL | MSG_DONTWAIT);
-        if (more < 0 && errno == EINTR)
-            continue;
-        if (more < 0 && errno != EAGAIN && errno != EWOULDBLOCK) {
-            give_up(&game.keeper, NULL);
-            return false;
-        }
-        if (more <= 0)
-            break;
-        sent += (size_t)more;
-    }
-    game.waiting_bytes -= sent;
-    memmove(game.waiting, game.waiting + sent, game.waiting_bytes);
-    return true;
-}
-
-/* Puts a line in the keeper's queue. Where that is full, a disk that takes no save for two minutes is waited for. */
-static bool keep_line(const char *format, ...) {
-    char line[MOST_LINE];
-    va_list words;
-    va_start(words, format);
-    size_t size = (size_t)vsnprintf(line, sizeof line, format, words);
-    va_end(words);
-    long long until = milliseconds() + SAVE_MILLISECONDS;
-    while (game.waiting_bytes + size > sizeof game.waiting) {
-        if (milliseconds() > until) {
-            give_up(&game.keeper, "the program does not answer");
-            return false;
-        }
-        poll(NULL, 0, 5);
-        if (!give_lines() || (has_answered(&game.keeper) && !read_answers(&game.keeper, until)))
-            return false;
-    }
-    memcpy(game.waiting + game.waiting_bytes, line, size);
-    game.waiting_bytes += size;
-    return give_lines();
-}
-
-/* ---- the cartridge's clock */
-
-/* What is known of a file, by a call that every C library from 2018 on has: its kind and permissions; 0 where there is none. */
-static unsigned mode_at(int folder, const char *name, int flags) {
-    struct statx there;
-    return statx(folder, name, flags, STATX_TYPE | STATX_MODE, &there) == 0 ? there.stx_mode : 0;
-}
-
-static bool exists(const char *path) {
-    return mode_at(AT_FDCWD, path, AT_SYMLINK_NOFOLLOW) != 0;
-}
-
 /* The lines of SAVE.time: how many there are; 0 where it is not there or empty, and -1 where it is no file of the core's or the window's. */
-static int read_clock_file(struct time_line lines[MOST_TIME_LINES]) {
+static int read_clock_file(const char *path, struct time_line lines[MOST_TIME_LINES]) {
     char text[MOST_TIME_BYTES + 1];
-    int fd = open(game.clock_file, O_RDONLY | O_NONBLOCK | O_CLOEXEC | O_NOCTTY), found = 0;
+    int fd = open(path, O_RDONLY | O_NONBLOCK | O_CLOEXEC | O_NOCTTY), found = 0;
     if (fd < 0)
-        return errno == ENOENT && !exists(game.clock_file) ? 0 : -1;
-    bool is_plain = S_ISREG(mode_at(fd, "", AT_EMPTY_PATH));
+        return errno == ENOENT && !exists(path) ? 0 : -1;
+    bool is_plain = S_ISREG(about_open(fd).stx_mode);
     ssize_t size = is_plain ? read(fd, text, sizeof text) : -1;
     close(fd);
     if (size < 0 || size > MOST_TIME_BYTES || memchr(text, 0, (size_t)size))
@@ -576,55 +690,6 @@ static int read_clock_file(struct time_line lines[MOST_TIME_LINES]) {
     return found;
 }
 
-static bool write_whole(int fd, const char *text) {
-    for (size_t left = strlen(text); left > 0;) {
-        ssize_t more = write(fd, text, left);
-        if (more < 0 && errno == EINTR)
-            continue;
-        if (more <= 0)
-            return false;
-        text += more, left -= (size_t)more;
-    }
-    return true;
-}
-
-/* Puts these lines in the place of SAVE.time, durably, by a file with a name that nobody has. A file of somebody else's stays. */
-static bool write_clock_file(const struct time_line lines[], int count) {
-    struct time_line old[MOST_TIME_LINES];
-    char path[PATH_MAX], text[MOST_TIME_BYTES] = "", made[48];
-    unsigned long long number;
-    if (read_clock_file(old) < 0)
-        return false;
-    /* a link stays, and the file that it leads to is replaced */
-    if (!realpath(game.clock_file, path))
-        snprintf(path, sizeof path, "%s", game.clock_file);
-    char *slash = strrchr(path, '/');
-    const char *name = slash ? slash + 1 : path;
-    if (slash)
-        *slash = 0;
-    int folder = open(slash ? *path ? path : "/" : ".", O_RDONLY | O_DIRECTORY | O_CLOEXEC);
-    if (folder < 0)
-        return false;
-    for (int one = 0; one < count; one++)
-        snprintf(text + strlen(text), sizeof text - strlen(text), "%llu %lld\n", lines[one].count, lines[one].seconds);
-    bool good = getrandom(&number, sizeof number, 0) == sizeof number;
-    snprintf(made, sizeof made, ".gbkeep-%016llx.new", number);
-    int fd = good ? openat(folder, made, O_WRONLY | O_CREAT | O_EXCL | O_NOFOLLOW | O_CLOEXEC, 0666) : -1;
-    if (fd >= 0) {
-        unsigned mode = mode_at(folder, name, AT_SYMLINK_NOFOLLOW);
-        if (mode != 0)
-            good = fchmod(fd, mode & 0777) == 0;
-        good = good && write_whole(fd, text) && fsync(fd) == 0;
-        good = close(fd) == 0 && good;
-        good = good && renameat(folder, made, folder, name) == 0;
-        if (!good)
-            unlinkat(folder, made, 0);
-    }
-    good = good && fd >= 0 && fsync(folder) == 0;
-    close(folder);
-    return good;
-}
-
 static bool note_clock(bool good) {
     if (!good && !game.clock_stands)
         tell(REFUSAL, 300, "The cartridge's clock stands still, since SAVE.time can't be written or is another kind of file.", "The clock stands still: no SAVE.time can be written");
@@ -633,40 +698,17 @@ static bool note_clock(bool good) {
 }
 
 static bool write_time(const struct time_line lines[], int count) {
-    return note_clock(write_clock_file(lines, count));
+    if (!note_clock(write_clock_file(game.clock_file, lines, count)))
+        return false;
+    game.written = lines[0];
+    return true;
 }
 
-enum { NOT_YET, WRITTEN, NOT_WRITTEN };
-
-static void *write_in_thread(void *unused) {
-    (void)unused;
-    atomic_store(&game.is_written, write_clock_file(game.lines, game.line_count) ? WRITTEN : NOT_WRITTEN);
-    return NULL;
-}
-
-/* Has a thread write these lines. */
-static bool begin_work(enum clock_work work, const struct time_line lines[], int count) {
-    sigset_t all, before;
-    memcpy(game.lines, lines, (size_t)count * sizeof *lines);
-    game.line_count = count;
-    atomic_store(&game.is_written, NOT_YET);
-    /* signals are for the front end's threads */
-    sigfillset(&all);
-    sigprocmask(SIG_SETMASK, &all, &before);
-    bool good = pthread_create(&game.thread, NULL, write_in_thread, NULL) == 0;
-    sigprocmask(SIG_SETMASK, &before, NULL);
-    game.work = good ? work : NO_WORK;
-    return good;
-}
-
-/* Waits for the thread, and answers whether its lines are written. */
-static bool end_work(void) {
-    pthread_join(game.thread, NULL);
-    game.work = NO_WORK;
-    bool good = note_clock(atomic_load(&game.is_written) == WRITTEN);
-    if (good)
-        game.written = game.lines[0];
-    return good;
+/* Has the thread write these lines. */
+static void begin_lines(enum work kind, const struct time_line lines[], int count) {
+    memcpy(game.job->lines, lines, (size_t)count * sizeof *lines);
+    game.job->line_count = count;
+    begin_work(kind);
 }
 
 /* Until when the clock of a SAVE with so many inputs was given; of one that is older than each line, the last of all. */
@@ -690,21 +732,29 @@ static long long session_milliseconds(void) {
 #endif
 }
 
-/* How many seconds the clock has to be given. Within a session time is counted by a clock that nobody sets. */
+/* The time by the computer's date as the game was opened, and a clock that nobody sets since then. */
+static long long session_seconds(void) {
+    return (game.opened_milliseconds + session_milliseconds() - game.began_milliseconds) / 1000;
+}
+
+/* How many seconds the clock has to be given. */
 static long long seconds_due(void) {
-    long long now = (game.opened_milliseconds + session_milliseconds() - game.began_milliseconds) / 1000, passed = now - game.given_until;
+    long long passed = session_seconds() - game.given_until;
     if (!game.has_clock || passed <= 0 || game.count == ULLONG_MAX)
         return 0;
     return passed > MOST_SECONDS ? MOST_SECONDS : passed;
 }
 
-/* Gives the clock so many seconds: an input of both programs. */
+/* Gives the clock so many seconds, as an input. */
 static bool give_seconds(long long passed) {
+    if (passed <= 0)
+        return true;
+    uint32_t code = gbkeep_session_seconds(game.session, (uint32_t)passed);
+    if (code != GBKEEP_DONE)
+        return give_up_by(code);
     game.given_until += passed;
     game.count++;
-    if (game.player.pid > 0 && !show_by("seconds %lld\n", passed))
-        return false;
-    return keep_line("seconds %lld\n", passed);
+    return true;
 }
 
 /* What passed while the game was away: given where the option says so, the file knows, and it is no leap of the date. */
@@ -736,7 +786,7 @@ static void begin_clock(void) {
         return;
     long long now = milliseconds_of(CLOCK_REALTIME);
     game.given_until = now / 1000;
-    int count = read_clock_file(lines);
+    int count = read_clock_file(game.clock_file, lines);
     if (count > 0 && !game.is_new)
         take_up_time(lines, count);
     else if (count == 0 && game.count > 0 && game.gives_time_away)
@@ -744,86 +794,154 @@ static void begin_clock(void) {
     game.opened_milliseconds = now > game.given_until * 1000 ? now : game.given_until * 1000;
     game.began_milliseconds = session_milliseconds();
     game.written = (struct time_line){game.count, game.given_until};
-    write_time(&game.written, 1);
+    write_time(&(struct time_line){game.count, game.given_until}, 1);
 }
 
-/* Asks for a save, which SAVE.time is to name where nothing else is written there for it. */
-static bool ask_save(bool is_noted) {
-    game.is_saving = true, game.is_told_slow = false, game.is_noted = is_noted;
-    game.asked = game.count, game.asked_since = milliseconds();
-    return keep_line("save\n");
-}
+/* ---- saves */
 
-/* Takes what the keeper and the thread have done meanwhile. */
+/* Takes what the thread has done meanwhile. False where the game has ended. */
 static bool look_around(void) {
-    if (game.keeper.pid > 0 && has_answered(&game.keeper) && !read_answers(&game.keeper, milliseconds() + READ_MILLISECONDS))
+    struct job *job = game.job;
+    if (job->work == NO_WORK)
+        return true;
+    int outcome = atomic_load(&job->outcome);
+    if (outcome == RUNNING && job->work == RENEW)
+        return true;
+    if (outcome == RUNNING) {
+        long long slow = milliseconds() - job->since;
+        if (slow > SAVE_MILLISECONDS)
+            return give_up("the disk does not answer; what was saved stays saved");
+        if (slow > SLOW_MILLISECONDS && !job->is_told_slow) {
+            job->is_told_slow = true;
+            tell(REFUSAL, 300, NULL, "The disk is slow: nothing is saved for %lld seconds", slow / 1000);
+        }
+        return true;
+    }
+    enum work done = job->work;
+    if (job->has_thread)
+        pthread_join(job->thread, NULL);
+    job->work = NO_WORK;
+    if (done == SAVE) {
+        if (outcome != DONE)
+            return give_up("device failed");
+        bool is_told = game.saved == game.asked;
+        game.saved = game.asked;
+        if (!is_told)
+            tell(NEWS, 60, NULL, "saved %llu", game.saved);
+        if (game.renews)
+            begin_work(RENEW);
+        if (is_told || game.renews)
+            return true;
+        struct time_line line = {game.saved, game.asked_until};
+        if (game.has_clock && game.is_noted && !game.clock_stands && game.saved > game.written.count)
+            begin_lines(NOTE, &line, 1);
+        return true;
+    }
+    if (done == RENEW) {
+        gbkeep_session *fresh = job->fresh;
+        job->fresh = NULL;
+        game.calls = 0;
+        return outcome != DONE || go_on(fresh);
+    }
+    if (note_clock(outcome == DONE))
+        game.written = job->lines[0];
+    if (done == NOTE)
+        return true;
+    if (outcome == DONE && !give_seconds(job->lines[0].seconds - game.given_until))
         return false;
-    if (!give_lines())
-        return false;
-    if (game.is_saving && game.saved >= game.asked) {
-        game.is_saving = false;
-        tell(NEWS, 60, NULL, "saved %llu", game.saved);
-        struct time_line line = {game.saved, game.given_until};
-        if (game.has_clock && game.is_noted && game.work == NO_WORK && game.saved > game.written.count)
-            begin_work(NOTE, &line, 1);
-    }
-    long long slow = milliseconds() - game.asked_since;
-    if (game.is_saving && slow > SAVE_MILLISECONDS) {
-        give_up(&game.keeper, "the program does not answer");
-        return false;
-    }
-    if (game.is_saving && slow > SLOW_MILLISECONDS && !game.is_told_slow) {
-        game.is_told_slow = true;
-        tell(REFUSAL, 300, NULL, "The disk is slow: nothing is saved for %lld seconds", slow / 1000);
-    }
-    if (game.work != NO_WORK && atomic_load(&game.is_written) != NOT_YET) {
-        bool is_claim = game.work == CLAIM;
-        long long until = game.lines[0].seconds;
-        if (end_work() && is_claim && !give_seconds(until - game.given_until))
-            return false;
-        if (is_claim)
-            return ask_save(false);
-    }
-    return true;
+    return ask_save(false);
 }
 
-/* Begins a save, and gives the clock its seconds before, where the last one is done. SAVE.time first says that an input gives them: so no cut leaves a file
- * by which they are given twice. The thread says it of the next input; where others come before it is done, a cut right then may lose these few seconds. */
+/* Begins a save, and gives the clock its seconds before, where the thread is free. SAVE.time first says that an input gives them: so no cut leaves a file by
+ * which they are given twice. The thread says it of the next input; where others come before it is done, a cut right then may lose these few seconds, but
+ * not where the save is of a whole state, which is on the disk or is not. */
 static bool begin_save(void) {
-    if (game.is_saving || game.work != NO_WORK)
+    if (game.job->work != NO_WORK)
         return true;
     long long passed = seconds_due();
     struct time_line lines[2] = {{game.count + 1, game.given_until + passed}, game.written};
-    if (passed > 0 && passed <= FEW_SECONDS && begin_work(CLAIM, lines, 2))
+    if (passed > 0 && (passed <= FEW_SECONDS || game.is_whole)) {
+        begin_lines(CLAIM, lines, 2);
         return true;
-    if (passed > 0 && write_time(lines, 2)) {
-        game.written = lines[0];
-        if (!give_seconds(passed))
-            return false;
     }
+    if (passed > 0 && write_time(lines, 2) && !give_seconds(passed))
+        return false;
     return ask_save(passed <= 0);
+}
+
+/* Whether a save is due: by the frames that were not taken back by a state, or else by very many. */
+static bool is_due(void) {
+    unsigned long long moved = game.frame > game.saved_frame ? game.frame - game.saved_frame : game.saved_frame - game.frame;
+    return game.count - game.asked >= MANY_UNSAVED
+        || (game.played >= game.save_frames && (moved >= game.save_frames || game.played / MOST_AHEAD >= game.save_frames));
+}
+
+/* Waits until the thread is free. */
+static bool wait_for_work(void) {
+    while (game.job->work != NO_WORK) {
+        if (!look_around())
+            return false;
+        if (game.job->work != NO_WORK)
+            poll(NULL, 0, 1);
+    }
+    return true;
 }
 
 /* Saves what is unsaved, and waits for that. */
 static bool save_game(void) {
-    long long until = milliseconds() + READ_MILLISECONDS + SAVE_MILLISECONDS;
-    while (game.is_saving || game.work != NO_WORK) {
-        if (!look_around())
+    return wait_for_work() && begin_save() && wait_for_work();
+}
+
+/* Sees to it that the session can take an input: where many are unsaved, by a save, for which it waits only where the one before is not done. */
+static bool has_room(void) {
+    while (game.count - game.asked >= MOST_UNSAVED)
+        if (!wait_for_work() || !begin_save())
             return false;
-        poll(NULL, 0, 1);
-    }
-    if (!begin_save())
-        return false;
-    while (game.is_saving || game.work != NO_WORK) {
-        if (!look_around())
-            return false;
-        if (milliseconds() > until && game.work == NO_WORK) {
-            give_up(&game.keeper, "the program does not answer");
-            return false;
-        }
-        poll(NULL, 0, 1);
-    }
     return true;
+}
+
+/* An input was given, or why not. Where it can't be, what was given before is saved. */
+static bool was_given(uint32_t code) {
+    if (code == GBKEEP_DONE) {
+        game.count++;
+        return true;
+    }
+    if (save_game())
+        give_up_by(code);
+    return false;
+}
+
+/* ---- what the front end may look at */
+
+static void look_into(void) {
+    size_t ram = game.state_length - STATE_CART_RAM;
+    if (game.session)
+        gbkeep_session_state(game.session, game.state, game.state_length);
+    else
+        gbkeep_machine_state(game.machine, game.state, game.state_length);
+    memcpy(view + 0x8000, game.state + STATE_VRAM, 0x2000);
+    memcpy(view + 0xa000, game.state + STATE_CART_RAM, ram < 0x2000 ? ram : 0x2000);
+    memcpy(view + 0xc000, game.state + STATE_WRAM, 0x2000);
+    memcpy(view + 0xfe00, game.state + STATE_OAM, 0xa0);
+    memcpy(view + 0xff80, game.state + STATE_HRAM, 0x7f);
+    view[0xffff] = game.state[STATE_IE];
+}
+
+/* A map of the address space, which may be read alone: of switched memory its first bank. */
+static void show_memory(void) {
+    static const struct retro_memory_descriptor PARTS[] = {
+        {RETRO_MEMDESC_CONST, view, 0, 0, 0, 0, 0x4000, NULL},
+        {RETRO_MEMDESC_CONST | RETRO_MEMDESC_VIDEO_RAM, view, 0x8000, 0x8000, 0, 0, 0x2000, NULL},
+        {RETRO_MEMDESC_CONST, view, 0xa000, 0xa000, 0, 0, 0x2000, NULL},
+        {RETRO_MEMDESC_CONST | RETRO_MEMDESC_SYSTEM_RAM, view, 0xc000, 0xc000, 0, 0, 0x2000, NULL},
+        {RETRO_MEMDESC_CONST, view, 0xfe00, 0xfe00, 0, 0, 0x100, NULL},
+        {RETRO_MEMDESC_CONST, view, 0xff80, 0xff80, 0, 0, 0x80, NULL},
+    };
+    struct retro_memory_map map = {PARTS, sizeof PARTS / sizeof *PARTS};
+    memset(view, 0, sizeof view);
+    memcpy(view, game.rom, 0x4000);
+    look_into();
+    environment(RETRO_ENVIRONMENT_SET_MEMORY_MAPS, &map);
 }
 
 /* ---- options */
@@ -848,6 +966,188 @@ static void read_options(void) {
     const char *messages = option("gbkeep_messages");
     game.messages = strcmp(messages, "all") == 0 ? ALL : strcmp(messages, "none") == 0 ? NONE : REFUSALS_ONLY;
     game.imports = strcmp(option("gbkeep_import"), "yes") == 0;
+}
+
+/* ---- taking up a game */
+
+/* NAME and a suffix in the front end's save folder, or beside the cartridge where it has none. */
+static bool name_file(char path[PATH_MAX], const char *cart, const char *suffix, bool is_beside) {
+    const char *folder = NULL, *name = strrchr(cart, '/'), *dot = strrchr(cart, '.');
+    int folder_length = name ? (int)(name - cart) : 1;
+    name = name ? name + 1 : cart;
+    int length = dot && dot > name ? (int)(dot - name) : (int)strlen(name);
+    int size;
+    if (!is_beside && environment(RETRO_ENVIRONMENT_GET_SAVE_DIRECTORY, &folder) && folder && *folder)
+        size = snprintf(path, PATH_MAX, "%s/%.*s%s", folder, length, name, suffix);
+    else
+        size = snprintf(path, PATH_MAX, "%.*s/%.*s%s", folder_length, name == cart ? "." : cart, length, name, suffix);
+    return size > 0 && size < PATH_MAX;
+}
+
+/* The battery file that another core left for this cartridge; false where there is none. */
+static bool find_battery(char path[PATH_MAX]) {
+    static const char *const SUFFIXES[] = {".srm", ".sav"};
+    for (unsigned one = 0; one < 4; one++)
+        if (name_file(path, game.cart, SUFFIXES[one / 2], one % 2) && S_ISREG(about(AT_FDCWD, path, 0).stx_mode))
+            return true;
+    return false;
+}
+
+/* The mark of a game that is played by `record`, beside the file itself where SAVE is a link; false where there is none. */
+static bool find_mark(char path[PATH_MAX]) {
+    char real[PATH_MAX];
+    const char *save = realpath(game.save, real) ? real : game.save;
+    int size = snprintf(path, PATH_MAX, "%s.recorded", save);
+    return size > 0 && size < PATH_MAX && exists(path);
+}
+
+/* Puts the sectors of a new game in a file that has the name of SAVE only once it is whole, as `gbkeep new` does: an empty file, locked, keeps the name
+ * meanwhile. Nothing else that stands there is replaced. */
+static bool make_file(void) {
+    char path[PATH_MAX];
+    const char *name;
+    memcpy(path, game.save, sizeof path);
+    int folder = open_folder(path, &name), keeper = openat(folder, name, O_WRONLY | O_CREAT | O_EXCL | O_NOFOLLOW | O_CLOEXEC, 0600);
+    bool is_own = keeper >= 0, good;
+    if (!is_own)
+        keeper = openat(folder, name, O_WRONLY | O_NOFOLLOW | O_NONBLOCK | O_CLOEXEC | O_NOCTTY);
+    struct statx found = about_open(keeper);
+    good = keeper >= 0 && S_ISREG(found.stx_mode) && found.stx_size == 0 && (is_own || (found.stx_mode & 022) == 0) && lock(keeper);
+    good = good && put_file(folder, name, game.image, (size_t)game.sectors * SECTOR, keeper);
+    if (!good && is_own && is_kept(folder, name, keeper, keeper))
+        unlinkat(folder, name, 0);
+    close_one(&keeper), close_one(&folder);
+    return good;
+}
+
+/* Takes away the mark that a recorded game of this name left, and no other file. */
+static void unmark(void) {
+    static const char end[] = "\ngbkeep record\n";
+    char path[PATH_MAX];
+    size_t length, size = sizeof end - 1;
+    uint8_t *mark = find_mark(path) ? read_file(path, 8192, &length) : NULL;
+    if (mark && length >= size && length <= 8192 && memcmp(mark + length - size, end, size) == 0)
+        unlink(path);
+    free(mark);
+}
+
+/* Begins a game in a new file. */
+static bool make_game(void) {
+    gbkeep_session *session;
+    uint32_t code = gbkeep_session_sectors(game.rom, game.rom_length, &game.sectors);
+    if (code == GBKEEP_DONE)
+        code = gbkeep_session_begin(game.rom, game.rom_length, game.sectors, &session);
+    if (code != GBKEEP_DONE)
+        return fail_by(code, "new");
+    game.image = calloc(game.sectors, SECTOR);
+    bool good = game.image && take_calls(session);
+    gbkeep_session_free(session);
+    game.job->count = 0;
+    if (!good)
+        return fail_with("no memory", "new");
+    good = make_file();
+    free(game.image);
+    game.image = NULL;
+    if (!good)
+        return fail_with("device failed", "new");
+    unmark();
+    return true;
+}
+
+/* Begins a game, with the battery file of another core where the option says so. */
+static bool begin_game(void) {
+    char battery[PATH_MAX], said[6 * PATH_MAX];
+    char *import[] = {"gbkeep", "import", "--", game.cart, battery, game.save, NULL};
+    bool has_battery = find_battery(battery);
+    if (has_battery && game.imports)
+        return run_command(import);
+    if (!make_game())
+        return false;
+    if (has_battery) {
+        snprintf(said, sizeof said, "%s is another core's battery file. To go on from it, close the game, remove %s, and set the option to begin a new game with it, or: "
+                 "gbkeep import '%s' '%s' '%s'", battery, game.save, game.cart, battery, game.save);
+        const char *suffix = strrchr(battery, '.');
+        tell(REFUSAL, 600, said, "A new game: NAME%s is there; to import it, see the log", suffix);
+    }
+    return true;
+}
+
+/* Opens SAVE as the program does: locks it, syncs it, since what was written and not synced, by whomever, has to stand before it is read, and reads it. */
+static bool open_save(void) {
+    char line[MOST_LINE], mark[PATH_MAX];
+    game.file = open(game.save, O_RDWR | O_NONBLOCK | O_CLOEXEC | O_NOCTTY);
+    if (game.file < 0 || !S_ISREG(about_open(game.file).stx_mode) || !lock(game.file) || fsync(game.file) != 0)
+        return fail_with("device failed", "stream");
+    struct statx found = about_open(game.file);
+    if (found.stx_mode == 0 || found.stx_nlink == 0)
+        return fail_with("device failed", "stream");
+    if (found.stx_size % SECTOR != 0 || found.stx_size > (unsigned long long)MOST_SECTORS * SECTOR) {
+        snprintf(line, sizeof line, "device size %llu", (unsigned long long)found.stx_size);
+        return fail_with(line, "stream");
+    }
+    game.sectors = (uint32_t)(found.stx_size / SECTOR);
+    game.image = malloc((size_t)found.stx_size + 1);
+    if (!game.image)
+        return fail_with("no memory", "stream");
+    if (!read_at(game.file, game.image, (size_t)found.stx_size))
+        return fail_with("device failed", "stream");
+    return !find_mark(mark) || fail_with("recorded game: play it by record", "stream");
+}
+
+/* Whether this is a second instance, which runs ahead by the states of the first one: this very process has SAVE open, and by no thread that was left. */
+static bool is_second(void) {
+    int fd = open(game.save, O_RDONLY | O_NONBLOCK | O_CLOEXEC | O_NOCTTY);
+    struct statx wanted = about_open(fd);
+    bool is_found = false;
+    if (fd >= 0 && !lock(fd) && atomic_load(&left) == 0)
+        for (int other = 0; !is_found && other < MOST_FILES; other++) {
+            struct statx found = about_open(other);
+            is_found = other != fd && found.stx_mode != 0 && found.stx_ino == wanted.stx_ino && found.stx_dev_major == wanted.stx_dev_major
+                && found.stx_dev_minor == wanted.stx_dev_minor;
+        }
+    close_one(&fd);
+    return is_found;
+}
+
+static bool take_up(void) {
+    uint32_t code, needed;
+    game.rom = read_file(game.cart, MOST_ROM, &game.rom_length);
+    game.job = calloc(1, sizeof *game.job);
+    if (!game.rom)
+        return fail_with("file failed", "stream");
+    if (!game.job)
+        return fail_with("no memory", "stream");
+    game.job->file = -1;
+    code = gbkeep_session_sectors(game.rom, game.rom_length, &needed);
+    if (code != GBKEEP_DONE)
+        return fail_by(code, "stream");
+    if (is_second()) {
+        code = gbkeep_machine_new(game.rom, game.rom_length, &game.machine);
+        game.state_length = code == GBKEEP_DONE ? gbkeep_machine_state_length(game.machine) : 0;
+        game.state = malloc(game.state_length + 1);
+        return (code == GBKEEP_DONE && game.state) || fail_with("no memory", "stream");
+    }
+    game.has_clock = game.rom[0x147] == 0x0f || game.rom[0x147] == 0x10;
+    struct statx there = about(AT_FDCWD, game.save, AT_SYMLINK_NOFOLLOW);
+    /* an empty file is what a cut within the making of a game leaves */
+    game.is_new = there.stx_mode == 0 || (S_ISREG(there.stx_mode) && there.stx_size == 0);
+    if ((game.is_new && !begin_game()) || !open_save())
+        return false;
+    code = gbkeep_session_resume(game.rom, game.rom_length, game.image, (size_t)game.sectors * SECTOR, &game.session);
+    if (code != GBKEEP_DONE)
+        return fail_by(code, "stream");
+    game.state_length = gbkeep_session_state_length(game.session);
+    game.state = malloc(game.state_length + 1);
+    if (!game.state || !take_calls(game.session))
+        return fail_with("no memory", "stream");
+    game.count = game.asked = game.saved = gbkeep_session_count(game.session);
+    begin_work(SAVE);
+    if (!wait_for_work())
+        return false;
+    begin_clock();
+    show_memory();
+    tell(NEWS, 120, NULL, "resumed %llu", game.count);
+    return true;
 }
 
 /* ---- the interface */
@@ -892,149 +1192,27 @@ RETRO_API void retro_init(void) {}
 RETRO_API void retro_deinit(void) {}
 RETRO_API unsigned retro_get_region(void) { return RETRO_REGION_NTSC; }
 
-/* NAME and a suffix in the front end's save folder, or beside the cartridge where it has none. */
-static bool name_file(char path[PATH_MAX], const char *cart, const char *suffix, bool is_beside) {
-    const char *folder = NULL, *name = strrchr(cart, '/'), *dot = strrchr(cart, '.');
-    int folder_length = name ? (int)(name - cart) : 1;
-    name = name ? name + 1 : cart;
-    int length = dot && dot > name ? (int)(dot - name) : (int)strlen(name);
-    int size;
-    if (!is_beside && environment(RETRO_ENVIRONMENT_GET_SAVE_DIRECTORY, &folder) && folder && *folder)
-        size = snprintf(path, PATH_MAX, "%s/%.*s%s", folder, length, name, suffix);
-    else
-        size = snprintf(path, PATH_MAX, "%.*s/%.*s%s", folder_length, name == cart ? "." : cart, length, name, suffix);
-    return size > 0 && size < PATH_MAX;
-}
-
-/* The battery file that another core left for this cartridge; false where there is none. */
-static bool find_battery(char path[PATH_MAX]) {
-    static const char *const SUFFIXES[] = {".srm", ".sav"};
-    for (unsigned one = 0; one < 4; one++)
-        if (name_file(path, game.cart, SUFFIXES[one / 2], one % 2) && S_ISREG(mode_at(AT_FDCWD, path, 0)))
-            return true;
-    return false;
-}
-
-/* Begins a game, with the battery file of another core where the option says so. */
-static bool begin_game(void) {
-    char text[4096], battery[PATH_MAX], said[6 * PATH_MAX];
-    char *begin[] = {"gbkeep", "new", "--", game.cart, game.save, NULL};
-    char *import[] = {"gbkeep", "import", "--", game.cart, battery, game.save, NULL};
-    bool has_battery = find_battery(battery);
-    if (has_battery && game.imports)
-        return run_command(import, text, sizeof text);
-    if (!run_command(begin, text, sizeof text))
-        return false;
-    if (has_battery) {
-        snprintf(said, sizeof said, "%s is another core's battery file. To go on from it, close the game, remove %s, and set the option to begin a new game with it, or: "
-                 "gbkeep import '%s' '%s' '%s'", battery, game.save, game.cart, battery, game.save);
-        const char *suffix = strrchr(battery, '.');
-        tell(REFUSAL, 600, said, "A new game: NAME%s is there; to import it, see the log", suffix);
-    }
-    return true;
-}
-
-static bool copy_whole(int from, int to) {
-    char piece[1 << 14];
-    long long all = 0;
-    for (;;) {
-        ssize_t got = read(from, piece, sizeof piece);
-        if (got < 0 && errno == EINTR)
-            continue;
-        if (got <= 0)
-            return got == 0;
-        all += got;
-        for (ssize_t put = 0; put < got;) {
-            ssize_t more = write(to, piece + put, (size_t)(got - put));
-            if (more < 0 && errno == EINTR)
-                continue;
-            if (more <= 0)
-                return false;
-            put += more;
-        }
-        if (all > MOST_SAVE_BYTES)
-            return false;
-    }
-}
-
-/* A new file for the copy of SAVE, in a folder that is in memory where there is one. */
-static int make_copy(char name[PATH_MAX]) {
-    const char *const folders[] = {getenv("XDG_RUNTIME_DIR"), "/dev/shm", getenv("TMPDIR"), "/tmp"};
-    for (unsigned one = 0; one < sizeof folders / sizeof *folders; one++) {
-        int size = folders[one] && *folders[one] == '/' ? snprintf(name, PATH_MAX, "%s/gbkeep-XXXXXX", folders[one]) : 0;
-        int fd = size > 0 && size < PATH_MAX ? mkostemp(name, O_CLOEXEC) : -1;
-        if (fd >= 0)
-            return fd;
-    }
-    return -1;
-}
-
-/* Starts the player, on a copy of SAVE while nothing of it is unsaved. Without one the keeper shows the game, which is no fault. */
-static void start_player(void) {
-    char name[PATH_MAX];
-    char *words[] = {"gbkeep", "debug", "--", game.cart, name, NULL};
-    int copy = make_copy(name), from = open(game.save, O_RDONLY | O_CLOEXEC | O_NOCTTY);
-    bool good = copy >= 0 && from >= 0 && copy_whole(from, copy) && start(&game.player, words);
-    long long until = milliseconds() + 6LL * END_MILLISECONDS;
-    while (good && !game.player.has_resumed) {
-        ssize_t got = read_within(game.player.out, game.player.unread + game.player.unread_bytes, sizeof game.player.unread - game.player.unread_bytes, until);
-        good = got > 0;
-        game.player.unread_bytes += good ? (size_t)got : 0;
-        good = good && take_answers(&game.player) && game.player.unread_bytes < sizeof game.player.unread;
-    }
-    /* it has read the copy, and writes to none */
-    if (copy >= 0)
-        unlink(name);
-    close_one(&from), close_one(&copy);
-    if (!good) {
-        end_player();
-        tell(NEWS, 120, "The pictures come from the program that saves, and wait for each sync: another program for them could not be started.", "The pictures wait for each save");
-    }
-    game.fault[0] = 0;
-}
-
-static bool take_up(void) {
-    char text[4096];
-    char *info[] = {"gbkeep", "info", "--", game.cart, NULL};
-    char *stream[] = {"gbkeep", "stream", "--", game.cart, game.save, NULL};
-    if (!run_command(info, text, sizeof text))
-        return false;
-    const char *type = strstr(text, "\ntype ");
-    unsigned kind = type ? (unsigned)strtoul(type + 6, NULL, 16) : 0;
-    game.has_clock = kind == 0x0f || kind == 0x10;
-    game.is_new = !exists(game.save);
-    if (game.is_new && !begin_game())
-        return false;
-    if (!start(&game.keeper, stream))
-        return false;
-    /* the resume of a long log can take some seconds */
-    long long until = milliseconds() + 6LL * END_MILLISECONDS;
-    while (!game.keeper.has_resumed)
-        if (!read_answers(&game.keeper, until))
-            return false;
-    start_player();
-    begin_clock();
-    tell(NEWS, 120, NULL, "resumed %llu", game.count);
-    return true;
+RETRO_API void retro_unload_game(void) {
+    if (game.session)
+        save_game();
+    end_game();
 }
 
 RETRO_API bool retro_load_game(const struct retro_game_info *info) {
     enum retro_pixel_format format = RETRO_PIXEL_FORMAT_XRGB8888;
-    if (game.keeper.pid > 0 || game.player.pid > 0 || game.work != NO_WORK)
-        retro_unload_game();
+    retro_unload_game();
     memset(&game, 0, sizeof game);
-    game.keeper.in = game.keeper.out = game.keeper.errors = game.player.in = game.player.out = game.player.errors = -1;
+    game.file = -1;
     if (!info || !info->path || !environment(RETRO_ENVIRONMENT_SET_PIXEL_FORMAT, &format))
         return false;
     read_options();
     int more = snprintf(game.cart, sizeof game.cart, "%s", info->path);
     if (more <= 0 || (size_t)more >= sizeof game.cart || !name_file(game.save, game.cart, ".gbkeep", false)
-        || !name_file(game.clock_file, game.cart, ".gbkeep.time", false)) {
+        || !name_file(game.clock_file, game.cart, ".gbkeep.time", false))
         fail_with("the name of the cartridge is too long", "");
-        return false;
-    }
+    else if (!take_up())
+        end_game();
     /* a game that is refused stays loaded, so that the player can read why */
-    take_up();
     return true;
 }
 
@@ -1043,62 +1221,128 @@ RETRO_API bool retro_load_game_special(unsigned type, const struct retro_game_in
     return false;
 }
 
+/* Gives the game a frame, and saves it where that is due. */
+static bool play_frame(uint8_t buttons) {
+    if (game.machine) {
+        gbkeep_machine_frames(game.machine, buttons, 1);
+        return true;
+    }
+    if (!game.session || !look_around())
+        return false;
+    /* before the frame: a front end that runs ahead has then gone back from its last one */
+    if (is_due() && !begin_save())
+        return false;
+    if (!has_room() || !was_given(gbkeep_session_frames(game.session, buttons, 1)))
+        return false;
+    game.frame++, game.played++;
+    return true;
+}
+
 RETRO_API void retro_run(void) {
     static uint32_t pixels[SHADES];
     static int16_t silence[2 * SILENCE];
     bool is_changed = false;
     unsigned buttons = 0;
+    int wanted = 1;
     poll_input();
     if (environment(RETRO_ENVIRONMENT_GET_VARIABLE_UPDATE, &is_changed) && is_changed)
         read_options();
+    if (!environment(RETRO_ENVIRONMENT_GET_AUDIO_VIDEO_ENABLE, &wanted))
+        wanted = 3;
     for (unsigned bit = 0; bit < 8; bit++)
         if (pressed(0, RETRO_DEVICE_JOYPAD, 0, BUTTONS[bit]))
             buttons |= 1u << bit;
-    game.frames++;
-    if (game.keeper.pid > 0 && look_around() && keep_line("frame %02x\n", buttons)) {
-        struct child *shows = game.player.pid > 0 ? &game.player : &game.keeper;
-        long long until = milliseconds() + READ_MILLISECONDS;
-        game.count += game.count < ULLONG_MAX;
-        shows->has_picture = false;
-        bool is_asked = shows == &game.player ? show_by("frame %02x\npicture\n", buttons) : keep_line("picture\n");
-        while (is_asked && !shows->has_picture && read_answers(shows, until))
-            ;
-        if (game.keeper.pid > 0 && game.frames % game.save_frames == 0)
-            begin_save();
-    } else if (game.fault[0] && game.frames % 300 == 0) {
+    game.shown_frames++;
+    if (play_frame((uint8_t)buttons)) {
+        if (wanted & 1 && game.session)
+            gbkeep_session_picture(game.session, game.shades, SHADES);
+        else if (wanted & 1)
+            gbkeep_machine_picture(game.machine, game.shades, SHADES);
+        if (game.session)
+            look_into();
+    } else if (game.fault[0] && game.shown_frames % 300 == 0) {
         tell(REFUSAL, 300, NULL, "%s", game.shown);
     }
-    for (int at = 0; at < SHADES; at++)
-        pixels[at] = PALETTES[game.palette][game.shades[at]];
+    if (wanted & 1)
+        for (int at = 0; at < SHADES; at++)
+            pixels[at] = PALETTES[game.palette][game.shades[at] & 3];
     show(pixels, WIDTH, HEIGHT, WIDTH * sizeof *pixels);
     if (sound)
         sound(silence, SILENCE);
 }
 
-RETRO_API void retro_unload_game(void) {
-    char line[300];
-    bool is_saved = game.keeper.pid > 0 && save_game();
-    if (game.work != NO_WORK)
-        end_work();
-    end_player();
-    if (!is_saved)
-        return;
-    int status = end_of_program(&game.keeper, line, sizeof line);
-    if (line[0])
-        fail_with(line, "stream");
-    else if (!WIFEXITED(status) || WEXITSTATUS(status) != 0)
-        fail_with("the program did not end as it should; what was saved stays saved", "");
-}
-
+/* The power switch. */
 RETRO_API void retro_reset(void) {
-    tell(REFUSAL, 180, NULL, "gbkeep has no reset: a game is begun in a new SAVE");
+    if (game.machine) {
+        gbkeep_machine_power(game.machine);
+    } else if (game.session && look_around() && has_room()) {
+        uint32_t code = gbkeep_session_power(game.session);
+        if (code == GBKEEP_NO_MEMORY)
+            fail_by(code, "stream");
+        else
+            game.is_whole = was_given(code);
+    }
+    if (game.session || game.machine)
+        look_into();
 }
 
-/* there are no states, no save memory and no cheats */
-RETRO_API size_t retro_serialize_size(void) { return 0; }
-RETRO_API bool retro_serialize(void *data, size_t size) { (void)data, (void)size; return false; }
-RETRO_API bool retro_unserialize(const void *data, size_t size) { (void)data, (void)size; return false; }
-RETRO_API void *retro_get_memory_data(unsigned id) { (void)id; return NULL; }
-RETRO_API size_t retro_get_memory_size(unsigned id) { (void)id; return 0; }
+static void put_number(uint8_t *bytes, unsigned long long number) {
+    for (int at = 0; at < NUMBER; at++)
+        bytes[at] = (uint8_t)(number >> (8 * at));
+}
+
+static unsigned long long number_at(const uint8_t *bytes) {
+    unsigned long long number = 0;
+    for (int at = 0; at < NUMBER; at++)
+        number |= (unsigned long long)bytes[at] << (8 * at);
+    return number;
+}
+
+/* A state of the front end's: one of the library's, until when the clock had been given, and the number of its frame. */
+RETRO_API size_t retro_serialize_size(void) {
+    return game.session || game.machine ? game.state_length + STATE_MORE : 0;
+}
+
+RETRO_API bool retro_serialize(void *data, size_t size) {
+    uint8_t *bytes = data;
+    size_t length = game.state_length;
+    if (!(game.session || game.machine) || size < length + STATE_MORE)
+        return false;
+    put_number(bytes + length, (unsigned long long)game.given_until);
+    put_number(bytes + length + NUMBER, game.frame);
+    return (game.session ? gbkeep_session_state(game.session, bytes, length) : gbkeep_machine_state(game.machine, bytes, length)) == GBKEEP_DONE;
+}
+
+/* The clock of a state is behind: it is given the seconds since, in front of the next save, as far as they would be given to a game that was away. */
+static void go_back(unsigned long long until) {
+    unsigned long long now = (unsigned long long)session_seconds();
+    bool is_given = until <= now && now - until <= YEAR && (game.gives_time_away || until >= (unsigned long long)game.opened_milliseconds / 1000);
+    game.given_until = (long long)(is_given ? until : now);
+}
+
+/* A state that is taken is an input; so it is saved with the next save, and not at once. */
+RETRO_API bool retro_unserialize(const void *data, size_t size) {
+    const uint8_t *bytes = data;
+    size_t length = game.state_length;
+    if (!(game.session || game.machine) || size < length + STATE_MORE)
+        return false;
+    if (game.session && !(look_around() && has_room()))
+        return false;
+    uint32_t code = game.session ? gbkeep_session_restore(game.session, bytes, length) : gbkeep_machine_restore(game.machine, bytes, length);
+    if (code == GBKEEP_DAMAGED_SNAPSHOT)
+        tell(REFUSAL, 300, NULL, "This is no state of this game");
+    if (code == GBKEEP_DAMAGED_SNAPSHOT || (game.session && !was_given(code)))
+        return false;
+    game.is_whole = true;
+    game.frame = number_at(bytes + length + NUMBER);
+    if (game.has_clock)
+        go_back(number_at(bytes + length));
+    look_into();
+    return true;
+}
+
+/* The front end sees the system's memory. It gets no save memory, and its cheats change nothing. */
+RETRO_API void *retro_get_memory_data(unsigned id) { return id == RETRO_MEMORY_SYSTEM_RAM ? view + 0xc000 : NULL; }
+RETRO_API size_t retro_get_memory_size(unsigned id) { return id == RETRO_MEMORY_SYSTEM_RAM ? 0x2000 : 0; }
 RETRO_API void retro_cheat_reset(void) {}
 RETRO_API void retro_cheat_set(unsigned index, bool enabled, const char *code) { (void)index, (void)enabled, (void)code; }

@@ -1,81 +1,41 @@
 #!/usr/bin/env python3
-"""Gives the libretro core a program that answers garbage, options that no front end offers and wrong files, under the sanitizers of addresses and of
-what C leaves undefined: the front end goes on, and soon.
+"""Gives the libretro core garbage, under the sanitizers of addresses and of what C leaves undefined: wrong ROMs, SAVEs, states, files of time and battery, options
+that no front end offers, calls in any order, a disk that fails or stands still, and an import that answers garbage. The front end goes on, and soon.
 
 usage: test_garbage.py [RUNS [SEED]]     the status is 1 at the first fault (default: 60 runs, seed 1)
 
-It needs a C compiler with these sanitizers, and libretro.h, as the core does."""
+It needs a C compiler with these sanitizers, libretro.h as the core does, and bin/libgbkeep.a."""
 import os
 import random
 import subprocess
 import sys
 import tempfile
+import threading
 import time
 from pathlib import Path
 
 HERE = Path(__file__).resolve().parent
+BIN = HERE.parent.parent / 'bin'
 HEADERS = os.environ.get('LIBRETRO', '/usr/include/libretro-common')
 COMPILER = os.environ.get('CC', 'cc')
-FLAGS = ['-std=c11', '-g', '-O1', '-Wall', '-Wextra', '-fPIC', '-shared', '-fsanitize=address,undefined', '-fno-sanitize-recover=all',
-         '-fno-omit-frame-pointer', '-DREAD_MILLISECONDS=300', '-DEND_MILLISECONDS=500', '-DSLOW_MILLISECONDS=200', '-DSAVE_MILLISECONDS=1000',
-         '-pthread']
-# what a run may take on a busy computer: loading waits for six times the latter, and each end of a program once
+# a session is taken up anew every few saves
+FLAGS = ['-std=c11', '-g', '-O1', '-Wall', '-Wextra', '-Werror', '-fPIC', '-shared', '-fsanitize=address,undefined', '-fno-sanitize-recover=all',
+         '-fno-omit-frame-pointer', '-DEND_MILLISECONDS=500', '-DSLOW_MILLISECONDS=200', '-DSAVE_MILLISECONDS=1000', '-DMOST_CALLS=200', '-pthread', '-Wl,-z,nodelete']
+# what a run may take on a busy computer
 MOST_SECONDS = 30
 PROGRAM = '''#!{python} -SE
 import os, random, signal, sys, time
-seed, command = open({seed!r}).read(), sys.argv[1]
-rnd = random.Random(seed + command)
-out, numbers = os.fdopen(1, 'wb', buffering=0), [0, 1, 59, 60, 2**31, 2**32, 2**63 - 1, 2**63, 2**64 - 2, 2**64 - 1, 2**64, 10**30, -1, -2**63]
-
-def garbage(most):
-    return rnd.choice([rnd.randbytes(rnd.randrange(most)), b'P' * rnd.randrange(most), b'\\n' * rnd.randrange(most), b'saved ' * rnd.randrange(most // 8), b''])
-
-def say(data):
-    try:
-        out.write(data)
-    except OSError:
-        sys.exit(0)
-
-def end():
-    os.write(2, rnd.choice([b'', b'gbkeep: device failed\\n', b'gbkeep: rom length 5\\n', b'%n%s%n\\n', garbage(2000), b'gbkeep: rom length ' + b'9' * 600,
-                            b'\\x1b[2J', b'gbkeep: cartridge type X']))
-    if rnd.random() < 0.2:
-        os.kill(os.getpid(), rnd.choice([signal.SIGKILL, signal.SIGSEGV, signal.SIGTERM]))
-    sys.exit(rnd.choice([0, 0, 1, 2, 255]))
-
-def picture():
-    return b'P2\\n160 144\\n3\\n' + b''.join(b'%d ' % rnd.randrange(4) for _ in range(160)) * 144
-
-is_kind = rnd.random() < 0.7
-if command == 'info':
-    say(b'title [X]\\ntype ' + rnd.choice([b'10', b'0F', b'03', b'FFFFFFFFFFFFFFFFFFFF', b'-1', b'']) + b' X\\n')
-    say(b'' if is_kind else garbage(9000))
-    sys.exit(0) if is_kind else end()
-if command == 'new':
-    if rnd.random() < 0.5:
-        open(sys.argv[-1], 'wb').close()
-    sys.exit(0) if is_kind else end()
+rnd = random.Random(open({seed!r}).read())
+if rnd.random() < 0.5:
+    open(sys.argv[-1], 'wb').write(rnd.choice([b'', b'x', bytes(512 * 200)]))
+os.write(1, rnd.randbytes(200_000 if rnd.random() < 0.2 else 10))
+os.write(2, rnd.choice([b'', b'gbkeep: device failed\\n', b'gbkeep: rom length 5\\n', b'%n%s%n\\n', rnd.randbytes(2000), b'gbkeep: rom length ' + b'9' * 600,
+                        b'\\x1b[2J', b'gbkeep: cartridge type X']))
 if rnd.random() < 0.1:
-    say(garbage(100_000))
-say(b'resumed %d\\n' % random.Random(seed).choice(numbers) if rnd.random() < 0.9 else garbage(200))
-shown = picture()
-for line in sys.stdin.buffer:
-    chance = rnd.random() if not is_kind or rnd.random() < 0.02 else 1
-    if chance < 0.03:
-        end()
-    elif chance < 0.05:
-        time.sleep(1)
-    elif chance < 0.1:
-        say(garbage(200_000))
-    elif chance < 0.15:
-        say(shown[:rnd.randrange(len(shown))])
-    elif line == b'picture\\n':
-        say(shown)
-    elif command == 'debug':
-        say(b'done\\n')
-    elif line == b'save\\n':
-        say(b'saved %d\\n' % rnd.choice(numbers))
-end()
+    time.sleep(1)
+if rnd.random() < 0.2:
+    os.kill(os.getpid(), rnd.choice([signal.SIGKILL, signal.SIGSEGV, signal.SIGTERM]))
+sys.exit(rnd.choice([0, 0, 1, 2, 255]))
 '''
 WORDS = ['1', '2', '0', '-1', '1073741824', '2147483648', '4294967296', '18446744073709551616', '9' * 400, '', 'x', '1x', ' 1', '%n', '\x1b[2J', 'night', 'no',
          'yes']
@@ -87,7 +47,7 @@ def build(folder):
     with open(folder / 'faults.h', 'w') as table:
         subprocess.run([sys.executable, '-B', HERE / 'faults_h.py'], stdout=table, check=True)
     core = folder / 'core.so'
-    subprocess.run([COMPILER, *FLAGS, f'-I{folder}', f'-I{HEADERS}', '-o', core, HERE / 'gbkeep_libretro.c'], check=True)
+    subprocess.run([COMPILER, *FLAGS, f'-I{folder}', f'-I{BIN}', f'-I{HEADERS}', '-o', core, HERE / 'gbkeep_libretro.c', BIN / 'libgbkeep.a'], check=True)
     return core
 
 
@@ -95,31 +55,96 @@ def library(name):
     return subprocess.run([COMPILER, f'-print-file-name={name}'], capture_output=True, text=True, check=True).stdout.strip()
 
 
+def spoilt(rnd, data):
+    """These bytes with some of them changed, cut or doubled."""
+    data = bytearray(data)
+    for _ in range(rnd.choice([0, 1, 1, 5])):
+        data[rnd.randrange(len(data))] = rnd.randrange(256)
+    return bytes(data) if rnd.random() < 0.8 else bytes(data[:rnd.randrange(len(data))]) + bytes(rnd.choice([0, 1, 512]))
+
+
+def some_cart(rnd):
+    """A ROM of some kind, a wrong one at times."""
+    from test_libretro import CART
+    rom = bytearray(CART.read_bytes())
+    rom[0x147], rom[0x149] = rnd.choice([(0, 0), (0x10, 3), (0x0f, 0), (0x06, 0), (0x1b, 2), (0x13, 3)])
+    return bytes(rom) if rnd.random() < 0.9 else rnd.choice([b'', bytes(1000), spoilt(rnd, rom), spoilt(rnd, rom[:0x150]), bytes(0x800001)])
+
+
+def move(rnd, front, states):
+    """A call that a front end may make, or one that none should."""
+    chance = rnd.random()
+    if chance < 0.6:
+        front.wanted = rnd.choice([3, 3, 3, 1, 4, 0, None])
+        front.frames(rnd.randrange(256), rnd.choice([1, 5, 30, 70]))
+    elif chance < 0.7:
+        states.append(front.state())
+    elif chance < 0.85:
+        state = rnd.choice(states) or b''
+        front.restore(state if rnd.random() < 0.5 or not state else rnd.choice([spoilt(rnd, state), state[:-16] + rnd.randbytes(16), rnd.randbytes(len(state)), b'']))
+    elif chance < 0.9:
+        front.core.retro_reset()
+    elif chance < 0.95:
+        front.memory()
+        for name in range(5):
+            front.core.retro_get_memory_size(name), front.core.retro_get_memory_data(name)
+    else:
+        front.core.retro_cheat_set(0, True, b'00A1-B2C3')
+        front.core.retro_cheat_reset()
+
+
 def one_run(core, room, seed):
-    """A game of a program that answers garbage."""
     from test_libretro import FrontEnd
     rnd, folder = random.Random(seed), room / f'game-{seed}'
     folder.mkdir()
     (room / 'seed').write_text(str(seed))
-    save = folder / 'x.gbkeep'
-    if rnd.random() < 0.8:
-        save.write_bytes(b'')
+    save, cart, held = folder / 'x.gbkeep', room / 'x.gb', room / 'held'
+    cart.write_bytes(some_cart(rnd))
+    os.environ['FAIL_EACH'] = str(rnd.choice([0, 0, 0, 2, 30, 500]))
+    # a SAVE that was played, which is spoilt at times
+    if rnd.random() < 0.5:
+        front = FrontEnd(core, folder)
+        front.looks = False
+        front.load(cart)
+        front.frames(3, rnd.choice([1, 100]))
+        front.unload()
+        if save.exists() and save.stat().st_size and rnd.random() < 0.5:
+            save.write_bytes(spoilt(rnd, save.read_bytes()))
+    elif rnd.random() < 0.4:
+        save.write_bytes(rnd.choice([b'', b'x', bytes(512 * 300), rnd.randbytes(5120), b'GBKPROOT' + bytes(504), rnd.randbytes(1000)]))
+    elif rnd.random() < 0.2:
+        rnd.choice([lambda: os.mkfifo(save), save.mkdir, lambda: save.symlink_to('/dev/zero'), lambda: save.symlink_to('nowhere'), lambda: save.symlink_to(save)])()
     time_file = folder / 'x.gbkeep.time'
+    time_file.unlink(missing_ok=True)
     if rnd.random() < 0.7:
         time_file.write_bytes(rnd.choice(TIMES) if rnd.random() < 0.8 else rnd.randbytes(rnd.randrange(700)))
     elif rnd.random() < 0.3:
         rnd.choice([lambda: os.mkfifo(time_file), time_file.mkdir, lambda: time_file.symlink_to('/dev/zero'), lambda: time_file.symlink_to('nowhere'),
                     lambda: time_file.symlink_to(time_file)])()
-    front = FrontEnd(core, folder, **{option: rnd.choice(WORDS) for option in ('palette', 'save_seconds', 'time_away', 'messages', 'import')})
-    front.load(room / rnd.choice(['x.gb', 'x', '.gb', 'x' * 250 + '.gb', 'x.gb/' + 'y' * 4500]))
-    for _ in range(rnd.choice([1, 3, 70, 130])):
-        front.frames(rnd.randrange(256), 1)
-    if rnd.random() < 0.2:
-        # a front end that loads again without unloading
-        front.load(room / 'x.gb')
-        front.frames(0, 2)
+    if rnd.random() < 0.3:
+        (folder / 'x.srm').write_bytes(rnd.randbytes(rnd.choice([0, 5, 8192])))
+    options = {option: rnd.choice(WORDS) for option in ('palette', 'save_seconds', 'time_away', 'messages', 'import')}
+    front, states = FrontEnd(core, folder, **options), [None]
+    front.looks = False
+    # a front end may ask before anything is loaded
+    move(rnd, front, states) if rnd.random() < 0.2 else None
+    for _ in range(rnd.choice([1, 1, 2])):
+        front.load(room / rnd.choice(['x.gb'] * 6 + ['nothing', 'x', '.gb', 'y' * 250 + '.gb', 'x.gb/' + 'y' * 4500]))
+        for _ in range(rnd.choice([1, 5, 20])):
+            if rnd.random() < 0.02:
+                held.write_text('')
+                timer = threading.Timer(rnd.choice([0.3, 2]), held.unlink)
+                timer.start()
+            move(rnd, front, states)
+            if held.exists() and rnd.random() < 0.5:
+                time.sleep(0.3)
+            if rnd.random() < 0.02 and save.is_file():
+                rnd.choice([save.unlink, lambda: os.truncate(save, 700)])()
     if rnd.random() < 0.9:
         front.unload()
+        move(rnd, front, states)
+    while held.exists():
+        time.sleep(0.01)
 
 
 def runs(core, room, first, last):
@@ -131,24 +156,57 @@ def runs(core, room, first, last):
             sys.exit(f'seed {seed}: {time.monotonic() - began:.1f} seconds')
 
 
+def stuck(core, room):
+    """A disk that does not answer for longer than a save may take: the game ends, and SAVE stays locked until the disk answers; then it is as it was told."""
+    from test_libretro import CART, FrontEnd, expect
+    folder, held = Path(room) / 'stuck', Path(room) / 'held'
+    folder.mkdir()
+    os.environ['FAIL_EACH'] = '0'
+    front = FrontEnd(core, folder, messages='all')
+    front.load(CART)
+    front.frames(0, 30)
+    held.write_text('')
+    while front.told[-1] != 'the disk does not answer; what was saved stays saved':
+        front.frames(0, 40)
+        time.sleep(0.05)
+    expect('what is told', [text.split(':')[0] for text in front.told[:-1]], ['resumed 0', 'The disk is slow'])
+    expect('no states', (front.state(), front.core.retro_serialize_size()), (None, 0))
+    again = FrontEnd(core, folder, messages='all')
+    again.load(CART)
+    expect('it is still open', again.told, ["SAVE is open elsewhere, or can't be read or written"])
+    again.unload()
+    held.unlink()
+    time.sleep(1)
+    again.load(CART)
+    again.frames(0, 30)
+    again.unload()
+    # the call that was being made may have been made; no other one was
+    told = [int(text.split()[1]) for text in again.told[1:]]
+    expect('it goes on', (told[0] in (0, 60), told[-1] - told[0]), (True, 30))
+
+
 def main():
-    if len(sys.argv) == 6 and sys.argv[1] == 'runs':
-        # the programs that are started need no sanitizer
+    words = sys.argv[1:]
+    if len(words) == 5 and words[0] == 'runs':
+        # the program that is started needs no sanitizer
         os.environ.pop('LD_PRELOAD')
-        return runs(sys.argv[2], sys.argv[3], int(sys.argv[4]), int(sys.argv[5]))
-    count, first = (int(word) for word in [*sys.argv[1:], 60, 1][:2]) if len(sys.argv) != 2 else (int(sys.argv[1]), 1)
+        stuck(words[1], words[2])
+        return runs(words[1], words[2], int(words[3]), int(words[4]))
+    count, first = (int(word) for word in [*words, 60, 1][:2]) if len(words) != 1 else (int(words[0]), 1)
+    sys.path.insert(0, str(HERE))
+    from test_libretro import disk
     with tempfile.TemporaryDirectory(prefix='garbage-') as folder:
         room = Path(folder)
         core, program = build(room), room / 'gbkeep'
         program.write_text(PROGRAM.format(python=sys.executable, seed=str(room / 'seed')))
         program.chmod(0o755)
-        env = dict(os.environ, GBKEEP=str(program), LD_PRELOAD=f'{library("libasan.so")}:{library("libubsan.so")}', ASAN_OPTIONS='detect_leaks=0',
-                   UBSAN_OPTIONS='print_stacktrace=1')
+        env = dict(os.environ, GBKEEP=str(program), LD_PRELOAD=f'{library("libasan.so")}:{library("libubsan.so")}:{disk(room)}', ASAN_OPTIONS='detect_leaks=0',
+                   UBSAN_OPTIONS='print_stacktrace=1', HOLD=str(room / 'held'))
         done = subprocess.run([sys.executable, '-B', __file__, 'runs', core, room, str(first), str(first + count)], env=env, capture_output=True, text=True,
                               errors='replace')
         if done.returncode != 0:
             sys.exit(f'{done.stdout[-200:]}{done.stderr[-6000:]}status {done.returncode}')
-    print(f'libretro core: {count} runs of a program that answers garbage')
+    print(f'libretro core: {count} runs of garbage')
 
 
 if __name__ == '__main__':

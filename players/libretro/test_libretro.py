@@ -1,74 +1,84 @@
 #!/usr/bin/env python3
-"""Tries the libretro core on the program, as a front end: pictures, saves, palettes, the clock, and a program that is in use, gone or stopped.
+"""Tries the libretro core, as a front end: pictures, saves, states, the power switch, palettes, the clock, and a disk that is slow, fails, or is cut off at each
+call; the program goes on with each game.
 
 usage: test_libretro.py GBKEEP CORE         the status is 1 at the first difference
        test_libretro.py play CORE CART FOLDER FRAMES     plays so many frames, and prints what the core tells (for the test itself)
 
-It needs a C compiler, for what kills the core at each point."""
+It needs a C compiler, for what stands between the core and the disk, and bin/libgbkeep.so."""
 import ctypes
+import hashlib
+import random
+import re
 import os
 import shutil
 import signal
 import subprocess
 import sys
 import tempfile
+import threading
 import time
+from concurrent.futures import ThreadPoolExecutor
 from pathlib import Path
 
 HERE = Path(__file__).resolve().parent
 PLAYERS = HERE.parent
 DEMO = PLAYERS.parent / 'examples/demo'
-sys.path[:0] = [str(PLAYERS), str(DEMO)]
+sys.path[:0] = [str(PLAYERS), str(DEMO), str(PLAYERS.parent / 'library')]
+import gbkeep_library
 from assemble import Assembler
 from gbkeep import A, RIGHT, START, Game, run
-from test_slots import CLOCK, DAY, seconds_shown, until_free
+from test_slots import CLOCK, DAY, seconds_shown
 
 CART = DEMO / 'demo.gb'
 WIDTH, HEIGHT = 160, 144
 PALETTES = {'green': [0x0f380f, 0x306230, 0x8bac0f, 0xe0f8d0], 'grey': [0, 0x555555, 0xaaaaaa, 0xffffff],
             'pocket': [0x1f1f1f, 0x4d533c, 0x8b956d, 0xc4cfa1], 'night': [0xffffff, 0xaaaaaa, 0x555555, 0]}
 SET_MESSAGE, GET_SAVE_DIRECTORY, SET_PIXEL_FORMAT, GET_VARIABLE, SET_VARIABLES, GET_VARIABLE_UPDATE, GET_LOG, GET_CORE = 6, 31, 10, 15, 16, 17, 27, 19
+SET_MEMORY_MAPS, GET_AUDIO_VIDEO_ENABLE = 36 | 0x10000, 47 | 0x10000
+# what the front end wants of a frame: all, or nothing as it runs ahead
+WANTED, UNWANTED = 3, 4
+SYSTEM_RAM, SAVE_RAM = 2, 0
+# what a state of the front end's has behind the machine's: the clock's time, and the number of a frame
+TIME, MORE = 8, 16
 # what a line on the screen may have
 MOST_SHOWN = 64
-# ends the front end before the n-th of its syncs, renames and lines but those of frames, with the program or before it
-KILLER = r'''
+# Stands between the core and the disk. KILL_AT: ends the process before the n-th call; FAIL_AT: that one fails; FAIL_EACH: so does each n-th; HOLD: syncs wait
+# while this file is there; DISK_LOG: gets a line for each call.
+DISK = r'''
 #define _GNU_SOURCE
 #include <dlfcn.h>
+#include <errno.h>
+#include <fcntl.h>
 #include <signal.h>
 #include <stdio.h>
 #include <stdlib.h>
-#include <string.h>
-#include <sys/socket.h>
 #include <unistd.h>
-static int left = -1;
-static __attribute__((constructor)) void begin(void) {
-    if (getenv("KILL_AT"))
-        left = atoi(getenv("KILL_AT"));
-    /* the program that is started lives on */
-    unsetenv("LD_PRELOAD");
-    unsetenv("KILL_AT");
+static int number_of(const char *name) { return getenv(name) ? atoi(getenv(name)) : -1; }
+static _Atomic int calls;
+static int fails(const char *what) {
+    char line[64];
+    int size = snprintf(line, sizeof line, "%s\n", what), number = calls++;
+    int log = getenv("DISK_LOG") ? open(getenv("DISK_LOG"), O_WRONLY | O_APPEND | O_CREAT | O_CLOEXEC, 0666) : -1;
+    if (log >= 0 && write(log, line, (size_t)size) != size)
+        abort();
+    close(log);
+    if (number == number_of("KILL_AT"))
+        kill(getpid(), SIGKILL);
+    if (number != number_of("FAIL_AT") && (number_of("FAIL_EACH") <= 0 || number % number_of("FAIL_EACH") != 0))
+        return 0;
+    errno = EIO;
+    return 1;
 }
-static void one(void) {
-    if (left < 0 || left-- > 0)
-        return;
-    char name[64];
-    int child;
-    /* of the first thread, which starts the programs */
-    snprintf(name, sizeof name, "/proc/self/task/%d/children", getpid());
-    FILE *children = getenv("KILL_PROGRAM") ? fopen(name, "r") : NULL;
-    while (children && fscanf(children, "%d", &child) == 1)
-        kill(child, SIGKILL);
-    kill(getpid(), SIGKILL);
+static void hold(void) {
+    while (getenv("HOLD") && access(getenv("HOLD"), F_OK) == 0)
+        usleep(1000);
 }
 #define REAL(name) ((__typeof__(&name))dlsym(RTLD_NEXT, #name))
-int fsync(int file) { one(); return REAL(fsync)(file); }
-int renameat(int from, const char *old, int to, const char *new) { one(); return REAL(renameat)(from, old, to, new); }
-int rename(const char *old, const char *new) { one(); return REAL(rename)(old, new); }
-ssize_t send(int to, const void *bytes, size_t size, int how) {
-    if (size > 0 && *(const char *)bytes == 's')
-        one();
-    return REAL(send)(to, bytes, size, how);
-}
+ssize_t pwrite(int file, const void *bytes, size_t size, off_t at) { return fails("write") ? -1 : REAL(pwrite)(file, bytes, size, at); }
+int fdatasync(int file) { hold(); return fails("sync") ? -1 : REAL(fdatasync)(file); }
+int fsync(int file) { hold(); return fails("sync") ? -1 : REAL(fsync)(file); }
+int renameat(int from, const char *old, int to, const char *new) { return fails("rename") ? -1 : REAL(renameat)(from, old, to, new); }
 '''
 # the bits of our buttons as libretro numbers them: right left up down A B select start
 JOYPAD = [7, 6, 4, 5, 8, 0, 2, 3]
@@ -94,18 +104,31 @@ class Variable(ctypes.Structure):
     _fields_ = [('key', ctypes.c_char_p), ('value', ctypes.c_char_p)]
 
 
+class Descriptor(ctypes.Structure):
+    _fields_ = [('flags', ctypes.c_uint64), ('ptr', ctypes.c_void_p), ('offset', ctypes.c_size_t), ('start', ctypes.c_size_t), ('select', ctypes.c_size_t),
+                ('disconnect', ctypes.c_size_t), ('len', ctypes.c_size_t), ('addrspace', ctypes.c_char_p)]
+
+
+class Map(ctypes.Structure):
+    _fields_ = [('descriptors', ctypes.POINTER(Descriptor)), ('count', ctypes.c_uint)]
+
+
 class FrontEnd:
-    """A front end of few lines: one core, one cartridge. `told` is what stands on the screen, `log` all that is logged."""
+    """A front end of few lines: one core, one cartridge. `told` is what stands on the screen, `log` all that is logged, `map` what it may look at."""
 
     def __init__(self, core, folder, place=None, **options):
         self.place = place and os.fsencode(place)
         self.options = {f'gbkeep_{key}'.encode(): value.encode() for key, value in options.items()}
         self.log, self.log_call = [], Log(lambda level, form, text: self.log.append(text.decode(errors='replace')))
         self.folder, self.told, self.buttons, self.looks, self.pixels, self.samples = os.fsencode(folder), [], 0, True, None, 0
+        self.wanted, self.map, self.raw = WANTED, {}, b''
         self.core = ctypes.CDLL(str(core))
-        self.core.retro_load_game.restype = ctypes.c_bool
+        for name in ('load_game', 'serialize', 'unserialize'):
+            getattr(self.core, f'retro_{name}').restype = ctypes.c_bool
+        self.core.retro_serialize.argtypes = self.core.retro_unserialize.argtypes = [ctypes.c_char_p, ctypes.c_size_t]
         self.core.retro_serialize_size.restype = self.core.retro_get_memory_size.restype = ctypes.c_size_t
-        self.calls = [Environment(self.environment), Video(self.video), Batch(self.sound), Poll(lambda: None), State(self.state)]
+        self.core.retro_get_memory_data.restype = ctypes.c_void_p
+        self.calls = [Environment(self.environment), Video(self.video), Batch(self.sound), Poll(lambda: None), State(self.pressed)]
         for name, call in zip(('environment', 'video_refresh', 'audio_sample_batch', 'input_poll', 'input_state'), self.calls):
             getattr(self.core, f'retro_set_{name}')(call)
         self.core.retro_init()
@@ -124,6 +147,11 @@ class FrontEnd:
             ctypes.cast(data, ctypes.POINTER(ctypes.c_bool))[0] = True
         elif what == GET_CORE and self.place:
             ctypes.cast(data, ctypes.POINTER(ctypes.c_char_p))[0] = self.place
+        elif what == GET_AUDIO_VIDEO_ENABLE and self.wanted is not None:
+            ctypes.cast(data, ctypes.POINTER(ctypes.c_int))[0] = self.wanted
+        elif what == SET_MEMORY_MAPS:
+            given = ctypes.cast(data, ctypes.POINTER(Map)).contents
+            self.map = {part.start: (part.ptr + part.offset, part.len) for part in given.descriptors[:given.count]}
         elif what == GET_LOG:
             ctypes.cast(data, ctypes.POINTER(ctypes.c_void_p))[0] = ctypes.cast(self.log_call, ctypes.c_void_p)
         elif what not in (SET_PIXEL_FORMAT, SET_VARIABLES):
@@ -132,6 +160,7 @@ class FrontEnd:
 
     def video(self, data, width, height, pitch):
         expect('size of a picture', (width, height, pitch), (WIDTH, HEIGHT, 4 * WIDTH))
+        self.raw = ctypes.string_at(data, 4 * WIDTH * HEIGHT)
         if self.looks:
             self.pixels = list(ctypes.cast(data, ctypes.POINTER(ctypes.c_uint32 * (WIDTH * HEIGHT))).contents)
 
@@ -139,7 +168,7 @@ class FrontEnd:
         self.samples += frames
         return frames
 
-    def state(self, port, device, index, id):
+    def pressed(self, port, device, index, id):
         return int(port == 0 and id in JOYPAD and self.buttons >> JOYPAD.index(id) & 1)
 
     def load(self, cart):
@@ -149,6 +178,19 @@ class FrontEnd:
         self.buttons = buttons
         for _ in range(count):
             self.core.retro_run()
+
+    def state(self):
+        """A state; None where the core gives none."""
+        size = self.core.retro_serialize_size()
+        bytes_ = ctypes.create_string_buffer(max(size, 1))
+        return bytes_.raw if size > 0 and self.core.retro_serialize(bytes_, size) else None
+
+    def restore(self, state):
+        return self.core.retro_unserialize(state, len(state))
+
+    def memory(self):
+        """The bytes that each part of the map has, by its first address."""
+        return {start: ctypes.string_at(*place) for start, place in self.map.items()}
 
     def unload(self):
         self.core.retro_unload_game()
@@ -177,36 +219,184 @@ def test_play(program, core, room):
         front.frames(0, 60)
         front.frames(START, 4)
         front.frames(RIGHT | A, 70)
-        expect('states and save memory', (front.core.retro_serialize_size(), front.core.retro_get_memory_size(0)), (0, 0))
+        expect('save memory', (front.core.retro_get_memory_size(SAVE_RAM), front.core.retro_get_memory_data(SAVE_RAM)), (0, None))
         front.unload()
         shades, count = shades_of(program, CART, save, room)
         expect(f'the picture in {palette}', front.pixels, [colours[shade] for shade in shades])
         expect('sound', front.samples, 134 * 800)
     expect('all inputs are saved', count, 4 * 134)
     expect('what is told', (front.told[0], front.told[-1]), (f'resumed {3 * 134}', f'saved {4 * 134}'))
-    for messages, wanted in (('none', []), ('refusals only', ['gbkeep has no reset: a game is begun in a new SAVE']), ('', ['gbkeep has no reset: a game is begun in a new SAVE'])):
+    for messages, wanted in (('none', []), ('refusals only', ['This is no state of this game']), ('', ['This is no state of this game'])):
         front = FrontEnd(core, folder, messages=messages)
         front.load(CART)
         front.frames(0, 130)
-        front.core.retro_reset()
+        front.restore(bytes(len(front.state())))
         front.unload()
         expect(f'messages: {messages}', (front.told, sum(line.startswith('saved') for line in front.log) > 1), (wanted, True))
 
 
+def test_same(program, core, room):
+    """A SAVE of the core's is the program's, byte by byte, and one goes on with that of the other."""
+    folder = room / 'same'
+    folder.mkdir()
+    subprocess.run([program, 'new', CART, folder / 'other'], check=True, capture_output=True)
+    for turn in range(3):
+        front = FrontEnd(core, folder)
+        front.load(CART)
+        script = []
+        for number in range(150):
+            if number == 120:
+                # the save before is done
+                time.sleep(0.3)
+            front.frames(number // 7 & 0xff, 1)
+        front.unload()
+        for number in range(150):
+            script += [f'frame {number // 7 & 0xff:02x}'] + ['save'] * (number in (59, 119))
+        (room / 'script').write_text('\n'.join(script) + '\n')
+        subprocess.run([program, 'play', CART, folder / 'other', room / 'script'], check=True, capture_output=True)
+        expect('the same file', (folder / 'demo.gbkeep').read_bytes() == (folder / 'other').read_bytes(), True)
+        # and the other way round
+        os.rename(folder / 'demo.gbkeep', folder / 'held')
+        os.rename(folder / 'other', folder / 'demo.gbkeep')
+        os.rename(folder / 'held', folder / 'other')
+
+
+def digest(front):
+    return hashlib.sha256(front.raw).digest()
+
+
+def test_states(program, core, room):
+    """A thousand states, each taken back after frames that did not count: the pictures are those of the same inputs without them."""
+    rnd, folder = random.Random(1), room / 'states'
+    folder.mkdir(), (room / 'plain').mkdir()
+    inputs = [rnd.randrange(256) if rnd.random() < 0.9 else 'reset' for _ in range(1000)]
+    shown, states = {}, {}
+    for place in ('plain', 'states'):
+        front = FrontEnd(core, room / place)
+        front.looks = False
+        front.load(CART)
+        shown[place] = []
+        for one in inputs:
+            if place == 'states':
+                state = front.state()
+                front.frames(rnd.randrange(256), rnd.randrange(1, 4))
+                expect('a state is taken back', front.restore(state), True)
+                expect('and is the same', front.state(), state)
+            if one == 'reset':
+                front.core.retro_reset()
+            front.frames(0 if one == 'reset' else one, 1)
+            shown[place].append(digest(front))
+        states[place] = front.state()
+        front.unload()
+        expect('nothing is told', front.told, [])
+    expect('the pictures', shown['states'] == shown['plain'], True)
+    expect('the last state', states['states'] == states['plain'], True)
+    plain, states_ = (shades_of(program, CART, room / place / 'demo.gbkeep', room)[0] for place in ('plain', 'states'))
+    expect('what is saved', states_ == plain, True)
+    # a state stays one in the next session, and after another one
+    front = FrontEnd(core, folder)
+    front.load(CART)
+    front.frames(START, 30)
+    expect('an older state', (front.restore(states['plain']), front.state()), (True, states['plain']))
+    # what is no state changes nothing
+    state, wrong = states['plain'], room / 'wrong.gb'
+    for bad in (b'', b'x', state[:-1], state[:100], bytes(len(state)), b'\xff' * len(state), state[:51] + b'\5' + state[52:], state[1:] + b'x'):
+        expect('no state', (front.restore(bad), front.state()), (False, state))
+    expect('a longer one', front.restore(state + bytes(1000)), True)
+    front.unload()
+    # without a game there is none
+    wrong.write_bytes(bytes(1000))
+    front = FrontEnd(core, folder)
+    front.load(wrong)
+    front.core.retro_reset()
+    expect('no game', (front.core.retro_serialize_size(), front.state(), front.restore(state)), (0, None, False))
+    front.unload()
+
+
+def test_ahead(program, core, room):
+    """A front end that runs ahead, in one instance and in two: its pictures are those of frames to come, and it is saved once a second."""
+    for ahead in (1, 3):
+        folder = room / f'ahead{ahead}'
+        folder.mkdir()
+        front = FrontEnd(core, folder, messages='all')
+        front.looks = False
+        front.load(CART)
+        for number in range(300):
+            held = number // 20 & 0xff
+            front.wanted = UNWANTED
+            front.frames(held, 1)
+            state = front.state()
+            front.frames(held, ahead - 1)
+            front.wanted = WANTED
+            front.frames(held, 1)
+            picture = digest(front)
+            expect('back', front.restore(state), True)
+        last = front.state()
+        front.unload()
+        expect('saves', 2 <= sum(text.startswith('saved ') for text in front.told) <= 9, True)
+        front.load(CART)
+        expect('what was saved', front.state()[:-MORE], last[:-MORE])
+        front.frames(299 // 20, ahead)
+        expect('the picture', digest(front), picture)
+        front.unload()
+    # a second instance is another copy of the core; it has no SAVE
+    folder, copy = room / 'second', room / 'second.so'
+    folder.mkdir()
+    shutil.copy(core, copy)
+    front, second = FrontEnd(core, folder), FrontEnd(copy, folder)
+    front.load(CART)
+    expect('a second instance', second.load(CART), True)
+    for number in range(130):
+        front.frames(number // 20 & 0xff, 1)
+        state = front.state()
+        second.restore(state)
+        second.frames(number // 20 & 0xff, 3)
+    front.frames(129 // 20, 3)
+    expect('its picture', digest(second), digest(front))
+    second.unload()
+    front.unload()
+    expect('one game', (front.told + second.told, shades_of(program, CART, folder / 'demo.gbkeep', room)[1], [path.name for path in folder.iterdir()]),
+           ([], 133, ['demo.gbkeep']))
+
+
+def test_memory(program, core, room):
+    """What the front end may look at is what the machine's program would read."""
+    folder, cart = room / 'memory', room / 'clock.gb'
+    folder.mkdir()
+    cart.write_bytes(Assembler().assemble(CLOCK))
+    for path in (CART, cart):
+        front = FrontEnd(core, folder)
+        front.load(path)
+        with gbkeep_library.Machine(path.read_bytes()) as machine:
+            for buttons in (0, START, RIGHT):
+                front.frames(buttons, 20)
+                if buttons:
+                    front.core.retro_reset()
+                    front.frames(buttons, 25)
+                machine.restore(front.state()[:-MORE])
+                seen = front.memory()
+                expect('the parts', sorted(seen), [0, 0x8000, 0xa000, 0xc000, 0xfe00, 0xff80])
+                for start, bytes_ in seen.items():
+                    if start == 0xfe00:
+                        bytes_ = bytes_[:0xa0]
+                    # RAM that is switched off reads FF
+                    if start != 0xa000:
+                        expect(f'memory from {start:04x}', bytes_ == machine.memory(start, len(bytes_)), True)
+        size, data = front.core.retro_get_memory_size(SYSTEM_RAM), front.core.retro_get_memory_data(SYSTEM_RAM)
+        expect('the system\'s RAM', ctypes.string_at(data, size) == seen[0xc000], True)
+        front.unload()
+
+
 def test_carts(program, core, room):
-    """A colour game that runs on a DMG, as a front end unpacks it; and without a player, the pictures come from the program that saves. The program is found
-    beside the core, too."""
+    """A colour game that runs on a DMG, as a front end unpacks it. It needs no program."""
     cart, folder = room / 'Colour Game.gbc', room / 'colours'
     folder.mkdir()
     rom = bytearray(CART.read_bytes())
     rom[0x143] = 0x80
     rom[0x14d] = -sum(byte + 1 for byte in rom[0x134:0x14d]) & 0xff
     cart.write_bytes(rom)
-    refuses = room / 'refuses'
-    refuses.write_text(f'#!/bin/sh\n[ "$1" = debug ] && exit 1\nexec {program} "$@"\n')
-    refuses.chmod(0o755)
-    for used in (program, str(refuses)):
-        os.environ['GBKEEP'] = used
+    os.environ['GBKEEP'] = str(room / 'nothing')
+    for _ in range(2):
         front = FrontEnd(core, folder, palette='grey')
         front.load(cart)
         front.frames(START, 10)
@@ -217,15 +407,26 @@ def test_carts(program, core, room):
         expect('the picture', pixels, [PALETTES['grey'][shade] for shade in shades])
         expect('nothing is told', front.told, [])
     expect('its inputs', count, 2 * 71)
-    (room / 'cores').mkdir()
-    shutil.copy(program, room / 'cores/gbkeep')
-    del os.environ['GBKEEP']
-    front = FrontEnd(core, folder, room / 'cores/gbkeep_libretro.so', messages='all')
-    front.load(cart)
-    running = os.readlink(f'/proc/{child_of("stream")}/exe')
-    front.unload()
-    expect('the program beside the core', (front.told[0], running), ('resumed 142', str(room / 'cores/gbkeep')))
+    # an empty file, as a cut leaves it, is taken up; anything else stays
     os.environ['GBKEEP'] = program
+    save = folder / 'Colour Game.gbkeep'
+    save.write_bytes(b'')
+    front = FrontEnd(core, folder, messages='all')
+    front.load(cart)
+    front.unload()
+    expect('an empty file', (front.told, sorted(path.name for path in folder.iterdir())), (['resumed 0'], [save.name]))
+    for content, said in ((b'x', 'device size 1: '), (bytes(1024), 'no session: ')):
+        save.write_bytes(content)
+        front = FrontEnd(core, folder)
+        front.load(cart)
+        front.unload()
+        expect('another file', (front.told[0].startswith(said), save.read_bytes() == content), (True, True))
+    save.unlink()
+    save.symlink_to('nowhere')
+    front = FrontEnd(core, folder)
+    front.load(cart)
+    front.unload()
+    expect('a link that leads nowhere', (len(front.told), [path.name for path in folder.iterdir()]), (1, [save.name]))
 
 
 def test_battery(program, core, room):
@@ -271,12 +472,31 @@ def test_battery(program, core, room):
     front.frames(0, 2)
     front.unload()
     expect('a wrong file', ('battery length 5' in front.told[0], (folder / 'clock.gbkeep').exists()), (True, False))
+    # an import is the program's: the one beside the core, where none is named
+    cores = room / 'cores'
+    cores.mkdir()
+    (cores / 'gbkeep').write_text(f'#!/bin/sh\necho it >> {cores}/ran\nexec {program} "$@"\n')
+    (cores / 'gbkeep').chmod(0o755)
+    (folder / 'clock.srm').write_bytes(bytes(8192))
+    del os.environ['GBKEEP']
+    front = FrontEnd(core, folder, cores / 'gbkeep_libretro.so', **{'import': 'yes'})
+    front.load(cart)
+    front.unload()
+    expect('the program beside the core', ((cores / 'ran').exists(), (folder / 'clock.gbkeep').exists()), (True, True))
+    (folder / 'clock.gbkeep').unlink()
+    os.environ['GBKEEP'] = str(room / 'nothing')
+    front = FrontEnd(core, folder, **{'import': 'yes'})
+    front.load(cart)
+    front.unload()
+    expect('no program', (any("can't be started" in line for line in front.log), (folder / 'clock.gbkeep').exists()), (True, False))
+    os.environ['GBKEEP'] = program
 
 
 def test_faults(program, core, room):
     folder = room / 'faults'
     folder.mkdir()
-    with Game(CART, folder / 'demo.gbkeep', program):
+    save = folder / 'demo.gbkeep'
+    with Game(CART, save, program):
         front = FrontEnd(core, folder)
         expect('a SAVE in use is told', (front.load(CART), front.told[-1], any('device failed: ' in line and 'end the other one' in line for line in front.log)),
                (True, "SAVE is open elsewhere, or can't be read or written", True))
@@ -284,66 +504,148 @@ def test_faults(program, core, room):
         front.frames(0, 301)
         expect('and told again', (time.monotonic() - began < 20, len(front.told)), (True, 2))
         front.unload()
+    # the other way round
+    front = FrontEnd(core, folder)
+    front.load(CART)
+    said = subprocess.run([program, 'show', CART, save], capture_output=True, text=True)
+    expect('the core has it open', (said.returncode, said.stderr), (1, 'gbkeep: device failed\n'))
+    front.unload()
     (folder / 'demo.gbkeep.recorded').write_text('run.rec\n')
     front = FrontEnd(core, folder)
     front.load(CART)
     expect('a recorded game', 'recorded game: ' in front.told[-1], True)
     front.unload()
+    # a new game takes away the mark of `record`, and no other file
+    save.unlink()
+    for mark, stays in (('run.rec\ngbkeep record\n', False), ('mine', True)):
+        (folder / 'demo.gbkeep.recorded').write_text(mark)
+        front = FrontEnd(core, folder)
+        front.load(CART)
+        front.unload()
+        expect('the mark of an older game', ((folder / 'demo.gbkeep.recorded').exists(), len(front.told)), (stays, int(stays)))
+        save.unlink()
     (folder / 'demo.gbkeep.recorded').unlink()
-    wrong = room / 'wrong.gb'
-    wrong.write_bytes(bytes(1000))
-    front = FrontEnd(core, folder)
-    front.load(wrong)
-    expect('a ROM that is none', ('rom length 1000' in front.told[-1], any('use a complete ROM file' in line for line in front.log)), (True, True))
-    front.unload()
-    os.environ['GBKEEP'] = str(room / 'nothing')
-    front = FrontEnd(core, folder)
-    front.load(CART)
-    expect('no program', any("can't be started" in line for line in front.log), True)
-    front.unload()
-    os.environ['GBKEEP'] = program
-    for kind in ('stream', 'debug'):
-        for number, wanted, longest in ((signal.SIGKILL, 'ended by a signal', 2), (signal.SIGSTOP, 'does not answer', 20)):
-            if (kind, number) == ('stream', signal.SIGSTOP):
-                continue
-            front = FrontEnd(core, folder, messages='all')
-            front.load(CART)
-            front.frames(RIGHT, 65)
-            os.kill(child_of(kind), number)
-            began = time.monotonic()
-            front.frames(RIGHT, 2)
-            expect(f'{kind} that has {number.name}', (any(wanted in text for text in front.told), time.monotonic() - began < longest), (True, True))
-            front.frames(0, 2)
-            front.unload()
-            expect('what is saved', shades_of(program, CART, folder / 'demo.gbkeep', room)[1] >= int(front.told[0].split()[1]) + 60, True)
+    rom = CART.read_bytes()
+    for number, content in enumerate((bytes(1000), b'', rom[:-1], rom + bytes(len(rom)) * 2, rom[:0x147] + b'\xfe' + rom[0x148:], rom[:0x149] + b'\x77' + rom[0x14a:],
+                                      rom[:0x147] + b'\1' + rom[0x148:0x8000] + bytes(0x3f8000), bytes(0x800001))):
+        wrong = room / f'wrong{number}.gb'
+        wrong.write_bytes(content)
+        said = subprocess.run([program, 'info', wrong], capture_output=True, text=True).stderr.strip().removeprefix('gbkeep: ')
+        front = FrontEnd(core, folder)
+        front.load(wrong)
+        expect(f'a ROM that is none, {said}', (front.told[-1].split(':')[0] if said else '', (folder / f'wrong{number}.gbkeep').exists()), (said, not said))
+        front.unload()
+    # SAVE is removed, replaced or cut short while it is played
+    for what in (lambda: save.unlink(), lambda: os.replace(shutil.copy(save, folder / 'copy'), save), lambda: os.truncate(save, 512),
+                 lambda: os.truncate(save, save.stat().st_size + 512)):
+        save.unlink(missing_ok=True)
+        front = FrontEnd(core, folder, messages='all')
+        front.load(CART)
+        front.frames(RIGHT, 10)
+        what()
+        front.frames(RIGHT, 60)
+        limit = time.monotonic() + 20
+        while time.monotonic() < limit and not any("or can't" in text for text in front.told):
+            time.sleep(0.01)
+            front.frames(RIGHT, 1)
+        front.unload()
+        expect('another file in its place', [text for text in front.told if not text.startswith('resumed')], ["SAVE is open elsewhere, or can't be read or written"])
 
 
-def child_of(kind):
-    """The program that the core has started with this command."""
-    return int(subprocess.run(['pgrep', '-P', str(os.getpid()), '-f', kind], capture_output=True, text=True).stdout.split()[-1])
+def disk(room):
+    """The library that stands between the core and the disk."""
+    source, library = room / 'disk.c', room / 'disk.so'
+    if not library.exists():
+        source.write_text(DISK)
+        subprocess.run([os.environ.get('CC', 'cc'), '-shared', '-fPIC', '-Wall', '-o', library, source, '-ldl'], check=True)
+    return library
 
 
-def test_slow(program, core, room):
-    """A keeper that stands still: the game goes on, nothing is told as saved, and all of it is saved later."""
-    folder = room / 'slow'
+def played(core, folder, frames, room, **more):
+    """What a process tells that plays so many frames, and its status; its disk does as the environment says."""
+    done = subprocess.run([sys.executable, '-B', __file__, 'play', core, CART, folder, str(frames)], stdout=subprocess.PIPE, text=True,
+                          env=dict(os.environ, LD_PRELOAD=str(disk(room)), **more))
+    return done.stdout.splitlines(), done.returncode
+
+
+def saves_in(told):
+    return [int(line.split()[1]) for line in told if line.startswith(('resumed', 'saved'))]
+
+
+def cut_at(program, core, room, name, point):
+    """Plays while the disk fails or ends at this call, and goes on."""
+    folder, log = room / f'{name}{point}', room / f'{name}{point}.log'
     folder.mkdir()
+    save, what = folder / 'demo.gbkeep', f'{name} {point}'
+    told, status = played(core, folder, 190, room, DISK_LOG=str(log), **{name: str(point)})
+    calls = log.read_text().splitlines()
+    if len(calls) <= point:
+        # saves come as the disk is free, and there were fewer calls this time
+        return 0
+    expect(f'{what}: the status', status, 0 if name == 'FAIL_AT' else -signal.SIGKILL)
+    if name == 'FAIL_AT':
+        expect(f'{what}: calls behind it', len(calls), point + 1)
+        expect(f'{what}: it is told', any("can't be" in line for line in told), True)
+    count = 0
+    if save.exists() and save.stat().st_size > 0:
+        own = room / f'{name}{point}.room'
+        own.mkdir()
+        count = shades_of(program, CART, save, own)[1]
+    expect(f'{what}: what was told is there', count >= max(saves_in(told), default=0), True)
+    told, status = played(core, folder, 70, room)
+    expect(f'{what}: it goes on', (status, saves_in(told)[0], [line for line in told if not line.startswith(('resumed', 'saved'))]), (0, count, []))
+    expect(f'{what}: what is left', [path.name for path in folder.iterdir() if not re.fullmatch(r'\.gbkeep-[0-9a-f]{16}\.new', path.name)], ['demo.gbkeep'])
+    return count
+
+
+def test_disk(program, core, room):
+    """At calls of the disk, the first and last ones and some between, it fails, or the front end is killed: what was told is there, nothing is written after a
+    fault, and the game goes on."""
+    folder, log = room / 'whole', room / 'whole.log'
+    folder.mkdir()
+    told, status = played(core, folder, 190, room, DISK_LOG=str(log))
+    calls = len(log.read_text().splitlines())
+    expect('a disk that works', (status, told[-1].split()[0], calls > 100), (0, 'saved', True))
+    points = sorted({*range(8), *random.Random(1).sample(range(calls), 25), *range(calls - 8, calls)})
+    with ThreadPoolExecutor(max(2, os.cpu_count() or 1)) as pool:
+        counts = list(pool.map(lambda one: cut_at(program, core, room, *one), [(name, point) for name in ('KILL_AT', 'FAIL_AT') for point in points]))
+    expect('games that were cut late', sum(count >= 60 for count in counts) > 10, True)
+
+
+def slow(core, cart, folder, held):
+    """A disk that does not answer while a file is there. (In a process of its own, with the disk of this test.)"""
     front = FrontEnd(core, folder, messages='all')
-    front.load(CART)
+    front.looks = False
+    front.load(cart)
     front.frames(RIGHT, 10)
-    keeper = child_of('stream')
-    os.kill(keeper, signal.SIGSTOP)
+    Path(held).write_text('')
     longest = 0
-    for number in range(400):
+    for number in range(2800):
         began = time.monotonic()
         front.frames(number & 0xff, 1)
+        front.restore(front.state()) if number % 100 == 50 else None
         longest = max(longest, time.monotonic() - began)
-    expect('no frame waits', (longest < 1, front.told), (True, ['resumed 0']))
+    expect('no frame waits', (longest < 1, saves_in(front.told)), (True, [0]))
     time.sleep(5.1)
     front.frames(0, 1)
     expect('it is told', [text.rsplit(' ', 2)[0] for text in front.told[1:]], ['The disk is slow: nothing is saved for'])
-    os.kill(keeper, signal.SIGCONT)
+    # where 3,000 are unsaved the next one waits for the save
+    threading.Timer(1, lambda: os.unlink(held)).start()
+    began = time.monotonic()
+    front.frames(0, 600)
+    expect('a frame waits', (0.5 < time.monotonic() - began < 10, front.told[2]), (True, 'saved 60'))
     front.unload()
-    expect('all is saved', (front.told[2].split()[0], front.told[-1], shades_of(program, CART, folder / 'demo.gbkeep', room)[1]), ('saved', 'saved 411', 411))
+    expect('all is saved', front.told[-1], 'saved 3439')
+
+
+def test_slow(program, core, room):
+    """A disk that stands still: the game goes on, nothing is told as saved, and all of it is saved later."""
+    folder = room / 'slow'
+    folder.mkdir()
+    env = dict(os.environ, LD_PRELOAD=str(disk(room)), HOLD=str(room / 'held'))
+    done = subprocess.run([sys.executable, '-B', __file__, 'slow', core, CART, folder, room / 'held'], env=env, capture_output=True, text=True)
+    expect('a slow disk', (done.returncode, done.stderr), (0, ''))
+    expect('all is saved', shades_of(program, CART, folder / 'demo.gbkeep', room)[1], 3439)
 
 
 def test_power(program, core, room):
@@ -357,10 +659,6 @@ def test_power(program, core, room):
         told = int(count)
     os.killpg(front.pid, signal.SIGKILL)
     front.wait()
-    # the program is in a group of its own: it saves when its input ends
-    until = time.monotonic() + 10
-    while time.monotonic() < until and subprocess.run(['pgrep', '-f', str(folder)], capture_output=True).returncode == 0:
-        time.sleep(0.05)
     expect('what was told is there', shades_of(program, CART, folder / 'demo.gbkeep', room)[1] >= told, True)
 
 
@@ -460,30 +758,62 @@ def test_crafted_times(program, core, room):
     expect('a link', (game.time.is_symlink(), len(game.given_until())), (True, 2))
 
 
+def test_clock_back(program, core, room):
+    """The clock of a state that is taken back gets the seconds since, and no second twice."""
+    game = Clocked(program, core, room, 'back')
+    front = FrontEnd(core, game.folder, messages='all')
+    front.load(game.cart)
+    begun = time.time()
+    front.frames(0, 65)
+    state = front.state()
+    for _ in range(40):
+        time.sleep(0.1)
+        front.frames(0, 6)
+        front.restore(state)
+    front.unload()
+    count, given = game.given_until()
+    expect('back and forth', (abs(given - time.time()) <= 2, abs(game.shown() - (given - begun)) <= 2, count <= int(front.told[-1].split()[1])), (True, True, True))
+    # of a state of long ago, as the option says: the time since, none, or none since it is too long
+    for away, gives, wanted in ((7200, 'yes', 7200), (7200, 'no', 0), (500 * DAY, 'yes', 0), (-7200, 'yes', 0)):
+        old = state[:-MORE] + int(time.time() - away).to_bytes(TIME, 'little') + bytes(TIME)
+        front = FrontEnd(core, game.folder, time_away=gives)
+        front.load(game.cart)
+        expect('an old state', front.restore(old), True)
+        front.frames(0, 70)
+        front.unload()
+        expect(f'of {away} s ago, {gives}', is_about(game.shown(), wanted), True)
+    front = FrontEnd(core, game.folder)
+    front.load(game.cart)
+    front.restore(state[:-MORE] + b'\xff' * MORE)
+    front.frames(0, 70)
+    front.unload()
+    expect('no time', is_about(game.shown(), 0), True)
+
+
 def test_clock_cut(program, core, room):
-    """Killed at each point, with its program or before it, the core gives no second twice, and loses two at most."""
-    killer, source = room / 'killer.so', room / 'killer.c'
-    source.write_text(KILLER)
-    subprocess.run([os.environ.get('CC', 'cc'), '-shared', '-fPIC', '-o', killer, source, '-ldl'], check=True)
+    """Killed at each sync and rename, the core gives no second twice, and loses two at most."""
     game = Clocked(program, core, room, 'cut')
     game.play()
     game.away(DAY)
     held, begun = (game.save.read_bytes(), game.time.read_bytes()), game.given_until()[1]
     before = game.shown()
-    for more in ({}, {'KILL_PROGRAM': '1'}):
-        point, status = 0, -signal.SIGKILL
-        while status != 0:
-            game.save.write_bytes(held[0])
-            game.time.write_bytes(held[1])
-            status = subprocess.run([sys.executable, '-B', __file__, 'play', core, game.cart, game.folder, '65'], stdout=subprocess.DEVNULL,
-                                    env=dict(os.environ, LD_PRELOAD=str(killer), KILL_AT=str(point), **more)).returncode
-            expect(f'killed at {point}', status in (0, -signal.SIGKILL), True)
-            until_free(game.save)
-            told = game.play(1)
-            off = game.given_until()[1] - begun - (game.shown() - before)
-            expect(f'killed at {point}: told, and off', (told, off in (0, 1, 2), abs(game.given_until()[1] - time.time()) < 30), ([], True, True))
-            point += 1
-        expect('points', point > 7, True)
+    log = room / 'clock.log'
+
+    def cut(point):
+        game.save.write_bytes(held[0])
+        game.time.write_bytes(held[1])
+        log.unlink(missing_ok=True)
+        return subprocess.run([sys.executable, '-B', __file__, 'play', core, game.cart, game.folder, '65'], stdout=subprocess.DEVNULL,
+                              env=dict(os.environ, LD_PRELOAD=str(disk(room)), DISK_LOG=str(log), KILL_AT=str(point))).returncode
+    expect('not cut', cut(-1), 0)
+    calls = [line.split()[0] for line in log.read_text().splitlines()]
+    points = [point for point, call in enumerate(calls) if call != 'write' or calls[point - 1] != 'write']
+    expect('points', len(points) > 12, True)
+    for point in points:
+        cut(point)
+        told = game.play(1)
+        off = game.given_until()[1] - begun - (game.shown() - before)
+        expect(f'killed at {point}: told, and off', (told, off in (0, 1, 2), abs(game.given_until()[1] - time.time()) < 30), ([], True, True))
 
 
 def test_options(program, core, room):
@@ -495,7 +825,14 @@ def test_options(program, core, room):
         front.load(CART)
         front.frames(0, 61)
         front.unload()
-        expect(f'saves every {seconds!r} seconds', [text.split()[0] for text in front.told], ['resumed', 'saved', 'saved'])
+        expect(f'saves every {seconds!r} seconds', [text.split()[0] for text in front.told], ['resumed', 'saved'] + ['saved'] * (len(front.told) - 2))
+    # as fast as can be, where saves are an hour apart
+    front = FrontEnd(core, folder, save_seconds='3600', messages='all')
+    front.load(CART)
+    front.looks, first = False, int(front.told[0].split()[1])
+    front.frames(0, 10_000)
+    front.unload()
+    expect('an hour between saves', (front.told[-1], 3 <= len(front.told) <= 9), (f'saved {first + 10_000}', True))
     # the greatest count of inputs
     most, save = room / 'most', 'demo.gbkeep'
     most.mkdir()
@@ -525,33 +862,54 @@ def measure(core, room):
     before, began = os.times(), time.monotonic()
     front.frames(RIGHT, 3000)
     passed, after = time.monotonic() - began, os.times()
+    size = front.core.retro_serialize_size()
+    state = ctypes.create_string_buffer(size)
+    began = time.monotonic()
+    for _ in range(3000):
+        front.core.retro_serialize(state, size)
+        front.core.retro_unserialize(state, size)
+    states = time.monotonic() - began
     front.unload()
-    print(f'3,000 frames in {passed:.2f} s; the core itself {after.user + after.system - before.user - before.system:.2f} s of processor time')
+    print(f'3,000 frames in {passed:.2f} s, {after.user + after.system - before.user - before.system:.2f} s of processor time; '
+          f'3,000 states told and taken back in {states:.2f} s')
 
 
 def play(core, cart, folder, frames):
+    """Plays so many frames, with a state that is taken back and the power switch on the way, and prints what the core tells."""
     front = FrontEnd(core, folder, messages='all')
     front.load(cart)
-    shown = 0
-    for _ in range(int(frames)):
+    front.looks = False
+    shown, state = 0, None
+    for number in range(int(frames)):
         front.frames(RIGHT, 1)
+        if number % 200 == 40:
+            state = front.state()
+        elif number % 200 == 70 and state:
+            front.restore(state)
+        elif number == 130:
+            front.core.retro_reset()
         for line in front.told[shown:]:
             print(line, flush=True)
         shown = len(front.told)
     front.unload()
+    for line in front.told[shown:]:
+        print(line, flush=True)
 
 
 def main():
     words = sys.argv[1:]
     if len(words) == 5 and words[0] == 'play':
         return play(*words[1:])
+    if len(words) == 5 and words[0] == 'slow':
+        return slow(*words[1:])
     if len(words) != 2:
         sys.exit(__doc__)
     program, core = (os.path.abspath(word) for word in words)
     os.environ['GBKEEP'] = program
     with tempfile.TemporaryDirectory(prefix='libretro-') as folder:
         room = Path(folder)
-        tests = (test_play, test_carts, test_battery, test_faults, test_slow, test_power, test_options, test_clock, test_crafted_times, test_clock_cut)
+        tests = (test_play, test_same, test_states, test_ahead, test_memory, test_carts, test_battery, test_faults, test_disk, test_slow, test_power, test_options,
+                 test_clock, test_clock_back, test_crafted_times, test_clock_cut)
         for test in tests:
             test(program, core, room)
         measure(core, room)
