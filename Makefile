@@ -202,6 +202,8 @@ test:
 	python3 -B players/test_shown_game.py $(PROGRAM)/out/gbkeep_program
 	python3 -B players/test_window_parts.py
 	python3 -B web/test_module.py
+	if command -v $(CC) > /dev/null; then RT=$(RT) CC="$(CC)" python3 -B scripts/library.py gate && \
+	CC="$(CC)" python3 -B library/test_library.py $(PROGRAM)/out/gbkeep_program; else echo 'there is no C compiler: the library was not tried'; fi
 	if [ -e $(LIBRETRO)/libretro.h ]; then $(MAKE) bin/gbkeep_libretro.so && \
 	python3 -B players/libretro/test_libretro.py $(PROGRAM)/out/gbkeep_program bin/gbkeep_libretro.so && \
 	CC="$(CC)" LIBRETRO="$(LIBRETRO)" python3 -B players/libretro/test_garbage.py 10; else echo 'there is no libretro.h: the core was not tried'; fi
@@ -218,4 +220,4 @@ test:
 	python3 -B scripts/second_storage/refused_memory.py $(PROGRAM)/out/gbkeep_program crates/refused_memory/out/refused_memory
 	RT=$(RT) python3 -B scripts/dist.py passed $(PROGRAM)/out/gbkeep_program
 
-.PHONY: help build demo play install libretro dist run check edits test bench compare hostile fuzz strace memory test-window test-libretro library test-library test-arm64 test-packages test-reproducible test-slow-disk test-libretro test-retroarch test-cards web test-web
+.PHONY: help build demo play install libretro dist run check edits test bench compare hostile fuzz strace memory test-window test-libretro library test-library test-arm64 test-packages test-reproducible test-slow-disk test-retroarch test-cards web test-web

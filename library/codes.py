@@ -27,6 +27,8 @@ CODES = [
     ('DEVICE_SIZE', 'device size N'),
     ('WRONG_LENGTH', ('wrong length', 'a buffer has another length than gbkeep.h says')),
     ('OUTPUT_FAILED', 'output failed'),
+    ('NO_BATTERY', 'no battery'),
+    ('BATTERY_LENGTH', 'battery length N, M needed'),
 ]
 
 # what a line means for a program that has bytes and no files
@@ -42,6 +44,7 @@ HERE = {
     'damaged entry N': 'the image does not hold what gbkeep wrote: an entry of its log',
     'generations used up': 'the image has had 2^64 - 1 checkpoints',
     'output failed': 'a report could not be written',
+    'battery length N, M needed': 'the battery file is not as long as this cartridge asks for',
 }
 
 
@@ -57,7 +60,7 @@ def texts():
         if isinstance(line, tuple):
             yield ': '.join(line)
         else:
-            yield f"{line.removesuffix(' N').removesuffix(' XX').replace(', N sectors needed', '')}: {means(line)}"
+            yield f"{line.partition(',')[0].removesuffix(' N').removesuffix(' XX')}: {means(line)}"
 
 
 def main():

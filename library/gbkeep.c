@@ -30,6 +30,7 @@ void gbkeep_peek_machine(struct handle machine, uint16_t address, uint8_t *bytes
 
 uint32_t gbkeep_needed_session(const uint8_t *rom, size_t rom_length, uint64_t *sectors);
 uint32_t gbkeep_begin_session(const uint8_t *rom, size_t rom_length, size_t sectors, struct handle *out);
+uint32_t gbkeep_import_session(const uint8_t *rom, size_t rom_length, const uint8_t *battery, size_t battery_length, size_t sectors, struct handle *out);
 uint32_t gbkeep_resume_session(const uint8_t *rom, size_t rom_length, const uint8_t *image, size_t image_length, struct handle *out);
 void gbkeep_free_session(struct handle session);
 uint32_t gbkeep_play_session(struct handle session, uint8_t buttons, struct handle *out);
@@ -42,6 +43,8 @@ void gbkeep_draw_session(struct handle session, uint8_t *shades, size_t length, 
 size_t gbkeep_measure_session(struct handle session, struct handle *out);
 void gbkeep_keep_session(struct handle session, uint8_t *bytes, size_t length, struct handle *out);
 uint64_t gbkeep_count_session(struct handle session, struct handle *out);
+size_t gbkeep_battery_length_session(struct handle session, struct handle *out);
+uint32_t gbkeep_battery_session(struct handle session, uint8_t *bytes, size_t length, struct handle *out);
 
 struct gbkeep_machine {
     struct handle handle;
@@ -143,6 +146,7 @@ void gbkeep_machine_memory(const gbkeep_machine *machine, uint16_t address, uint
 struct gbkeep_session {
     struct handle handle;
     size_t state_length;
+    size_t battery_length;
 };
 
 uint32_t gbkeep_session_sectors(const uint8_t *rom, size_t rom_length, uint32_t *out) {
@@ -156,7 +160,7 @@ uint32_t gbkeep_session_sectors(const uint8_t *rom, size_t rom_length, uint32_t 
     return code;
 }
 
-/* the session that begin or resume left in `handle`, or why there is none */
+/* the session that begin, import or resume left in `handle`, or why there is none */
 static uint32_t made(uint32_t code, struct handle handle, gbkeep_session *session, gbkeep_session **out) {
     if (code != GBKEEP_DONE) {
         free(session);
@@ -164,6 +168,7 @@ static uint32_t made(uint32_t code, struct handle handle, gbkeep_session *sessio
     }
     session->handle = handle;
     session->state_length = gbkeep_measure_session(session->handle, &session->handle);
+    session->battery_length = gbkeep_battery_length_session(session->handle, &session->handle);
     *out = session;
     return GBKEEP_DONE;
 }
@@ -177,6 +182,19 @@ uint32_t gbkeep_session_begin(const uint8_t *rom, size_t rom_length, uint32_t se
     }
     struct handle handle = {NULL};
     uint32_t code = gbkeep_begin_session(read_from(rom, rom_length), rom_length, sectors, &handle);
+    return made(code, handle, session, out);
+}
+
+uint32_t gbkeep_session_import(const uint8_t *rom, size_t rom_length, const uint8_t *battery, size_t battery_length, uint32_t sectors,
+                               gbkeep_session **out) {
+    NEEDS(out != NULL);
+    *out = NULL;
+    gbkeep_session *session = malloc(sizeof *session);
+    if (session == NULL) {
+        return GBKEEP_NO_MEMORY;
+    }
+    struct handle handle = {NULL};
+    uint32_t code = gbkeep_import_session(read_from(rom, rom_length), rom_length, read_from(battery, battery_length), battery_length, sectors, &handle);
     return made(code, handle, session, out);
 }
 
@@ -270,4 +288,17 @@ uint64_t gbkeep_session_count(const gbkeep_session *session) {
     uint64_t count = gbkeep_count_session(session->handle, &same);
     NEEDS(same.at == session->handle.at);
     return count;
+}
+
+size_t gbkeep_session_battery_length(const gbkeep_session *session) {
+    NEEDS(session != NULL);
+    return session->battery_length;
+}
+
+uint32_t gbkeep_session_battery(gbkeep_session *session, uint8_t *bytes, size_t length) {
+    NEEDS(session != NULL);
+    if (length != session->battery_length) {
+        return GBKEEP_WRONG_LENGTH;
+    }
+    return gbkeep_battery_session(session->handle, write_to(bytes, length), length, &session->handle);
 }

@@ -70,6 +70,7 @@ _CALLS = {
     'machine_memory': (None, _POINTER, ctypes.c_uint16, _POINTER, _LENGTH),
     'session_sectors': (_WORD, _POINTER, _LENGTH, _POINTER),
     'session_begin': (_WORD, _POINTER, _LENGTH, _WORD, _POINTER),
+    'session_import': (_WORD, _POINTER, _LENGTH, _POINTER, _LENGTH, _WORD, _POINTER),
     'session_resume': (_WORD, _POINTER, _LENGTH, _POINTER, _LENGTH, _POINTER),
     'session_free': (None, _POINTER),
     'session_frames': (_WORD, _POINTER, ctypes.c_uint8, _WORD),
@@ -81,6 +82,8 @@ _CALLS = {
     'session_picture': (_WORD, _POINTER, _POINTER, _LENGTH),
     'session_state_length': (_LENGTH, _POINTER),
     'session_state': (_WORD, _POINTER, _POINTER, _LENGTH),
+    'session_battery_length': (_LENGTH, _POINTER),
+    'session_battery': (_WORD, _POINTER, _POINTER, _LENGTH),
     'session_count': (ctypes.c_uint64, _POINTER),
 }
 _loaded: dict[str, ctypes.CDLL] = {}
@@ -215,16 +218,24 @@ def sectors_needed(rom: Buffer) -> int:
 
 
 class Session(_Held):
-    """A game on a disk of yours. `Session(rom)` begins one on a disk of zeros, `Session(rom, image)` takes up the one that an image holds.
+    """A game on a disk of yours. `Session(rom)` begins one on a disk of zeros, `Session(rom, battery=file)` begins it with the battery file of another
+    emulator, `Session(rom, image)` takes up the one that an image holds.
 
     The calls that `calls` hands out have to be made on the disk, in order, from the first on."""
     _kind = 'session'
 
-    def __init__(self, rom: Buffer, image: Optional[Buffer] = None, sectors: Optional[int] = None):
+    def __init__(self, rom: Buffer, image: Optional[Buffer] = None, sectors: Optional[int] = None, battery: Optional[Buffer] = None):
         super().__init__()
         rom = bytes(rom)
         if image is None:
-            self._make('begin', _bytes_of(rom), len(rom), _number('sectors', sectors_needed(rom) if sectors is None else sectors, 32))
+            sectors = _number('sectors', sectors_needed(rom) if sectors is None else sectors, 32)
+            if battery is None:
+                self._make('begin', _bytes_of(rom), len(rom), sectors)
+            else:
+                battery = bytes(battery)
+                self._make('import', _bytes_of(rom), len(rom), _bytes_of(battery), len(battery), sectors)
+        elif battery is not None:
+            raise Refused('a game is begun with a battery file, or taken up from an image', '')
         else:
             image = bytes(image)
             self._make('resume', _bytes_of(rom), len(rom), _bytes_of(image), len(image))
@@ -248,6 +259,13 @@ class Session(_Held):
         """Goes on with the machine whose state this is, as one input."""
         state = bytes(state)
         self._done(self._call('restore', _bytes_of(state), len(state)))
+
+    def battery(self) -> bytes:
+        """The battery file of the game, as other emulators read it. Refused for a cartridge without battery."""
+        length = self._call('battery_length')
+        file = ctypes.create_string_buffer(max(length, 1))
+        self._done(self._call('battery', file, length))
+        return file.raw[:length]
 
     def save(self) -> int:
         """Saves what is unsaved: the count of all inputs. It may be told once the calls that are then handed out were made."""

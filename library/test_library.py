@@ -213,6 +213,65 @@ class InPython(InFolder):
         with self.assertRaises(Refused):
             Session(ROM, bytes(1000))
 
+    def test_a_battery_file_begins_a_game_and_comes_out_as_by_the_program(self):
+        from gbkeep_library import Refused, Session, sectors_needed
+        chance = random.Random(1)
+        cart, battery, theirs, out = (self.folder / name for name in ('cart.gb', 'battery', 'theirs', 'out'))
+
+        def with_type(kind, ram_code):
+            rom = bytearray(ROM)
+            rom[0x147], rom[0x149] = kind, ram_code
+            return bytes(rom)
+
+        # MBC1, MBC2, MBC3 with its clock, a battery without RAM
+        for rom, lengths in ((ROM, [CART.ram]), (with_type(0x06, 0), [512]), (with_type(0x10, 2), [8192, 8192 + 44, 8192 + 48]), (with_type(0x03, 0), [0])):
+            cart.write_bytes(rom)
+            for length in lengths:
+                file = chance.randbytes(length)
+                battery.write_bytes(file)
+                theirs.unlink(missing_ok=True)
+                out.unlink(missing_ok=True)
+                self.assertEqual(self.gbkeep('import', cart, battery, theirs), ['begun 0'])
+                with Session(rom, battery=file) as session:
+                    disk = bytearray(SECTOR * sectors_needed(rom))
+
+                    def make_calls():
+                        for call in session.calls():
+                            if call.bytes is not None:
+                                disk[call.sector * SECTOR:(call.sector + 1) * SECTOR] = call.bytes
+
+                    make_calls()
+                    self.assertEqual((bytes(disk), session.count()), (theirs.read_bytes(), 0))
+                    session.frames(0x80, 4)
+                    session.frames(0x01, 100)
+                    session.seconds(100_000)
+                    session.save()
+                    make_calls()
+                    theirs.write_bytes(disk)
+                    self.assertEqual(self.gbkeep('export', cart, theirs, out), ['exported 105'])
+                    self.assertEqual(session.battery(), out.read_bytes())
+            # the same refusals as the program's, the first that holds
+            for file, sectors in ((b'', None), (bytes(lengths[0] + 1), None), (bytes(lengths[0]), 10), (bytes(lengths[0] + 1), 10)):
+                battery.write_bytes(file)
+                refused = None
+                try:
+                    Session(rom, battery=file, sectors=sectors).close()
+                except Refused as why:
+                    refused = why.line
+                result = run(PROGRAM, 'import', cart, battery, self.folder / 'refused', *([] if sectors is None else [sectors]))
+                (self.folder / 'refused').unlink(missing_ok=True)
+                self.assertEqual(result.returncode, 0 if refused is None else 1)
+                self.assertTrue(refused is None or result.stderr.startswith(f'gbkeep: {refused}'.encode()), (refused, result.stderr))
+        for rom, code in ((bytes(100), 2), (with_type(0xfc, 0), 3), (with_type(0x01, 2), 20)):
+            with self.assertRaises(Refused) as refused:
+                Session(rom, battery=bytes(8192), sectors=200)
+            self.assertEqual(refused.exception.code, code)
+        with Session(with_type(0x01, 2)) as session, self.assertRaises(Refused) as refused:
+            session.battery()
+        self.assertEqual(refused.exception.code, 20)
+        with self.assertRaises(Refused):
+            Session(ROM, bytes(SECTOR * 300), battery=bytes(CART.ram))
+
     def test_each_prefix_of_the_calls_and_each_subset_stands_for_what_was_told(self):
         from gbkeep_library import Machine, Session
         chance = random.Random(1)

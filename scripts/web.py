@@ -63,7 +63,9 @@ CLANG = ['-mllvm', '-no-trap-after-noreturn', '-mllvm', '-trap-unreachable', '-m
 C = ['-std=c11', '-ffreestanding', '-nostdinc', '-Wall', '-Wextra']
 FEATURES = ['-mcpu=lime1', '-msimd128', '-mbulk-memory']
 STACK = 1 << 20
-EXPORTS = ['malloc', 'free', *('gbkeep_session_' + call for call in 'sectors begin resume free frames seconds power restore save next_call picture state_length state count'.split())]
+EXPORTS = ['malloc', 'free', *('gbkeep_session_' + call for call in
+                                'sectors begin import resume free frames seconds power restore save next_call picture state_length state battery_length battery '
+                                'count'.split())]
 
 
 class Unknown(Exception):

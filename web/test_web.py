@@ -289,6 +289,9 @@ class Page:
     def export(self):
         return bytes.fromhex(self.wait_for("return [...await gbkeep.exportSave()].map((one) => one.toString(16).padStart(2, '0')).join('')"))
 
+    def battery(self):
+        return bytes.fromhex(self.wait_for("return [...await gbkeep.exportBattery()].map((one) => one.toString(16).padStart(2, '0')).join('')"))
+
     def click(self, where):
         self.browser.find_element(By.CSS_SELECTOR, where).click()
 
@@ -559,6 +562,121 @@ class Files(WithBrowser):
                 self.assertEqual(page.rows(), before)
         self.page.open(self.server.url('?cart=missing.gb'))
         self.page.until_text("the cartridge can't be fetched")
+
+    def other_cart(self, of, name):
+        """A cartridge that no other test has: another one, but for the sum in its header."""
+        content = bytearray(self.carts[of].read_bytes())
+        content[0x14e:0x150] = hashlib.sha256(name.encode()).digest()[:2]
+        path = self.room / f'{name}.gb'
+        path.write_bytes(content)
+        return path
+
+    def downloads(self):
+        """A new folder, in which the browser leaves what is taken out."""
+        folder = Path(tempfile.mkdtemp(dir=self.room))
+        self.browser.execute_cdp_cmd('Browser.setDownloadBehavior', {'behavior': 'allow', 'downloadPath': str(folder)})
+        return folder
+
+    def imported(self, cart, file):
+        """A save file of the program that begins with a battery file."""
+        save = cart.with_suffix('.gbkeep')
+        save.unlink(missing_ok=True)
+        self.program.do('import', cart, file, save)
+        return save
+
+    def exported(self, cart, save):
+        """The battery file that the program takes out of a save file."""
+        out = cart.with_suffix('.exported')
+        out.unlink(missing_ok=True)
+        self.program.do('export', cart, save, out)
+        return out.read_bytes()
+
+    def test_battery_files(self):
+        """A game begins with the battery file that is chosen with its cartridge, and gives its own, as by the program."""
+        chance = random.Random(SEED)
+        for of, length in (('demo', 32768), ('clock', 8192 + 48)):
+            with self.subTest(of=of):
+                cart, downloads = self.other_cart(of, f'kept_{of}'), self.downloads()
+                file = cart.with_suffix('.sav')
+                file.write_bytes(chance.randbytes(length))
+                save = self.imported(cart, file)
+                page = self.page.open(self.server.url('?paused=1'))
+                page.give(cart, file)
+                page.until_text('The game begins with the battery file.')
+                inputs = any_inputs(chance, 6)
+                for buttons, frames in inputs:
+                    page.press(buttons, frames)
+                shown, picture = self.program.after(cart, inputs, save)
+                self.assertEqual((page.state(), page.picture(), str(page.count())), (shown['state'], picture, shown['inputs']))
+                want = self.exported(cart, save)
+                self.assertEqual(len(want), length)
+                self.assertEqual(page.battery(), want)
+                page.click('#export-battery')
+                page.until_text('The battery file was taken out.')
+                page.until((downloads / file.name).exists, 'nothing is among the downloads')
+                self.assertEqual((downloads / file.name).read_bytes(), want)
+                (downloads / file.name).unlink()
+                page.click('#close')
+                page.until_state('closed')
+                page.button(f'Take the battery file of {self.title_of(cart)} out').click()
+                page.until_text('was taken out')
+                [left] = page.until(lambda: list(downloads.glob('*.sav')), 'nothing is among the downloads')
+                self.assertEqual(left.read_bytes(), want)
+
+    def title_of(self, cart):
+        """What the list calls a game."""
+        rows = self.page.until(lambda: [one for one in self.page.rows() if f'({cart.name})' in one], f'{cart.name} is not listed')
+        return rows[0].split(' (')[0]
+
+    def test_battery_file_of_the_list(self):
+        """A game of the list is begun anew with a battery file; the one before is kept."""
+        cart = self.other_cart('demo', 'listed')
+        file = cart.with_suffix('.srm')
+        file.write_bytes(random.Random(SEED).randbytes(32768))
+        page = self.page.open(self.server.url('?paused=1'))
+        page.give(cart)
+        page.until_state('paused')
+        page.press(1, 77)
+        page.click('#close')
+        page.until_state('closed')
+        self.browser.execute_cdp_cmd('Page.enable', {})
+        self.browser.execute_cdp_cmd('Page.setInterceptFileChooserDialog', {'enabled': True})
+        page.until(lambda: any(cart.name in one for one in page.rows()), 'the game is not listed')
+        page.js('document.querySelector(`[data-id="${arguments[0]}"] [aria-label*="with the battery file"]`).click()', hashlib.sha256(cart.read_bytes()).hexdigest())
+        self.browser.find_element(By.ID, 'battery-file').send_keys(str(file))
+        page.until_text('The game begins with the battery file.')
+        self.browser.execute_cdp_cmd('Page.setInterceptFileChooserDialog', {'enabled': False})
+        self.assertEqual((page.count(), page.state()), (0, self.program.shows(cart, self.imported(cart, file))['state']))
+        page.click('#close')
+        page.until(lambda: any(cart.name in one and '1 more kept' in one for one in page.rows()), 'the game before is not kept')
+
+    def test_wrong_battery_files(self):
+        """What is no battery file of the cartridge is refused in words, and leaves nothing."""
+        cart, plain = self.other_cart('demo', 'refusing'), self.room / 'plain.gb'
+        content = bytearray(cart.read_bytes())
+        content[0x147] = 0x01
+        plain.write_bytes(content)
+        right, short, empty = (self.room / name for name in ('right.sav', 'short.sav', 'empty.srm'))
+        for path, length in ((right, 32768), (short, 32767), (empty, 0)):
+            path.write_bytes(bytes(length))
+        before = self.listed().rows()
+        for words, *paths in (('the cartridge of this battery file is not known', right), ('battery length', cart, short), ('battery length', cart, empty),
+                              ('no battery', plain, right)):
+            with self.subTest(words=words):
+                page = self.listed()
+                page.give(*paths)
+                page.until_text(words)
+                self.assertEqual(page.state_of(), 'refused')
+                self.assertEqual(self.listed().rows(), before)
+        # a game without battery goes on when its file is refused
+        page = self.page.open(self.server.url('?paused=1'))
+        page.give(plain)
+        page.until_state('paused')
+        page.press(0, 10)
+        page.click('#export-battery')
+        page.until_text('no battery')
+        page.press(0, 10)
+        self.assertEqual((page.state_of(), page.save()), ('paused', 20))
 
     def test_damaged_saves(self):
         """A damaged SAVE is refused, from outside and where it lies, and nothing is lost."""

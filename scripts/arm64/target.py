@@ -1,4 +1,5 @@
-"""Proves and compiles what is linked for aarch64, and links it by Debian's cross compiler. scripts/build.py and scripts/library.py call this.
+"""Proves and compiles what is linked for aarch64, and links it by Debian's cross compiler. scripts/build.py and scripts/library.py call this. `prove` also
+proves and compiles for this computer, over libraries as they stand.
 
 The libraries are proved for every processor. What links them, the program or the library for C, is proved anew for its own, and the last line of
 that proof names it."""
@@ -11,6 +12,8 @@ from pathlib import Path
 
 RT = os.environ.get('RT', 'rt')
 TARGET, PREFIX = 'aarch64-unknown-linux-gnu', 'aarch64-linux-gnu-'
+# this computer's, which a proof names without being asked for it
+HOST = 'x86_64-unknown-linux-gnu'
 TOP = Path(__file__).resolve().parent.parent.parent
 HERE = TOP / 'scripts/arm64'
 # what the last line of a proof may say, where it says nothing that the gate refuses
@@ -20,7 +23,7 @@ MOST_LIBC = (2, 28)
 
 
 def stop(why):
-    sys.exit(f'arm64: {why}')
+    sys.exit(f'{Path(sys.argv[0]).name}: {why}')
 
 
 def compiler():
@@ -65,13 +68,13 @@ def uses():
     return found
 
 
-def is_proof(line):
+def is_proof(line, target=TARGET):
     """Whether a line is the last one of a proof for the processor."""
     said = dict(word.partition('=')[::2] for word in line.split())
-    return said.get('logic') == 'proved' and said.get('target') == TARGET and set(said) <= WORDS
+    return said.get('logic') == 'proved' and said.get('target') == target and set(said) <= WORDS | ({'cpu'} if target == HOST else set())
 
 
-def prove(root, crate, out, *more):
+def prove(root, crate, out, *more, target=TARGET):
     """Proves a crate of `root` for the processor, over its libraries' rlibs there, and compiles it into `out`. Answers the proof's last line."""
     place, needs, root = kit(), uses(), Path(root).resolve()
     source = 'src/main.rt' if (root / f'crates/{crate}/src/main.rt').exists() else 'src/lib.rt'
@@ -83,10 +86,10 @@ def prove(root, crate, out, *more):
         if (root / f'crates/{name}/out/rlib').exists():
             words += ['-L', f'dependency={root}/crates/{name}/out/rlib']
     words += ['--antt-project', place / 'rattle/logic/antt-project.json', '--logic-built', place / 'logic_built', '--links', f'{crate}=',
-              '--toolchain', place / 'toolchain', '--target', TARGET, '--backend', 'llvm', *more, '-o', out]
+              '--toolchain', place / 'toolchain', *(['--target', target] if target != HOST else []), '--backend', 'llvm', *more, '-o', out]
     said = run(words, cwd=root / f'crates/{crate}')
     proved = [line for line in said.splitlines() if line.startswith('logic=')]
-    if len(proved) != 1 or not is_proof(proved[0]):
+    if len(proved) != 1 or not is_proof(proved[0], target):
         stop(f'{crate}: the proof ends otherwise than it should:\n{said[-3000:]}')
     return proved[0]
 

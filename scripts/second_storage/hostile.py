@@ -12,7 +12,8 @@ file that is no picture; a SAVE with the name of a battery file), closed (a stan
 stream is closed, also in a root without /dev), streams (lines as they come, whole, in pieces, wrong ones, pictures, and a kill), injected (a
 system call fails, is cut short, or is the last; needs strace), recordings (a game with its recording, damaged, full, of another ROM, ahead, behind,
 killed), batteries (battery files that are taken and written, and what `show` prints), debugs (lines of `debug`, right and wrong, from power-on and over
-games, sound and damaged). The status is 1 where anything differs, where gbkeep dies by a signal, or where it takes longer than 10 seconds."""
+games, sound and damaged), hosts (a host that plays by libgbkeep, with its disk cut behind each call that it was handed out; needs bin/libgbkeep.so, or the
+one that GBKEEP_LIBRARY names). The status is 1 where anything differs, where gbkeep dies by a signal, or where it takes longer than 10 seconds."""
 import fcntl, os, random, re, resource, shutil, signal, subprocess, sys, tempfile, threading, time
 import save_files as ref
 from save_files import get, put
@@ -930,9 +931,14 @@ def debugs(rnd, seed):
     kind.debugs(rnd, seed)
 
 
+def hosts(rnd, seed):
+    import hosts as kind
+    kind.hosts(rnd, seed)
+
+
 KINDS = {'saves': saves, 'scripts': scripts, 'bytes': arbitrary, 'kills': kills, 'holds': holds, 'places': places, 'pipes': pipes,
          'shrinks': shrinks, 'names': names, 'closed': closed, 'streams': streams, 'injected': injected, 'recordings': recordings,
-         'batteries': batteries, 'debugs': debugs}
+         'batteries': batteries, 'debugs': debugs, 'hosts': hosts}
 
 
 def run(kind, seconds, first):

@@ -295,6 +295,20 @@ export async function imageOf(id, number) {
   });
 }
 
+/** The battery file of an image of a game that nobody plays. */
+export async function batteryOf(library, id, number) {
+  return locked(id, false, async (folder, index) => {
+    // the calls of this session are not made
+    const session = Session.resume(library, await readFile(folder, 'cart.gb'), await readFile(folder, `${number}.gbkeep`));
+    try {
+      return session.battery();
+    } finally {
+      session.free();
+      index.close();
+    }
+  });
+}
+
 /** Takes a SAVE in beside its cartridge, as the image that is played from now on. Answers the game's ID. */
 export async function takeIn(library, image) {
   if (image.length > MOST_SECTORS * SECTOR) {
@@ -322,9 +336,9 @@ export async function takeIn(library, image) {
 
 /** A game that is open: nobody else can open it. `count` is how many inputs it has, `saved` how many of them are saved. */
 export class Game {
-  /** Goes on with a game, or begins it where there is none, or `isNew` is true; `rom` is null where its cartridge is here. `ask` answers a question about
-   * the clock. `hasPast` says whether it can be rewound. */
-  static async open(library, { id, rom, name, isNew, isTimed, hasPast, ask }) {
+  /** Goes on with a game, or begins it where there is none, or `isNew` is true, or with a battery file; `rom` is null where its cartridge is here. `ask`
+   * answers a question about the clock. `hasPast` says whether it can be rewound. */
+  static async open(library, { id, rom, name, isNew, battery, isTimed, hasPast, ask }) {
     if (rom) {
       sectorsNeeded(library, rom);
     }
@@ -333,7 +347,7 @@ export class Game {
       Object.assign(game, { library, folder, index, isTimed, ask, past: null, calls: 0, shown: -Infinity, notice: null });
       try {
         await game.takeCartridge(rom, name);
-        await game.takeImage(isNew);
+        await game.takeImage(isNew, battery);
         if (hasPast) {
           game.past = new Past(game.session.stateLength);
           game.keepState();
@@ -356,15 +370,15 @@ export class Game {
     }
   }
 
-  /** Opens the image that is played, or begins one where there is none. */
-  async takeImage(isNew) {
+  /** Opens the image that is played, or begins one where there is none, or where it is to be a new one. */
+  async takeImage(isNew, battery) {
     const said = indexOf(textOf(wholeOf(this.index)));
     const there = numbersIn(await namesIn(this.folder));
     this.slot = said?.slot ?? 0;
     this.number = there.includes(said?.play) ? said.play : await this.newest(there);
     const isMissing = said !== null && this.number !== said.play;
-    if (isNew || this.number === 0) {
-      await this.begin(Math.max(0, ...there) + 1);
+    if (isNew || battery || this.number === 0) {
+      await this.begin(Math.max(0, ...there) + 1, battery);
     } else {
       this.disk = await access(this.folder, `${this.number}.gbkeep`);
       this.resume();
@@ -374,7 +388,7 @@ export class Game {
     }
     this.resumed = this.count;
     await this.takeClock();
-    if (isMissing && !isNew) {
+    if (isMissing && !isNew && !battery) {
       this.notice = `${this.notice ?? ''} The game that was played last is not there: the newest of those that are kept is played.`.trim();
     }
     this.picturePlace = await access(this.folder, 'picture', true).catch(() => null);
@@ -393,8 +407,8 @@ export class Game {
     return found.number;
   }
 
-  /** Begins a game in a new image. */
-  async begin(number) {
+  /** Begins a game in a new image; `battery` is a battery file that it begins with, or null. */
+  async begin(number, battery) {
     const name = `${number}.gbkeep`;
     try {
       this.disk = await access(this.folder, name, true);
@@ -402,7 +416,7 @@ export class Game {
       this.disk.truncate(0);
       put(this.disk, new Uint8Array(sectors * SECTOR), 0);
       this.disk.flush();
-      this.session = Session.begin(this.library, this.rom, sectors);
+      this.session = battery ? Session.import(this.library, this.rom, battery, sectors) : Session.begin(this.library, this.rom, sectors);
       this.makeCalls();
       this.number = number;
       this.writeIndex();
@@ -555,6 +569,11 @@ export class Game {
   /** The SHA-256 of the state, as `gbkeep show` prints it. */
   state() {
     return sha256(this.session.state());
+  }
+
+  /** The battery file, as other emulators read it. */
+  battery() {
+    return this.session.battery();
   }
 
   /** The bytes of the SAVE, with everything saved. */

@@ -115,6 +115,14 @@ export class Session {
     });
   }
 
+  /** A new game that begins with a battery file, on a disk of so many sectors of zeros. */
+  static import(library, rom, battery, sectors) {
+    return library.with([rom, battery, 8], (at, file, out) => {
+      check(library.calls.gbkeep_session_import(at, BigInt(rom.length), file, BigInt(battery.length), sectors, out));
+      return new Session(library, library.long(out));
+    });
+  }
+
   /** The game that an image of a disk holds. */
   static resume(library, rom, image) {
     return library.with([rom, image, 8], (at, disk, out) => {
@@ -181,6 +189,15 @@ export class Session {
     const bytes = new Uint8Array(this.stateLength);
     this.stateInto(bytes);
     return bytes;
+  }
+
+  /** A copy of the battery file, as other emulators read it. Refused for a cartridge without battery. */
+  battery() {
+    const length = Number(this.library.calls.gbkeep_session_battery_length(this.at));
+    return this.library.with([length], (at) => {
+      check(this.library.calls.gbkeep_session_battery(this.at, at, BigInt(length)));
+      return this.library.bytes(at, length).slice();
+    });
   }
 
   /** Copies the state into bytes of its length. */

@@ -208,8 +208,13 @@ function rowOf(row) {
   buttons.append(button(row.isBegun ? 'Go on' : 'Begin', `Go on with ${name}`, () => play({ id: row.id })));
   if (row.play) {
     buttons.append(button('Take the SAVE out', `Take the SAVE of ${name} out`, () => takeOut(row.id, row.play, name)),
+      button('Take the battery file out', `Take the battery file of ${name} out, for other emulators`, () => takeBatteryOut(row.id, row.play, name)),
       button('New game', `Begin ${name} anew; the present game is kept`, () => play({ id: row.id, anew: true })));
   }
+  buttons.append(button('New game with a battery file', `Begin ${name} with the battery file of another emulator; the present game is kept`, () => {
+    batteryIsFor = row.id;
+    $('battery-file').click();
+  }));
   buttons.append(button('Delete', `Delete ${name}`, async () => {
     if (await questioned(`Delete ${name}, with its SAVE, its slot and all that is kept of it, from this browser? This can't be undone.`)) {
       await ask('deleteGame', { id: row.id });
@@ -273,6 +278,11 @@ async function takeOut(id, number, name) {
   say('closed', `The SAVE of ${name} was taken out.`);
 }
 
+async function takeBatteryOut(id, number, name) {
+  leave(await ask('batteryOf', { id, number }), fileName(name, '.sav'));
+  say('closed', `The battery file of ${name} was taken out.`);
+}
+
 // ---- a game
 
 async function play(what) {
@@ -280,7 +290,8 @@ async function play(what) {
   await closed();
   let got;
   try {
-    got = await ask('open', { ...what, paused: isTest, max: isMax, test: isTest }, what.rom ? [what.rom.buffer] : []);
+    const moved = [what.rom, what.battery].filter(Boolean).map((bytes) => bytes.buffer);
+    got = await ask('open', { ...what, paused: isTest, max: isMax, test: isTest }, moved);
   } catch (error) {
     say('refused', lineOf(error));
     show('games');
@@ -296,8 +307,9 @@ async function play(what) {
   resized();
   paused(isTest);
   shown(got);
-  if (got.notice) {
-    say(stateNow(), got.notice);
+  const notices = [what.battery && 'The game begins with the battery file.', got.notice].filter(Boolean);
+  if (notices.length > 0) {
+    say(stateNow(), notices.join(' '));
   }
   $('screen').focus();
   askToKeep();
@@ -383,6 +395,10 @@ const does = {
     leave(await ask('image'), fileName(playing.name, '.gbkeep'));
     say(stateNow(), 'The SAVE was taken out.');
   },
+  async 'Export battery'() {
+    leave(await ask('battery'), fileName(playing.name, '.sav'));
+    say(stateNow(), 'The battery file was taken out.');
+  },
 };
 
 /** Does what a key or a button says, while a game is open. */
@@ -467,40 +483,56 @@ function sayKept(isKept) {
 
 // ---- files
 
+// the game of the list that a battery file is being chosen for
+let batteryIsFor = null;
+
+/** A file of the visitor's: its name and its bytes. */
+async function readOf(file) {
+  if (file.size > MOST_FILE) {
+    throw Refused.of(ROM_LENGTH);
+  }
+  try {
+    return { name: file.name, bytes: new Uint8Array(await file.arrayBuffer()) };
+  } catch {
+    throw Refused.own('read');
+  }
+}
+
+/** What a file is. A battery file has no mark of its own, and is told by its name. */
+async function kindOf({ name, bytes }) {
+  if (await ask('isSave', { bytes })) {
+    return 'save';
+  }
+  return /\.(sav|srm)$/i.test(name) ? 'battery' : 'cart';
+}
+
 async function take(files) {
-  const read = [];
+  const first = {};
   for (const file of files) {
-    if (file.size > MOST_FILE) {
-      throw Refused.of(ROM_LENGTH);
-    }
-    try {
-      read.push({ name: file.name, bytes: new Uint8Array(await file.arrayBuffer()) });
-    } catch {
-      throw Refused.own('read');
-    }
+    const one = await readOf(file);
+    first[await kindOf(one)] ??= one;
   }
-  const saves = [];
-  const carts = [];
-  for (const one of read) {
-    (await ask('isSave', { bytes: one.bytes }) ? saves : carts).push(one);
+  const { cart, battery, save } = first;
+  if (battery && !cart) {
+    throw Refused.own('battery');
   }
-  if (carts.length > 0) {
-    await begin(carts[0]);
+  if (cart) {
+    await begin(cart, battery);
   }
-  if (saves.length > 0) {
+  if (save) {
     await closed();
     show('games');
-    const id = await ask('takeIn', { image: saves[0].bytes }, [saves[0].bytes.buffer]);
+    const id = await ask('takeIn', { image: save.bytes }, [save.bytes.buffer]);
     await play({ id });
   }
 }
 
-/** Begins or goes on with a cartridge. */
-async function begin({ name, bytes }) {
+/** Begins or goes on with a cartridge; with a battery file, it is begun anew. */
+async function begin({ name, bytes }, battery = null) {
   if (bytes.length > MOST_ROM) {
     throw Refused.of(ROM_LENGTH);
   }
-  await play({ rom: bytes, name });
+  await play({ rom: bytes, name, battery: battery?.bytes ?? null });
 }
 
 async function fetched(url) {
@@ -556,6 +588,8 @@ window.gbkeep = {
   picture: () => ask('picture'),
   /** The bytes of the SAVE, with everything saved. */
   exportSave: () => ask('image'),
+  /** The bytes of the battery file. */
+  exportBattery: () => ask('battery'),
 };
 
 // ---- the page begins
@@ -563,7 +597,7 @@ window.gbkeep = {
 const held = new Held($('screen'), $('pad'), $('rewind'), act);
 
 function connect() {
-  const clicks = { pause: 'Pause', 'keep-slot': 'Keep slot', 'go-back': 'Go back', power: 'Power', export: 'Export', shot: 'Picture', full: 'Full screen', help: 'Keys' };
+  const clicks = { pause: 'Pause', 'keep-slot': 'Keep slot', 'go-back': 'Go back', power: 'Power', export: 'Export', 'export-battery': 'Export battery', shot: 'Picture', full: 'Full screen', help: 'Keys' };
   for (const [id, name] of Object.entries(clicks)) {
     $(id).addEventListener('click', (event) => {
       act(name);
@@ -609,6 +643,12 @@ function connect() {
     const files = [...$('file').files];
     $('file').value = '';
     await take(files);
+  }));
+  $('battery-file').addEventListener('change', () => tried(async () => {
+    const [file] = $('battery-file').files;
+    const { bytes } = await readOf(file);
+    $('battery-file').value = '';
+    await play({ id: batteryIsFor, battery: bytes });
   }));
   $('demo').addEventListener('click', () => tried(async () => begin(await fetched(DEMO))));
   for (const kind of ['dragover', 'drop', 'dragleave']) {

@@ -14,6 +14,7 @@ const OWN = {
   gone: ['the game is not there', 'it was deleted meanwhile', 'open its cartridge'],
   load: ['gbkeep.wasm can\'t be loaded', 'it is missing on the server, or the browser refuses it', 'serve the whole folder, and open the page anew'],
   cartridge: ['the cartridge of this SAVE is not here', 'a SAVE is taken in beside its cartridge', 'open the cartridge first, then the SAVE'],
+  battery: ['the cartridge of this battery file is not known', 'the file does not name it', 'choose both files together, or a game of the list'],
   empty: ['the slot is empty', 'nothing was kept in it', 'keep the game in the slot first'],
   oldest: ['there is no older state', 'a game can be rewound by a minute at most, and not to before it was opened', 'play on'],
   closed: ['no game is open', 'there is nothing to play', 'open a cartridge'],

@@ -1,6 +1,6 @@
 // Everything that plays: the library, the game that is open, and its files. The page asks by {ask, data, call}, and is answered by {call, answer} or
 // {call, refused}. What nobody asked for is told by {tell}.
-import { Game, deleteGame, deleteImage, gamesFolder, imageOf, isSave, listGames, playImage, refusalOf, takeIn } from './games.js';
+import { Game, batteryOf, deleteGame, deleteImage, gamesFolder, imageOf, isSave, listGames, playImage, refusalOf, takeIn } from './games.js';
 import { Library } from './library.js';
 import { Refused } from './refusals.js';
 
@@ -262,11 +262,11 @@ const answers = {
     await gamesFolder();
   },
   list: listGames,
-  async open({ id = null, rom = null, name = null, anew = false, paused = false, max = false, test = false }) {
+  async open({ id = null, rom = null, name = null, anew = false, battery = null, paused = false, max = false, test = false }) {
     close();
     isTest = test;
     // a game that runs as fast as it goes would copy its states most of the time
-    game = await Game.open(await loaded(), { id, rom, name, isNew: anew, isTimed: !isTest, hasPast: !max, ask });
+    game = await Game.open(await loaded(), { id, rom, name, isNew: anew, battery, isTimed: !isTest, hasPast: !max, ask });
     stopped = null;
     isPaused = paused;
     isMax = max;
@@ -297,6 +297,7 @@ const answers = {
   state: () => guarded((one) => one.state()),
   picture: () => guarded((one) => one.picture()),
   image: () => guarded((one) => one.image()),
+  battery: () => open().battery(),
   power() {
     open().power();
     guarded(keepWhereDue);
@@ -335,6 +336,7 @@ const answers = {
   takeIn: async ({ image }) => takeIn(await loaded(), image),
   isSave: ({ bytes }) => isSave(bytes),
   imageOf: ({ id, number }) => imageOf(id, number),
+  batteryOf: async ({ id, number }) => batteryOf(await loaded(), id, number),
   playImage: ({ id, number }) => playImage(id, number),
   deleteImage: ({ id, number }) => deleteImage(id, number),
   deleteGame: ({ id }) => deleteGame(id),

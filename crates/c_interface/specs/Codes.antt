@@ -12,6 +12,7 @@ use Rattle.session.specs.declared.error.SessionError.{SessionError}
 use Rattle.session.specs.declared.error.SessionError.TheVariants as session
 use Rattle.embedding.specs.declared.error.GameError.{GameError}
 use Rattle.embedding.specs.declared.error.GameError.TheVariants as game
+use Rattle.embedding.specs.Games.{IsBatteryCause, IsImportCause}
 use Rattle.embedding.specs.Orders.{IsNewCause, IsRestoreCause}
 use Rattle.embedding.specs.declared.error.ConsoleError.{ConsoleError}
 use Rattle.embedding.specs.declared.error.ConsoleError.TheVariants.{Memory, Cart, Snapshot}
@@ -62,9 +63,12 @@ session_code session.SaveFirst = 15
 session_code session.CountFull = 14
 session_code session.Output = 19
 
+-- no battery, battery length, device size, or what a session refused
 abbrev pub game_code : GameError → ℕ
 game_code game.Memory = 1
 game_code (game.Cart fault) = cart_code fault
+game_code game.NoBattery = 20
+game_code (game.BatteryLength found needed) = 21
 game_code (game.Size bytes) = 17
 game_code (game.Session fault) = session_code fault
 
@@ -92,3 +96,15 @@ IsMadeCode rom code = (code ≡ done) ⊎ HasCode code (IsNewCause rom)
 
 abbrev pub IsRestoredCode : (rom bytes : List ℕ) → ℕ → Type 0
 IsRestoredCode rom bytes code = (code ≡ done) ⊎ HasCode code (IsRestoreCause rom bytes)
+
+-- the same of a game
+pub record HasGameCode (code : ℕ) (Cause : GameError → Type 0) : Type 0 where
+  pub why : GameError
+  pub cause : Cause why
+  pub is : code ≡ game_code why
+
+abbrev pub IsImportedCode : (rom battery : List ℕ) → (sectors : ℕ) → ℕ → Type 0
+IsImportedCode rom battery sectors code = (code ≡ done) ⊎ HasGameCode code (IsImportCause rom battery sectors)
+
+abbrev pub IsBatteryCode : (rom : List ℕ) → ℕ → Type 0
+IsBatteryCode rom code = (code ≡ done) ⊎ HasGameCode code (IsBatteryCause rom)

@@ -75,6 +75,8 @@ pub fn game_code(why: GameError) -> u32
     match why {
         GameError::Memory => NO_MEMORY,
         GameError::Cart(why) => cart_code(why),
+        GameError::NoBattery => 20,
+        GameError::BatteryLength { .. } => 21,
         GameError::Size(_) => 17,
         GameError::Session(why) => session_code(why),
     }

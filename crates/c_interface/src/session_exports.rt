@@ -1,7 +1,7 @@
 //! The exports of a session.
 
 ghost use Rattle.std.specs.Prelude.{◌≡◌, ◌++◌, ◌∷◌, ◌+◌, ◌⊎◌, [], length, take, slice_get, Some, None, true, false};
-ghost use Rattle.cartridge.specs.Header.{ram_length_of};
+ghost use Rattle.cartridge.specs.Header.{has_battery, ram_length_of};
 ghost use Rattle.machine.specs.Machine.{Frame, Seconds, Power, State, start, applied, picture_rows};
 ghost use Rattle.snapshot.specs.Encoding.{encoded, snapshot_length};
 ghost use Rattle.log_format.specs.Content.{content, need};
@@ -10,11 +10,13 @@ ghost use Rattle.session.specs.Accessors.{device_of, machine_of, rom_of, pending
 ghost use Rattle.session.specs.Calls.{IsAtRest};
 ghost use Rattle.session.specs.Inputs.{can_be_logged, entry_of, inputs_of};
 ghost use Rattle.session.specs.Stands.{stands, StandsBetween};
+ghost use Rattle.battery_files.specs.Battery.{battery_length, battery_of};
+ghost use Rattle.battery_files.specs.Importing.{start_with};
 ghost use Rattle.embedding.specs.Orders.{shades_of};
-ghost use Rattle.embedding.specs.Games.{IsFrom};
+ghost use Rattle.embedding.specs.Games.{IsFrom, IsTaken};
 ghost use Rattle.embedding.specs.HostDevices.{calls_of, host_disk};
 ghost use Rattle.embedding.specs.declared.host_device.Call.TheVariants.{Write, Sync};
-ghost use Rattle.c_interface.specs.Codes.{done, no_call, a_write, a_sync};
+ghost use Rattle.c_interface.specs.Codes.{done, no_call, a_write, a_sync, IsBatteryCode, IsImportedCode};
 
 use crate::codes::{DONE, NO_MEMORY, game_code, session_code};
 use crate::session_handle::SessionHandle;
@@ -76,6 +78,35 @@ pub extern "C" fn gbkeep_begin_session(
     ensures first { result ≡ done → out.new.value.handed ≡ 0 }
 {
     let game = match Game::begin(alloc, rom, sectors) {
+        Ok(game) => game,
+        Err(why) => return game_code(why),
+    };
+    let Ok(held) = Box::new(alloc, game) else {
+        return NO_MEMORY;
+    };
+    *out = SessionHandle::of(held);
+    DONE
+}
+
+/// Begins a game with the RAM and the clocks of a battery file, on a device of so many zero sectors. A refusal leaves no handle in `out`.
+#[unsafe(no_mangle)]
+pub extern "C" fn gbkeep_import_session(
+    alloc: Global,
+    rom: &[u8],
+    battery: &[u8],
+    sectors: usize,
+    out: &mut SessionHandle,
+) -> u32
+    ensures held { result ≡ done → out.new.held ≡ true }
+    ensures begun { result ≡ done → (acknowledged_of out.new.value.session ≡ 0) × (pending_of out.new.value.session ≡ []) × (is_broken out.new.value.session ≡ false) }
+    ensures machine { result ≡ done → (machine_of out.new.value.session ≡ start_with rom.now battery.now) × (rom_of out.new.value.session ≡ rom.now) }
+    ensures rests { result ≡ done → IsAtRest rom.now (host_disk (device_of out.new.value.session)) 0 [] (start_with rom.now battery.now) }
+    ensures taken { result ≡ done → IsTaken rom.now battery.now }
+    ensures step { result ≡ done → out.new.value.in_step ≡ true }
+    ensures first { result ≡ done → out.new.value.handed ≡ 0 }
+    ensures code { IsImportedCode rom.now battery.now sectors result }
+{
+    let game = match Game::import(alloc, rom, battery, sectors) {
         Ok(game) => game,
         Err(why) => return game_code(why),
     };
@@ -347,4 +378,50 @@ pub extern "C" fn gbkeep_keep_session(
     let mut game = session.into_box();
     game.state(bytes);
     *out = SessionHandle::of(game);
+}
+
+/// How many bytes the battery file has.
+#[unsafe(no_mangle)]
+pub extern "C" fn gbkeep_battery_length_session(
+    session: SessionHandle,
+    out: &mut SessionHandle,
+) -> usize
+    requires held { session.held ≡ true }
+    ensures held { out.new.held ≡ true }
+    ensures length { result ≡ battery_length (rom_of session.value.session) }
+    ensures session { out.new.value.session ≡ session.value.session }
+    ensures noted { out.new.value.noted.items ≡ session.value.noted.items }
+    ensures handed { out.new.value.handed ≡ session.value.handed }
+{
+    let game = session.into_box();
+    let bytes = game.battery_length();
+    *out = SessionHandle::of(game);
+    bytes
+}
+
+/// Writes the battery file. A refusal leaves `bytes` as they were.
+#[unsafe(no_mangle)]
+pub extern "C" fn gbkeep_battery_session(
+    alloc: Global,
+    session: SessionHandle,
+    bytes: &mut [u8],
+    out: &mut SessionHandle,
+) -> u32
+    requires held { session.held ≡ true }
+    requires room { length bytes.old ≡ battery_length (rom_of session.value.session) }
+    ensures held { out.new.held ≡ true }
+    ensures battery { result ≡ done → (has_battery (rom_of session.value.session) ≡ true) × (bytes.new ≡ battery_of (machine_of session.value.session)) }
+    ensures refused { ¬ (result ≡ done) → bytes.new ≡ bytes.old }
+    ensures code { IsBatteryCode (rom_of session.value.session) result }
+    ensures session { out.new.value.session ≡ session.value.session }
+    ensures noted { out.new.value.noted.items ≡ session.value.noted.items }
+    ensures handed { out.new.value.handed ≡ session.value.handed }
+{
+    let game = session.into_box();
+    let code = match game.battery(alloc, bytes) {
+        Ok(()) => DONE,
+        Err(why) => game_code(why),
+    };
+    *out = SessionHandle::of(game);
+    code
 }

@@ -1,9 +1,16 @@
--- The game that is taken up from an image of a device.
-use Rattle.std.specs.Prelude.{◌≡◌, ◌<◌, ◌+◌, ◌*◌, ℕ, List, length, slice_range, Some}
+-- The game that is taken up from an image of a device, and the one that begins with a battery file.
+use Rattle.std.specs.Prelude.{◌≡◌, ◌<◌, ◌+◌, ◌*◌, ℕ, List, length, slice_range, Some, true, false, ⊤}
+use Rattle.cartridge.specs.Accepted.{IsAccepted, refusal_of}
+use Rattle.cartridge.specs.Header.{has_battery, ram_length_of}
 use Rattle.machine.specs.Machine.{MachineState}
 use Rattle.sector_device.specs.DiskState.{sector_at}
 use Rattle.log_format.specs.Content.{content}
+use Rattle.session.specs.Found.{IsNewGameCause}
 use Rattle.session.specs.Stands.{stands}
+use Rattle.snapshot.specs.Encoding.{snapshot_length}
+use Rattle.battery_files.specs.Importing.{is_taken_length}
+use Rattle.embedding.specs.declared.error.GameError.{GameError}
+use Rattle.embedding.specs.declared.error.GameError.TheVariants.{Memory, Cart, NoBattery, BatteryLength, Size, Session}
 
 -- these sectors are the bytes of an image, 512 each
 pub record AreSectorsOf (image : List ℕ) (sectors : List (List ℕ)) : Type 0 where
@@ -15,3 +22,32 @@ pub record IsFrom (rom image : List ℕ) (count : ℕ) (machine : MachineState) 
   pub sectors : List (List ℕ)
   pub are : AreSectorsOf image sectors
   pub stood : stands rom (content sectors) ≡ Some (record { count = count; machine = machine })
+
+-- ---- refusals
+
+-- why an image gives no cartridge: the first rule that it breaks, or want of memory
+abbrev pub IsCartCause : (rom : List ℕ) → GameError → Type 0
+IsCartCause rom Memory = ⊤
+IsCartCause rom (Cart fault) = refusal_of rom ≡ Some fault
+IsCartCause rom why = ⊥
+
+-- the image is a cartridge, and the battery file is one that it takes
+abbrev pub IsTaken : (rom battery : List ℕ) → Type 0
+IsTaken rom battery = IsAccepted rom × (has_battery rom ≡ true) × (is_taken_length rom (length battery) ≡ true)
+
+-- Why no game begins with a battery file on a device of so many sectors: the first rule of a cartridge that the image breaks; a cartridge
+-- without battery; a file of another length; why no new game begins. Nothing is said of running out of memory.
+abbrev pub IsImportCause : (rom battery : List ℕ) → (sectors : ℕ) → GameError → Type 0
+IsImportCause rom battery sectors Memory = ⊤
+IsImportCause rom battery sectors (Cart fault) = refusal_of rom ≡ Some fault
+IsImportCause rom battery sectors NoBattery = IsAccepted rom × (has_battery rom ≡ false)
+IsImportCause rom battery sectors (BatteryLength found needed) =
+    IsAccepted rom × (has_battery rom ≡ true) × (is_taken_length rom (length battery) ≡ false) × (found ≡ length battery) × (needed ≡ ram_length_of rom)
+IsImportCause rom battery sectors (Size bytes) = ⊥
+IsImportCause rom battery sectors (Session why) = IsTaken rom battery × IsNewGameCause (snapshot_length (ram_length_of rom)) sectors why
+
+-- why a game gives no battery file: a cartridge without battery; and want of memory only where it has one
+abbrev pub IsBatteryCause : (rom : List ℕ) → GameError → Type 0
+IsBatteryCause rom Memory = has_battery rom ≡ true
+IsBatteryCause rom NoBattery = has_battery rom ≡ false
+IsBatteryCause rom why = ⊥

@@ -28,6 +28,12 @@ pub enum GameError {
     /// The image is not an accepted cartridge: the first rule that it breaks.
     #[error("{0}")]
     Cart(CartError),
+    /// The cartridge type names no battery.
+    #[error("no battery")]
+    NoBattery,
+    /// A battery file of another length than the cartridge's: its bytes, and those of the cartridge's RAM.
+    #[error("battery length {found}, {needed} needed")]
+    BatteryLength { found: u64, needed: u64 },
     /// The device's image has this many bytes, which are not whole sectors.
     #[error("device size {0}")]
     Size(u64),

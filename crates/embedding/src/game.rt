@@ -1,8 +1,8 @@
 //! A game whose disk is the host's: it hands out the calls that the host has to make.
 
-ghost use Rattle.std.specs.Prelude.{◌≡◌, ◌≤◌, ◌<◌, ◌+◌, ◌*◌, ◌++◌, ◌∷◌, [], true, false, ℕ, length, take, slice_get, slice_range, Some, None, Ok, IfOk, IfErr, IfSome, IfNone, OnOk, OnErr};
+ghost use Rattle.std.specs.Prelude.{◌≡◌, ◌≤◌, ◌<◌, ◌+◌, ◌*◌, ◌++◌, ◌∷◌, [], true, false, ℕ, List, length, take, slice_get, slice_range, Some, None, Ok, IfOk, IfErr, IfSome, IfNone, OnOk, OnErr};
 ghost use Rattle.cartridge.specs.Accepted.{IsAccepted, refusal_of};
-ghost use Rattle.cartridge.specs.Header.{ram_length_of};
+ghost use Rattle.cartridge.specs.Header.{has_battery, ram_length_of};
 ghost use Rattle.machine.specs.Machine.{Power, State, start, as_input, applied, picture_rows};
 ghost use Rattle.snapshot.specs.Encoding.{encoded, snapshot_length};
 ghost use Rattle.sector_device.specs.DiskState.{sector_at};
@@ -12,17 +12,20 @@ ghost use Rattle.session.specs.Accessors.{device_of, machine_of, rom_of, pending
 ghost use Rattle.session.specs.Calls.{IsAtRest, IsRestoreAnswer, input_answer};
 ghost use Rattle.session.specs.Inputs.{can_be_logged, entry_of, inputs_of};
 ghost use Rattle.session.specs.Stands.{stands, StandsBetween};
+ghost use Rattle.battery_files.specs.Battery.{battery_length, battery_of};
+ghost use Rattle.battery_files.specs.Importing.{IsImportCause as IsFileCause, start_with};
 ghost use Rattle.embedding.specs.Orders.{shades_of};
-ghost use Rattle.embedding.specs.Games.{IsFrom};
+ghost use Rattle.embedding.specs.Games.{IsBatteryCause, IsCartCause, IsFrom, IsImportCause, IsTaken};
 ghost use Rattle.embedding.specs.HostDevices.{calls_of, count_of, host_disk};
 
 use crate::error::GameError;
 use crate::host_device::{Call, HostDevice};
 use crate::shades::write_shades;
+use battery_files::{ImportError, battery_length, battery_of, machine_with_battery};
 use cartridge::Cartridge;
 use machine::{Input, Region};
 use sector_device::SectorDevice;
-use session::{Session, SessionError, new_game, resume, sectors_needed};
+use session::{Session, SessionError, new_game, new_game_from, resume, sectors_needed};
 use snapshot::encode;
 use std::alloc::Global;
 
@@ -45,6 +48,8 @@ pub struct Game {
 /// The cartridge in a copy of an image.
 fn read_cartridge(alloc: Global, rom: &[u8]) -> Result<Cartridge, GameError>
     ensures image { IfOk result (λ c. c ≡ rom.now) }
+    ensures accepted { IfOk result (λ c. IsAccepted rom.now) }
+    ensures cause { IfErr result (IsCartCause rom.now) }
 {
     let Ok(image) = rom.to_vec(alloc) else {
         return Err(GameError::Memory);
@@ -52,6 +57,17 @@ fn read_cartridge(alloc: Global, rom: &[u8]) -> Result<Cartridge, GameError>
     match Cartridge::read(image) {
         Ok(cartridge) => Ok(cartridge),
         Err(why) => Err(GameError::Cart(why)),
+    }
+}
+
+/// Why a battery file was not taken, as a refusal of a game.
+fn import_fault(why: ImportError) -> GameError
+    ensures { (rom battery : List ℕ) (sectors : ℕ) → IsAccepted rom → IsFileCause rom battery why → IsImportCause rom battery sectors result }
+{
+    match why {
+        ImportError::NoBattery => GameError::NoBattery,
+        ImportError::Length { found, needed } => GameError::BatteryLength { found, needed },
+        ImportError::Memory => GameError::Memory,
     }
 }
 
@@ -122,6 +138,7 @@ impl Game {
         ensures session { IfOk result (λ g. g.session ≡ session) }
         ensures step { IfOk result (λ g. g.in_step ≡ true) }
         ensures handed { IfOk result (λ g. g.handed ≡ handed) }
+        ensures cause { IfErr result (λ why. why ≡ GameError.Memory) }
     {
         let Ok(noted) = session.device().calls().to_vec(alloc) else {
             return Err(GameError::Memory);
@@ -172,6 +189,42 @@ impl Game {
         };
         match new_game(alloc, device, &cartridge) {
             Ok(session) => Game::of(alloc, session, cartridge, 0),
+            Err(refused) => Err(GameError::Session(refused.why)),
+        }
+    }
+
+    /// Begins a game with the RAM and the clocks of a battery file, on a device of so many zero sectors. The calls that begin it are the first that
+    /// the host has to make.
+    ///
+    /// Refusals, in this order: `Cart`; `NoBattery`; `BatteryLength` for a file that has neither as many bytes as the RAM nor, with a clock, 44 or
+    /// 48 more; `Session` with `TooSmall`. `Memory` comes before any of them, or between them.
+    pub fn import(
+        alloc: Global,
+        rom: &[u8],
+        battery: &[u8],
+        sectors: usize,
+    ) -> Result<Game, GameError>
+        ensures begun { IfOk result (λ g. (acknowledged_of g.session ≡ 0) × (pending_of g.session ≡ []) × (is_broken g.session ≡ false)) }
+        ensures machine { IfOk result (λ g. (machine_of g.session ≡ start_with rom.now battery.now) × (rom_of g.session ≡ rom.now)) }
+        ensures rests { IfOk result (λ g. IsAtRest rom.now (host_disk (device_of g.session)) 0 [] (start_with rom.now battery.now)) }
+        ensures taken { IfOk result (λ g. IsTaken rom.now battery.now) }
+        ensures cause { IfErr result (IsImportCause rom.now battery.now sectors) }
+        ensures step { IfOk result (λ g. g.in_step ≡ true) }
+        ensures first { IfOk result (λ g. g.handed ≡ 0) }
+    {
+        let cartridge = match read_cartridge(alloc, rom) {
+            Ok(cartridge) => cartridge,
+            Err(why) => return Err(why),
+        };
+        let machine = match machine_with_battery(alloc, &cartridge, battery) {
+            Ok(machine) => machine,
+            Err(why) => return Err(import_fault(why)),
+        };
+        let Ok(device) = HostDevice::new(alloc, sectors) else {
+            return Err(GameError::Memory);
+        };
+        match new_game_from(alloc, device, &cartridge, machine) {
+            Ok(begun) => Game::of(alloc, begun, cartridge, 0),
             Err(refused) => Err(GameError::Session(refused.why)),
         }
     }
@@ -323,6 +376,32 @@ impl Game {
     {
         self.session.draw_late();
         encode(self.session.machine(), bytes);
+    }
+
+    /// The bytes of the battery file: those of the cartridge's RAM, and 48 more for the clock of MBC3.
+    pub fn battery_length(&self) -> usize
+        ensures { result ≡ battery_length (rom_of self.now.session) }
+    {
+        battery_length(&self.cartridge)
+    }
+
+    /// Writes the battery file of the machine after all inputs, saved and unsaved. Condition: there are as many bytes as `battery_length` says.
+    ///
+    /// Refusals, in this order: `NoBattery`; `Memory`.
+    pub fn battery(&self, alloc: Global, bytes: &mut [u8]) -> Result<(), GameError>
+        requires { length bytes.old ≡ battery_length (rom_of self.now.session) }
+        ensures battery { OnOk result ((has_battery (rom_of self.now.session) ≡ true) × (bytes.new ≡ battery_of (machine_of self.now.session))) }
+        ensures refused { OnErr result (bytes.new ≡ bytes.old) }
+        ensures cause { IfErr result (IsBatteryCause (rom_of self.now.session)) }
+    {
+        if !self.cartridge.has_battery() {
+            return Err(GameError::NoBattery);
+        }
+        let Ok(file) = battery_of(alloc, self.session.machine()) else {
+            return Err(GameError::Memory);
+        };
+        bytes.copy_from_slice(&file);
+        Ok(())
     }
 
     /// Takes up the game that an image of a device stands for. The calls that begin its new generation are the first that the host has to make,
