@@ -11,55 +11,77 @@ from pathlib import Path
 
 HERE = Path(__file__).resolve().parent
 sys.path[:0] = [str(HERE.parent / 'players'), '/usr/share/gbkeep']
-from gbkeep import DOWN, LEFT, RIGHT, START, UP, Machine
+from gbkeep import DOWN, LEFT, RIGHT, SLOTS, START, UP, Machine
 
 CART = HERE / 'demo/demo.gb'
 WAYS = (RIGHT, LEFT, UP, DOWN)
 # the frames that a way is held
 HELD = 6
-# where the game keeps its player's place: across, then down
-PLACE = 0xc001
+# what the game holds of itself: the second byte is the player's place across, the third down
+VARIABLES, VARIABLE_BYTES = 0xc000, 16
 machine = None
+# the numbers under which the machine keeps states, by the ways that lead to each, in order
+kept = {(): 0}
 
 
 def begun():
-    """The state in which the search begins: the game has been started."""
-    with Machine(CART) as first:
-        first.frames(0, 60)
-        first.frames(START, 4)
-        first.frames(0, 60)
-        return first.state()
+    """A machine in which the game has been started, which is kept under 0."""
+    first = Machine(CART)
+    first.frames(0, 60)
+    first.frames(START, 4)
+    first.frames(0, 60)
+    first.keep(0)
+    return first
+
+
+def number_of(ways):
+    """The number under which the machine after these ways is kept."""
+    if ways not in kept:
+        before = number_of(ways[:-1])
+        machine.back(before)
+        machine.frames(ways[-1], HELD)
+        # the one that was kept first makes room
+        number = len(kept) if len(kept) < SLOTS else kept.pop(next(one for one in kept if one))
+        machine.keep(number)
+        kept[ways] = number
+    return kept[ways]
 
 
 def tries(beam):
-    """Each way from each of these states: how good it is, the ways up to it, and the state."""
+    """Each way from each of these states: how good it is, the ways up to it, and what the game holds of it."""
     global machine
     if machine is None:
         # one in each process
-        machine = Machine(CART)
+        machine = begun()
     found = []
-    for ways, state in beam:
+    for ways in beam:
+        number = number_of(ways)
         for way in WAYS:
-            machine.restore(state)
+            machine.back(number)
             machine.frames(way, HELD)
-            across, down = machine.memory(PLACE, 2)
-            found.append((across + down, [*ways, way], machine.state()))
+            held = machine.memory(VARIABLES, VARIABLE_BYTES)
+            found.append((value_of(held), (*ways, way), held))
     return found
 
 
+def value_of(held):
+    """The player's place, across and down."""
+    return held[1] + held[2]
+
+
 def best_of(found, count):
-    """The best of these, one for each place that they are good for, as a beam."""
+    """The best of these, one of those that the game can't tell apart, as a beam."""
     seen, beam = set(), []
-    for value, ways, state in sorted(found, key=lambda one: (-one[0], one[1])):
-        if state not in seen:
-            seen.add(state)
-            beam.append((ways, state))
+    for value, ways, held in sorted(found, key=lambda one: (-one[0], one[1])):
+        if held not in seen:
+            seen.add(held)
+            beam.append(ways)
     return beam[:count]
 
 
 def searched(rounds, count, workers):
     """The best ways, how good they are, and how many were tried."""
-    beam, tried, best = [([], begun())], 0, 0
+    beam, tried, best = [()], 0, 0
     with concurrent.futures.ProcessPoolExecutor(workers) as pool:
         for _ in range(rounds):
             parts = [beam[at::workers] for at in range(workers)]
@@ -67,18 +89,15 @@ def searched(rounds, count, workers):
             tried += len(found)
             best = max(value for value, _, _ in found)
             beam = best_of(found, count)
-    return beam[0][0], best, tried
+    return beam[0], best, tried
 
 
 def played(ways):
     """How good these ways are from power-on."""
-    with Machine(CART) as again:
-        again.frames(0, 60)
-        again.frames(START, 4)
-        again.frames(0, 60)
+    with begun() as again:
         for way in ways:
             again.frames(way, HELD)
-        return sum(again.memory(PLACE, 2))
+        return value_of(again.memory(VARIABLES, VARIABLE_BYTES))
 
 
 if __name__ == '__main__':

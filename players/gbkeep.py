@@ -39,6 +39,8 @@ PIECE = 4096
 MOST_UNREAD = 1 << 20
 # a state of a cartridge with the most RAM is shorter
 MOST_STATE, STATE_HEAD = 1 << 20, b'GBSNAP01'
+# the numbers under which a machine keeps its states are below it
+SLOTS = 1000
 # 2.3 MiB: ten hours of play with ten changes of buttons a second
 RECORDING_SECTORS = 4_800
 
@@ -325,15 +327,18 @@ class Machine:
     """A machine to try things out with, from power-on or, with a SAVE, from its game: nothing that is done here is saved.
 
     What is given goes to the program in order, many lines at once, and what it answers is compared; so a refusal may be raised by a later call. `state`,
-    `restore`, `memory`, `picture` and `settle` wait until all is done. A state is bytes: it can be given to another `Machine` of the same cartridge, in
-    another process or on another computer."""
+    `restore`, `memory`, `picture` and `settle` wait until all is done. `keep` and `back` are the fastest way to try much from one place. A state is bytes: it
+    can be given to another `Machine` of the same cartridge, in another process or on another computer."""
 
     def __init__(self, cart, save=None, program=None):
         words = ['debug', '--', str(cart)] + ([str(save)] if save else [])
         self.process = started([str(program or find_program()), *words], stdin=subprocess.PIPE, stdout=subprocess.PIPE, stderr=subprocess.PIPE, bufsize=0)
         self.input, self.output = self.process.stdin.fileno(), self.process.stdout.fileno()
+        # a write takes what there is room for, so that a state goes in a few pieces and no write waits for a program that waits to be read
+        os.set_blocking(self.input, False)
         # the lines that are not given yet, the answers that are known and did not come yet, and those that came
         self.lines, self.known, self.unread = bytearray(), bytearray(), bytearray()
+        self.kept = set()
         if save:
             with ended(self.process):
                 if not self._line().startswith(b'resumed '):
@@ -357,6 +362,23 @@ class Machine:
         if not 0 <= count <= MOST_SECONDS:
             raise ValueError(f'no seconds: {count}')
         self._ask(b'seconds %d\n' % count, b'done\n')
+
+    def power(self):
+        """The power switch, off and on. With a battery the cartridge's RAM stays, and its clock goes on."""
+        self._ask(b'power\n', b'done\n')
+
+    def keep(self, number):
+        """Keeps the machine under a number, 0 to 999, for `back`: in this process, until it ends, and in place of the one that was."""
+        if not 0 <= number < SLOTS:
+            raise ValueError(f'no number of a state: {number}')
+        self._ask(b'keep %d\n' % number, b'kept %d\n' % number)
+        self.kept.add(number)
+
+    def back(self, number):
+        """From now on the machine that was kept last under a number."""
+        if number not in self.kept:
+            raise ValueError(f'no state is kept under {number}')
+        self._ask(b'back %d\n' % number, b'back %d\n' % number)
 
     def state(self):
         """The machine's snapshot, as bytes."""
@@ -432,7 +454,9 @@ class Machine:
                 self._take()
             if writable:
                 try:
-                    left = left[os.write(self.input, left[:PIECE]):]
+                    left = left[os.write(self.input, left):]
+                except BlockingIOError:
+                    pass
                 except BrokenPipeError:
                     self._end()
 

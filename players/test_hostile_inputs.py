@@ -219,7 +219,8 @@ def attack_debugger(room):
         room.refused(f'a picture of no game over {target}', 'debug.py', '--do', f'picture {target}', 'demo.gb', 'demo.sym')
     for line in (f'step {NINES}', f'until {NINES} 0150', f'memory {NINES} 3', f'list 0150 {NINES}', f'history {NINES}', 'x' * 100_000, 'until \x1b[31m', '\x1b]0;x\x07', f'seconds {NINES}',
                  'picture a\0b', 'picture ' + 'x' * 5000, f'until {"f" * 5000}:4000', f'until-change {NINES} C000', f'over {NINES}', f'out {NINES}', 'tiles a\0b', 'map 9800 ' + 'x' * 5000,
-                 f'map {NINES} made.png', 'objects fifo', 'tiles demo.gb', 'map 9c00 run.gbkeep', 'until ' + '0150 ' * 1000):
+                 f'map {NINES} made.png', 'objects fifo', 'tiles demo.gb', 'map 9c00 run.gbkeep', 'until ' + '0150 ' * 1000,
+                 f'keep {NINES}', f'back {NINES}', 'keep 1000', 'back 0', 'keep \u0661', 'back -1', f'power {NINES}'):
         room.refused(f'the line {line[:20]!r}', 'debug.py', 'demo.gb', typed=f'{line}\n'.encode(), says='line')
     with open('/dev/zero', 'rb') as zeros:
         room.refused('zeros as lines', 'debug.py', 'demo.gb', typed=zeros)

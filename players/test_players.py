@@ -144,6 +144,35 @@ def test_machine(room):
             machine.frames(RIGHT, 20)
             machine.seconds(1)
         expect('the same inputs again', machine.state() == moved, True)
+        machine.keep(999)
+        machine.restore(first)
+        machine.keep(0)
+        machine.keep(7)
+        for number, state in ((999, moved), (0, first), (7, first), (999, moved)):
+            machine.back(number)
+            expect(f'back {number}', machine.state() == state, True)
+        machine.frames(LEFT, 9)
+        machine.keep(0)
+        other = machine.state()
+        machine.back(7)
+        machine.back(0)
+        expect('the one that was kept last', (machine.state() == other, other == first), (True, False))
+        for call, number in ((machine.back, 1), (machine.back, -1), (machine.keep, 1000), (machine.keep, -1)):
+            try:
+                call(number)
+                expect('no such number is taken', number, None)
+            except ValueError:
+                pass
+        machine.memory(0xc000, 16)
+        for step in range(3_000):
+            machine.back(step % 2 * 7)
+            machine.frame(A)
+        machine.back(999)
+        machine.power()
+        with Machine(CART, program=room.program) as fresh:
+            # the demo has a battery, and its game opened RAM
+            expect('the power switch', (machine.memory(0xc000, 256), machine.picture().shades), (fresh.memory(0xc000, 256), fresh.picture().shades))
+            expect('what a battery keeps', (machine.state()[22_607:], fresh.state()[22_607:] != moved[22_607:]), (moved[22_607:], True))
         for _ in range(20_000):
             machine.frame(A)
         machine.settle()

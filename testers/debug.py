@@ -21,7 +21,7 @@ HERE = Path(__file__).resolve().parent
 # behind what lies beside it: where it is installed, that is all
 sys.path.insert(1, str(HERE.parent / 'players'))
 import memory_pictures
-from gbkeep import MOST_FRAMES, MOST_SECONDS, MOST_STATE, PICTURE_BYTES, STATE_HEAD, Picture, Refused, find_program, line_of, started
+from gbkeep import MOST_FRAMES, MOST_SECONDS, MOST_STATE, PICTURE_BYTES, SLOTS, STATE_HEAD, Picture, Refused, find_program, line_of, started
 from input_files import WrongInput, number, printable, read_bytes
 from memory_pictures import MAP_BYTES, MAPS, OAM, OAM_BYTES, REGISTER_BYTES, REGISTERS, VRAM, VRAM_BYTES, Canvas
 from new_files import Unsafe, new_file
@@ -53,6 +53,9 @@ HELP = '''\
                       a FILE that is there has to be a picture
   state FILE          writes the machine's snapshot; a FILE that is there has to be one
   restore FILE        makes the machine the one of the snapshot in FILE; the history is empty then
+  keep [K]            keeps the machine under K (0), up to 999, until the prompt ends
+  back [K]            makes the machine the one that was kept under K (0); the history is empty then
+  power               the power switch, off and on: what a battery keeps stays
   digest              the SHA-256 of the machine's snapshot'''
 OWN_HELP = '''\
   over [N]            a step; a call is run to its return, in N steps (1,000,000)
@@ -89,7 +92,7 @@ MOST_LINE, MOST_ANSWER = 1 << 16, 1 << 12
 STACK_WORDS = 128
 CALLS, RESTARTS = (0xcd, 0xc4, 0xcc, 0xd4, 0xdc), (0xc7, 0xcf, 0xd7, 0xdf, 0xe7, 0xef, 0xf7, 0xff)
 # what moves the machine, so that the prompt shows where it is
-MOVES = ('step', 'until', 'until-op', 'until-write', 'until-read', 'until-change', 'frame', 'frames', 'over', 'out')
+MOVES = ('step', 'until', 'until-op', 'until-write', 'until-read', 'until-change', 'frame', 'frames', 'restore', 'back', 'power', 'over', 'out')
 
 
 class Wrong(Failed):
@@ -217,6 +220,7 @@ class Session:
         self.read = [*program.read, *(str(one.path) for one in (labels, source) if one.path)]
         # whether Ctrl-C was pressed while a line is done
         self.interrupted = False
+        self.kept = set()
         # whether the cartridge is taken, is known once a line is answered
         self.registers = program.ask('registers')
 
@@ -442,6 +446,25 @@ class Session:
         if not state:
             raise Wrong(f'{quoted(path)} is empty')
         return [self.program.ask(f'restore {len(state)}', state)]
+
+    def slot(self, words):
+        return count_of((few(words, 0, 1) or ['0'])[0], (0, SLOTS - 1))
+
+    def do_keep(self, words):
+        slot = self.slot(words)
+        answer = self.program.ask(f'keep {slot}')
+        self.kept.add(slot)
+        return [answer]
+
+    def do_back(self, words):
+        slot = self.slot(words)
+        if slot not in self.kept:
+            raise Wrong(f'no machine is kept under {slot}')
+        return [self.program.ask(f'back {slot}')]
+
+    def do_power(self, words):
+        few(words, 0, 0)
+        return [self.program.ask('power')]
 
     def do_digest(self, words):
         few(words, 0, 0)

@@ -258,6 +258,17 @@ def test_states(room):
         status, out, err = room.tool(CART, '--do', line)
         expect(f'the error of {line!r}', (status, out, err.startswith('debug.py: --do 1: ')), (1, '', True))
     expect('it is left', other.read_text(), 'text')
+    lines = ('frames 00 60', 'keep', 'keep 999', 'frames 80 4', 'keep 1', 'digest', 'back', 'digest', 'back 1', 'digest', 'back 999', 'digest', 'history', 'power', 'registers')
+    status, out, err = room.tool(CART, *(word for line in lines for word in ('--do', line)))
+    shown = out.splitlines()
+    told = [line for line in shown if not line.startswith('digest')]
+    expect('what is kept', (status, told[:8], err), (0, ['done', 'kept 0', 'kept 999', 'done', 'kept 1', 'back 0', 'back 1', 'back 999'], ''))
+    digests = [line for line in shown if line.startswith('digest')]
+    expect('the states', (digests[0], digests[1], digests[0] == digests[1]), (digests[2], digests[3], False))
+    expect('the power switch', (told[8:10], told[10][-20:]), (['history 0', 'done'], room.tool(CART, '--do', 'registers')[1].rstrip('\n')[-20:]))
+    for line, why in (('back 5', 'no machine is kept under 5'), ('keep 1000', 'no number from 0 to 999'), ('keep x', 'no number'), ('back 1 1', 'takes 0 to 1'), ('power 1', 'takes 0')):
+        status, out, err = room.tool(CART, '--do', line)
+        expect(f'the error of {line!r}', (status, out, err.startswith('debug.py: --do 1: '), why in err), (1, '', True, True))
 
 
 def test_lines(room):

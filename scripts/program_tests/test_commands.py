@@ -1,7 +1,9 @@
 """Registers and listings, games and scripts, streams, recordings, battery files, debuggers, traces, and what words the program understands."""
 import os
+import resource
+import subprocess
 
-from room import COUNTS, DISPATCHES, LOOP, PGM, PICTURE, SECTORS, SENDS, SUM, WAKES
+from room import COUNTS, DISPATCHES, LOOP, PGM, PICTURE, SECONDS, SECTORS, SENDS, SUM, WAKES
 
 
 # ---- registers, listings and headers
@@ -550,6 +552,55 @@ def test_a_state_is_given_back(room):
     room.done('debug state.gb', 'wrong 1\nwrong 2\nwrong 3\nwrong 4\nwrong 5\nwrong 6\n', 'restore\nrestore 0\nrestore 1048577\nrestore x\nrestore 1 1\nrestore 4294967297\n')
     room.rom('state.2.gb', SENDS, {0x147: 0x10, 0x149: 2, 0x14f: 1})
     room.expect('of a changed ROM it is a state', room.printed('debug state.2.gb', given + b'registers\n')[:9], b'restored\n')
+
+
+def test_states_are_kept(room):
+    """A machine that is kept is gone on from as often as is wanted; a number has the one that was kept last; there are 1,000 numbers."""
+    room.rom('kept.gb', SENDS, {0x147: 0x10, 0x149: 2})
+    digests = [room.printed('debug kept.gb', text + 'digest\n').splitlines()[-1] for text in ('', 'frames 00 2\n', 'frames 00 2\nframe 80\n', 'frames 00 2\nseconds 9\n')]
+    room.expect('four states', len(set(digests)), 4)
+    lines = 'keep 0\nframes 00 2\nkeep 999\nframe 80\ndigest\nback 999\ndigest\nseconds 9\nkeep 7\ndigest\nback 0\ndigest\nback 999\ndigest\nback 7\ndigest\nkeep 0\nback 0\ndigest\n'
+    names = iter(digests[at].decode() for at in (2, 1, 3, 0, 1, 3, 3))
+    words = {'digest': lambda: next(names), 'frame': lambda: 'done', 'frames': lambda: 'done', 'seconds': lambda: 'done'}
+    wanted = [words[line.split()[0]]() if line.split()[0] in words else line.replace('keep', 'kept') for line in lines.splitlines()]
+    room.done('debug kept.gb', ''.join(f'{line}\n' for line in wanted), lines)
+    # the history is empty then, and what was sent before is told still
+    room.done('debug kept.gb', 'kept 1\n0100 3E41   LD A,41\nhistory 1\n0100 3E41   LD A,41\ndone\nback 1\nhistory 0\nserial 1\nA\nserial 0\n\n',
+              'keep 1\nstep 1\nhistory 9\nframe 00\nback 1\nhistory 9\nserial\nserial\n')
+    room.done('debug kept.gb', 'wrong 1\nkept 5\nwrong 3\nback 5\nwrong 5\n', 'back 5\nkeep 5\nback 6\nback 0000000005\nback 4\n')
+    wrong = ['keep', 'keep ', 'keep 1000', 'keep -1', 'keep x', 'keep 1 1', 'keep 4294967296', 'keep 00000000001', 'Keep 1', 'back', 'back 1000', 'back  1', 'back 1 ', 'power 1', 'power ', 'Power']
+    room.done('debug kept.gb', ''.join(f'wrong {number}\n' for number in range(1, len(wrong) + 1)), '\n'.join(wrong))
+    every = ''.join(f'keep {number}\nseconds 1\n' for number in range(1000)) + ''.join(f'back {number}\ndigest\n' for number in (0, 1, 2, 998, 999))
+    told = room.printed('debug kept.gb', every).splitlines()
+    room.expect('each number', (told[:4], told[2000::2], told[2001], told[2005]),
+                ([b'kept 0', b'done', b'kept 1', b'done'], [b'back 0', b'back 1', b'back 2', b'back 998', b'back 999'], digests[0], room.printed('debug kept.gb', 'seconds 2\ndigest\n').splitlines()[-1]))
+    # a thousand states take 30 MB: where they are refused, each line before is answered, and no part of that one
+    for most, whole in ((24, False), (200, True)):
+        done = subprocess.run([room.program, 'debug', 'kept.gb'], input=every.encode(), capture_output=True, cwd=room.folder, timeout=SECONDS,
+                              preexec_fn=lambda: resource.setrlimit(resource.RLIMIT_AS, (most << 20, most << 20)))
+        answers = done.stdout.splitlines()
+        room.expect(f'within {most} MiB', (done.returncode, done.stderr, answers == told[:len(answers)], len(answers) % 2, 0 < len(answers) < len(told)),
+                    (0, b'', True, 0, False) if whole else (1, b'gbkeep: no memory\n', True, 0, True))
+
+
+def test_the_power_is_switched(room):
+    """RAM and clock stay where there is a battery; all else is as at power-on, and the debugger keeps what it has."""
+    # opens RAM, counts up at A001 and C001, and waits
+    code = '3e0a ea0000 fa01a0 3c ea01a0 ea01c0 18fe'
+    start = 'A=01 F=80 B=00 C=13 D=00 E=D8 H=01 L=4D SP=FFFE PC=0100 IME=0'
+    for kind, has_battery in ((0x02, False), (0x03, True), (0x06, True), (0x05, False), (0x08, False), (0x09, True), (0x10, True), (0x12, False), (0x13, True), (0x1a, False), (0x1b, True), (0x1d, False), (0x1e, True)):
+        room.rom('power.gb', code, {0x147: kind, 0x149: 2})
+        counted = [('F' if kind in (0x05, 0x06) else '0') + str(count) for count in (1, 2 if has_battery else 1)]
+        out = room.printed('debug power.gb', 'frame 00\nmemory A001 1\nmemory C001 1\nstep 1\npower\nhistory 9\nmemory C001 1\nregisters\nframe 00\nmemory A001 1\n').decode().splitlines()
+        room.expect(f'the switch of type {kind:02X}', [*out[1:3], *out[4:8], out[9]],
+                    [f'A001 {counted[0]}', f'C001 {counted[0]}', 'done', 'history 0', 'C001 00', start, f'A001 {counted[1]}'])
+    room.rom('power.clock.gb', LOOP, {0x147: 0x10, 0x149: 2})
+    state = room.printed('debug power.clock.gb', 'seconds 3661\npower\nstate\n')
+    state = state[state.index(b'GBSNAP01'):]
+    room.expect('the clock goes on', state[57:62], bytes([1, 1, 1, 0, 0]))
+    room.rom('power.none.gb', SENDS)
+    room.expect('all else is as at power-on', room.printed('debug power.none.gb', 'frames 80 9\npower\ndigest\n').splitlines()[-1], room.printed('debug power.none.gb', 'digest\n').splitlines()[-1])
+    room.done('debug power.none.gb', 'done\nkept 3\ndone\nserial 1\nA\nback 3\n', 'frames 00 2\nkeep 3\npower\nserial\nback 3\n')
 
 
 def test_a_game_keeps_nothing_of_a_debugger(room):

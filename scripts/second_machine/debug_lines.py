@@ -13,6 +13,7 @@ SPAN = rb'(' + HEX + rb'{1,4}(?: ' + HEX + rb'{1,4})?)'
 
 def steps(word): return within(word, 1, 4294967295)
 def room(word): return within(word, 1, 65536)
+def slot(word): return within(word, 0, 999)
 def byte(word): return int(word, 16)
 def address(word): return int(word, 16)
 
@@ -52,10 +53,15 @@ FORMS = [(re.compile(form), name, readers) for form, name, readers in (
     (rb'memory ' + ADDRESS + b' ' + COUNT, 'memory', (address, room)),
     (rb'serial', 'serial', ()),
     (rb'picture', 'picture', ()),
+    (rb'power', 'power', ()),
+    (rb'keep ' + COUNT, 'keep', (slot,)),
+    (rb'back ' + COUNT, 'back', (slot,)),
     (rb'state', 'state', ()),
     (rb'digest', 'digest', ()))]
 RESTORE = re.compile(rb'restore ' + COUNT)
 MOST_GIVEN = 1048576
+# the cartridge types whose RAM and clock a battery keeps
+BATTERIES = (0x03, 0x06, 0x09, 0x0F, 0x10, 0x13, 0x1B, 0x1E)
 
 
 def order_of(line):
@@ -142,6 +148,26 @@ def restored(m, data):
     return True
 
 
+def values_of(m, but=('sent',)):
+    """All that a machine holds, but its ROM."""
+    return {name: copy.deepcopy(value) for name, value in vars(m).items() if name not in ('ops', 'rom', *but)}
+
+
+def take_up(m, values):
+    for name, value in copy.deepcopy(values).items():
+        if name == 'r': m.r[:] = value      # the operations hold this list
+        else: setattr(m, name, value)
+
+
+def powered(m):
+    """Switches the power off and on. What was sent is told still."""
+    fresh = ref.Machine(m.rom)
+    fresh.draws = m.draws
+    if m.rom[0x147] in BATTERIES:
+        fresh.cram, fresh.live, fresh.latched = m.cram, m.live, m.latched
+    take_up(m, values_of(fresh))
+
+
 def pass_seconds(m, count):
     """So many seconds of the clock, at once where no register is beyond its range."""
     c = m.live
@@ -168,6 +194,7 @@ class Debugger:
         machine.draws = True
         machine.sent.clear()
         self.history = collections.deque(maxlen=MOST_HISTORY)
+        self.kept = {}
 
     def step(self):
         line = self.m.trace_line()
@@ -198,14 +225,12 @@ class Debugger:
     def until_access(self, limit, first, last, is_write):
         """Up to the step that accesses one of these addresses: a first run counts the steps before it, and a second one makes them."""
         m = self.m
-        before = {name: copy.deepcopy(value) for name, value in vars(m).items() if name not in ('ops', 'rom')}
+        before = values_of(m, but=())
         m.step()
         made = 1
         while made < limit and not any(first <= at <= last for at in m.accesses()[is_write]):
             made += 1
-        for name, value in before.items():
-            if name == 'r': m.r[:] = value      # the operations hold this list
-            else: setattr(m, name, value)
+        take_up(m, before)
         for _ in range(made):
             self.step()
         return '%s %04X\n' % ('stopped' if made < limit else 'limit', m.pc)
@@ -237,7 +262,7 @@ class Debugger:
         return 'done\n'
 
     def obeyed(self, name, *words):
-        """Does what an order asks for, and gives its answer."""
+        """Does what an order asks for, and gives its answer; None where the line is wrong after all."""
         m = self.m
         if name == 'step': return ''.join(self.step() for _ in range(words[0]))
         if name == 'until': return self.until(words[0], lambda: self.is_at(words[1]))
@@ -260,6 +285,19 @@ class Debugger:
         if name == 'memory': return self.memory(*words)
         if name == 'serial': return self.serial()
         if name == 'picture': return m.picture()
+        if name == 'power':
+            powered(m)
+            self.history.clear()
+            return 'done\n'
+        if name == 'keep':
+            self.kept[words[0]] = values_of(m)
+            return 'kept %d\n' % words[0]
+        if name == 'back':
+            if words[0] not in self.kept:
+                return None
+            take_up(m, self.kept[words[0]])
+            self.history.clear()
+            return 'back %d\n' % words[0]
         if name == 'state':
             data = snapshot(m)
             return b'state %d\n' % len(data) + data
@@ -301,7 +339,9 @@ WRONG = [b'step', b'step 0', b'step 4294967296', b'step 00000000001', b'step -1'
          b'history', b'history 0', b'history 65537', b'history 1 1', b'list 100', b'list 100 0', b'list 100 65537', b'list 10000 1', b'list  1', b'list g 1',
          b'memory 0', b'memory 0 0', b'memory 0 65537', b'memory 00000 1', b'memory -1 1', b'memory 1 1 1', b'memory 0x10 1', b'serial 1', b'serial\0', b'picture 1',
          b'state 0', b'state\r', b'digest 0', b'digest ', b'Digest', b'restore', b'restore ', b'restore 0', b'restore 1048577', b'restore 4294967296', b'restore -1',
-         b'restore x', b'restore 1 1', b'restore  1', b'Restore 1', b'restore 00000000001', b'save', b'resume', b'quit', b' ', b'  ', b'\r', b'\0', b'\xff', b'\xc3\xa9', b'step \xd9\xa1', b'x' * 128, b'x' * 129,
+         b'restore x', b'restore 1 1', b'restore  1', b'Restore 1', b'restore 00000000001',
+         b'power ', b'power 1', b'Power', b'keep', b'keep ', b'keep 1000', b'keep -1', b'keep 1 1', b'keep 00000000001', b'keep x', b'Keep 1', b'keep  1', b'back',
+         b'back ', b'back 1000', b'back 4294967296', b'back 1 1', b'back  1', b'back 0x1', b'back +1', b'save', b'resume', b'quit', b' ', b'  ', b'\r', b'\0', b'\xff', b'\xc3\xa9', b'step \xd9\xa1', b'x' * 128, b'x' * 129,
          b'registers' + b' ' * 119, b'registers' + b' ' * 120, b'0' * 1023, b'0' * 1024, b'0' * 1025, b's' * 5000]
 
 
@@ -333,7 +373,7 @@ def a_line(rnd, most, seen):
         last = min(first + rnd.choice([0, 1, 15, 255, rnd.randrange(65536)]), 0xFFFF)
         return rnd.choice(['%04X %04x' % (first, last), '%X' % first])
 
-    choice = rnd.randrange(20)
+    choice = rnd.randrange(23)
     if choice < 2: return 'step ' + count(most // 4 + 1)
     if choice < 4: return 'until %s %s' % (count(most), ' '.join(banked() for _ in range(rnd.choice([1, 1, 2, 3, 12]))))
     if choice < 6: return 'until-op %s %02x' % (count(most), rnd.choice([0x40, rnd.choice(opcodes), rnd.choice(opcodes), rnd.randrange(256)]))
@@ -346,6 +386,8 @@ def a_line(rnd, most, seen):
     if choice == 12: return 'until-change %s %s' % (count(most), place())
     if choice < 15: return 'until-write %s %s' % (count(most), spanned())
     if choice < 17: return 'until-read %s %s' % (count(most), spanned())
+    if choice < 20: return '%s %s' % (rnd.choice(['keep', 'back']), rnd.choice(['0', '0', '1', '00001', '999', '%d' % rnd.randrange(1000)]))
+    if choice == 20: return rnd.choice(['power', 'registers', 'digest'])
     return rnd.choice(['registers', 'serial', 'digest', 'digest'] + ['picture', 'state'] * (rnd.random() < 0.2))
 
 
@@ -401,7 +443,7 @@ def check():
 
         name, rest = words[0], words[1:]
         try:
-            if name in (b'registers', b'serial', b'picture', b'state', b'digest') and not rest: return (name.decode(),)
+            if name in (b'registers', b'serial', b'picture', b'state', b'digest', b'power') and not rest: return (name.decode(),)
             if name == b'step' and len(rest) == 1: return 'step', number(rest[0], 1, 2 ** 32 - 1)
             if name == b'history' and len(rest) == 1: return 'history', number(rest[0], 1, 2 ** 16)
             if name in (b'list', b'memory') and len(rest) == 2: return name.decode(), hexes(rest[0], 1, 4), number(rest[1], 1, 2 ** 16)
@@ -411,6 +453,7 @@ def check():
             if name in (b'until-write', b'until-read') and 2 <= len(rest) <= 3:
                 first, last = hexes(rest[1], 1, 4), hexes(rest[-1], 1, 4)
                 return (name.decode(), number(rest[0], 1, 2 ** 32 - 1), (first, last)) if last >= first else None
+            if name in (b'keep', b'back') and len(rest) == 1: return name.decode(), number(rest[0], 0, 999)
             if name == b'bank' and len(rest) == 1: return 'bank', hexes(rest[0], 1, 4)
             if name == b'frame' and len(rest) == 1: return 'frame', hexes(rest[0], 2, 2)
             if name == b'frames' and len(rest) == 2: return 'frames', hexes(rest[0], 2, 2), number(rest[1], 1, 1000000)

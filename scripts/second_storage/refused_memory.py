@@ -48,7 +48,9 @@ void *realloc(void *old, size_t size) {
     return refused() ? 0 : real_realloc(old, size);
 }
 '''
-LINES = b'frames 01 2\nsave\npicture\nseconds 3\nsave\nframe 02\n'     # what a stream reads, and a debugger, to which a save is wrong
+LINES = b'frames 01 2\nsave\npicture\nseconds 3\nsave\nframe 02\n'     # what a stream reads
+# what a debugger reads: `power` and the first `keep` of a number take memory, and the answers before that line have gone out
+DEBUGGED = LINES + b'keep 1\nkeep 999\nkeep 1\nback 999\npower\nregisters\n'
 differences = 0
 
 
@@ -74,7 +76,7 @@ def refusing(loaded, words, number):
     if os.path.exists(TOLD):
         os.remove(TOLD)
     how = {'LD_PRELOAD': loaded, 'REFUSE': str(number), 'TOLD': TOLD}
-    done = subprocess.run(words, capture_output=True, timeout=10, env=how, input=LINES)
+    done = subprocess.run(words, capture_output=True, timeout=10, env=how, input=DEBUGGED if 'debug' in words else LINES)
     return (done.returncode, done.stdout, done.stderr), os.path.exists(TOLD)
 
 

@@ -48,6 +48,9 @@ const DEBUG_LINES: &str = "Lines of the standard input, each answered before the
   picture           the picture as plain PGM, 46,093 bytes
   state             state K, and the K bytes of the machine's snapshot
   restore K         and K bytes behind it: goes on from this snapshot
+  power             the power switch, off and on: what a battery keeps stays
+  keep K            keeps the machine under K, 0 to 999
+  back K            goes on from the machine that was kept under K
   digest            the SHA-256 of the machine's snapshot";
 
 pub(crate) fn command<'a>(alloc: Global) -> Result<Command<'a>, AllocError>

@@ -12,9 +12,9 @@ use Rattle.session.specs.Stands.{Position, stands}
 use Rattle.playing.specs.Played.{IsNotTakenUp}
 use Rattle.playing.specs.Report.{resumed_line}
 use Rattle.debugging.specs.Run.{begun}
-use Rattle.debugging.specs.Debugged.{Exchange, HasAnsweredAll, HasAnsweredSome, HasBrokenOff, IsDebugCause}
+use Rattle.debugging.specs.Debugged.{Exchange, HasAnsweredAll, HasAnsweredSome, HasBrokenOff, HasLackedMemory, IsDebugCause}
 use Rattle.debugging.specs.declared.error.DebugError.{DebugError}
-use Rattle.debugging.specs.declared.error.DebugError.TheVariants.{Input as FailedInput, Output as FailedOutput}
+use Rattle.debugging.specs.declared.error.DebugError.TheVariants.{Input as FailedInput, Output as FailedOutput, Memory as LackedMemory}
 use Rattle.debug_lines.specs.declared.error.DebugRomError.{DebugRomError}
 use Rattle.debug_lines.specs.declared.error.DebugRomError.TheVariants.{Cart as RomCart, Memory as RomMemory, Debug as RomDebug}
 use Rattle.debug_lines.specs.declared.error.DebugGameError.{DebugGameError}
@@ -47,12 +47,13 @@ abbrev pub IsBegunAndDebugged : (inputs : ℕ) → MachineState → Exchange →
 IsBegunAndDebugged inputs machine io = (rest : Exchange) × IsBegun inputs io rest × HasAnsweredAll (begun machine) rest
 
 -- Why not all lines were answered: the input failed after some of them; or the output, which has a proper prefix of the line of the game or,
--- after it, of the answers.
+-- after it, of the answers; or there was no memory for a line.
 abbrev pub IsBegunAndBroken : DebugError → (inputs : ℕ) → MachineState → Exchange → Type 0
 IsBegunAndBroken FailedInput inputs machine io = (rest : Exchange) × IsBegun inputs io rest × HasAnsweredSome (begun machine) rest
 IsBegunAndBroken FailedOutput inputs machine io =
     ((io.left ≡ io.unread) × AppendsProperPrefix io.before io.since (resumed_line inputs).text)
     ⊎ ((rest : Exchange) × IsBegun inputs io rest × HasBrokenOff (begun machine) rest)
+IsBegunAndBroken LackedMemory inputs machine io = (rest : Exchange) × IsBegun inputs io rest × HasLackedMemory (begun machine) rest
 
 -- why a machine of this ROM was not debugged to the end
 abbrev pub IsNotDebugged : (rom : List ℕ) → (inputs : ℕ) → MachineState → Exchange → DebugGameError → Type 0

@@ -91,7 +91,7 @@ fn debug_machine<R: Read, W: Write>(
     if let Err(_) = write_resumed(out, inputs) {
         return Err(DebugGameError::Debug(DebugError::Output));
     }
-    match debugger.obey(cartridge, input, out) {
+    match debugger.obey(alloc, cartridge, input, out) {
         Ok(()) => Ok(()),
         Err(why) => Err(DebugGameError::Debug(why)),
     }

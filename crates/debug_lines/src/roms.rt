@@ -42,7 +42,7 @@ pub fn debug_rom<R: Read, W: Write>(
         Ok(debugger) => debugger,
         Err(_) => return Err(DebugRomError::Memory),
     };
-    match debugger.obey(&cartridge, input, out) {
+    match debugger.obey(alloc, &cartridge, input, out) {
         Ok(()) => Ok(()),
         Err(why) => Err(DebugRomError::Debug(why)),
     }

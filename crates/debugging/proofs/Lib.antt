@@ -11,3 +11,4 @@ pub mod Kept
 pub mod Exchanges
 pub mod Restoring
 pub mod Givens
+pub mod StatesKept

@@ -11,7 +11,7 @@ use Rattle.std.proofs.lemmas.Bool.{ltb-true, le-leb, lt-leb}
 use Rattle.std.proofs.lemmas.Int.Digits.{digits_value-lt}
 use Rattle.script.specs.Line.{words_of}
 use Rattle.debugging.specs.declared.order.Place.{Place}
-use Rattle.debugging.specs.Orders.{place_by, place_of, all_places, both, order_of_words, places_of, restore_of_words}
+use Rattle.debugging.specs.Orders.{place_by, place_of, all_places, both, order_of_words, places_of, restore_of_words, state_order_of_words}
 use Rattle.debugging.specs.Words.{words_after}
 
 -- ---- an address
@@ -174,3 +174,12 @@ restore_too_many line name word a (Some y) x p ea q more =
     let rest = split_begins (λ byte. byte == 32) y.now in
     let words : words_of line ≡ name ∷ word ∷ rest.0 ∷ rest.1 = rw (one, q, rest.2) refl in
     sym (ap restore_of_words words)
+
+pub state_too_many : (line name word : List ℕ) (a b : Option (Bor (List ℕ))) (x : Bor (List ℕ)) → IsCutAt line name a → a ≡ Some x → IsCutAt x.now word b
+    → true ≡ is_some b → None ≡ state_order_of_words (words_of line)
+state_too_many line name word a None x p ea q more = absurd (cc)
+state_too_many line name word a (Some y) x p ea q more =
+    let one = rw ea at p in
+    let rest = split_begins (λ byte. byte == 32) y.now in
+    let words : words_of line ≡ name ∷ word ∷ rest.0 ∷ rest.1 = rw (one, q, rest.2) refl in
+    sym (ap state_order_of_words words)

@@ -1,5 +1,5 @@
 -- What a debugger answers, and how it is then.
-use Rattle.std.specs.Prelude.{ℕ, zero, suc, ◌+◌, ◌*◌, ◌/◌, ◌%◌, ◌==◌, Bool, List, [], ◌∷◌, ◌++◌, codes, decimal, length, nat_lt, if◌then◌else◌, Option, None, Some}
+use Rattle.std.specs.Prelude.{ℕ, zero, suc, ◌+◌, ◌*◌, ◌/◌, ◌%◌, ◌==◌, not, is_some, Bool, true, false, List, [], ◌∷◌, ◌++◌, codes, decimal, length, nat_lt, if◌then◌else◌, Option, None, Some}
 use Rattle.std.specs.List.{flat_map}
 use Rattle.hex.specs.Hex.{encode_lower}
 use Rattle.sha2.specs.Sha256.{sha256}
@@ -18,8 +18,11 @@ use Rattle.debugger.specs.Registers.{register_line}
 use Rattle.debugger.specs.Report.{line_seen, step_lines}
 use Rattle.debugging.specs.declared.order.Order.{Order}
 use Rattle.debugging.specs.declared.order.Order.TheVariants.{Frames, Seconds, Step, Until, UntilOpcode, UntilChange, UntilWrite, UntilRead, Registers, History, List as Listing, Memory, Bank, Serial, Picture, State, Digest}
-use Rattle.debugging.specs.Orders.{order_of, restore_of}
-use Rattle.debugging.specs.States.{is_given, restored}
+use Rattle.debugging.specs.declared.order.StateOrder.{StateOrder}
+use Rattle.debugging.specs.declared.order.StateOrder.TheVariants.{Power, Keep, Back}
+use Rattle.debugging.specs.Orders.{order_of, restore_of, state_order_of}
+use Rattle.debugging.specs.States.{after_power, is_given, restored, with_machine}
+use Rattle.debugging.specs.KeptStates.{DebugState, kept_under}
 use Rattle.input_lines.specs.Given.{Given}
 use Rattle.debugging.specs.declared.order.Place.{Place}
 use Rattle.debugging.specs.declared.order.Span.{Span}
@@ -167,26 +170,65 @@ after_restore n bytes r = if is_given n bytes r then restored bytes r else r
 abbrev pub answer_restore : (n : ℕ) → (bytes : List ℕ) → (number : ℕ) → RunState → List ℕ
 answer_restore n bytes number r = if is_given n bytes r then codes "restored\n" else wrong_line number
 
-abbrev pub after_either : Option ℕ → Given → RunState → RunState
-after_either None given r = after_line given.line r
-after_either (Some n) given r = after_restore n given.bytes r
+-- ---- the power switch, and states that are kept
 
-abbrev pub answer_either : Option ℕ → Given → (number : ℕ) → RunState → List ℕ
-answer_either None given number r = answer_line given.line number r
-answer_either (Some n) given number r = answer_restore n given.bytes number r
+-- where no machine is kept under a number, nothing is done
+abbrev pub after_back : Option MachineState → DebugState → DebugState
+after_back None d = d
+after_back (Some m) d = record d { run = with_machine m d.run }
 
--- a line and the bytes that it asks for
-abbrev pub after_given : Given → RunState → RunState
-after_given given r = after_either (restore_of given.line) given r
+abbrev pub answer_back : Option MachineState → (kept number : ℕ) → List ℕ
+answer_back None kept number = wrong_line number
+answer_back (Some m) kept number = count_line (codes "back") kept
 
-abbrev pub answer_given : Given → (number : ℕ) → RunState → List ℕ
-answer_given given number r = answer_either (restore_of given.line) given number r
+abbrev pub after_state_order : StateOrder → DebugState → DebugState
+after_state_order Power d = record d { run = after_power d.run }
+after_state_order (Keep n) d = record d { kept = record { number = n; machine = d.run.debugger.machine } ∷ d.kept }
+after_state_order (Back n) d = after_back (kept_under n d.kept) d
+
+abbrev pub answer_state_order : StateOrder → (number : ℕ) → DebugState → List ℕ
+answer_state_order Power number d = codes "done\n"
+answer_state_order (Keep n) number d = count_line (codes "kept") n
+answer_state_order (Back n) number d = answer_back (kept_under n d.kept) n number
+
+-- ---- lines, and the bytes that they ask for
+
+-- a line that asks for none
+abbrev pub after_plain : Option StateOrder → List ℕ → DebugState → DebugState
+after_plain None line d = record d { run = after_line line d.run }
+after_plain (Some order) line d = after_state_order order d
+
+abbrev pub answer_plain : Option StateOrder → List ℕ → (number : ℕ) → DebugState → List ℕ
+answer_plain None line number d = answer_line line number d.run
+answer_plain (Some order) line number d = answer_state_order order number d
+
+abbrev pub after_either : Option ℕ → Given → DebugState → DebugState
+after_either None given d = after_plain (state_order_of given.line) given.line d
+after_either (Some n) given d = record d { run = after_restore n given.bytes d.run }
+
+abbrev pub answer_either : Option ℕ → Given → (number : ℕ) → DebugState → List ℕ
+answer_either None given number d = answer_plain (state_order_of given.line) given.line number d
+answer_either (Some n) given number d = answer_restore n given.bytes number d.run
+
+abbrev pub after_given : Given → DebugState → DebugState
+after_given given d = after_either (restore_of given.line) given d
+
+abbrev pub answer_given : Given → (number : ℕ) → DebugState → List ℕ
+answer_given given number d = answer_either (restore_of given.line) given number d
 
 -- the answers to these lines, the first of which has this number
-unfoldable pub answers : (number : ℕ) → List Given → RunState → List ℕ
-answers number [] r = []
-answers number (given ∷ rest) r = answer_given given number r ++ answers (number + 1) rest (after_given given r)
+unfoldable pub answers : (number : ℕ) → List Given → DebugState → List ℕ
+answers number [] d = []
+answers number (given ∷ rest) d = answer_given given number d ++ answers (number + 1) rest (after_given given d)
 
-unfoldable pub after_lines : List Given → RunState → RunState
-after_lines [] r = r
-after_lines (given ∷ rest) r = after_lines rest (after_given given r)
+unfoldable pub after_lines : List Given → DebugState → DebugState
+after_lines [] d = d
+after_lines (given ∷ rest) d = after_lines rest (after_given given d)
+
+-- ---- memory
+
+-- the machine at power-on takes some, and so does the first state that is kept under a number
+abbrev pub takes_memory : Option StateOrder → DebugState → Bool
+takes_memory (Some Power) d = true
+takes_memory (Some (Keep n)) d = not (is_some (kept_under n d.kept))
+takes_memory order d = false

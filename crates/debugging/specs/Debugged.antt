@@ -1,13 +1,14 @@
 -- What a debugger reads and answers, and when it is refused.
-use Rattle.std.specs.Prelude.{◌≡◌, ◌⊎◌, ◌^◌, ◌-◌, ℕ, List, [], length, Option}
+use Rattle.std.specs.Prelude.{◌≡◌, ◌⊎◌, ◌^◌, ◌-◌, ◌++◌, ◌∷◌, ℕ, true, List, [], length, Option, None}
 use Rattle.std.specs.Io.KnownBytes.{Appends, IsAtEnd}
 use Rattle.exact_text.specs.Written.{AppendsProperPrefix}
 use Rattle.input_lines.specs.Given.{Given, HasReadGiven, IsUnfinished}
-use Rattle.debugging.specs.Orders.{asked}
+use Rattle.debugging.specs.Orders.{asked, restore_of, state_order_of}
 use Rattle.debugging.specs.Run.{RunState}
-use Rattle.debugging.specs.Answers.{answers}
+use Rattle.debugging.specs.KeptStates.{with_none_kept}
+use Rattle.debugging.specs.Answers.{after_lines, answers, takes_memory}
 use Rattle.debugging.specs.declared.error.DebugError.{DebugError}
-use Rattle.debugging.specs.declared.error.DebugError.TheVariants.{Input, Output}
+use Rattle.debugging.specs.declared.error.DebugError.TheVariants.{Input, Output, Memory}
 
 -- what goes in and out: what an input has left, and what an output holds, before and since
 pub record Exchange : Type 0 where
@@ -18,7 +19,7 @@ pub record Exchange : Type 0 where
 
 -- lines are counted from 1
 abbrev pub answers_of : RunState → List Given → List ℕ
-answers_of r given = answers 1 given r
+answers_of r given = answers 1 given (with_none_kept r)
 
 -- the most lines that are read
 abbrev pub most_lines : ℕ
@@ -47,6 +48,18 @@ pub record HasBrokenOff (r : RunState) (io : Exchange) : Type 0 where
   pub read : HasReadGiven asked given more io.unread io.left
   pub answered : AppendsProperPrefix io.before io.since (answers_of r given)
 
+-- There was no memory for a line that takes some, be it the first state under its number or the power switch: the lines before it were done, and
+-- each of them was answered, and nothing more went out.
+pub record HasLackedMemory (r : RunState) (io : Exchange) : Type 0 where
+  pub given : List Given
+  pub last : Given
+  pub plain : restore_of last.line ≡ None
+  pub takes : takes_memory (state_order_of last.line) (after_lines given (with_none_kept r)) ≡ true
+  pub more : List ℕ
+  pub read : HasReadGiven asked (given ++ last ∷ []) more io.unread io.left
+  pub answered : Appends io.before io.since (answers_of r given)
+
 abbrev pub IsDebugCause : DebugError → RunState → Exchange → Type 0
 IsDebugCause Input r io = HasAnsweredSome r io
 IsDebugCause Output r io = HasBrokenOff r io
+IsDebugCause Memory r io = HasLackedMemory r io

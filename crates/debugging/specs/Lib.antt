@@ -3,9 +3,13 @@ pub mod Banks
 pub mod Accesses
 pub mod Run
 pub mod States
+pub mod KeptStates
+pub mod Numbers
 pub mod Answers
 pub mod Debugged
 -- what only the code needs
 pub mod Words
 pub mod Quiet
 pub mod NextGiven
+pub mod Slots
+pub mod Switching

@@ -12,6 +12,8 @@ use Rattle.debugging.specs.declared.order.Place.{Place}
 use Rattle.debugging.specs.declared.order.Span.{Span}
 use Rattle.debugging.specs.declared.order.Order.{Order}
 use Rattle.debugging.specs.declared.order.Order.TheVariants.{Frames, Seconds, Step, Until, UntilOpcode, UntilChange, UntilWrite, UntilRead, Registers, History, List as Listing, Memory, Bank, Serial, Picture, State, Digest}
+use Rattle.debugging.specs.declared.order.StateOrder.{StateOrder}
+use Rattle.debugging.specs.declared.order.StateOrder.TheVariants.{Power, Keep, Back}
 
 -- ---- words
 
@@ -142,6 +144,24 @@ order_by None line = order_of_words (words_of line)
 -- None: the line is wrong. One of more than 128 bytes always is.
 abbrev pub order_of : List ℕ → Option Order
 order_of line = if nat_le (length line) 128 then order_by (move_of_line line) line else None
+
+-- ---- the power switch, and states that are kept
+
+-- the number under which a state is kept
+abbrev pub slot_of : List ℕ → Option ℕ
+slot_of word = count_of 0 999 word
+
+-- `power`, `keep N`, `back N`
+abbrev pub state_order_of_words : List (List ℕ) → Option StateOrder
+state_order_of_words (name ∷ []) = if bytes_eq name (codes "power") then Some Power else None
+state_order_of_words (name ∷ word ∷ []) =
+    if bytes_eq name (codes "keep") then option_map Keep (slot_of word)
+    else (if bytes_eq name (codes "back") then option_map Back (slot_of word) else None)
+state_order_of_words words = None
+
+-- one that is no order of this kind may be one of those above
+abbrev pub state_order_of : List ℕ → Option StateOrder
+state_order_of line = if nat_le (length line) 128 then state_order_of_words (words_of line) else None
 
 -- ---- `restore N`, which asks for N bytes behind its newline
 

@@ -1,11 +1,22 @@
--- A machine that is given as its snapshot.
+-- A run whose machine becomes another one.
 use Rattle.std.specs.Prelude.{ℕ, ◌==◌, ◌&&◌, Bool, List, [], length}
 use Rattle.std.specs.List.{list_all}
 use Rattle.cartridge.specs.Header.{ram_length_of}
+use Rattle.machine.specs.Machine.{MachineState, powered}
 use Rattle.snapshot.specs.Encoding.{snapshot_length}
 use Rattle.snapshot.specs.Reading.{machine_in}
 use Rattle.snapshot.specs.Table.{is_legal, table_of}
 use Rattle.debugging.specs.Run.{RunState, processor_of}
+
+-- with this machine; none of its instructions are kept, so the history is empty then
+abbrev pub with_machine : MachineState → RunState → RunState
+with_machine m r = record r { debugger = record r.debugger { machine = m; history = [] } }
+
+-- the power switch, off and on
+abbrev pub after_power : RunState → RunState
+after_power r = with_machine (powered r.debugger.machine) r
+
+-- ---- a machine that is given as its snapshot
 
 abbrev pub rom_of : RunState → List ℕ
 rom_of r = (processor_of r).memory.banks.rom
@@ -18,6 +29,6 @@ is_snapshot rom bytes = length bytes == snapshot_length (ram_length_of rom) && l
 abbrev pub is_given : ℕ → List ℕ → RunState → Bool
 is_given n bytes r = length bytes == n && is_snapshot (rom_of r) bytes
 
--- the machine of this snapshot; none of its instructions are kept, so the history is empty then
+-- the machine of this snapshot
 abbrev pub restored : List ℕ → RunState → RunState
-restored bytes r = record r { debugger = record r.debugger { machine = machine_in (rom_of r) bytes; history = [] } }
+restored bytes r = with_machine (machine_in (rom_of r) bytes) r

@@ -288,7 +288,11 @@ fn count_text(word: &str, count: usize) -> Option<ArrayString<32>>
     }
 }
 
-fn write_count<W: Write>(word: &str, count: usize, out: &mut W) -> Result<(), OutputFailed>
+pub(crate) fn write_count<W: Write>(
+    word: &str,
+    count: usize,
+    out: &mut W,
+) -> Result<(), OutputFailed>
     ensures ok { OnOk result (Appends (W.contents out.old) (W.contents out.new) (count_line word.now count)) }
     ensures err { OnErr result (AppendsProperPrefix (W.contents out.old) (W.contents out.new) (count_line word.now count)) }
 {

@@ -8,12 +8,14 @@ mod answering;
 mod banks;
 pub mod error;
 mod given;
+mod kept_states;
 mod memory;
 mod obeying;
 pub mod order;
 mod probe;
 mod run;
+mod switching;
 
 pub use error::DebugError;
 pub use obeying::LineDebugger;
-pub use order::{Order, Place, Span, read_order, read_restore};
+pub use order::{Order, Place, Span, StateOrder, read_order, read_restore, read_state_order};

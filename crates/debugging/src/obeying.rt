@@ -9,7 +9,10 @@ ghost use Rattle.debugging.specs.Debugged.{HasAnsweredAll, IsDebugCause};
 use crate::answering::{answer, restore, write_wrong};
 use crate::error::DebugError;
 use crate::given::{NextGiven, next_given};
+use crate::kept_states::KeptStates;
+use crate::order::read_state_order;
 use crate::run::Run;
+use crate::switching::switch;
 use arrayvec::ArrayVec;
 use cartridge::Cartridge;
 use machine::Machine;
@@ -20,8 +23,6 @@ use std::io::{Read, Write};
 use std::marker::Model;
 
 /// A machine that is run and looked at by lines.
-///
-/// Only `new` takes memory.
 #[derive(Drop)]
 pub struct LineDebugger {
     run: Run,
@@ -29,10 +30,13 @@ pub struct LineDebugger {
     rom: usize,
     // room for a snapshot of the machine
     snapshot: Vec<u8>,
+    // no state is kept before the first line
+    kept: KeptStates,
 }
 
 impl Model for LineDebugger {
-    ghost use Rattle.std.specs.Prelude.{◌≡◌, length};
+    ghost use Rattle.std.specs.Prelude.{◌≡◌, [], length};
+    ghost use Rattle.std.specs.List.{All};
     ghost use Rattle.snapshot.specs.Encoding.{snapshot_length};
     ghost use Rattle.debugging.specs.Quiet.{HasRom};
     ghost use Rattle.debugging.specs.Run.{RunState, processor_of};
@@ -41,7 +45,8 @@ impl Model for LineDebugger {
 
     ghost view = { λ d. d.run };
 
-    ghost invariant = { λ d. HasRom d.rom (processor_of d.run).memory × (length d.snapshot.items ≡ snapshot_length (length (processor_of d.run).memory.banks.ram)) };
+    ghost invariant = { λ d. HasRom d.rom (processor_of d.run).memory × (length d.snapshot.items ≡ snapshot_length (length (processor_of d.run).memory.banks.ram))
+        × All (λ bytes. bytes ≡ []) d.kept };
 }
 
 impl LineDebugger {
@@ -57,8 +62,14 @@ impl LineDebugger {
         let rom = cartridge.rom().len();
         let room = length(machine.region(Region::CartRam).len());
         let snapshot = vec![in alloc; 0u8; room]?;
+        let kept = KeptStates::new(alloc)?;
         let run = Run::new(alloc, machine)?;
-        Ok(LineDebugger { run, rom, snapshot })
+        Ok(LineDebugger {
+            run,
+            rom,
+            snapshot,
+            kept,
+        })
     }
 
     /// Obeys the lines of an input as they come, each before more is read, with the answer to each on `out`. An empty line is counted and
@@ -85,13 +96,18 @@ impl LineDebugger {
     /// | `state` | nothing | `state K`, and the K bytes of the machine's snapshot |
     /// | `restore K`, and K bytes | the machine becomes the one of this snapshot; the history is empty then | `restored` |
     /// | `digest` | nothing | `digest` and the SHA-256 of the machine's snapshot |
+    /// | `power` | the power switch, off and on: RAM and clock stay where the cartridge has a battery; the history is empty then | `done` |
+    /// | `keep N` | nothing; the machine is kept under N, 0 to 999, in place of one that was | `kept N` |
+    /// | `back N` | the machine becomes the one that was kept last under N; the history is empty then. The line is wrong where none was | `back N` |
     ///
     /// The bytes of `restore` stand right behind its newline, and the next line behind them. Where they are no snapshot of this cartridge,
     /// or fewer to the end of the input, nothing is done, and the line is wrong. So it is, with no bytes behind it, where K is more than 1,048,576.
     ///
-    /// Refusals: input failed, once every line that is whole, with its bytes, is answered; output failed, where a proper prefix of the answers went out.
+    /// Refusals: input failed, once every line that is whole, with its bytes, is answered; output failed, where a proper prefix of the answers went
+    /// out; no memory for a line, where every line before it is answered. Such a line is `power`, or the first `keep` of a number.
     pub fn obey<R: Read, W: Write>(
         self,
+        alloc: Global,
         cartridge: &Cartridge,
         input: &mut R,
         out: &mut W,
@@ -106,11 +122,19 @@ impl LineDebugger {
             mut run,
             rom,
             mut snapshot,
+            mut kept,
         } = self;
         let mut unread = ArrayVec::new();
         for number in 1..u64::MAX {
             match next_given(&mut unread, input, &mut snapshot) {
                 NextGiven::Line(line) => {
+                    if let Some(order) = read_state_order(line.as_slice()) {
+                        run = match switch(alloc, cartridge, run, &mut kept, order, number, out) {
+                            Ok(run) => run,
+                            Err(why) => return Err(why),
+                        };
+                        continue;
+                    }
                     let answered = answer(run, line.as_slice(), number, rom, &mut snapshot, out);
                     run = answered.run;
                     if answered.written.is_err() {

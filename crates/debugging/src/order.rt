@@ -4,7 +4,8 @@ ghost use Rattle.std.specs.Prelude.{◌≡◌, ◌≤◌, IfSome, ◌<◌, ◌^�
 ghost use Rattle.std.specs.Option.{option_map};
 ghost use Rattle.std.specs.Str.{bytes_eq};
 ghost use Rattle.script.specs.Line.{words_of};
-ghost use Rattle.debugging.specs.Orders.{address_of, hex_of, order_of, order_of_few, order_of_move, order_of_one, order_of_span, order_of_three, order_of_two, order_of_words, place_of, places_of, restore_of, restore_of_words, room_of, span_of, steps_of, until_order};
+ghost use Rattle.debugging.specs.Numbers.{IsNumbered, slots};
+ghost use Rattle.debugging.specs.Orders.{address_of, hex_of, order_of, order_of_few, order_of_move, order_of_one, order_of_span, order_of_three, order_of_two, order_of_words, place_of, places_of, restore_of, restore_of_words, room_of, slot_of, span_of, state_order_of, state_order_of_words, steps_of, until_order};
 ghost use Rattle.debugging.specs.Words.{words_after};
 
 use arrayvec::ArrayVec;
@@ -29,6 +30,9 @@ const MOST_ROOM: u32 = 65_536;
 
 /// The most bytes that a line asks for.
 const MOST_GIVEN: u32 = 1_048_576;
+
+/// The highest number under which a state is kept.
+const LAST_SLOT: u32 = 999;
 
 /// The most places at which a run stops.
 pub const MOST_PLACES: usize = 16;
@@ -112,6 +116,17 @@ pub enum Order {
     Digest,
 }
 
+/// What a line asks for that makes the machine another one, or keeps it.
+#[derive(Clone, Copy, Debug, PartialEq, Eq)]
+pub enum StateOrder {
+    /// The power switch, off and on.
+    Power,
+    /// The machine is kept under a number, 0 to 999.
+    Keep(u32),
+    /// The machine becomes the one that was kept under a number, 0 to 999.
+    Back(u32),
+}
+
 /// What one line asks for, without its newline. `None` if it is wrong, or if it has more than 128 bytes; an empty line is wrong here.
 pub fn read_order(line: &[u8]) -> Option<Order>
     ensures { result ≡ order_of line.now }
@@ -123,6 +138,44 @@ pub fn read_order(line: &[u8]) -> Option<Order>
         Some(a_move) => order_of_move(a_move),
         None => read_words(line),
     }
+}
+
+/// What `power`, `keep N` and `back N` ask for. `None`: it is another line.
+pub fn read_state_order(line: &[u8]) -> Option<StateOrder>
+    ensures order { result ≡ state_order_of line.now }
+    ensures numbered { IfSome result IsNumbered }
+{
+    if line.len() > MOST_BYTES {
+        return None;
+    }
+    read_state_words(line)
+}
+
+fn read_state_words(line: &[u8]) -> Option<StateOrder>
+    ensures order { result ≡ state_order_of_words (words_of line.now) }
+    ensures numbered { IfSome result IsNumbered }
+{
+    let (name, rest) = cut(line, SPACE);
+    let Some(rest) = rest else {
+        return if is_word(name, b"power") {
+            Some(StateOrder::Power)
+        } else {
+            None
+        };
+    };
+    let (word, rest) = cut(rest, SPACE);
+    if rest.is_some() {
+        return None;
+    }
+    if is_word(name, b"keep") {
+        let number = read_slot(word)?;
+        return Some(StateOrder::Keep(number));
+    }
+    if is_word(name, b"back") {
+        let number = read_slot(word)?;
+        return Some(StateOrder::Back(number));
+    }
+    None
 }
 
 /// How many bytes `restore N` asks for behind its newline: N. `None`: it is another line.
@@ -345,6 +398,13 @@ fn read_room(word: &[u8]) -> Option<u32>
     ensures { result ≡ room_of word.now }
 {
     read_count(word, 1, MOST_ROOM)
+}
+
+fn read_slot(word: &[u8]) -> Option<u32>
+    ensures number { result ≡ slot_of word.now }
+    ensures below { IfSome result (λ number. number < slots) }
+{
+    read_count(word, 0, LAST_SLOT)
 }
 
 fn read_address(word: &[u8]) -> Option<u16>

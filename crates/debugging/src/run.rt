@@ -8,7 +8,7 @@ ghost use Rattle.sm83_processor.specs.Steps.{step_of};
 ghost use Rattle.memory_map.specs.State.{BusState};
 ghost use Rattle.sm83_processor.specs.declared.processor.Processor.{Processor};
 ghost use Rattle.snapshot.specs.Legal.{IsOfImage};
-ghost use Rattle.debugging.specs.States.{is_given};
+ghost use Rattle.debugging.specs.States.{after_power, is_given};
 ghost use Rattle.debugging.specs.Answers.{after_restore, until_change_steps, until_opcode_steps, until_read_steps, until_steps, until_write_steps};
 ghost use Rattle.debugging.specs.Run.{after_frame, after_frames, after_seconds, after_steps_of, begun, is_at, is_bank, is_before, is_changed, is_place, processor_of, steps_up_to};
 ghost use Rattle.debugging.specs.Quiet.{HasRom, IsQuietFor, Makes, MakesIn, StopsBefore, StopsIn, has_pc, is_aim, is_interrupted, is_next, is_waiting};
@@ -22,7 +22,7 @@ use circular_buffer::HeapCircularBuffer;
 use debugger::{Debugger, RunRoom, Stop, WatchedStep};
 use machine::{Executed, Input, Machine, Memory, Processor, Stepped, Watched};
 use memory_map::Bus;
-use snapshot::decode_into;
+use snapshot::{decode_into, powered};
 use std::alloc::{AllocError, Global};
 use std::marker::Model;
 
@@ -404,6 +404,22 @@ impl Run {
                 is_restored: false,
             },
         }
+    }
+
+    /// Switches the power off and on. Refused if there is no memory. Condition: the machine is one of the cartridge.
+    pub(crate) fn power(self, alloc: Global, cartridge: &Cartridge) -> Result<Run, AllocError>
+        requires { IsOfImage cartridge.now self.debugger.machine }
+        ensures run { IfOk result (λ run. run ≡ after_power self) }
+        ensures of { IfOk result (λ run. IsOfImage cartridge.now run.debugger.machine) }
+    {
+        let Run { debugger, sent } = self;
+        let (machine, mut executed) = debugger.into_parts();
+        let fresh = powered(alloc, cartridge, &machine)?;
+        executed.clear();
+        Ok(Run {
+            debugger: Debugger::from_parts(fresh, executed),
+            sent,
+        })
     }
 
     /// Draws what was only noted, so that the picture is read quickly. No value changes.

@@ -1,8 +1,8 @@
 -- What a debugger answered, and why one was refused.
-use Rattle.std.proofs.Common.{List, ℕ, None, Some, Bor}
+use Rattle.std.proofs.Common.{List, ℕ, None, Some, Bor, inl, inr}
 use Rattle.cartridge.specs.Accepted.{IsAccepted}
 use Rattle.sector_device.specs.DiskState.{DiskState}
-use Rattle.debugging.specs.declared.error.DebugError.TheVariants.{Input, Output}
+use Rattle.debugging.specs.declared.error.DebugError.TheVariants.{Input, Output, Memory as Lacked}
 use Rattle.debug_lines.specs.Debugging.{HasDebugged, IsDebugGameCause, IsDebugRomCause}
 use Rattle.debug_lines.specs.declared.error.DebugRomError.{DebugRomError}
 use Rattle.debug_lines.specs.declared.error.DebugRomError.TheVariants.{Cart as RomCart, Memory as RomMemory, Debug as RomDebug}
@@ -15,9 +15,10 @@ use Rattle.gbkeep.specs.Program.{IsDebugRefused, fault_of_debug_game, fault_of_d
 pub debug_rom_refused : (rom : List ℕ) (input output : Text) (why : DebugRomError) → IsDebugRomCause rom (exchange_of input output) why
     → IsDebugRefused None (fault_of_debug_rom why) input output
 debug_rom_refused rom input output (RomCart fault) cause = (cause.1.0, cause.1.1, (rom, cause.0))
-debug_rom_refused rom input output RomMemory cause = cause.1
+debug_rom_refused rom input output RomMemory cause = inl cause.1
 debug_rom_refused rom input output (RomDebug Input) cause = (rom, cause.0, cause.1)
 debug_rom_refused rom input output (RomDebug Output) cause = (rom, cause.0, cause.1)
+debug_rom_refused rom input output (RomDebug Lacked) cause = inr (rom, cause.0, cause.1)
 
 module _ (save : Bor (List ℕ)) (rom : List ℕ) (old now : DiskState) (input output : Text) where
   pub game_debugged : IsAccepted rom → HasDebugged rom old now (exchange_of input output) → IsDebugged (Some save) input output
@@ -27,6 +28,7 @@ module _ (save : Bor (List ℕ)) (rom : List ℕ) (old now : DiskState) (input o
       → IsDebugRefused (Some save) (fault_of_debug_game why) input output
   debug_game_refused (Cart fault) cause = (cause.1.0, cause.1.1, (rom, cause.0))
   debug_game_refused (Session fault) cause = ((cause.2, cause.1.report), (rom, cause.0))
-  debug_game_refused Memory cause = cause.1
+  debug_game_refused Memory cause = inl cause.1
   debug_game_refused (Debug Input) cause = (rom, cause.0, (cause.1.from, cause.1.taken_up.of_rom, cause.1.stopped))
   debug_game_refused (Debug Output) cause = (rom, cause.0, (cause.1.from, cause.1.taken_up.of_rom, cause.1.stopped))
+  debug_game_refused (Debug Lacked) cause = inr (rom, cause.0, (cause.1.from, cause.1.taken_up.of_rom, cause.1.stopped))

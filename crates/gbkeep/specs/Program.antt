@@ -41,7 +41,7 @@ use Rattle.battery_files.specs.declared.error.ExportError.{ExportError}
 use Rattle.battery_files.specs.declared.error.ExportError.TheVariants.{Cart as ExportCart, NoBattery as ExportNoBattery, Session as ExportSession}
 use Rattle.battery_files.specs.declared.error.ImportError.{ImportError}
 use Rattle.battery_files.specs.declared.error.ImportError.TheVariants.{NoBattery as ImportNoBattery, Length as ImportLength, Memory as ImportMemory}
-use Rattle.debugging.specs.declared.error.DebugError.TheVariants.{Input as DebugInput, Output as DebugOutput}
+use Rattle.debugging.specs.declared.error.DebugError.TheVariants.{Input as DebugInput, Output as DebugOutput, Memory as DebugMemory}
 use Rattle.debug_lines.specs.declared.error.DebugRomError.{DebugRomError}
 use Rattle.debug_lines.specs.declared.error.DebugRomError.TheVariants.{Cart as DebugRomCart, Memory as DebugRomMemory, Debug as DebugRomStopped}
 use Rattle.debug_lines.specs.declared.error.DebugGameError.{DebugGameError}
@@ -160,6 +160,7 @@ fault_of_debug_rom (DebugRomCart fault) = Cart fault
 fault_of_debug_rom DebugRomMemory = Memory
 fault_of_debug_rom (DebugRomStopped DebugInput) = Input
 fault_of_debug_rom (DebugRomStopped DebugOutput) = Output
+fault_of_debug_rom (DebugRomStopped DebugMemory) = Memory
 
 abbrev pub fault_of_debug_game : DebugGameError → Fault
 fault_of_debug_game (DebugGameCart fault) = Cart fault
@@ -167,6 +168,7 @@ fault_of_debug_game (DebugGameSession fault) = Session fault
 fault_of_debug_game DebugGameMemory = Memory
 fault_of_debug_game (DebugGameStopped DebugInput) = Input
 fault_of_debug_game (DebugGameStopped DebugOutput) = Output
+fault_of_debug_game (DebugGameStopped DebugMemory) = Memory
 
 -- a test of this ROM with this script was done, or it was refused
 abbrev pub IsTestServed : (rom text : List ℕ) → (frames : ℕ) → Result Unit Fault → Option (List ℕ) → Option (List ℕ) → Type 0
@@ -326,7 +328,7 @@ IsRecordServed (Err fault) input output = IsRecordRefused fault input output
 -- why a debugger was not begun or stopped, and what was read and went out then
 abbrev pub IsDebugRefused : (save : Option (Bor (List ℕ))) → Fault → (input output : Text) → Type 0
 IsDebugRefused save (Cart fault) input output = IsUnread input × IsUnwritten output × ((rom : List ℕ) × (refusal_of rom ≡ Some fault))
-IsDebugRefused save Memory input output = IsUnread input × IsUnwritten output
+IsDebugRefused save Memory input output = (IsUnread input × IsUnwritten output) ⊎ IsDebugStopped save DebugMemory input output
 IsDebugRefused save File input output = IsUnread input × IsUnwritten output
 IsDebugRefused save Output input output = IsDebugStopped save DebugOutput input output
 IsDebugRefused save (Device fault) input output = IsDebugUnbegun save input output

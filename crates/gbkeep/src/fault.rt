@@ -236,6 +236,7 @@ impl From<DebugRomError> for Fault {
             DebugRomError::Memory => Fault::Memory,
             DebugRomError::Debug(DebugError::Input) => Fault::Input,
             DebugRomError::Debug(DebugError::Output) => Fault::Output,
+            DebugRomError::Debug(DebugError::Memory) => Fault::Memory,
         }
     }
 }
@@ -250,6 +251,7 @@ impl From<DebugGameError> for Fault {
             DebugGameError::Memory => Fault::Memory,
             DebugGameError::Debug(DebugError::Input) => Fault::Input,
             DebugGameError::Debug(DebugError::Output) => Fault::Output,
+            DebugGameError::Debug(DebugError::Memory) => Fault::Memory,
         }
     }
 }

@@ -23,6 +23,15 @@ const SCRIPT: &[u8] = b"frames 01 2\nseconds 3\nsave\nframe 02\n";
 
 const LINES: &[u8] = b"step 3\nframe 01\nhistory 3\nserial\ndigest\nregisters\n";
 
+/// Lines of a debugger, two of which take memory.
+const STATE_LINES: &[u8] = b"step 1\nkeep 3\nkeep 3\nback 3\npower\nregisters\n";
+
+/// The answers to the lines before the first of the two, and before the second.
+const ANSWERED: [&[u8]; 2] = [
+    b"0100 18FE   JR -02\n",
+    b"0100 18FE   JR -02\nkept 3\nkept 3\nback 3\n",
+];
+
 fn set(bytes: &mut [u8], at: usize, value: u8) {
     if let Some(place) = bytes.get_mut(at) {
         *place = value;
@@ -237,6 +246,28 @@ pub(crate) fn debugged_rom(alloc: Global) -> Option<Answer> {
     };
     let is_unread = input.len() == LINES.len();
     Some(refused(why == DebugRomError::Memory && is_unread && buffer == [0; 512]))
+}
+
+/// A debugger that is refused within its lines has answered those before the one that takes memory.
+pub(crate) fn debugged_states(alloc: Global) -> Option<Answer> {
+    let rom = rom(alloc)?;
+    let mut buffer = [0; 512];
+    let mut out: &mut [u8] = &mut buffer;
+    let mut input: &[u8] = STATE_LINES;
+    let why = match debug_rom(alloc, rom, &mut input, &mut out) {
+        Ok(()) => return Some(Answer::Done),
+        Err(why) => why,
+    };
+    Some(refused(match why {
+        DebugRomError::Memory => input.len() == STATE_LINES.len() && buffer == [0; 512],
+        DebugRomError::Debug(_) => ANSWERED.iter().any(|text| is_all(&buffer, text)),
+        DebugRomError::Cart(_) => false,
+    }))
+}
+
+/// Whether a buffer that was empty holds this text and nothing more.
+fn is_all(buffer: &[u8; 512], text: &[u8]) -> bool {
+    buffer.starts_with(text) && buffer.get(text.len()) == Some(&0)
 }
 
 pub(crate) fn debugged_game(alloc: Global) -> Option<Answer> {

@@ -12,7 +12,7 @@ use std::process::ExitCode;
 use std::{env, io};
 
 /// The calls, and their names.
-const CALLS: [&str; 14] = [
+const CALLS: [&str; 15] = [
     "power_on",
     "decode",
     "debugger",
@@ -25,6 +25,7 @@ const CALLS: [&str; 14] = [
     "step_line",
     "debug_rom",
     "debug_game",
+    "debug_states",
     "device",
     "image",
 ];
@@ -44,6 +45,7 @@ fn make(rt: &HostRuntime, call: &str) -> Answer {
         "step_line" => calls::stepped(alloc),
         "debug_rom" => calls::debugged_rom(alloc),
         "debug_game" => calls::debugged_game(alloc),
+        "debug_states" => calls::debugged_states(alloc),
         "device" => calls::device(alloc),
         "image" => calls::image(alloc),
         _ => None,
