@@ -8,13 +8,18 @@ OUT := bin$(if $(ARCH),/$(ARCH))
 ifneq ($(filter-out arm64,$(ARCH)),)
 $(error ARCH is arm64, or left out for this computer)
 endif
+# the package, and what tests and scripts take from each other
+export PYTHONPATH := $(CURDIR)/python:$(CURDIR)$(if $(PYTHONPATH),:$(PYTHONPATH))
+# the Python that has PIL: Debian's, where another one comes first
+PIL_PYTHON ?= $(shell for one in python3 /usr/bin/python3; do $$one -c 'import PIL' > /dev/null 2>&1 && echo $$one && exit; done; echo python3)
 SOURCES := crates.txt $(shell find crates -name out -prune -o -type f \( -name '*.rt' -o -name '*.antt' \) -print)
 
 help:
 	@echo 'To have it:'
 	@echo '  make build           proves the program and leaves it at bin/gbkeep, with a line a crate (from nothing: about an hour of processor time,'
 	@echo '                       as many crates at once as there are processors and 2.5 GB of memory for each, or JOBS=N)'
-	@echo '  make demo            plays a minute of examples/demo and leaves bin/demo.gbkeep, bin/demo.pgm and bin/demo.png (a second)'
+	@echo '  make demo            plays a minute of examples/demo and leaves bin/demo.gbkeep, bin/demo.pgm and bin/demo.png (a second; needs'
+	@echo '                       python3-pil)'
 	@echo '  make play            plays a cartridge in a window (CART=examples/demo/demo.gb SAVE=NAME.gbkeep; without SAVE, the game is kept in'
 	@echo '                       ~/.local/share/gbkeep; needs python3-pygame)'
 	@echo '  make install         puts program, window, tools, man page and completion below PREFIX (PREFIX=$(PREFIX))'
@@ -32,6 +37,7 @@ help:
 	@echo 'To change it (times are of two idle processors):'
 	@echo '  make check           proves what changed, seconds a crate (CRATE=name for one crate)'
 	@echo '  make edits           tries every wrong body, 10 to 40 s each (CRATE=name for one crate)'
+	@echo '  make lint            looks at all Python by pyflakes3 (two seconds)'
 	@echo '  make test            the gate: proves everything from nothing, runs the tests and programs (docs/CONTRIBUTING.md says how long)'
 	@echo '  make bench           proves the benchmarks: times, instructions a frame; calls of the save file (20 minutes from nothing; needs strace)'
 	@echo '  make compare         compares the program with a second one, in Python, on random ROMs (SECONDS=20 a kind)'
@@ -40,7 +46,8 @@ help:
 	@echo '                       tools hostile files, for 60 seconds'
 	@echo '  make strace          compares each write and sync of the save file with a second writer (needs strace)'
 	@echo '  make memory          refuses each allocation in turn (20 seconds once both programs are built; needs a C compiler)'
-	@echo '  make test-window     plays the demo by real keys in a window of its own and kills it (two minutes; needs xvfb, xdotool, python3-pygame)'
+	@echo '  make test-window     plays the demo by real keys in a window of its own and kills it (two minutes; needs xvfb, xdotool,'
+	@echo '                       python3-pygame, python3-pil)'
 	@echo '  make test-library    plays by the library from C and from Python, under the sanitizers, and cuts it at each call (a minute)'
 	@echo '  make test-arm64      runs the program for aarch64 by qemu: program tests, damaged files, comparisons, recordings, battery files, and games'
 	@echo '                       that go from one processor to the other (SECONDS=20 a kind; needs qemu-user-static, and make build ARCH=arm64)'
@@ -104,7 +111,7 @@ hostile: bin/gbkeep
 
 fuzz: bin/gbkeep
 	python3 -B scripts/second_storage/hostile.py bin/gbkeep fuzz $(SECONDS)
-	python3 -B scripts/tool_fuzz.py bin/gbkeep 60
+	$(PIL_PYTHON) -B scripts/tool_fuzz.py bin/gbkeep 60
 
 strace: bin/gbkeep
 	python3 -B scripts/second_storage/traced.py bin/gbkeep
@@ -114,7 +121,7 @@ demo: bin/gbkeep
 	bin/gbkeep new examples/demo/demo.gb bin/demo.gbkeep
 	bin/gbkeep play examples/demo/demo.gb bin/demo.gbkeep examples/demo/tour.txt
 	bin/gbkeep frame examples/demo/demo.gb bin/demo.gbkeep bin/demo.pgm
-	python3 -B players/png.py bin/demo.pgm bin/demo.png
+	$(PIL_PYTHON) -B -m gbkeep.png bin/demo.pgm bin/demo.png
 
 # the Python that has pygame: Debian's, where another one comes first
 PYTHON ?= $(shell python3 -c 'import pygame' > /dev/null 2>&1 && echo python3 || echo /usr/bin/python3)
@@ -123,19 +130,19 @@ CART ?= examples/demo/demo.gb
 # a game that is in bin goes on there
 play: bin/gbkeep
 	@save="$(SAVE)" older="bin/play-$$(basename "$(CART)" .gb).sav"; if [ -z "$$save" ] && [ -e "$$older" ]; then save=$$older; fi; \
-	$(PYTHON) -B players/window.py "$(CART)" $${save:+"$$save"}
+	$(PYTHON) -B -m gbkeep.window "$(CART)" $${save:+"$$save"}
 
 CC ?= cc
 LIBRETRO ?= /usr/include/libretro-common
 
-$(OUT)/gbkeep_libretro.so: $(OUT)/libgbkeep.so scripts/libretro.py players/libretro/gbkeep_libretro.c players/libretro/faults_h.py players/faults.py
+$(OUT)/gbkeep_libretro.so: $(OUT)/libgbkeep.so scripts/libretro.py players/libretro/gbkeep_libretro.c players/libretro/faults_h.py python/gbkeep/faults.py
 	CC="$(CC)" LIBRETRO="$(LIBRETRO)" python3 -B scripts/libretro.py $(ARCH)
 
 libretro: $(OUT)/gbkeep_libretro.so
 
 library: $(OUT)/libgbkeep.so
 
-$(OUT)/libgbkeep.so: $(SOURCES) $(wildcard library/*) scripts/library.py $(if $(ARCH),scripts/arm64/target.py) players/faults.py
+$(OUT)/libgbkeep.so: $(SOURCES) $(wildcard library/*) scripts/library.py $(if $(ARCH),scripts/arm64/target.py) python/gbkeep/faults.py
 	RT=$(RT) python3 -B scripts/library.py $(ARCH)
 
 test-library: bin/gbkeep bin/libgbkeep.so
@@ -144,7 +151,7 @@ test-library: bin/gbkeep bin/libgbkeep.so
 web: dist/web/gbkeep.wasm
 
 dist/web/gbkeep.wasm: $(SOURCES) $(wildcard library/* web/page/* web/include/* web/*.c web/*.h) web/faults.py scripts/web.py scripts/library.py \
-  players/faults.py examples/demo/demo.gb
+  python/gbkeep/faults.py examples/demo/demo.gb
 	RT=$(RT) python3 -B scripts/web.py
 
 # the Python that has selenium: Debian's, where another one comes first
@@ -156,7 +163,7 @@ test-web: bin/gbkeep dist/web/gbkeep.wasm
 	$(WEB_PYTHON) -B web/test_web.py bin/gbkeep
 
 dist: $(OUT)/gbkeep $(OUT)/libgbkeep.so $(if $(wildcard $(LIBRETRO)/libretro.h),$(OUT)/gbkeep_libretro.so)
-	RT=$(RT) python3 -B scripts/dist.py $(ARCH)
+	RT=$(RT) python3 -B packaging/dist.py $(ARCH)
 
 test-arm64: bin/gbkeep bin/arm64/gbkeep
 	python3 -B scripts/arm64/test_arm64.py bin/gbkeep bin/arm64 $(SECONDS)
@@ -171,10 +178,10 @@ test-cards: bin/gbkeep
 	python3 -B scripts/second_storage/cards.py bin/gbkeep "$(KERNEL)"
 
 test-slow-disk: bin/gbkeep bin/gbkeep_libretro.so
-	CC="$(CC)" $(PYTHON) -B players/test_slow_disk.py bin/gbkeep
+	CC="$(CC)" $(PYTHON) -B python/gbkeep_tests/test_slow_disk.py bin/gbkeep
 
 test-window: bin/gbkeep
-	$(PYTHON) -B players/test_window.py bin/gbkeep
+	$(PYTHON) -B python/gbkeep_tests/test_window.py bin/gbkeep
 
 test-libretro: bin/gbkeep bin/gbkeep_libretro.so
 	CC="$(CC)" python3 -B players/libretro/test_libretro.py bin/gbkeep bin/gbkeep_libretro.so
@@ -187,8 +194,12 @@ memory: bin/gbkeep
 	cd crates/refused_memory && $(RT) run > /dev/null
 	python3 -B scripts/second_storage/refused_memory.py bin/gbkeep crates/refused_memory/out/refused_memory
 
+lint:
+	@if command -v pyflakes3 > /dev/null; then pyflakes3 examples library packaging players python scripts web; else echo 'there is no pyflakes3: the Python was not looked at'; fi
+
 test:
-	RT=$(RT) python3 -B scripts/dist.py begins
+	RT=$(RT) python3 -B packaging/dist.py begins
+	@$(MAKE) --no-print-directory lint
 	RT=$(RT) sh scripts/opened_has_no_append.sh
 	python3 -B scripts/front_door.py
 	python3 -B scripts/refusals.py
@@ -196,11 +207,13 @@ test:
 	python3 -B scripts/edits.py --apply
 	$(RT) ci
 	python3 -B scripts/program_tests/run.py $(PROGRAM)/out/gbkeep_program
-	python3 -B scripts/front_door.py $(PROGRAM)/out/gbkeep_program
-	python3 -B players/test_players.py $(PROGRAM)/out/gbkeep_program
-	python3 -B players/test_slots.py $(PROGRAM)/out/gbkeep_program
-	python3 -B players/test_shown_game.py $(PROGRAM)/out/gbkeep_program
-	python3 -B players/test_window_parts.py
+	$(PIL_PYTHON) -B scripts/front_door.py $(PROGRAM)/out/gbkeep_program
+	$(PIL_PYTHON) -B python/gbkeep_tests/test_players.py $(PROGRAM)/out/gbkeep_program
+	python3 -B python/gbkeep_tests/test_slots.py $(PROGRAM)/out/gbkeep_program
+	python3 -B python/gbkeep_tests/test_shown_game.py $(PROGRAM)/out/gbkeep_program
+	python3 -B python/gbkeep_tests/test_window_parts.py
+	python3 -B python/gbkeep_tests/test_package.py
+	$(PIL_PYTHON) -B python/gbkeep_tests/test_pictures.py
 	python3 -B web/test_module.py
 	if command -v $(CC) > /dev/null; then RT=$(RT) CC="$(CC)" python3 -B scripts/library.py gate && \
 	CC="$(CC)" python3 -B library/test_library.py $(PROGRAM)/out/gbkeep_program; else echo 'there is no C compiler: the library was not tried'; fi
@@ -212,12 +225,12 @@ test:
 	python3 -B scripts/second_storage/traced.py $(PROGRAM)/out/gbkeep_program 2 1 crates/failed_syncs/out/failed_syncs
 	python3 -B examples/demo/check.py $(PROGRAM)/out/gbkeep_program
 	python3 -B examples/test_roms/check.py
-	python3 -B testers/run.py --gbkeep $(PROGRAM)/out/gbkeep_program examples/test_roms/all.txt
-	python3 -B testers/test_run.py $(PROGRAM)/out/gbkeep_program
-	python3 -B testers/test_debug.py $(PROGRAM)/out/gbkeep_program
-	python3 -B players/test_hostile_inputs.py $(PROGRAM)/out/gbkeep_program
-	python3 -B scripts/tool_fuzz.py $(PROGRAM)/out/gbkeep_program 5 1
+	python3 -B -m gbkeep.run_tests --gbkeep $(PROGRAM)/out/gbkeep_program examples/test_roms/all.txt
+	$(PIL_PYTHON) -B python/gbkeep_tests/test_run_tests.py $(PROGRAM)/out/gbkeep_program
+	$(PIL_PYTHON) -B python/gbkeep_tests/test_debug.py $(PROGRAM)/out/gbkeep_program
+	$(PIL_PYTHON) -B python/gbkeep_tests/test_hostile_inputs.py $(PROGRAM)/out/gbkeep_program
+	$(PIL_PYTHON) -B scripts/tool_fuzz.py $(PROGRAM)/out/gbkeep_program 5 1
 	python3 -B scripts/second_storage/refused_memory.py $(PROGRAM)/out/gbkeep_program crates/refused_memory/out/refused_memory
-	RT=$(RT) python3 -B scripts/dist.py passed $(PROGRAM)/out/gbkeep_program
+	RT=$(RT) python3 -B packaging/dist.py passed $(PROGRAM)/out/gbkeep_program
 
-.PHONY: help build demo play install libretro dist run check edits test bench compare hostile fuzz strace memory test-window test-libretro library test-library test-arm64 test-packages test-reproducible test-slow-disk test-retroarch test-cards web test-web
+.PHONY: help build demo play install libretro dist run check edits lint test bench compare hostile fuzz strace memory test-window test-libretro library test-library test-arm64 test-packages test-reproducible test-slow-disk test-retroarch test-cards web test-web

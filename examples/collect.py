@@ -5,10 +5,10 @@ usage: collect.py SAVE PNG"""
 import sys
 from pathlib import Path
 
-HERE = Path(__file__).resolve().parent
-sys.path[:0] = [str(HERE.parent / 'players'), '/usr/share/gbkeep']
 from gbkeep import DOWN, LEFT, RIGHT, Game
-from new_files import new_file
+from gbkeep.new_files import new_file
+
+HERE = Path(__file__).resolve().parent
 
 with Game(HERE / 'demo/demo.gb', sys.argv[1]) as game:
     game.frames(0, 60)

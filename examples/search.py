@@ -9,10 +9,9 @@ import sys
 import time
 from pathlib import Path
 
-HERE = Path(__file__).resolve().parent
-sys.path[:0] = [str(HERE.parent / 'players'), '/usr/share/gbkeep']
-from gbkeep import DOWN, LEFT, RIGHT, SLOTS, START, UP, Machine
+from gbkeep import DOWN, LEFT, RIGHT, SLOTS, START, UP, DebugMachine
 
+HERE = Path(__file__).resolve().parent
 CART = HERE / 'demo/demo.gb'
 WAYS = (RIGHT, LEFT, UP, DOWN)
 # the frames that a way is held
@@ -26,7 +25,7 @@ kept = {(): 0}
 
 def begun():
     """A machine in which the game has been started, which is kept under 0."""
-    first = Machine(CART)
+    first = DebugMachine(CART)
     first.frames(0, 60)
     first.frames(START, 4)
     first.frames(0, 60)

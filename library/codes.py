@@ -1,10 +1,8 @@
 """Prints what the library has of the table of faults: with `codes`, the codes in gbkeep.h; else gbkeep_faults.h."""
 import json
 import sys
-from pathlib import Path
 
-sys.path.insert(0, str(Path(__file__).resolve().parent.parent / 'players'))
-from faults import FAULTS
+from gbkeep.faults import FAULTS
 
 # the name of each code, from 1 on, and its line in the table; a line of the library's own has its words here
 CODES = [
@@ -70,7 +68,7 @@ def main():
         print(',\n'.join(f'    GBKEEP_{name} = {code}' for code, name in enumerate(names)))
         print('};')
     else:
-        print('/* made by library/codes.py of players/faults.py */')
+        print('/* made by library/codes.py of python/gbkeep/faults.py */')
         print('static const char *const TEXTS[] = {')
         for text in texts():
             print(f'    {json.dumps(text.replace("`", ""), ensure_ascii=True)},')

@@ -14,8 +14,7 @@ from pathlib import Path
 
 HERE = Path(__file__).resolve().parent
 TOP = HERE.parent
-sys.path[:0] = [str(HERE), str(TOP / 'scripts/second_storage'), str(TOP / 'players')]
-import save_files
+from gbkeep import Machine, Picture, Refused, Session, save_files, sectors_needed
 
 PROGRAM, LIBRARY = 'bin/gbkeep', TOP / 'bin'
 DEMO = TOP / 'examples/demo/demo.gb'
@@ -52,7 +51,6 @@ class InFolder(unittest.TestCase):
         out = self.folder / 'picture.pgm'
         out.unlink(missing_ok=True)
         self.gbkeep('frame', DEMO, save, out)
-        from gbkeep import Picture
         return Picture(out.read_bytes()).shades
 
 
@@ -133,7 +131,6 @@ class Playing(InFolder):
 
 class InPython(InFolder):
     def test_a_machine_plays_as_the_program_does(self):
-        from gbkeep_library import Machine, Refused
         save = self.folder / 'save'
         self.gbkeep('new', DEMO, save)
         self.gbkeep('play', DEMO, save, self.script)
@@ -173,7 +170,6 @@ class InPython(InFolder):
                 Machine(rom)
 
     def test_a_session_s_state_is_that_of_a_machine_with_its_inputs(self):
-        from gbkeep_library import Machine, Refused, Session
         with Machine(ROM) as machine, Session(ROM) as session:
             for buttons, count in ((0, 10), (0x80, 5), (0x01, 30)):
                 machine.frames(buttons, count)
@@ -214,7 +210,6 @@ class InPython(InFolder):
             Session(ROM, bytes(1000))
 
     def test_a_battery_file_begins_a_game_and_comes_out_as_by_the_program(self):
-        from gbkeep_library import Refused, Session, sectors_needed
         chance = random.Random(1)
         cart, battery, theirs, out = (self.folder / name for name in ('cart.gb', 'battery', 'theirs', 'out'))
 
@@ -273,7 +268,6 @@ class InPython(InFolder):
             Session(ROM, bytes(SECTOR * 300), battery=bytes(CART.ram))
 
     def test_each_prefix_of_the_calls_and_each_subset_stands_for_what_was_told(self):
-        from gbkeep_library import Machine, Session
         chance = random.Random(1)
         cart = CART
         # a new game; then it is taken up again from what the calls left
@@ -281,7 +275,6 @@ class InPython(InFolder):
         for life in range(3):
             session = Session(ROM) if image is None else Session(ROM, image)
             self.assertEqual(session.count(), given)
-            from gbkeep_library import sectors_needed
             disk = bytearray(SECTOR * sectors_needed(ROM)) if image is None else bytearray(image)
             synced, behind, begun = bytes(disk), [], image is not None
             for save in range(12):

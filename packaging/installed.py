@@ -11,19 +11,20 @@ from dataclasses import dataclass
 from pathlib import Path
 from typing import Optional
 
-sys.path.insert(0, str(Path(__file__).resolve().parent))
 from man_page import page
 
-PROGRAM, WINDOW, TESTERS, CORE, LIBRARY, HEADERS = 'gbkeep', 'gbkeep-window', 'gbkeep-testers', 'gbkeep-libretro', 'libgbkeep0', 'libgbkeep-dev'
-# each is installed as gbkeep-NAME
-TOOLS = ('window', 'script', 'rest', 'movie', 'film', 'branch', 'verify', 'png', 'battery')
-# what they stand on
-MODULES = ('players/faults.py', 'players/gbkeep.py', 'players/timed_game.py', 'players/shown_game.py', 'players/slots.py', 'players/window_files.py', 'players/window_keys.py',
-           'players/input_files.py', 'players/new_files.py', 'players/tools.py', 'scripts/second_storage/save_files.py')
-# what testers have: one folder that works alone
-TESTER_TOOLS = {'gbkeep-run-tests': 'testers/run.py', 'gbkeep-debug': 'testers/debug.py'}
-TESTER_MODULES = ('testers/symbols.py', 'testers/memory_pictures.py', *(f'players/{name}.py' for name in (
-    'faults', 'gbkeep', 'input_files', 'new_files', 'png', 'script', 'tools')))
+PROGRAM, PYTHON, WINDOW, TESTERS, CORE, LIBRARY, HEADERS = ('gbkeep', 'python3-gbkeep', 'gbkeep-window', 'gbkeep-testers', 'gbkeep-libretro', 'libgbkeep0',
+                                                           'libgbkeep-dev')
+SOURCES = Path('python')
+# what testers have; the other tools are the players'
+OF_TESTERS = ('gbkeep-run-tests', 'gbkeep-debug')
+# one folder that works alone: Python looks for modules where the file lies that a link leads to
+ALONE = 'share/gbkeep'
+DEBIAN = 'lib/python3/dist-packages'
+LAUNCHER = '''#!/usr/bin/env python3
+from gbkeep.{module} import start
+start()
+'''
 
 
 @dataclass(frozen=True)
@@ -40,28 +41,34 @@ def version():
     return re.search(r'VERSION: &str = "(.*)"', Path('crates/command_line/src/words.rt').read_text())[1]
 
 
-def files(built='bin', lib='lib', prefix='/usr'):
-    """The list, of what the folder `built` has; libraries are installed in `lib`, as seen from the prefix."""
+def tools():
+    """The tools, as the package of Python names them: the module of each by its name."""
+    return dict(re.findall(r'^(gbkeep-[a-z-]+) = "gbkeep\.([a-z_]+):start"$', (SOURCES / 'pyproject.toml').read_text(), re.M))
+
+
+def files(built='bin', lib='lib', prefix='/usr', modules=ALONE):
+    """The list, of what the folder `built` has; libraries are installed in `lib`, as seen from the prefix, and the package of Python in `modules`."""
     built, release = Path(built), version()
+    if f"\n__version__ = '{release}'\n" not in (SOURCES / 'gbkeep/__init__.py').read_text():
+        raise ValueError(f'the package of Python has another version than {release}')
 
     def one(package, path, source, is_run=False):
         return File(package, path, Path(source).read_bytes(), is_run)
 
-    def tool(package, name, folder, source):
-        return [one(package, f'{folder}/{Path(source).name}', source, True), File(package, f'bin/{name}', link=f'../{folder}/{Path(source).name}'),
-                File(package, f'share/man/man1/{name}.1', page(name, source, release).encode())]
+    def tool(name, module):
+        package, launcher = TESTERS if name in OF_TESTERS else WINDOW, LAUNCHER.format(module=module).encode()
+        started = [File(package, f'bin/{name}', launcher, True)] if modules != ALONE else [
+            File(package, f'{ALONE}/{name}', launcher, True), File(package, f'bin/{name}', link=f'../{ALONE}/{name}')]
+        return [*started, File(package, f'share/man/man1/{name}.1', page(name, SOURCES / f'gbkeep/{module}.py', release).encode())]
 
     found = [one(PROGRAM, 'bin/gbkeep', built / 'gbkeep', True), one(PROGRAM, 'share/man/man1/gbkeep.1', 'docs/gbkeep.1'),
              one(PROGRAM, 'share/bash-completion/completions/gbkeep', 'completions/gbkeep.bash')]
-    for name in TOOLS:
-        found += tool(WINDOW, f'gbkeep-{name}', 'share/gbkeep', f'players/{name}.py')
-    found += [one(WINDOW, f'share/gbkeep/{Path(path).name}', path) for path in MODULES]
+    for name, module in tools().items():
+        found += tool(name, module)
+    found += [one(PYTHON, f'{modules}/gbkeep/{path.name}', path) for path in sorted((SOURCES / 'gbkeep').glob('*.py'))]
     found += [one(WINDOW, 'share/applications/gbkeep.desktop', 'packaging/gbkeep.desktop'),
               one(WINDOW, 'share/icons/hicolor/scalable/apps/gbkeep.svg', 'packaging/gbkeep.svg'),
               one(WINDOW, 'share/mime/packages/gbkeep.xml', 'packaging/gbkeep.xml')]
-    for name, path in TESTER_TOOLS.items():
-        found += tool(TESTERS, name, 'share/gbkeep-testers', path)
-    found += [one(TESTERS, f'share/gbkeep-testers/{Path(path).name}', path) for path in TESTER_MODULES]
     if (built / 'gbkeep_libretro.so').exists():
         found += [one(CORE, f'{lib}/libretro/gbkeep_libretro.so', built / 'gbkeep_libretro.so'),
                   one(CORE, 'share/libretro/info/gbkeep_libretro.info', 'players/libretro/gbkeep_libretro.info')]

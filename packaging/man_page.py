@@ -18,7 +18,6 @@ def words(text):
 def page(name, path, version):
     """The page of the tool that is installed as `name`."""
     said = ast.get_docstring(ast.parse(Path(path).read_text(encoding='utf-8')))
-    said = said.replace(Path(path).name, name)
     if said.count('\nusage: ') != 1:
         raise ValueError(f'{path} has no usage')
     head, _, rest = said.partition('\nusage: ')

@@ -13,23 +13,31 @@ import sys
 import tempfile
 from pathlib import Path
 
+from gbkeep_tests.support import expect
+
 ROOT = Path(__file__).resolve().parent.parent
 MIRROR = os.environ.get('DEBIAN_MIRROR', 'http://deb.debian.org/debian')
-PACKAGES = {'gbkeep', 'gbkeep-window', 'gbkeep-testers', 'gbkeep-libretro', 'libgbkeep0', 'libgbkeep-dev'}
+PACKAGES = {'gbkeep', 'python3-gbkeep', 'gbkeep-window', 'gbkeep-testers', 'gbkeep-libretro', 'libgbkeep0', 'libgbkeep-dev'}
 COMMANDS = {'gbkeep', 'gbkeep-run-tests', 'gbkeep-debug', *(f'gbkeep-{name}' for name in 'window script rest movie film branch verify png battery'.split())}
 OLDER = '0.0.9'
 LOAD = 'import ctypes; library = ctypes.CDLL("libgbkeep.so.0"); library.gbkeep_fault_text.restype = ctypes.c_char_p; print(library.gbkeep_fault_text(0).decode())'
+PYTHON = '''
+from gbkeep import START, Game, Machine
+with Game("/root/demo.gb", "/root/python.gbkeep") as game:
+    game.frames(START, 4)
+    before = game.resumed
+    print(game.save() - before)
+with Machine(open("/root/demo.gb", "rb").read()) as machine:
+    machine.frames(0, 60)
+    print(machine.picture().png()[1:4])
+'''
 GAME = '''set -e
 cd /root
 if [ ! -e game.gbkeep ]; then gbkeep new demo.gb game.gbkeep; fi
 gbkeep play demo.gb game.gbkeep script
 gbkeep frame demo.gb game.gbkeep game.pgm
+gbkeep-png game.pgm game.png
 '''
-
-
-def expect(what, got, wanted):
-    if got != wanted:
-        sys.exit(f'{what}: {got!r:.3000}, and not {wanted!r:.600}')
 
 
 def run(*words, **how):
@@ -135,6 +143,7 @@ def try_it(system, count):
     expect('a prompt', 'start:' in system.run('sh', '-c', "cd /root && gbkeep-debug --do 'list start 1' demo.gb"), True)
     expect('a friendly script', 'frames' in system.run('sh', '-c', "cd /root && printf 'A 3\\n' > few && gbkeep-script own few"), True)
     expect('the library', system.run('python3', '-c', LOAD), 'done\n')
+    expect('the package of Python', system.run('python3', '-c', PYTHON), "4\nb'PNG'\n")
     core = list(system.root.glob('usr/lib/*/libretro/gbkeep_libretro.so'))
     expect('the core', len(core), 1)
     system.run('python3', '-c', f'import ctypes; assert ctypes.CDLL("/{core[0].relative_to(system.root)}").retro_api_version() == 1')

@@ -16,6 +16,8 @@ import sys
 import time
 from pathlib import Path
 
+from scripts.arm64 import target
+
 RT, PROGRAM = os.environ.get('RT', 'rt'), 'gbkeep_program'
 BUILT = Path('bin/gbkeep')
 BYTES_A_JOB = 2_500_000_000
@@ -23,8 +25,6 @@ BYTES_A_JOB = 2_500_000_000
 LEFT_OUT = ('out', 'must-fail', 'wrong-bodies')
 
 
-sys.path.insert(0, str(Path(__file__).resolve().parent / 'arm64'))
-import target  # noqa: E402
 
 
 class Failed(Exception):

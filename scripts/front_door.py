@@ -1,19 +1,19 @@
-"""Compares whole tables: what the sources say that the program has, and what README, COMMANDS, man page, completion, `make help` and the tools of
-players and testers say of it. Then it deletes each row of each table, in turn and on a copy, and wants each deletion to be seen.
+"""Compares whole tables: what the sources say that the program has, and what README, COMMANDS, man page, completion, `make help`, the package of
+Python and its tools say of it. Then it deletes each row of each table, in turn and on a copy, and wants each deletion to be seen.
 
 usage: front_door.py             at the top of the repository
        front_door.py GBKEEP      this too: runs each command block as it stands, in a copy of the clone, and compares what it prints;
                                  compares the program's helps; installs it all below a folder; completes a name with a space in a shell"""
-import definitions, functools, os, pty, re, select, shutil, subprocess, sys, tempfile, time
+import definitions, functools, importlib.util, os, pty, re, select, shutil, subprocess, sys, tempfile, time
 from pathlib import Path
 
 FAULT_FILES = ['crates/cartridge/src/error.rt', 'crates/sector_device/src/device.rt', 'crates/script/src/error.rt', 'crates/session/src/error.rt',
                'crates/streaming/src/error.rt', 'crates/recording/src/fault.rt', 'crates/replaying/src/error.rt', 'crates/recorded_play/src/error.rt', 'crates/battery_files/src/error.rt',
                'crates/debugging/src/error.rt', 'crates/debug_lines/src/error.rt']
 FAULT_LINES, COMMANDS, LINES = 'crates/gbkeep/src/fault.rt', 'crates/command_line/specs/Commands.antt', 'crates/script/specs/Line.antt'
-README, MANUAL, MAN, COMPLETION, MAKE, TOOLS = 'README.md', 'docs/COMMANDS.md', 'docs/gbkeep.1', 'completions/gbkeep.bash', 'Makefile', 'players/faults.py'
+README, MANUAL, MAN, COMPLETION, MAKE, TOOLS = 'README.md', 'docs/COMMANDS.md', 'docs/gbkeep.1', 'completions/gbkeep.bash', 'Makefile', 'python/gbkeep/faults.py'
 PLAYERS, TESTERS = 'docs/PLAYING.md', 'docs/TESTING_ROMS.md'
-ORDERS, PROMPT = 'crates/debugging/specs/Orders.antt', 'testers/debug.py'
+ORDERS, PROMPT = 'crates/debugging/specs/Orders.antt', 'python/gbkeep/debug.py'
 WORDS, ARCHITECTURE = 'crates/command_line/src/words.rt', 'docs/ARCHITECTURE.md'
 # a library's answers: the program stops at the call that breaks a session or a recording, saves before 3,200 inputs are unsaved, and makes a
 # recording only in a new file
@@ -251,17 +251,22 @@ def examples(text):
     return [plain(line).replace('\\\\', '\\') for line in found[1].splitlines()] if found else []
 
 
-def shell(room, line, **more):
-    done = subprocess.run(['bash', '-c', line], cwd=room, stdout=subprocess.PIPE, stderr=subprocess.STDOUT, text=True, timeout=300, **more)
+def shell(room, line, path=''):
+    """Runs a line as a person would: without the PYTHONPATH of the gate, and with the Python that runs this."""
+    env = {name: value for name, value in os.environ.items() if name != 'PYTHONPATH'}
+    env['PATH'] = f'{path}{room}/path:{env["PATH"]}'
+    done = subprocess.run(['bash', '-c', line], cwd=room, env=env, stdout=subprocess.PIPE, stderr=subprocess.STDOUT, text=True, timeout=300)
     return done.returncode, done.stdout
 
 
 def clone(room, program):
     """What of the clone the blocks need, with this program at bin/gbkeep."""
-    for path in ('README.md', 'Makefile', 'crates.txt', 'examples', 'players', 'testers', 'docs', 'completions', 'packaging', 'scripts', 'web'):
+    for path in ('README.md', 'Makefile', 'crates.txt', 'examples', 'players', 'python', 'library', 'docs', 'completions', 'packaging', 'scripts', 'web'):
         copy = shutil.copytree if os.path.isdir(path) else shutil.copy
         copy(path, os.path.join(room, path))
     os.makedirs(os.path.join(room, 'bin'))
+    os.makedirs(os.path.join(room, 'path'))
+    os.symlink(sys.executable, os.path.join(room, 'path/python3'))
     os.makedirs(os.path.join(room, 'crates/command_line/src'))
     shutil.copy(WORDS, os.path.join(room, WORDS))
     shutil.copy(program, os.path.join(room, 'bin/gbkeep'))
@@ -272,6 +277,9 @@ def run_blocks(program, texts):
     wrong, count = [], 0
     for page in (README, MANUAL, PLAYERS, TESTERS):
         for block in blocks(texts[page]):
+            if importlib.util.find_spec('PIL') is None and any(re.search('make demo|gbkeep.png|picture=', line) for line, _ in block):
+                print(f'PIL is missing, so that these were not run: {"; ".join(line for line, _ in block)}')
+                continue
             with tempfile.TemporaryDirectory(prefix='front-') as room:
                 clone(room, program)
                 for line, wanted in block:
@@ -285,10 +293,9 @@ def run_blocks(program, texts):
                             wrong.append(f'{page}: {line}\nprints\n{got}and not\n' + '\n'.join(wanted))
     with tempfile.TemporaryDirectory(prefix='front-') as room:
         clone(room, program)
-        path = dict(os.environ, PATH=f'{room}/bin:{os.environ["PATH"]}')
         for line in examples(texts[MAN]):
             count += 1
-            status, got = shell(room, line, env=path)
+            status, got = shell(room, line, f'{room}/bin:')
             wrong += [f'{MAN}: {line}: {got}'] if status != 0 else []
         if not examples(texts[MAN]):
             wrong.append(f'{MAN} has no examples')
@@ -322,14 +329,14 @@ def installed(room):
     wrong = [f'make install: {got}'] if status != 0 else []
     for path in ('bin/gbkeep', 'bin/gbkeep-window', 'bin/gbkeep-script', 'bin/gbkeep-rest', 'bin/gbkeep-movie', 'bin/gbkeep-film', 'bin/gbkeep-branch', 'bin/gbkeep-verify', 'bin/gbkeep-battery',
                  'bin/gbkeep-run-tests', 'bin/gbkeep-debug', 'share/man/man1/gbkeep.1', 'share/man/man1/gbkeep-window.1', 'share/applications/gbkeep.desktop',
-                 'share/bash-completion/completions/gbkeep', 'share/gbkeep/gbkeep.py'):
+                 'share/bash-completion/completions/gbkeep', 'share/gbkeep/gbkeep/__init__.py'):
         if not os.path.exists(os.path.join(room, 'inst', path)):
             wrong.append(f'make install leaves no {path}')
     played = shell(room, "printf 'A 3\\n' > few.txt; inst/bin/gbkeep-script play examples/demo/demo.gb few.gbkeep few.txt; inst/bin/gbkeep-rest examples/demo/demo.gb few.gbkeep few.txt")
     if played != (0, 'resumed 0\nsaved 3\nresumed 3\n'):
         wrong.append(f'the installed tools print {played}')
-    # the folder of the testers' tools works alone
-    tested = shell(room, 'cp -r inst/share/gbkeep-testers alone; GBKEEP=bin/gbkeep python3 alone/run.py examples/test_roms/passes.gb; inst/bin/gbkeep-run-tests examples/test_roms/all.txt | tail -1; '
+    # the folder of the package and the tools works alone
+    tested = shell(room, 'cp -r inst/share/gbkeep alone; GBKEEP=bin/gbkeep python3 alone/gbkeep-run-tests examples/test_roms/passes.gb; inst/bin/gbkeep-run-tests examples/test_roms/all.txt | tail -1; '
                    "inst/bin/gbkeep-debug --do 'list start 1' examples/demo/demo.gb")
     if tested != (0, 'ok   examples/test_roms/passes.gb: passed, pass wanted\n1 as wanted, 0 failed\n3 as wanted, 0 failed\nstart:\n0150 F3     DI\n'):
         wrong.append(f"the testers' tools print {tested}")

@@ -15,9 +15,9 @@ import sys
 import tempfile
 from pathlib import Path
 
+from examples.speed import build
+
 ROOT = Path(__file__).resolve().parent.parent
-sys.path.insert(0, str(ROOT / 'examples/speed'))
-import build
 
 HEAD = ['name', 'what', 'of', 'instructions', 'a second']
 WARM = 20

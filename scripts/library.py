@@ -11,12 +11,12 @@ import sys
 import tempfile
 from pathlib import Path
 
+from scripts.arm64 import target
+
 TOP = Path(__file__).resolve().parent.parent
 LIBRARY, BIN = TOP / 'library', TOP / 'bin'
 # files are named as below the top, so that a build in another folder has the same bytes
 FLAGS = ['-std=c11', '-O2', '-Wall', '-Wextra', '-fPIC', f'-ffile-prefix-map={TOP}=.']
-sys.path.insert(0, str(TOP / 'scripts/arm64'))
-import target  # noqa: E402
 
 
 def run(words, **how):

@@ -9,13 +9,13 @@ import sys
 import tempfile
 from pathlib import Path
 
+from scripts.arm64 import target
+
 TOP = Path(__file__).resolve().parent.parent
 SOURCES = TOP / 'players/libretro'
 # the core stays in memory once it is there: a thread that waits for a disk may outlive the game
 FLAGS = ['-std=c11', '-O2', '-Wall', '-Wextra', '-Werror', '-fPIC', '-pthread', '-shared', '-s', '-Wl,-z,relro,-z,now,-z,nodelete', '-Wl,--gc-sections',
          f'-ffile-prefix-map={TOP}=.']
-sys.path.insert(0, str(TOP / 'scripts/arm64'))
-import target  # noqa: E402
 
 
 def main():

@@ -15,7 +15,7 @@ it plays on twice, and what it writes has to be the known RAM. A line says how m
 
 The clock is compared at times of day that the script sets and that stand still (mGBA has a call for that; for gambatte a `time` of the script's own
 stands before the system's), since both emulators add to a clock the time since the file was written. `export` writes 0 as that time, and
-players/battery.py, whose converters these are, puts in the time at which the emulator reads the file, so that nothing has passed.
+python/gbkeep/battery.py, whose converters these are, puts in the time at which the emulator reads the file, so that nothing has passed.
 
 - mGBA: all ten registers of its file, in which the two clocks are an hour apart and the days have run over, have to come back. It reads only the
   latched clock and the time; the game latches at each frame, so the two clocks of what `play` left are equal.
@@ -34,11 +34,12 @@ import tempfile
 from dataclasses import dataclass
 from pathlib import Path
 
+from examples.demo.assemble import Assembler
+from gbkeep import A, Refused
+from gbkeep.battery import battery_of, clock_bytes, from_gambatte, from_mgba, registers_after, to_gambatte, to_mgba
+from gbkeep.game import run
+
 TOP = Path(__file__).resolve().parent.parent
-sys.path[:0] = [str(TOP / 'players'), str(TOP / 'players/libretro'), str(TOP / 'examples/demo')]
-from assemble import Assembler
-from battery import battery_of, clock_bytes, from_gambatte, from_mgba, registers_after, to_gambatte, to_mgba
-from gbkeep import A, Refused, run
 
 CORES = sorted(Path('/usr/lib').glob('*/libretro/gambatte_libretro.so'))
 # RETRO_ENVIRONMENT_GET_CAN_DUPE
@@ -303,7 +304,7 @@ class Mgba:
 def play_gambatte(core, rom, path, words):
     """Plays a cartridge as a front end does, in a process that has the script's own `time`. RAM and time lie beside each other in two files."""
     import ctypes
-    import test_libretro
+    from players.libretro import test_libretro
 
     class FrontEnd(test_libretro.FrontEnd):
         def environment(self, what, data):

@@ -18,9 +18,8 @@ import tempfile
 import time
 from pathlib import Path
 
-sys.path.insert(0, str(Path(__file__).resolve().parent / 'second_storage'))
-import recordings
-import save_files
+from gbkeep import save_files
+from scripts.second_storage import recordings
 
 DEMO = Path(__file__).resolve().parent.parent / 'examples/demo/demo.gb'
 

@@ -1,5 +1,5 @@
 #!/usr/bin/env python3
-"""Gives the tools of players and testers files, names and words that are damaged at random, and looks at how each run ends.
+"""Gives the tools files, names and words that are damaged at random, and looks at how each run ends.
 
 usage: tool_fuzz.py GBKEEP SECONDS [SEED]     for so many seconds, from a seed that it prints
 
@@ -25,13 +25,10 @@ import zlib
 from collections.abc import Callable
 from pathlib import Path
 
-TOP = Path(__file__).resolve().parent.parent
-PLAYERS, TESTERS = TOP / 'players', TOP / 'testers'
-sys.path.insert(0, str(PLAYERS))
-from movie import bk2_of
-from png import png_of
+from gbkeep.movie import bk2_of
+from gbkeep.pictures import PNG_HEAD, chunk, png_of
+from gbkeep_tests.support import CART, bare_words
 
-DEMO = TOP / 'examples/demo/demo.gb'
 SECONDS, MEMORY = 60, 1 << 30
 PICTURE = b'P2\n160 144\n3\n' + b' '.join([b'3'] * 160 * 144) + b'\n'
 # what a file begins with that may be replaced by one of its kind
@@ -74,10 +71,6 @@ def lines(rnd: random.Random) -> bytes:
     return b'\n'.join(b' '.join(rnd.choice(WORDS) for _ in range(rnd.choice([1, 2, 2, 3, 4]))) for _ in range(rnd.randrange(8)))
 
 
-def chunk(kind: bytes, data: bytes) -> bytes:
-    return struct.pack('>I', len(data)) + kind + data + struct.pack('>I', zlib.crc32(kind + data))
-
-
 def some_png(rnd: random.Random) -> bytes:
     """A PNG of any kind, whose rows are damaged before they are packed, or after."""
     depth, colour, scale = rnd.choice([1, 2, 4, 8, 8, 16]), rnd.choice([0, 0, 2, 3, 4, 6]), rnd.choice([1, 1, 2, 3])
@@ -90,7 +83,7 @@ def some_png(rnd: random.Random) -> bytes:
     if rnd.random() < 0.3:
         rows = damaged(rnd, rows)
     palette = chunk(b'PLTE', rnd.randbytes(3 * rnd.choice([0, 1, 4, 256])))
-    return b'\x89PNG\r\n\x1a\n' + chunk(b'IHDR', head) + palette + chunk(b'IDAT', zlib.compress(rows)) + chunk(b'IEND', b'')
+    return PNG_HEAD + chunk(b'IHDR', head) + palette + chunk(b'IDAT', zlib.compress(rows)) + chunk(b'IEND', b'')
 
 
 def some_bk2(rnd: random.Random) -> bytes:
@@ -129,7 +122,7 @@ class Room:
 
     def __init__(self, program: str, folder: Path):
         self.program, self.folder, self.kept = program, folder, {}
-        shutil.copy(DEMO, folder / 'demo.gb')
+        shutil.copy(CART, folder / 'demo.gb')
         self.command('new', 'demo.gb', 'run.gbkeep')
         self.command('new-recording', 'demo.gb', 'run.rec', '20')
         self.command('record', 'demo.gb', 'run.gbkeep', 'run.rec', typed=b'frames 00 30\nframes 80 4\nseconds 3\nframes 01 30\n')
@@ -192,7 +185,7 @@ def wrong_with(room: Room, words: list, typed: bytes, writes: set[bytes]) -> str
     named = [os.path.basename(word) for word in words if isinstance(word, bytes)]
     writes = {name for name in writes if named.count(name) < 2 or name in SAVES}
     try:
-        done = subprocess.run([sys.executable, '-S', *words], cwd=room.folder, input=typed, capture_output=True, preexec_fn=bounded, timeout=SECONDS,
+        done = subprocess.run(words, cwd=room.folder, input=typed, capture_output=True, preexec_fn=bounded, timeout=SECONDS,
                               env=dict(os.environ, GBKEEP=room.program))
     except subprocess.TimeoutExpired:
         return f'it does not end within {SECONDS} seconds'
@@ -206,7 +199,7 @@ def wrong_with(room: Room, words: list, typed: bytes, writes: set[bytes]) -> str
     if not all(one.isprintable() or one == '\n' for one in told):
         return f'it steers a terminal: {told!r:.400}'
     # a file of labels that is none is a warning, and the tool goes on
-    told = re.sub(r'^debug\.py: warning: .*\n', '', told, flags=re.M)
+    told = re.sub(r'^gbkeep-debug: warning: .*\n', '', told, flags=re.M)
     if done.returncode == 1 and told.count('\n') > 1 or done.returncode == 0 and told:
         return f'status {done.returncode}, and {told.count(chr(10))} lines: {told!r:.400}'
     if changed:
@@ -237,7 +230,7 @@ def target(rnd: random.Random, name: str) -> tuple[bytes, set[bytes]]:
 def movies(rnd, room):
     kind, made = rnd.choice([('fuzzed.bk2', some_bk2), ('fuzzed.vbm', some_vbm)])
     room.write(kind, damaged(rnd, made(rnd)) if rnd.random() < 0.8 else made(rnd))
-    return [PLAYERS / 'movie.py', 'script', maybe(rnd, kind)], b'', set()
+    return [*bare_words('movie'), 'script', maybe(rnd, kind)], b'', set()
 
 
 def scripts(rnd, room):
@@ -245,12 +238,12 @@ def scripts(rnd, room):
     name, tool = maybe(rnd, 'fuzzed.txt'), rnd.randrange(4)
     if tool == 0:
         out, writes = target(rnd, 'made.bk2')
-        return [PLAYERS / 'movie.py', 'bk2', name, out], b'', writes
+        return [*bare_words('movie'), 'bk2', name, out], b'', writes
     if tool == 1:
         out, writes = target(rnd, 'film.y4m')
-        return [PLAYERS / 'film.py', '--to', '3', b'demo.gb', b'moves.txt' if rnd.random() < 0.5 else name, out], b'', writes
+        return [*bare_words('film'), '--to', '3', b'demo.gb', b'moves.txt' if rnd.random() < 0.5 else name, out], b'', writes
     typed = lines(rnd) if rnd.random() < 0.3 else b''
-    return [PLAYERS / 'script.py', rnd.choice(['own', 'friendly', 'check', 'marks']), b'-' if typed and rnd.random() < 0.5 else name], typed, set()
+    return [*bare_words('script'), rnd.choice(['own', 'friendly', 'check', 'marks']), b'-' if typed and rnd.random() < 0.5 else name], typed, set()
 
 
 def plays(rnd, room):
@@ -259,10 +252,10 @@ def plays(rnd, room):
     room.write('played.txt', text if max(map(len, re.findall(rb'[0-9]+', text)), default=0) < 5 else b'A 3\n')
     script = maybe(rnd, rnd.choice(['played.txt', 'run.rec']))
     cart, save = maybe(rnd, 'demo.gb'), maybe(rnd, rnd.choice(['other.gbkeep', 'run.gbkeep', 'new.gbkeep']))
-    words = [PLAYERS / 'script.py', 'play'] if rnd.random() < 0.5 else [PLAYERS / 'rest.py']
+    words = [*bare_words('script'), 'play'] if rnd.random() < 0.5 else [*bare_words('rest')]
     if rnd.random() < 0.4:
         words += ['--record', maybe(rnd, rnd.choice(['run.rec', 'new.rec']))]
-    writes = SAVES | {os.path.basename(word) for word in (save, *words[2:]) if isinstance(word, bytes)} | {os.path.basename(save) + b'.recorded'}
+    writes = SAVES | {os.path.basename(word) for word in (save, *words) if isinstance(word, bytes)} | {os.path.basename(save) + b'.recorded'}
     return [*words, cart, save, script], b'', writes - {b'demo.gb', b'moves.txt', b'picture.pgm', b'small.png', b'film.y4m', b'made.png', b'report.xml'}
 
 
@@ -270,20 +263,20 @@ def pictures(rnd, room):
     if rnd.random() < 0.4:
         room.write('fuzzed.pgm', damaged(rnd, PICTURE))
         out, writes = target(rnd, 'made.png')
-        return [PLAYERS / 'png.py', maybe(rnd, 'fuzzed.pgm'), out], b'', writes
+        return [*bare_words('png'), maybe(rnd, 'fuzzed.pgm'), out], b'', writes
     room.write('fuzzed.pgm', damaged(rnd, PICTURE))
     made = some_png(rnd) if rnd.random() < 0.7 else png_of(bytes(160 * 144), 160, 144, 1)
     room.write('fuzzed.png', damaged(rnd, made) if rnd.random() < 0.6 else made)
     room.write('list.txt', b'demo.gb frames=1 picture=' + rnd.choice([b'fuzzed.png', b'fuzzed.png', b'fuzzed.pgm']) + b'\n')
     out, writes = target(rnd, 'report.xml')
-    return [TESTERS / 'run.py', '--jobs', '1', '--junit', out, b'list.txt'], b'', writes
+    return [*bare_words('run_tests'), '--jobs', '1', '--junit', out, b'list.txt'], b'', writes
 
 
 def lists(rnd, room):
     text = lines(rnd) if rnd.random() < 0.5 else damaged(rnd, b'demo.gb frames=3\ndemo.gb frames=2 script=moves.txt picture=picture.pgm # far\n')
     room.write('list.txt', text if max(map(len, re.findall(rb'[0-9]+', text)), default=0) < 4 or rnd.random() < 0.3 and b'frames=1' not in text else b'demo.gb frames=2\n')
     out, writes = target(rnd, 'report.xml')
-    words = [TESTERS / 'run.py', '--frames', rnd.choice([b'3', some_count(rnd)]), '--jobs', rnd.choice([b'2', some_count(rnd)])]
+    words = [*bare_words('run_tests'), '--frames', rnd.choice([b'3', some_count(rnd)]), '--jobs', rnd.choice([b'2', some_count(rnd)])]
     if rnd.random() < 0.3:
         # a picture that is stored, wherever the list says
         stored = {os.path.basename(name) for name in re.findall(rb'picture=([^\s#]+)', (room.folder / 'list.txt').read_bytes())}
@@ -305,7 +298,7 @@ def debuggers(rnd, room):
         typed = b'registers\n'
     typed = damaged(rnd, typed) if rnd.random() < 0.3 else typed
     typed = b'digest\n' if re.search(rb'[0-9]{7}', typed) else typed
-    words = [TESTERS / 'debug.py']
+    words = [*bare_words('debug')]
     if rnd.random() < 0.3:
         words += ['--save', maybe(rnd, rnd.choice(['run.gbkeep', 'other.gbkeep']))]
     out, writes = target(rnd, 'made.png')
@@ -322,14 +315,14 @@ def recordings(rnd, room):
     if tool == 0:
         save, new = maybe(rnd, 'new.gbkeep'), maybe(rnd, 'new.rec')
         made = {os.path.basename(save), os.path.basename(new), os.path.basename(save) + b'.recorded'} - room.kept.keys()
-        return [PLAYERS / 'branch.py', cart, recording, rnd.choice([b'3', some_count(rnd)]), save, new], b'', made
+        return [*bare_words('branch'), cart, recording, rnd.choice([b'3', some_count(rnd)]), save, new], b'', made
     if tool == 1:
-        return [PLAYERS / 'verify.py', cart, maybe(rnd, 'run.gbkeep'), recording], b'', set()
+        return [*bare_words('verify'), cart, maybe(rnd, 'run.gbkeep'), recording], b'', set()
     if tool == 2:
         out, writes = target(rnd, 'made.bk2')
-        return [PLAYERS / 'movie.py', 'bk2', cart, recording, out], b'', writes
+        return [*bare_words('movie'), 'bk2', cart, recording, out], b'', writes
     out, writes = target(rnd, 'film.y4m')
-    return [PLAYERS / 'film.py', rnd.choice(['--to', '--from']), rnd.choice([b'3', b'60', some_count(rnd)]), cart, recording, out], b'', writes
+    return [*bare_words('film'), rnd.choice(['--to', '--from']), rnd.choice([b'3', b'60', some_count(rnd)]), cart, recording, out], b'', writes
 
 
 def batteries(rnd, room):
@@ -340,8 +333,8 @@ def batteries(rnd, room):
     out, writes = target(rnd, 'made.srm')
     writes = writes | {os.path.splitext(os.path.basename(out))[0] + b'.rtc'} - room.kept.keys()
     if rnd.random() < 0.5:
-        return [PLAYERS / 'battery.py', 'of-save', maybe(rnd, rnd.choice(['fuzzed.gbkeep', 'run.gbkeep'])), out], b'', writes - room.kept.keys()
-    words = [PLAYERS / 'battery.py', rnd.choice(['to-mgba', 'to-gambatte', 'from-mgba', 'from-gambatte'])]
+        return [*bare_words('battery'), 'of-save', maybe(rnd, rnd.choice(['fuzzed.gbkeep', 'run.gbkeep'])), out], b'', writes - room.kept.keys()
+    words = [*bare_words('battery'), rnd.choice(['to-mgba', 'to-gambatte', 'from-mgba', 'from-gambatte'])]
     words += rnd.choice([[], ['--now'], ['--time', some_count(rnd)], ['--mbc2'], ['--now', '--mbc2']])
     if rnd.random() < 0.3:
         save = maybe(rnd, 'other.gbkeep')
@@ -350,10 +343,9 @@ def batteries(rnd, room):
 
 
 TIMES = '''import sys
-sys.path.insert(0, sys.argv[1])
-from timed_game import SaveTime, WrongTime
+from gbkeep.timed_game import SaveTime, WrongTime
 try:
-    SaveTime(sys.argv[2]).read()
+    SaveTime(sys.argv[1]).read()
 except WrongTime as error:
     print(error, file=sys.stderr)
     sys.exit(1)
@@ -363,7 +355,7 @@ except WrongTime as error:
 def times(rnd, room):
     """The time beside a SAVE, as the window reads it."""
     room.write('timed.gbkeep.time', lines(rnd) if rnd.random() < 0.2 else damaged(rnd, room.kept[b'other.gbkeep.time']))
-    return ['-c', TIMES, PLAYERS, b'timed.gbkeep'], b'', set()
+    return [sys.executable, '-S', '-c', TIMES, b'timed.gbkeep'], b'', set()
 
 
 KINDS: list[Callable] = [movies, scripts, plays, pictures, lists, debuggers, recordings, batteries, times]
@@ -395,7 +387,7 @@ def main() -> int:
                 wrong += 1
                 kept = Path(tempfile.mkdtemp(prefix='tool-fuzz-kept-'))
                 subprocess.run(['cp', '-a', folder, kept])
-                print(f'WRONG kind={kind.__name__} seed={seed} number={number - 1} kept={kept}: {[str(word) if isinstance(word, Path) else word for word in words]} {typed!r:.300}: {why}', flush=True)
+                print(f'WRONG kind={kind.__name__} seed={seed} number={number - 1} kept={kept}: {words} {typed!r:.300}: {why}', flush=True)
             room.clear()
     print(f'tools: seed {seed}, {sum(counts.values())} runs ({", ".join(f"{count} {kind}" for kind, count in counts.items())}), {wrong} wrong')
     return 1 if wrong else 0

@@ -21,8 +21,7 @@ import sys
 import tempfile
 from pathlib import Path
 
-sys.path.insert(0, str(Path(__file__).resolve().parent))
-import library
+from scripts import library
 
 TOP = Path(__file__).resolve().parent.parent
 WEB, DIST = TOP / 'web', TOP / 'dist/web'

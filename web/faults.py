@@ -1,13 +1,9 @@
 """Prints faults.js, the refusals of the library as the page shows them: for each code of gbkeep.h, from 0 on, its line, what it means and what to do
-about it. They are those of library/codes.py and players/faults.py."""
+about it. They are those of library/codes.py and python/gbkeep/faults.py."""
 import json
-import sys
-from pathlib import Path
 
-TOP = Path(__file__).resolve().parent.parent
-sys.path[:0] = [str(TOP / 'library'), str(TOP / 'players')]
-from codes import CODES, texts
-from faults import FAULTS
+from gbkeep.faults import FAULTS
+from library.codes import CODES, texts
 
 # where the table speaks to somebody who has files and a shell, and the page has neither
 HERE = {
@@ -38,7 +34,7 @@ def rows():
 
 
 def main():
-    print('// Made by web/faults.py of library/codes.py and players/faults.py: line, meaning and advice of each code.')
+    print('// Made by web/faults.py of library/codes.py and python/gbkeep/faults.py: line, meaning and advice of each code.')
     print('export const FAULTS = [')
     for row in rows():
         print(f'  {json.dumps(row)},')

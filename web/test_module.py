@@ -1,12 +1,9 @@
 """What scripts/web.py changes of the library's module, and what it refuses.
 
 usage: test_module.py"""
-import sys
 import unittest
-from pathlib import Path
 
-sys.path.insert(0, str(Path(__file__).resolve().parent.parent / 'scripts'))
-import web
+from scripts import web
 
 MODULE = f'''source_filename = "rattle"
 target datalayout = "{web.LAYOUT}"

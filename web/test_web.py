@@ -28,14 +28,14 @@ import time
 import unittest
 from pathlib import Path
 
+from examples.demo.assemble import Assembler
+from examples.demo.check import SAYS, glyphs, letters
+from examples.speed import build as speed_roms
+from gbkeep import Picture
+from gbkeep.timed_game import SaveTime, TimedGame, given_until, lines_of
+
 HERE = Path(__file__).resolve().parent
 TOP = HERE.parent
-sys.path[:0] = [str(TOP / 'players'), str(TOP / 'examples/demo'), str(TOP / 'examples/speed'), str(TOP / 'scripts/second_storage')]
-import build as speed_roms
-from assemble import Assembler
-from check import SAYS, glyphs, letters
-from gbkeep import Picture
-from timed_game import SaveTime, TimedGame, given_until, lines_of
 
 NEEDED = []
 for program, package in (('chromium', 'chromium'), ('chromedriver', 'chromium-driver')):
@@ -1423,7 +1423,7 @@ class Around(WithBrowser):
         """The palettes are the window's, and a pixel is a whole number of the screen's."""
         page = self.play('scrolling')
         page.press(0, 100)
-        palettes = ast.literal_eval(re.search(r'^PALETTES = (\[\[.*?\]\])$', (TOP / 'players/window.py').read_text(), re.S | re.M)[1])
+        palettes = ast.literal_eval(re.search(r'^PALETTES = (\[\[.*?\]\])$', (TOP / 'python/gbkeep/window.py').read_text(), re.S | re.M)[1])
         shades, there = page.picture(), """
             const canvas = document.getElementById('screen');
             const data = canvas.getContext('2d').getImageData(0, 0, 160, 144).data;

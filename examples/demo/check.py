@@ -11,8 +11,7 @@ import sys
 import tempfile
 from pathlib import Path
 
-sys.path.insert(0, str(Path(__file__).parent))
-from assemble import Assembler
+from examples.demo.assemble import Assembler
 
 HERE = Path(__file__).resolve().parent
 LETTERS = '0123456789 BCEORSTAP'

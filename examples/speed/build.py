@@ -6,8 +6,7 @@ Writes each as FOLDER/NAME.gb, of 32 KiB, and prints what it does. `ROMS` has th
 import sys
 from pathlib import Path
 
-sys.path.insert(0, str(Path(__file__).resolve().parent.parent / 'demo'))
-from assemble import Assembler
+from examples.demo.assemble import Assembler
 
 NAMES = '''
 tima equ $ff05

@@ -8,10 +8,9 @@ import re
 import sys
 from pathlib import Path
 
-HERE = Path(__file__).resolve().parent
-sys.path.insert(0, str(HERE.parent / 'demo'))
-from assemble import Assembler
+from examples.demo.assemble import Assembler
 
+HERE = Path(__file__).resolve().parent
 TABLES = HERE.parent.parent / 'crates/tester_tests/src/roms.rt'
 
 

@@ -2,18 +2,15 @@
 
 usage: faults_h.py > faults.h"""
 import json
-import sys
-from pathlib import Path
 
-sys.path.insert(0, str(Path(__file__).resolve().parent.parent))
-from faults import FAULTS
+from gbkeep.faults import FAULTS
 
 
 def quoted(text):
     return json.dumps(text.replace('`', ''), ensure_ascii=True)
 
 
-print('/* made by faults_h.py of players/faults.py */')
+print('/* made by faults_h.py of python/gbkeep/faults.py */')
 print('struct fault { const char *line, *of, *means, *advice; };')
 print('static const struct fault FAULTS[] = {')
 for line, of, means, advice in FAULTS:

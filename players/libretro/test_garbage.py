@@ -65,7 +65,7 @@ def spoilt(rnd, data):
 
 def some_cart(rnd):
     """A ROM of some kind, a wrong one at times."""
-    from test_libretro import CART
+    from gbkeep_tests.support import CART
     rom = bytearray(CART.read_bytes())
     rom[0x147], rom[0x149] = rnd.choice([(0, 0), (0x10, 3), (0x0f, 0), (0x06, 0), (0x1b, 2), (0x13, 3)])
     return bytes(rom) if rnd.random() < 0.9 else rnd.choice([b'', bytes(1000), spoilt(rnd, rom), spoilt(rnd, rom[:0x150]), bytes(0x800001)])
@@ -158,7 +158,8 @@ def runs(core, room, first, last):
 
 def stuck(core, room):
     """A disk that does not answer for longer than a save may take: the game ends, and SAVE stays locked until the disk answers; then it is as it was told."""
-    from test_libretro import CART, FrontEnd, expect
+    from gbkeep_tests.support import CART, expect
+    from test_libretro import FrontEnd
     folder, held = Path(room) / 'stuck', Path(room) / 'held'
     folder.mkdir()
     os.environ['FAIL_EACH'] = '0'
@@ -193,7 +194,6 @@ def main():
         stuck(words[1], words[2])
         return runs(words[1], words[2], int(words[3]), int(words[4]))
     count, first = (int(word) for word in [*words, 60, 1][:2]) if len(words) != 1 else (int(words[0]), 1)
-    sys.path.insert(0, str(HERE))
     from test_libretro import disk
     with tempfile.TemporaryDirectory(prefix='garbage-') as folder:
         room = Path(folder)

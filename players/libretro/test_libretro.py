@@ -21,16 +21,11 @@ import time
 from concurrent.futures import ThreadPoolExecutor
 from pathlib import Path
 
-HERE = Path(__file__).resolve().parent
-PLAYERS = HERE.parent
-DEMO = PLAYERS.parent / 'examples/demo'
-sys.path[:0] = [str(PLAYERS), str(DEMO), str(PLAYERS.parent / 'library')]
-import gbkeep_library
-from assemble import Assembler
-from gbkeep import A, RIGHT, START, Game, run
-from test_slots import CLOCK, DAY, seconds_shown
+from examples.demo.assemble import Assembler
+from gbkeep import A, RIGHT, START, Game, Machine
+from gbkeep.game import run
+from gbkeep_tests.support import CART, CLOCK, DAY, expect, seconds_shown
 
-CART = DEMO / 'demo.gb'
 WIDTH, HEIGHT = 160, 144
 PALETTES = {'green': [0x0f380f, 0x306230, 0x8bac0f, 0xe0f8d0], 'grey': [0, 0x555555, 0xaaaaaa, 0xffffff],
             'pocket': [0x1f1f1f, 0x4d533c, 0x8b956d, 0xc4cfa1], 'night': [0xffffff, 0xaaaaaa, 0x555555, 0]}
@@ -198,11 +193,6 @@ class FrontEnd:
         expect('lines without room on the screen', [text for text in self.told if len(text) > MOST_SHOWN], [])
 
 
-def expect(what, got, wanted):
-    if got != wanted:
-        sys.exit(f'{what}: {got!r:.600}, and not {wanted!r:.600}')
-
-
 def shades_of(program, cart, save, room):
     """The picture that `gbkeep frame` writes, and the count that it tells."""
     told = run(program, 'frame', str(cart), str(save), str(room / 'out.pgm'))
@@ -367,7 +357,7 @@ def test_memory(program, core, room):
     for path in (CART, cart):
         front = FrontEnd(core, folder)
         front.load(path)
-        with gbkeep_library.Machine(path.read_bytes()) as machine:
+        with Machine(path.read_bytes()) as machine:
             for buttons in (0, START, RIGHT):
                 front.frames(buttons, 20)
                 if buttons:

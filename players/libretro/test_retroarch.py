@@ -16,8 +16,9 @@ import zipfile
 from pathlib import Path
 
 HERE = Path(__file__).resolve().parent
-sys.path[:0] = [str(HERE), str(HERE.parent)]
-from test_libretro import CART, expect, gbkeep_library, shades_of
+from gbkeep import Machine, Session
+from gbkeep_tests.support import CART, expect, wrong
+from test_libretro import shades_of
 
 SETTINGS = {'video_driver': 'gl', 'audio_driver': 'null', 'input_driver': 'x', 'joypad_driver': 'null', 'menu_driver': 'null', 'log_verbosity': 'true',
             'savefiles_in_content_dir': 'false', 'savestates_in_content_dir': 'false', 'config_save_on_exit': 'false', 'core_info_cache_enable': 'false',
@@ -118,7 +119,7 @@ class RetroArch:
         self.say('SAVE_STATE')
         self.until(lambda: file.exists() and file.read_bytes() not in (held, b''), 'a state is written')
         data = file.read_bytes()
-        with gbkeep_library.Machine(CART.read_bytes()) as machine:
+        with Machine(CART.read_bytes()) as machine:
             return data[data.index(b'GBSNAP01'):][:machine.state_length()]
 
     def end(self):
@@ -158,13 +159,13 @@ def plays(front, program, room):
 
 def saved(save):
     """The machine that a SAVE stands for, and the count of its inputs."""
-    with gbkeep_library.Session(CART.read_bytes(), save.read_bytes()) as session:
+    with Session(CART.read_bytes(), save.read_bytes()) as session:
         return session.state(), session.count()
 
 
 def frames_from(first, last, is_off=False):
     """How many frames without buttons lead from a state, or from power-on, to the other one; or from there, switched off and on, but for the cartridge's RAM."""
-    with gbkeep_library.Machine(CART.read_bytes()) as machine:
+    with Machine(CART.read_bytes()) as machine:
         if first:
             machine.restore(first)
         if is_off:
@@ -173,7 +174,7 @@ def frames_from(first, last, is_off=False):
             if machine.state()[:STATE if is_off else None] == last[:STATE if is_off else None]:
                 return number
             machine.frames(0)
-    return sys.exit('no frames lead from the one state to the other')
+    wrong('no frames lead from the one state to the other')
 
 
 def states(front, program, room):
@@ -191,7 +192,7 @@ def states(front, program, room):
     log = front.end()
     state, count = saved(save)
     expect('after the power switch', (100 <= frames_from(before, state, True) < 400, count - first > 200, count), (True, True, front.told()))
-    with gbkeep_library.Machine(CART.read_bytes()) as machine:
+    with Machine(CART.read_bytes()) as machine:
         machine.restore(state)
         expect('what it may look at', memory, (machine.memory(RAM, LENGTH), machine.memory(OAM, 0xa0)))
     expect('nothing is refused', [line for line in log if not line.startswith(('resumed', 'saved'))], [])

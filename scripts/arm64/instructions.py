@@ -16,9 +16,9 @@ import sys
 import tempfile
 from pathlib import Path
 
+from examples.speed import build
+
 ROOT = Path(__file__).resolve().parent.parent.parent
-sys.path.insert(0, str(ROOT / 'examples/speed'))
-import build
 
 HERE, TABLE = Path(__file__).resolve().parent, ROOT / 'docs/speed_arm64.csv'
 HEAD = ['name', 'what', 'aarch64', 'x86-64']

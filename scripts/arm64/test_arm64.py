@@ -14,11 +14,8 @@ import tempfile
 import time
 from pathlib import Path
 
-ROOT = Path(__file__).resolve().parent.parent.parent
-sys.path[:0] = [str(Path(__file__).resolve().parent), str(ROOT / 'players'), str(ROOT / 'examples/demo')]
 import target
-from assemble import Assembler
-from test_slots import CLOCK
+from gbkeep_tests.support import TOP as ROOT, clock_cart, expect
 
 EMULATOR, LIBRARIES = 'qemu-aarch64-static', '/usr/aarch64-linux-gnu'
 DEMO = ROOT / 'examples/demo/demo.gb'
@@ -27,11 +24,6 @@ OF_ITS_OWN = {'malloc', 'realloc', 'free', '__libc_start_main'}
 LINES = 60
 # the kinds of hostile.py; not those that look at system calls, which are qemu's here, or at a folder in which there is no qemu
 KINDS = ('saves', 'scripts', 'bytes', 'kills', 'holds', 'places', 'pipes', 'shrinks', 'names', 'streams', 'recordings', 'batteries', 'debugs')
-
-
-def expect(what, got, wanted):
-    if got != wanted:
-        sys.exit(f'{what}: {got!r:.600}, and not {wanted!r:.600}')
 
 
 def wrapped(program, path):
@@ -81,8 +73,7 @@ def both(gbkeep, other, folder, *words):
 
 def test_games(gbkeep, others, room, seconds):
     """Games that go from one processor to the other at each step, beside one that stays here: each byte of their files is the same."""
-    clock = room / 'clock.gb'
-    clock.write_bytes(Assembler().assemble(CLOCK))
+    clock = clock_cart(room)
     random_of, until, steps = random.Random(1), time.monotonic() + seconds, 0
     while time.monotonic() < until or steps < 20:
         cart, has_clock = random_of.choice([(DEMO, False), (clock, True)])
@@ -125,8 +116,7 @@ def test_core(gbkeep, folder, program, room):
     if not all(core.exists() for core in cores.values()) or not os.path.exists(f'{headers}/libretro.h'):
         print('the core was not tried: that needs make libretro, make libretro ARCH=arm64 and retroarch-dev')
         return
-    clock, told = room / 'clock.gb', {}
-    clock.write_bytes(Assembler().assemble(CLOCK))
+    clock, told = clock_cart(room), {}
     for name, compiler, before, used in (('here', os.environ.get('CC', 'cc'), [], gbkeep), ('there', target.compiler(), [EMULATOR, '-L', LIBRARIES], program)):
         front, saves = room / f'front-{name}', room / f'saves-{name}'
         saves.mkdir()
@@ -157,9 +147,9 @@ def main():
         test_core(gbkeep, folder, static, room)
         run_suite(dynamic, 'scripts/program_tests/run.py', 'GBKEEP')
         run_suite(static, 'scripts/program_tests/run.py', 'GBKEEP')
-        run_suite(static, 'players/test_players.py', 'GBKEEP')
-        run_suite(static, 'testers/test_run.py', 'GBKEEP')
-        run_suite(static, 'testers/test_debug.py', 'GBKEEP')
+        run_suite(static, 'python/gbkeep_tests/test_players.py', 'GBKEEP')
+        run_suite(static, 'python/gbkeep_tests/test_run_tests.py', 'GBKEEP')
+        run_suite(static, 'python/gbkeep_tests/test_debug.py', 'GBKEEP')
         for kind in KINDS:
             run_suite(static, 'scripts/second_storage/hostile.py', 'GBKEEP', kind, seconds, '1')
         run_suite(static, 'scripts/second_machine/compare.py', 'GBKEEP', seconds)

@@ -6,12 +6,9 @@ import os
 import resource
 import signal
 import subprocess
-import sys
-from pathlib import Path
 
-sys.path.insert(0, str(Path(__file__).resolve().parent.parent / 'second_storage'))
+from gbkeep.save_files import FIXED, Cartridge, Game, chosen_root, inputs_of, snapshot_of
 from room import SECONDS
-from save_files import FIXED, Cartridge, Game, chosen_root, inputs_of, snapshot_of
 
 # enables the RAM, latches a clock if there is one, and writes 5A to A000 and C3 to A1FF
 WRITES = '3e0a ea0000 af ea0060 3c ea0060 3e5a ea00a0 3ec3 eaffa1 18fe'

@@ -13,7 +13,7 @@ machine again and again), debug (lines of `debug` on random programs, on program
 seconds, registers, histories, listings, memory, what is sent, pictures and digests of the whole machine), tests (`test` of programs that send words and
 come to an end in many ways and places, with scripts and without). The status is 1 where anything differs."""
 import os, random, shutil, subprocess, sys, tempfile, time
-import debug_lines, feature_roms, reference as ref, test_lines
+from scripts.second_machine import debug_lines, feature_roms, reference as ref, test_lines
 
 GB = os.path.abspath(sys.argv[1]) if len(sys.argv) > 1 else ''
 ROOM = tempfile.mkdtemp(prefix='compare-')

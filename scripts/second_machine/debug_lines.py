@@ -1,9 +1,8 @@
 """The lines of `gbkeep debug`, read and answered by the second machine: what each asks for, and each byte of the answer. Written from docs/COMMANDS.md,
 docs/SNAPSHOT.md and docs/MACHINE.md, by somebody who had read of the code what its calls promise. debug_lines.py --check compares its own parts."""
-import collections, copy, hashlib, os, random, re, sys
-import reference as ref
-sys.path.insert(0, os.path.join(os.path.dirname(os.path.abspath(__file__)), '..', 'second_storage'))
-import save_files
+import collections, copy, hashlib, random, re, sys
+from scripts.second_machine import reference as ref
+from gbkeep import save_files
 
 MOST_LINE, MOST_SENT, MOST_HISTORY = 128, 65536, 1024
 COUNT, HEX = rb'([0-9]{1,10})', rb'[0-9A-Fa-f]'

@@ -8,7 +8,7 @@ usage: feature_roms.py FOLDER          writes them as FOLDER/feature_0.gb and so
 Each ROM is a loop that calls routines, one for each feature, by a table of 64 places in an order that differs by ROM, by pass through
 the table and by what the joypad gave. No routine waits for what may never come, but STOP, which only runs while a button is pressed."""
 import os, random, sys, time
-import reference as ref
+from scripts.second_machine import reference as ref
 
 # ------------------------------------------------------------ places
 
@@ -40,7 +40,7 @@ CARTRIDGES = [(0x03, 8, 2, 5), (0x13, 16, 3, 6), (0x1B, 32, 3, 7), (0x03, 64, 3,
               (0x1B, 4, 2, 4)]
 
 
-class Assembler:
+class Emitter:
     """Writes instructions into an image from an offset on, for code that runs at an address."""
 
     def __init__(self, image, offset, address, labels=None):
@@ -137,7 +137,7 @@ class Rom:
         self.image = bytearray(self.random.randbytes(self.banks * 0x4000))
         self.ram_code = ram_code
         self.ram = 512 if self.kind == 'MBC2' else ref.RAMS[ram_code] * 1024
-        self.code = Assembler(self.image, 0x150, 0x150)
+        self.code = Emitter(self.image, 0x150, 0x150)
         self.blocks = []
         self.style = number % 2
 
@@ -186,10 +186,10 @@ class Rom:
             image[place:place + 4] = bytes(self.some(3) + [0xC9])
         image[0x15:0x17] = bytes([0x0C, 0xC9])
         for place, name in ((0x40, 'frame'), (0x48, 'stat'), (0x50, 'timer'), (0x58, 'serial'), (0x60, 'joypad')):
-            vector = Assembler(image, place, place, self.code.labels)
+            vector = Emitter(image, place, place, self.code.labels)
             vector.jump(name)
             self.code.open += vector.open
-        entry = Assembler(image, 0x100, 0x100, self.code.labels)
+        entry = Emitter(image, 0x100, 0x100, self.code.labels)
         entry.bytes(0x00)
         entry.jump('start')
         self.code.open += entry.open
@@ -208,7 +208,7 @@ class Rom:
         """A bank at 4000: the same instructions in each, other values and other targets."""
         offset = number * 0x4000
         if number % 32 == 0 and self.kind == 'MBC1': return
-        code = Assembler(self.image, offset, 0x4000, dict(self.code.labels))
+        code = Emitter(self.image, offset, 0x4000, dict(self.code.labels))
         # behind 3FFF; with EA there, 4000 and 4001 are the address of the bank's register, and 4001 is LD HL too
         if self.style: code.bytes(self.random.randrange(256), self.random.choice(SHORT))
         else: code.bytes(0x00, 0x21)
@@ -217,7 +217,7 @@ class Rom:
         code.log()
         code.back()
 
-        code = Assembler(self.image, offset + BANK_RUN - 0x4000, BANK_RUN, dict(self.code.labels))
+        code = Emitter(self.image, offset + BANK_RUN - 0x4000, BANK_RUN, dict(self.code.labels))
         for turn in range(4):
             code.call('random_bank')
             if turn == 2 and self.kind in ('MBC3', 'MBC3+clock', 'MBC5'):
@@ -240,13 +240,13 @@ class Rom:
         assert code.at <= offset + BANK_TARGETS - 0x4000
         code.finish()
         for target in range(8):
-            code = Assembler(self.image, offset + BANK_TARGETS - 0x4000 + 32 * target, BANK_TARGETS + 32 * target, dict(self.code.labels))
+            code = Emitter(self.image, offset + BANK_TARGETS - 0x4000 + 32 * target, BANK_TARGETS + 32 * target, dict(self.code.labels))
             code.bytes(*self.some(self.random.randrange(1, 12)))
             code.log()
             code.back()
             code.finish()
 
-        code = Assembler(self.image, offset + VRAM_BORDER - 0x4000, VRAM_BORDER, dict(self.code.labels))
+        code = Emitter(self.image, offset + VRAM_BORDER - 0x4000, VRAM_BORDER, dict(self.code.labels))
         code.bytes(*self.some(13))
         code.bytes(0x3E, 0x01, 0x11)        # as at 3FFD
         assert code.here() == 0x8000
@@ -514,7 +514,7 @@ class Rom:
         """Code that stands here and runs at an address; `name` is its label there."""
         code = self.code
         start = code.at
-        other = Assembler(self.image, start, address, code.labels)
+        other = Emitter(self.image, start, address, code.labels)
         other.label(name)
         emit(other)
         self.blocks.append((name, start, address, other.at - start, other))

@@ -1,6 +1,5 @@
 """What `gbkeep test` prints and answers, by the second machine. Written from docs/TESTING_ROMS.md and docs/COMMANDS.md."""
-import random
-import debug_lines, reference as ref
+from scripts.second_machine import debug_lines, reference as ref
 
 PASSED, FAILED, UNDECIDED = 'passed', 'failed', 'undecided'
 STATUS = {PASSED: (0, b''), FAILED: (1, b'gbkeep: test failed\n'), UNDECIDED: (1, b'gbkeep: test undecided\n')}

@@ -3,7 +3,7 @@ that is killed and asked for once more."""
 import hashlib, os, signal, subprocess, time
 import hostile
 from hostile import CART, ROOM, SAVE, OUT, SCRIPT, damaged, differs, gbkeep, line, random_rom, random_script
-from save_files import FIXED, Cartridge, Refused, area_of, get, log_of, looked_at, need_of, put, snapshot_of
+from gbkeep.save_files import FIXED, Cartridge, Refused, area_of, get, log_of, looked_at, need_of, put, snapshot_of
 
 BATTERY = os.path.join(ROOM, 'game.battery')
 EXPORTED = os.path.join(ROOM, 'exported.battery')

@@ -2,15 +2,11 @@
 
 Each line is read and answered by second_machine/debug_lines.py, byte for byte. SAVE is left as save_files.py says, and byte for byte as `trace` leaves it:
 it has one checkpoint more, and nothing of what was run."""
-import hashlib, signal, subprocess, sys, threading
-from pathlib import Path
+import hashlib, signal, subprocess, threading
 import hostile
 from hostile import CART, SAVE, SCRIPT, damaged, differs, gbkeep, random_rom, same_file
-from save_files import Cartridge, Game, get, put
-
-sys.path.insert(0, str(Path(__file__).resolve().parent.parent / 'second_machine'))
-import debug_lines
-import reference
+from gbkeep.save_files import Cartridge, Game, get, put
+from scripts.second_machine import debug_lines, reference
 
 
 def first_difference(want, got):

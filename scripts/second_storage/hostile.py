@@ -15,8 +15,8 @@ killed), batteries (battery files that are taken and written, and what `show` pr
 games, sound and damaged), hosts (a host that plays by libgbkeep, with its disk cut behind each call that it was handed out; needs bin/libgbkeep.so, or the
 one that GBKEEP_LIBRARY names). The status is 1 where anything differs, where gbkeep dies by a signal, or where it takes longer than 10 seconds."""
 import fcntl, os, random, re, resource, shutil, signal, subprocess, sys, tempfile, threading, time
-import save_files as ref
-from save_files import get, put
+from gbkeep import save_files as ref
+from gbkeep.save_files import get, put
 
 GB = os.path.abspath(sys.argv[1]) if len(sys.argv) > 1 else ''
 ROOM = tempfile.mkdtemp(prefix='hostile-')
@@ -628,7 +628,7 @@ def shrinks(rnd, seed):
 def no_longer_named(rnd, seed):
     """A save file that loses its name or its length while it is open: no `saved` is told from then on, and it has what was told before."""
     cart, image = a_game(rnd)
-    aside, other, before = SAVE + '.aside', SAVE + '.other', count_of(image, cart)
+    aside, other = SAVE + '.aside', SAVE + '.other'
     gone(aside)
     how = rnd.choice(('removed', 'replaced', 'lengthened', 'shortened', 'moved'))
     play = subprocess.Popen([GB, 'stream', CART, SAVE], stdin=subprocess.PIPE, stdout=subprocess.PIPE, stderr=subprocess.PIPE)

@@ -4,14 +4,12 @@ calls that it was handed out, with any of the writes since the last sync.
 What is left stands for at least what was told as saved, and for no more than was given: by the second reader behind each call, and by the program and by
 the library, which take it up, behind some of them. The machine is the one that so many inputs lead to. A cut, or the end of a life, is where the next
 life begins, by the library or after a play of the program."""
-import hashlib, os, sys
-import save_files as ref
+import hashlib, os
+from gbkeep import save_files as ref
 from batteries import WITH_BATTERY, battery_of, random_battery, taken
 from hostile import CART, ROOM, SAVE, SCRIPT, differs, gbkeep, random_rom
-from save_files import SECTOR, get, put
-
-sys.path.insert(1, os.path.join(os.path.dirname(os.path.abspath(__file__)), '../../library'))
-import gbkeep_library as library
+from gbkeep.save_files import SECTOR, get, put
+from gbkeep import library
 
 EXPORTED = os.path.join(ROOM, 'exported.sav')
 

@@ -5,8 +5,8 @@ compiler, cuts a write short. The game in SAVE must be one that the second reade
 SCRIPT keep their bytes; and what `new` leaves is a game, or an empty file, which the next `new` takes up."""
 import os, re, shutil, subprocess
 import hostile
-import save_files as ref
-from save_files import get, put
+from gbkeep import save_files as ref
+from gbkeep.save_files import get, put
 
 CALLS = 'openat,read,pread64,write,pwrite64,fsync,flock,ftruncate,statx,rename,unlink'
 FAULTS = {'openat': ['EIO', 'EMFILE', 'EINTR'], 'read': ['EIO', 'EINTR', 'EAGAIN'], 'pread64': ['EIO', 'EINTR'], 'write': ['EIO', 'ENOSPC', 'EINTR', 'EAGAIN'],

@@ -4,7 +4,7 @@ import os, signal, subprocess, time
 import hostile
 import recordings as ref
 from hostile import CART, ROOM, SAVE, OUT, a_game, differs, gbkeep, line, moves_before, random_script, same_file, without_pictures
-from save_files import Cartridge, Refused, get, inputs_of, looked_at, moves_of, put
+from gbkeep.save_files import Cartridge, Refused, get, inputs_of, looked_at, moves_of, put
 
 RECORDING = os.path.join(ROOM, 'game.recording')
 OTHER = os.path.join(ROOM, 'other.recording')

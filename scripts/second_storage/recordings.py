@@ -1,7 +1,7 @@
 """A second reader and writer of recordings, written from docs/STORAGE.md and docs/COMMANDS.md.
 
 An input is six bytes, as save_files.inputs_of has it: `00` and the buttons, or `01`, four bytes of seconds and `00`."""
-from save_files import Game, MOST_UNSAVED, Refused, SECTOR, le, looked_at
+from gbkeep.save_files import Game, MOST_UNSAVED, Refused, SECTOR, le, looked_at
 
 ENTRIES = 83                # entries of a full sector
 LONGEST = 216000            # frames of the longest run

@@ -8,8 +8,8 @@ anything differs. What refuses is a library that is loaded before the C library,
 nothing is tried."""
 import os, shutil, subprocess, sys, tempfile
 import recordings
-import save_files as ref
-from save_files import get, put
+from gbkeep import save_files as ref
+from gbkeep.save_files import get, put
 
 ROOM = tempfile.mkdtemp(prefix='refused-')
 CART, SAVE, NEW, SCRIPT, OUT, TOLD = (os.path.join(ROOM, name) for name in ('rom.gb', 'game.gbkeep', 'new.gbkeep', 'moves.script', 'out.pgm', 'told'))

@@ -12,8 +12,8 @@ import hostile
 import batteries
 import recorded
 import recordings
-import save_files as ref
-from save_files import get, put
+from gbkeep import save_files as ref
+from gbkeep.save_files import get, put
 
 CALL = re.compile(r'^\d*\s*(\w+)\((.*)\)\s+= (-?\d+)')
 

@@ -1,0 +1,194 @@
+"""A game that goes on while it is saved, also where a sync takes long.
+
+Two programs play it: `gbkeep stream` or `gbkeep record` on SAVE, by a thread that waits for it, and `gbkeep debug` on a copy of SAVE in memory, which is given
+the same inputs and draws the pictures. What it is given, the other one is given too, in the same order, and `saved` is what that one has told."""
+import contextlib
+import os
+import queue
+import shutil
+import tempfile
+import threading
+import time
+from typing import Optional, Union
+
+from .game import Game, Picture, Refused
+from .input_files import PathLike
+from .timed_game import TimedGame
+
+# so few seconds are given to the clock while the game goes on: a power cut right then may lose them, since the line of SAVE.time has a count too small
+FEW_SECONDS = 5
+# a save that takes so long is told
+SLOW_SECONDS = 5
+# inputs that wait for a save: so many, and the game waits, too
+MOST_WAITING = 20_000
+
+
+def memory_folder() -> Optional[str]:
+    """A folder that is in memory, where there is one; None is where other temporary files are."""
+    for folder in (os.environ.get('XDG_RUNTIME_DIR', ''), '/dev/shm'):
+        if folder.startswith('/') and os.path.isdir(folder) and os.access(folder, os.W_OK):
+            return folder
+    return None
+
+
+class Player(Game):
+    """The game of a SAVE, of which nothing is kept."""
+
+    def __init__(self, cart: PathLike, save: PathLike, program: PathLike):
+        with tempfile.NamedTemporaryFile(prefix='gbkeep-', dir=memory_folder()) as copy:
+            with open(save, 'rb') as file:
+                shutil.copyfileobj(file, copy)
+            copy.flush()
+            # it reads the copy now, and writes to none
+            self._start(str(program), ['debug', '--', str(cart), copy.name])
+
+    def _take_line(self, line: bytes) -> None:
+        if self.resumed is None:
+            super()._take_line(line)
+        elif line != b'done':
+            self._answers_wrongly()
+
+    def save(self) -> int:
+        raise Refused('this game is not saved', self.command)
+
+
+class ShownGame:
+    """A game of the window's. Its calls are those of TimedGame; `begin_keep` waits for nothing."""
+
+    def __init__(self, game: TimedGame, player: Player):
+        self.game, self.player, self.count = game, player, game.count
+        self.header, self.notice, self.command = game.header, game.notice, game.command
+        # what the thread has to do; what became of the claim of seconds that it was last given
+        self.work: queue.SimpleQueue = queue.SimpleQueue()
+        self.passed, self.is_claimed = 0, None
+        self.is_keeping, self.since = False, 0.0
+        self.failed: Optional[BaseException] = None
+        self.thread = threading.Thread(target=self._work, daemon=True)
+        self.thread.start()
+
+    @property
+    def saved(self) -> int:
+        return self.game.saved
+
+    @property
+    def trouble(self) -> Optional[str]:
+        if self.is_keeping and time.monotonic() > self.since + SLOW_SECONDS:
+            return f'the disk is slow: nothing is saved for {SLOW_SECONDS} seconds'
+        return self.game.trouble
+
+    def frame(self, buttons: int = 0) -> None:
+        self._look()
+        while self.work.qsize() > MOST_WAITING:
+            time.sleep(0.01)
+            self._look()
+        self.player.frame(buttons)
+        self.work.put(('frame', buttons))
+        self.count += 1
+
+    def frames(self, buttons: int, count: int) -> None:
+        for _ in range(count):
+            self.frame(buttons)
+
+    def picture(self) -> Picture:
+        return self.player.picture()
+
+    def begin_keep(self) -> None:
+        """Begins a save, where the last one is done."""
+        self._look()
+        if self.is_keeping:
+            return
+        passed = self.game.due()
+        if passed > FEW_SECONDS:
+            self.keep()
+            return
+        self.is_keeping, self.since = True, time.monotonic()
+        if passed > 0:
+            self.passed, self.is_claimed = passed, None
+            self.work.put(('claim', self.count + 1, passed))
+        else:
+            self.work.put(('save', True))
+
+    def keep(self) -> int:
+        """Gives the clock the seconds that have passed, saves, and answers the count of inputs."""
+        self._settle()
+        # the thread has nothing to do now
+        passed = self.game.due()
+        if passed > 0 and self.game.claim(self.count + 1, passed):
+            self._seconds(passed)
+        self.is_keeping, self.since = True, time.monotonic()
+        self.work.put(('save', passed <= 0))
+        self._settle()
+        return self.saved
+
+    def close(self) -> None:
+        self._settle()
+        self.work.put(('end',))
+        self.thread.join()
+        self.player.process.kill()
+        with contextlib.suppress(Refused):
+            self.player.close()
+        self.game.close()
+
+    def _seconds(self, passed: int) -> None:
+        self.player.seconds(passed)
+        self.work.put(('seconds', passed))
+        self.count += 1
+
+    def _settle(self) -> None:
+        """Waits until nothing is left to do."""
+        while self.is_keeping or not self.work.empty():
+            self._look()
+            time.sleep(0.001)
+        done = threading.Event()
+        self.work.put(('tell', done))
+        while not done.wait(0.1):
+            self._look()
+        self._look()
+
+    def _look(self) -> None:
+        """Takes what the thread has done meanwhile."""
+        if self.failed is not None:
+            raise self.failed
+        if self.is_claimed is not None:
+            is_claimed, self.is_claimed = self.is_claimed, None
+            if is_claimed:
+                self._seconds(self.passed)
+            self.work.put(('save', False))
+
+    def _work(self) -> None:
+        try:
+            while True:
+                order, *words = self.work.get()
+                if order == 'frame':
+                    self.game.frame(*words)
+                elif order == 'seconds':
+                    self.game.seconds(*words)
+                elif order == 'claim':
+                    self.is_claimed = self.game.claim(*words)
+                elif order == 'save':
+                    self.game.save()
+                    if words[0]:
+                        self.game.note()
+                    self.is_keeping = False
+                elif order == 'tell':
+                    words[0].set()
+                else:
+                    return
+        except BaseException as error:
+            self.failed = error
+
+
+Played = Union[ShownGame, TimedGame]
+
+
+def shown(game: TimedGame, cart: PathLike, save: PathLike, program: PathLike) -> Played:
+    """The game with a second program for its pictures; the game itself, which waits for each save, where there can be none."""
+    game.keep()
+    try:
+        player = Player(cart, save, program)
+    except (OSError, Refused):
+        return game
+    if player.resumed != game.count:
+        player.process.kill()
+        return game
+    return ShownGame(game, player)

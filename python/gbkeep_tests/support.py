@@ -1,0 +1,196 @@
+"""What the tests share: how a difference is told, how tests are run, tools, pictures, and a cartridge that shows its clock."""
+import functools
+import importlib.util
+import os
+import sys
+import tempfile
+import time
+import unittest
+from collections.abc import Callable, Iterable
+from pathlib import Path
+from typing import NoReturn, Optional
+
+from examples.demo.assemble import Assembler
+
+TOP = Path(__file__).resolve().parent.parent.parent
+# tools are run in other folders
+os.environ['PYTHONPATH'] = os.pathsep.join((str(TOP / 'python'), str(TOP)))
+DEMO = TOP / 'examples/demo'
+CART = DEMO / 'demo.gb'
+DAY = 86_400
+# the tools that read pictures by PIL, a package of the machine
+READ_PICTURES = ('png', 'run_tests')
+# as much of a difference as is told
+MOST_GOT, MOST_WANTED = 3_000, 600
+# shows the clock's seconds, minutes, hours and low byte of the days as bits, in the first four rows of each tile
+CLOCK = '''
+        org $100
+        jp start
+        org $134
+        db "CLOCK"
+        org $147
+        db $10, $00, $02
+        org $150
+start:  di
+        ld a, $0a
+        ld [$0000], a
+        ld a, $0c               ; the clock runs
+        ld [$4000], a
+        xor a
+        ld [$a000], a
+        inc a
+        ldh [$ffff], a
+again:  xor a                   ; VBlank ends the halt, and nothing is called
+        ldh [$ff0f], a
+        halt
+        nop
+        xor a
+        ld [$6000], a
+        inc a
+        ld [$6000], a
+        ld hl, $8000
+        ld b, 8
+each:   ld a, b
+        ld [$4000], a
+        ld a, [$a000]
+        ld [hl+], a
+        ld [hl+], a
+        inc b
+        ld a, b
+        cp 12
+        jr nz, each
+        jr again
+'''
+
+
+# ---- what is compared
+
+def expect(what: str, got: object, wanted: object) -> None:
+    """Fails the test where this is another value."""
+    if got != wanted:
+        wrong(f'{what}: {repr(got)[:MOST_GOT]}, and not {repr(wanted)[:MOST_WANTED]}')
+
+
+def wrong(line: str) -> NoReturn:
+    raise AssertionError(line)
+
+
+def refusal(call: Callable[[], object], *kinds: type) -> Optional[str]:
+    """What a call refuses with, as one of these errors; None where it does not."""
+    try:
+        call()
+    except kinds as error:
+        return str(error)
+    return None
+
+
+def until(what: str, is_so: Callable[[], object], seconds: float = 60) -> None:
+    """Waits until that is so."""
+    end = time.monotonic() + seconds
+    while not is_so():
+        if time.monotonic() > end:
+            wrong(f'{what}: not within {seconds} seconds')
+        time.sleep(0.002)
+
+
+# ---- what is run
+
+class Room:
+    """A folder with a program, for one test."""
+
+    def __init__(self, program: str, folder: Path):
+        self.program, self.folder = program, Path(folder)
+
+    def path(self, name: object) -> Path:
+        return self.folder / name
+
+    def write(self, name: str, data: object, mode: int = 0o644) -> Path:
+        path = self.path(name)
+        path.parent.mkdir(parents=True, exist_ok=True)
+        path.write_bytes(data if isinstance(data, bytes) else str(data).encode())
+        path.chmod(mode)
+        return path
+
+
+def tool_words(module: str, *flags: str) -> list[str]:
+    """The words that run a tool of the package, which PYTHONPATH names."""
+    return [sys.executable, *(flags or ('-B',)), '-m', f'gbkeep.{module}']
+
+
+def bare_words(module: str) -> list[str]:
+    """The same, without the packages of the machine where a tool needs none."""
+    return tool_words(module, *(() if module in READ_PICTURES else ('-S',)))
+
+
+def tests_in(names: dict[str, object]) -> list[Callable]:
+    """The tests of a module, in order."""
+    return [one for name, one in names.items() if name.startswith('test_')]
+
+
+def run_tests(what: str, tests: Iterable[Callable], given: Callable[[Path], tuple], wanted: Iterable[str] = ()) -> NoReturn:
+    """Runs tests by unittest, each with what is given to it of a folder of its own, and ends. With names in `wanted` only these."""
+    wanted = {f'test_{name.removeprefix("test_")}' for name in wanted}
+    chosen = [test for test in tests if not wanted or test.__name__ in wanted]
+    if missing := wanted - {test.__name__ for test in chosen}:
+        sys.exit(f'there is no test {" ".join(sorted(missing))}')
+
+    def alone(test: Callable) -> unittest.TestCase:
+        @functools.wraps(test)
+        def case() -> None:
+            with tempfile.TemporaryDirectory(prefix=f'{test.__name__}-') as folder:
+                test(*given(Path(folder)))
+        return unittest.FunctionTestCase(case)
+    sys.exit(0 if run_suite(what, unittest.TestSuite(map(alone, chosen))) else 1)
+
+
+def run_suite(what: str, suite: unittest.TestSuite) -> bool:
+    """Runs tests and tells how they ended: whether all are right."""
+    result = unittest.TextTestRunner(stream=sys.stdout, verbosity=0).run(suite)
+    for reason in sorted({reason for _, reason in result.skipped}):
+        print(f'{what}: not all was tried: {reason}')
+    print(f'{what}: {result.testsRun} tests, {len(result.failures) + len(result.errors)} failed', flush=True)
+    return result.wasSuccessful()
+
+
+def run_room_tests(what: str, names: dict[str, object], usage: str, room: Optional[Callable] = Room, tests: Optional[Iterable[Callable]] = None) -> NoReturn:
+    """The main of a file of tests that takes GBKEEP, and names of tests behind it. Without `room` a test is given the program and the folder."""
+    if len(sys.argv) < 2 or sys.argv[1].startswith('-'):
+        sys.exit(usage)
+    program = os.path.abspath(sys.argv[1])
+    run_tests(what, tests_in(names) if tests is None else tests, lambda folder: (room(program, folder),) if room else (program, folder), sys.argv[2:])
+
+
+# ---- pictures and clocks
+
+def needs_pil() -> None:
+    """Skips the test where there is no PIL."""
+    if importlib.util.find_spec('PIL') is None:
+        raise unittest.SkipTest('PIL is missing: install python3-pil')
+
+
+def image_of(path: Path):
+    """A picture as PIL reads it; the test is skipped where there is no PIL."""
+    needs_pil()
+    from PIL import Image
+    with Image.open(path) as image:
+        image.load()
+        return image
+
+
+def clock_cart(folder: Path) -> Path:
+    """The cartridge that shows its clock, in a folder."""
+    path = Path(folder) / 'clock.gb'
+    path.write_bytes(Assembler().assemble(CLOCK))
+    return path
+
+
+def clock_shown(game) -> tuple[int, ...]:
+    """The clock as the cartridge shows it: seconds, minutes, hours, days."""
+    game.frames(0, 3)
+    picture = game.picture()
+    return tuple(sum((picture.shade(x, y) == 0) << 7 - x for x in range(8)) for y in range(4))
+
+
+def seconds_shown(game) -> int:
+    seconds, minutes, hours, days = clock_shown(game)
+    return seconds + 60 * minutes + 3600 * hours + DAY * days

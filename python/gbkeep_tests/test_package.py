@@ -1,0 +1,134 @@
+"""Tries the package as it is installed: what it exports, its launchers, where it looks for the program and the library, and how it does without other packages. It
+needs no program.
+
+usage: test_package.py [TEST..]"""
+import ast
+import inspect
+import os
+import re
+import shutil
+import subprocess
+import sys
+from pathlib import Path
+
+import gbkeep
+from gbkeep.game import PICTURE_HEAD, bytes_of
+from gbkeep_tests import support
+from gbkeep_tests.support import TOP, expect
+
+SOURCES = TOP / 'python'
+TOOLS = dict(re.findall(r'^(gbkeep-[a-z-]+) = "gbkeep\.([a-z_]+):start"$', (SOURCES / 'pyproject.toml').read_text(), re.M))
+PGM = PICTURE_HEAD + b'3 ' * (160 * 144)
+
+
+def ran(words, **more):
+    """Status, output and errors, without what the gate has set."""
+    env = {name: value for name, value in os.environ.items() if name not in ('PYTHONPATH', 'GBKEEP', 'GBKEEP_LIBRARY')}
+    done = subprocess.run([str(word) for word in words], env={**env, **more}, stdin=subprocess.DEVNULL, capture_output=True, text=True, timeout=60)
+    return done.returncode, done.stdout, done.stderr
+
+
+def made(path, text='#!/bin/sh\n', mode=0o755):
+    path.parent.mkdir(parents=True, exist_ok=True)
+    path.write_text(text)
+    path.chmod(mode)
+    return path
+
+
+def test_names(folder):
+    """Each name that is exported is there and says of itself what it is, and each call of it has types."""
+    expect('names', [name for name in gbkeep.__all__ if not hasattr(gbkeep, name)], [])
+    for name in gbkeep.__all__:
+        one = getattr(gbkeep, name)
+        if not callable(one):
+            continue
+        expect(f'{name} says what it is', bool(one.__doc__), True)
+        calls = [call for call in vars(one).values() if inspect.isfunction(call) and not call.__name__.startswith('_')] if isinstance(one, type) else [one]
+        for call in calls:
+            code = call.__code__
+            if code.co_filename.startswith(str(SOURCES)):
+                given = code.co_varnames[:code.co_argcount]
+                expect(f'{name}.{call.__name__}: without a type', sorted({*given, 'return'} - {'self', 'cls'} - set(call.__annotations__)), [])
+
+
+def test_modules(folder):
+    """No module changes where Python looks for modules, or is named from outside the package."""
+    for path in sorted((SOURCES / 'gbkeep').glob('*.py')):
+        text = path.read_text()
+        expect(f'{path.name}: sys.path', 'sys.path' in text, False)
+        own = {other.stem for other in path.parent.glob('*.py')}
+        named = [one.name for node in ast.walk(ast.parse(text)) if isinstance(node, ast.Import) for one in node.names]
+        named += [node.module for node in ast.walk(ast.parse(text)) if isinstance(node, ast.ImportFrom) and node.level == 0]
+        expect(f'{path.name}: modules by their plain names', [one for one in named if one.partition('.')[0] in own], [])
+
+
+def test_launchers(folder):
+    """Each tool starts where it is installed, and tells its help."""
+    built = made(folder / 'built/gbkeep').parent
+    words = [sys.executable, '-B', '-c', f'import sys; sys.path.insert(0, "packaging"); import installed\nfor one in installed.files({str(built)!r}): installed.put(one, {str(folder / "installed")!r})']
+    done = subprocess.run(words, cwd=TOP, capture_output=True, text=True)
+    expect('what is installed', (done.returncode, done.stderr), (0, ''))
+    commands = {path.name for path in (folder / 'installed/bin').iterdir()}
+    expect('the commands', commands, {*TOOLS, 'gbkeep'})
+    for name in TOOLS:
+        status, out, err = ran([sys.executable, '-B', folder / 'installed/bin' / name, '--help'])
+        expect(f'{name} --help', (status, f'usage: {name}' in out, err), (0, True, ''))
+        expect('its page', f'.TH {name.upper()} 1' in (folder / f'installed/share/man/man1/{name}.1').read_text(), True)
+    status, out, err = ran([sys.executable, '-B', folder / 'installed/bin/gbkeep-script', 'check', folder / 'none'])
+    expect('a name in a refusal', (status, out, err), (1, '', f'gbkeep-script: {folder}/none: No such file or directory\n'))
+    status, out, err = ran([sys.executable, '-B', '-m', 'gbkeep.script', 'check', folder / 'none'], PYTHONPATH=str(SOURCES))
+    expect('and of a module that is run', (status, out, err), (1, '', f'gbkeep-script: {folder}/none: No such file or directory\n'))
+
+
+def test_places(folder):
+    """The program and the library are those of the clone, or those that are installed with the package, and else the first ones that there are."""
+    says = 'import gbkeep; print(gbkeep.find_program()); print(gbkeep.find_library())'
+    for modules, library in (('clone/python', 'bin/libgbkeep.so'), ('prefix/share/gbkeep', 'lib/libgbkeep.so.0'), ('usr/lib/python3/dist-packages', 'lib/libgbkeep.so.0'),
+                             ('env/lib/python3.11/site-packages', 'lib/libgbkeep.so.0')):
+        top = folder / modules.partition('/')[0]
+        shutil.copytree(SOURCES / 'gbkeep', folder / modules / 'gbkeep', ignore=shutil.ignore_patterns('__pycache__'))
+        how = {'PYTHONPATH': str(folder / modules), 'PATH': str(folder / 'path')}
+        where = [sys.executable, '-B', '-c', says]
+        expect(f'{modules}: nothing is there', ran(where, **how), (0, f'{top}/bin/gbkeep\nlibgbkeep.so.0\n', ''))
+        elsewhere = made(folder / 'path/gbkeep')
+        expect(f'{modules}: on the search path', ran(where, **how)[1].splitlines()[0], str(elsewhere))
+        made(top / 'bin/gbkeep')
+        made(top / library)
+        expect(f'{modules}: beside it', ran(where, **how), (0, f'{top}/bin/gbkeep\n{top}/{library}\n', ''))
+        expect(f'{modules}: named', ran(where, GBKEEP='a', GBKEEP_LIBRARY='b', **how), (0, 'a\nb\n', ''))
+        elsewhere.unlink()
+
+
+def test_missing(folder):
+    """What needs another package says which one, with a status, and does nothing."""
+    (folder / 'picture.pgm').write_bytes(PGM)
+    bare = [sys.executable, '-S', '-B', '-m']
+    status, out, err = ran([*bare, 'gbkeep.png', folder / 'picture.pgm', folder / 'made.png'], PYTHONPATH=str(SOURCES))
+    expect('no PIL', (status, out, err.startswith('gbkeep-png: '), 'python3-pil' in err, err.count('\n'), (folder / 'made.png').exists()), (1, '', True, True, 1, False))
+    status, out, err = ran([*bare, 'gbkeep.window', 'game.gb'], PYTHONPATH=str(SOURCES))
+    expect('no pygame', (status, out, 'python3-pygame' in err, err.count('\n')), (1, '', True, 1))
+    status, out, err = ran([*bare, 'gbkeep.window', '--help'], PYTHONPATH=str(SOURCES))
+    expect('help without pygame', (status, 'usage: gbkeep-window' in out, err), (0, True, ''))
+    says = f'import gbkeep; print(len(gbkeep.Picture({PICTURE_HEAD!r} + b"3 " * 23040).png()) > 0)'
+    expect('a picture without packages', ran([sys.executable, '-S', '-B', '-c', says], PYTHONPATH=str(SOURCES)), (0, 'True\n', ''))
+    status, out, err = ran([sys.executable, '-B', '-c', 'import gbkeep; gbkeep.Machine(b"")'], PYTHONPATH=str(SOURCES), GBKEEP_LIBRARY=str(folder / 'none.so'))
+    expect('no library', (status, 'the library can\'t be loaded' in err), (1, True))
+
+
+def test_bytes(folder):
+    """Bytes are taken of anything that has some, and of nothing else."""
+    expect('bytes', [bytes_of(one) for one in (b'ab', bytearray(b'ab'), memoryview(b'xabx')[1:3], memoryview(b'a-b')[::2])], [b'ab'] * 4)
+    for one in (2, 'ab', None, [1, 2]):
+        expect(f'{one!r}', support.refusal(lambda: bytes_of(one), TypeError) is not None, True)
+    picture = gbkeep.Picture(PGM)
+    try:
+        import numpy
+    except ImportError:
+        expect('no numpy', support.refusal(picture.array, ImportError) is not None, True)
+        return
+    expect('an array', (picture.array().shape, int(picture.array().sum())), ((144, 160), 3 * 160 * 144))
+    expect('bytes of an array', bytes_of(numpy.array([[1, 2], [3, 4]], numpy.uint8)[:, 1]), b'\2\4')
+
+
+if __name__ == '__main__':
+    support.run_tests('the package', support.tests_in(globals()), lambda folder: (Path(folder),), sys.argv[1:])

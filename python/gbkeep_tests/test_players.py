@@ -1,0 +1,398 @@
+"""Tries the player's tools on the program: the module, friendly scripts, the rest of a script, movies, films, recordings.
+
+usage: test_players.py GBKEEP [TEST..]
+
+The status is 1 where a test fails."""
+import contextlib
+import io
+import os
+import pty
+import random
+import struct
+import subprocess
+import sys
+import zipfile
+
+from gbkeep_tests import support
+from gbkeep_tests.support import CART, TOP, expect
+from gbkeep.film import HEAD as FILM_HEAD
+from gbkeep.game import A, LEFT, RIGHT, START, Game, DebugMachine, Refused, begin, run
+from gbkeep.movie import bk2_frames, bk2_of, frames_of, log_frames, moves_of, vbm_frames
+from gbkeep.pictures import png_of
+from gbkeep.rest import rest_of
+from gbkeep.script import Wrong, friendly_line, friendly_move, friendly_moves, inputs_of, own_lines, own_moves
+from gbkeep.verify import pieces_of, tell
+
+
+def refusal(call):
+    return support.refusal(call, Refused, Wrong, ValueError)
+
+
+def words_of(tool):
+    """The words that run a tool of the package, or an example, which is a file."""
+    return support.tool_words(tool) if isinstance(tool, str) else [sys.executable, '-B', str(tool)]
+
+
+class Room(support.Room):
+    """A folder with a program, for one test."""
+
+    def save(self, name, cart=CART):
+        path = self.path(name)
+        path.unlink(missing_ok=True)
+        begin(cart, path, self.program)
+        return path
+
+    def tool(self, tool, *words):
+        """What a tool of the player's prints."""
+        done = subprocess.run([*words_of(tool), *words], capture_output=True, text=True, env=dict(os.environ, GBKEEP=self.program))
+        return done.stdout + done.stderr
+
+    def tool_at_terminal(self, tool, *words):
+        """The status of a tool, what it prints, and what it tells a terminal."""
+        ours, terminal = pty.openpty()
+        done = subprocess.run([*words_of(tool), *words], stdout=subprocess.PIPE, stderr=terminal, env=dict(os.environ, GBKEEP=self.program))
+        os.close(terminal)
+        told = b''
+        while True:
+            try:
+                some = os.read(ours, 1 << 16)
+            except OSError:
+                break
+            told += some
+        os.close(ours)
+        return done.returncode, done.stdout.decode(), told.decode()
+
+    def frame(self, save, cart=CART):
+        """The picture that `gbkeep frame` writes, and the count that it reports."""
+        told = run(self.program, 'frame', str(cart), str(save), str(self.path('out.pgm')))
+        return self.path('out.pgm').read_text(), int(told.split()[1])
+
+
+def test_game(room):
+    save = room.path('game.gbkeep')
+    with Game(CART, save, room.program) as game:
+        expect('a new game', (game.resumed, game.count, game.saved), (0, 0, 0))
+        game.frames(A, 3300)
+        game.frame(RIGHT | START)
+        game.seconds(5)
+        picture = game.picture()
+        expect('3,200 are saved of themselves', (game.count, game.saved), (3302, 3200))
+        expect('a save', game.save(), 3302)
+        for _ in range(30_000):
+            game._give('save\n')
+        game.frames(LEFT, 7)
+    expect('closing saves', game.saved, 3309)
+    with Game(CART, save, room.program) as game:
+        expect('resumed', game.resumed, 3309)
+        picture = game.picture()
+    pgm, count = room.frame(save)
+    expect('frame counts', count, 3309)
+    expect('frame and picture', [int(word) for word in pgm.split()[4:]], list(picture.shades))
+    expect('a shade', picture.shade(7, 3), int(pgm.split()[4 + 3 * 160 + 7]))
+    shown = room.tool(TOP / 'examples/collect.py', room.path('collect.gbkeep'), room.path('collect.png'))
+    expect('the example', (shown, room.path('collect.png').read_bytes()[:4]), ('saved 504\n', b'\x89PNG'))
+
+
+def test_png(room):
+    """`gbkeep-png` makes of what `gbkeep frame` writes what a picture's `png` gives."""
+    support.needs_pil()
+    save = room.path('png.gbkeep')
+    with Game(CART, save, room.program) as game:
+        game.frames(0, 90)
+        picture = game.picture()
+    room.frame(save)
+    expect('the tool', room.tool('png', room.path('out.pgm'), room.path('out.png')), '')
+    expect('gbkeep-png and png', room.path('out.png').read_bytes() == picture.png() == png_of(picture.shades, 160, 144), True)
+
+
+def test_machine(room):
+    """States that are taken, given back and given to another machine; what is no state changes nothing."""
+    with DebugMachine(CART, program=room.program) as machine:
+        machine.frames(0, 60)
+        machine.frames(START, 4)
+        first, place = machine.state(), machine.memory(0xc001, 2)
+        expect('a state', (first[:8], len(first)), (b'GBSNAP01', 22_607 + 32_768))
+        for _ in range(3):
+            machine.frames(RIGHT, 20)
+            machine.seconds(1)
+        moved, shades = machine.state(), machine.picture().shades
+        expect('the player has moved', machine.memory(0xc001, 2) != place, True)
+        machine.restore(first)
+        expect('back', (machine.state() == first, machine.memory(0xc001, 2)), (True, place))
+        for bad in (b'', first[:-1], first + b'x', b'X' + first[1:], first[:20] + b'\xff' + first[21:], b'x' * (1 << 20)):
+            try:
+                machine.restore(bad)
+                expect('no state is taken', bad[:30], None)
+            except ValueError:
+                pass
+        expect('nothing is done then', machine.state() == first, True)
+        with DebugMachine(CART, program=room.program) as other:
+            other.restore(moved)
+            expect('in another machine', (other.state() == moved, other.picture().shades == shades), (True, True))
+        for _ in range(3):
+            machine.frames(RIGHT, 20)
+            machine.seconds(1)
+        expect('the same inputs again', machine.state() == moved, True)
+        machine.keep(999)
+        machine.restore(first)
+        machine.keep(0)
+        machine.keep(7)
+        for number, state in ((999, moved), (0, first), (7, first), (999, moved)):
+            machine.back(number)
+            expect(f'back {number}', machine.state() == state, True)
+        machine.frames(LEFT, 9)
+        machine.keep(0)
+        other = machine.state()
+        machine.back(7)
+        machine.back(0)
+        expect('the one that was kept last', (machine.state() == other, other == first), (True, False))
+        for call, number in ((machine.back, 1), (machine.back, -1), (machine.keep, 1000), (machine.keep, -1)):
+            try:
+                call(number)
+                expect('no such number is taken', number, None)
+            except ValueError:
+                pass
+        machine.memory(0xc000, 16)
+        for step in range(3_000):
+            machine.back(step % 2 * 7)
+            machine.frame(A)
+        machine.back(999)
+        machine.power()
+        with DebugMachine(CART, program=room.program) as fresh:
+            # the demo has a battery, and its game opened RAM
+            expect('the power switch', (machine.memory(0xc000, 256), machine.picture().shades), (fresh.memory(0xc000, 256), fresh.picture().shades))
+            expect('what a battery keeps', (machine.state()[22_607:], fresh.state()[22_607:] != moved[22_607:]), (moved[22_607:], True))
+        for _ in range(20_000):
+            machine.frame(A)
+        machine.settle()
+        expect('memory goes around', machine.memory(0xffff, 3)[1:], machine.memory(0, 2))
+    save = room.path('machine.gbkeep')
+    with Game(CART, save, room.program) as game:
+        game.frames(START, 70)
+    before = save.read_bytes()
+    with DebugMachine(CART, save, room.program) as machine, DebugMachine(CART, program=room.program) as again:
+        again.frames(START, 70)
+        expect('a game\'s machine', machine.state() == again.state(), True)
+        machine.frames(A, 10)
+    with Game(CART, save, room.program) as game:
+        expect('nothing of it is saved', (game.resumed, len(before)), (70, len(save.read_bytes())))
+    try:
+        with DebugMachine(CART, room.path('none.gbkeep'), room.program) as machine:
+            machine.settle()
+        expect('a game that is not there', True, False)
+    except Refused as refused:
+        expect('the refusal', refused.line, 'gbkeep: device failed')
+    one, two = (room.tool(TOP / 'examples/search.py', '--rounds', '2', '--beam', '2', *words).splitlines() for words in ((), ('--workers', '2')))
+    value, again = one[1].split()[1::2]
+    expect('the search, by one process and by two', (one[0].split()[0], one[:2] == two[:2], value == again), ('ways', True, True))
+
+
+def test_refusals(room):
+    save = room.save('refused.gbkeep')
+    other = room.write('other.gb', bytes(32768))
+    expect('another ROM', refusal(lambda: Game(other, save, room.program)), 'gbkeep: other cartridge')
+    expect('no ROM', refusal(lambda: Game(room.path('none.gb'), save, room.program)), 'gbkeep: file failed')
+    with Game(CART, save, room.program) as game:
+        refused = None
+        try:
+            Game(CART, save, room.program)
+        except Refused as held:
+            refused = held
+        expect('held', (refused.line, 'another `gbkeep` has it open' in refused.means, refused.advice[:9]), ('gbkeep: device failed', True, 'end the o'))
+        game.frames(A, 10)
+        refused = refusal(lambda: [game._give('frame zz\n'), game.picture()])
+        expect('a wrong line', refused, 'gbkeep: script line 2')
+    with Game(CART, save, room.program) as game:
+        expect('what came before a wrong line', game.resumed, 10)
+    try:
+        with Game(CART, save, room.program) as game:
+            game.frames(A, 5)
+            raise KeyError
+    except KeyError:
+        pass
+    with Game(CART, save, room.program) as game:
+        expect('an exception loses nothing', game.resumed, 15)
+
+
+def test_friendly(room):
+    room.write('more.txt', 'start 4 # a round\r\nmark round\n')
+    text = room.write('friendly.txt', '''# a comment
+\tA+right  60\t# held
+wait 30\r
+SELECT+b
+  include more.txt
+seconds 3600
+mark end
+save
+frames 11 7
+frame 80
+a 2500000
+''')
+    moves = friendly_moves(text)
+    expect('moves', moves, [('frames', 0x11, 60), ('frames', 0, 30), ('frames', 0x60, 1), ('frames', 0x80, 4), ('mark', 'round'), ('seconds', 3600),
+                            ('mark', 'end'), ('save',), ('frames', 0x11, 7), ('frames', 0x80, 1), ('frames', 0x10, 2500000)])
+    own = '\n'.join(own_lines(moves))
+    expect('own', own.split('\n')[-4:], ['frame 80', 'frames 10 1000000', 'frames 10 1000000', 'frames 10 500000'])
+    expect('inputs', sum(map(inputs_of, own_moves(own.encode()))), sum(map(inputs_of, moves)))
+    expect('marks', room.tool('script', 'marks', text), 'round 95\nend 96\n')
+    expect('own', room.tool('script', 'own', text), own + '\n')
+    back = [friendly_move(friendly_line(move).split()) for move in own_moves(own.encode())]
+    expect('there and back', back, own_moves(own.encode()))
+    for line, why in (('jump', "'jump' is no move and no button"), ('A+fire 3', "'fire' is no button"), ('A 0', '0 is not from 1 to'),
+                      ('wait x', "'x' is no decimal number"), ('A 1 2', "'2' is one word too many"), ('include wrong.txt', 'it includes itself'),
+                      ('include none.txt', 'No such file')):
+        wrong = refusal(lambda: friendly_moves(room.write('wrong.txt', '\n' + line)))
+        expect(line, why in wrong and ('line 2' in wrong or 'itself' in wrong), True)
+
+
+def test_check(room):
+    """`gbkeep-script check` refuses what `gbkeep play` refuses, at the same line."""
+    for text, why in ((b'save\nframe 00\r\n', 'line 2: ends in a carriage return'), (b'\n\nframe\t00', 'line 3: has a tab'), (b'frame 0', "'0' is not two"),
+                      (b'frames 00 0', '0 is not from 1 to 1000000'), (b'seconds 4294967296', 'is not from 0 to'), (b' save', 'begins with a space'),
+                      (b'save ', 'ends in a space'), (b'frame  00', 'two spaces'), (b'frames 00', "'frames' has 1 words after it, and takes 2"),
+                      (b'seconds 00000000001', 'more than ten digits'), (b'# x', 'has a comment'), (b'jump', "'jump' is no move"),
+                      (b'\n' * 1048577, 'line 0: the script has 1048577 bytes')):
+        got = refusal(lambda: own_moves(text))
+        expect(f'why {text[:20]!r} is wrong', why in got, True)
+    rnd, save, seen = random.Random(1), room.save('check.gbkeep'), set()
+    words = ['frame', 'frames', 'seconds', 'save', '00', '1f', 'FF', '0', '3', '7', '00000000003', '1000001', '4294967296', '-1', '+1', '\r', '\t', '#', '', 'é', 'x']
+    for _ in range(150):
+        lines = [rnd.choice(['save', 'frame 00', 'frames 01 3', 'seconds 7', '']) for _ in range(rnd.randrange(4))]
+        if rnd.random() < 0.8:
+            lines.insert(rnd.randrange(len(lines) + 1), ' '.join(rnd.choice(words) for _ in range(rnd.randrange(1, 5))))
+        script = room.write('random.script', '\n'.join(lines))
+        played = subprocess.run([room.program, 'play', CART, save, script], capture_output=True, text=True)
+        wrong = refusal(lambda: own_moves(script.read_bytes()))
+        told = 'gbkeep: script ' + wrong.partition(':')[0] if wrong else ''
+        expect(f'{lines}', told, played.stderr.strip())
+        seen.add(bool(wrong))
+    expect('right and wrong scripts', seen, {False, True})
+
+
+def test_rest(room):
+    rnd, moves = random.Random(2), []
+    for _ in range(60):
+        moves.append(rnd.choice([('frames', rnd.randrange(256), rnd.randrange(1, 90)), ('seconds', rnd.randrange(9)), ('save',)]))
+    whole = sum(map(inputs_of, moves))
+    for count in [0, whole] + [rnd.randrange(whole) for _ in range(40)]:
+        first = []
+        for move in moves:
+            left = count - sum(map(inputs_of, first))
+            if inputs_of(move) > left:
+                first += [('frames', move[1], left)] if left > 0 else []
+                break
+            first.append(move)
+        expect(f'the rest after {count}', [one for move in [*first, *rest_of(moves, count)] for one in [move[:2]] * inputs_of(move)],
+               [one for move in moves for one in [move[:2]] * inputs_of(move)])
+    expect('too much', refusal(lambda: rest_of(moves, whole + 2)), 'SAVE has 2 inputs more than SCRIPT')
+    script, save, other = room.write('whole.script', '\n'.join(own_lines(moves))), room.save('rest.gbkeep'), room.save('whole.gbkeep')
+    part = room.write('part.script', '\n'.join(own_lines(moves[:31])) + '\nframes 00 1\n')
+    moves[31:31] = [('frames', 0, 30)]
+    script.write_text('\n'.join(own_lines(moves)))
+    run(room.program, 'play', str(CART), str(save), str(part))
+    told = room.tool('rest', CART, save, script)
+    expect('gbkeep-rest', told.split('\n')[-2], f'saved {whole + 30}')
+    again = room.tool('rest', CART, save, script)
+    expect('nothing is left', again, f'resumed {whole + 30}\n')
+    long = room.tool('script', 'play', CART, other, room.write('long.script', '# a comment\n' * 100_000 + script.read_text()))
+    expect('gbkeep-script play', long.split('\n')[-2], f'saved {whole + 30}')
+    expect('the same picture', room.frame(save), room.frame(other))
+
+
+def vbm_of(buttons, starts=0, controllers=1, system=0, more=b''):
+    """A VisualBoyAdvance movie of these frames: A B Select Start Right Left Up Down as bits 0 to 7, resets above them."""
+    head = struct.pack('<4sIIII4B', b'VBM\x1a', 1, 0, len(buttons), 0, starts, controllers, system, 0)
+    return head + bytes(60 - len(head)) + struct.pack('<I', 256) + bytes(192) + struct.pack(f'<{len(buttons)}H', *buttons) + more
+
+
+def test_movies(room):
+    rnd = random.Random(3)
+    frames = bytes(buttons for _ in range(40) for buttons in [rnd.randrange(256)] * rnd.choice([1, 1, 2, 30]))
+    expect('moves of frames', bytes(frames_of(moves_of(frames))), frames)
+    movie = room.write('there.bk2', bk2_of(frames, 'a game'))
+    expect('there and back', bk2_frames(movie), frames)
+    script = room.tool('movie', 'script', movie)
+    expect('its script', bytes(frames_of(own_moves(script.encode()))), frames)
+    made = room.path('made.bk2')
+    expect('a movie of a script', room.tool('movie', 'bk2', room.write('movie.script', script + 'save\n'), made), '')
+    expect('its frames', bk2_frames(made), frames)
+    expect('nothing is replaced', 'exists already' in room.tool('movie', 'bk2', room.path('movie.script'), made), True)
+    # another order of the keys, a console's keys and a tilt before them
+    key = 'LogKey:#Power|#Tilt X|Tilt Y|#P1 A|P1 B|P1 Up|P1 Down|P1 Left|P1 Right|P1 Start|P1 Select|\n'
+    log = key + '|.|    0,   -3,|AB......|\n|.|    0,    0,|..U.L.S.|\n'
+    expect('another log', log_frames(log.encode().splitlines()), bytes([0x30, 0x86]))
+    expect('right, left, up, down of VisualBoyAdvance', vbm_frames(vbm_of([0x10, 0x20, 0x40, 0x80, 1, 2, 4, 8])), bytes([1, 2, 4, 8, 0x10, 0x20, 0x40, 0x80]))
+    expect('a script of it', room.tool('movie', 'script', room.write('old.vbm', vbm_of([0, 0, 0x11]))), 'frames 00 2\nframe 11\n')
+
+    def packed(header, log='LogKey:#A|Reset|\n|..|'):
+        path = room.path('refused.bk2')
+        with zipfile.ZipFile(path, 'w') as file:
+            file.writestr('Header.txt', header)
+            file.writestr('Input Log.txt', log)
+        return path
+    for call, why in ((lambda: bk2_frames(packed('Platform NES')), 'of another machine: NES'), (lambda: bk2_frames(packed('StartsFromSavestate 1')), 'from a saved state'),
+                      (lambda: bk2_frames(packed('StartsFromSaveRam True')), 'from a battery file'), (lambda: bk2_frames(packed('', 'LogKey:#A|Reset|\n|.r|')), 'line 2: Reset is pressed'),
+                      (lambda: bk2_frames(packed('', 'LogKey:#A|#P2 A|\n|.|A|')), 'P2 A is pressed'), (lambda: bk2_frames(packed('', '|.|')), 'no LogKey'),
+                      (lambda: bk2_frames(packed('', 'LogKey:#A|B|\n|.|')), 'nothing for B'), (lambda: bk2_frames(CART), 'no BizHawk movie'),
+                      (lambda: vbm_frames(vbm_of([0], starts=1)), 'from a saved state'), (lambda: vbm_frames(vbm_of([0], starts=2)), 'from a battery file'),
+                      (lambda: vbm_frames(vbm_of([0], system=2)), 'another machine: GBC'), (lambda: vbm_frames(vbm_of([0], controllers=3)), 'other players'),
+                      (lambda: vbm_frames(vbm_of([0, 0x800])), 'frame 2: a reset'), (lambda: vbm_frames(vbm_of([0, 0])[:-1]), 'cut short'),
+                      (lambda: vbm_frames(b'VBM'), 'cut short'), (lambda: list(frames_of([('seconds', 3)])), 'has no clock')):
+        expect(f'refused: {why}', why in (refusal(call) or ''), True)
+
+
+def test_film(room):
+    script, film = room.write('film.txt', 'wait 20\nstart 4\nseconds 1\nsave\nright 16\n'), room.path('film.y4m')
+    expect('a film', room.tool('film', '--from', '11', '--to', '30', CART, script, film), '')
+    data = film.read_bytes()
+    expect('its size', (data[:len(FILM_HEAD)], len(data)), (FILM_HEAD, len(FILM_HEAD) + 20 * (6 + 160 * 144)))
+    with Game(CART, room.path('film.gbkeep'), room.program) as game:
+        game.frames(0, 20)
+        game.frames(START, 4)
+        game.frames(RIGHT, 6)
+        shades = game.picture().shades
+    expect('its last picture', data[-160 * 144:], bytes(16 + 73 * shade for shade in shades))
+    expect('on a pipe', subprocess.run([*words_of('film'), '--to', '2', CART, script, '-'], capture_output=True,
+                                       env=dict(os.environ, GBKEEP=room.program)).stdout[:len(FILM_HEAD) + 6], FILM_HEAD + b'FRAME\n')
+
+
+def test_recordings(room):
+    save, recording = room.path('run.gbkeep'), room.path('run.rec')
+    with Game(CART, save, room.program, recording) as game:
+        game.frames(0, 60)
+        game.frames(START, 4)
+        game.save()
+        game.frames(RIGHT, 40)
+    expect('recorded', run(room.program, 'recorded', str(CART), str(recording)), 'frames 00 60\nframes 80 4\nframes 01 40\n')
+    with Game(CART, save, room.program, recording) as game:
+        expect('taken up', game.resumed, 104)
+    expect('agree', run(room.program, 'verify', str(CART), str(save), str(recording)), 'agree 104\n')
+    expect('verify', room.tool('verify', CART, save, recording), 'agree 104\n')
+    status, out, err = room.tool_at_terminal('verify', CART, save, recording)
+    expect('gbkeep-verify at a terminal', (status, out, err.endswith('\r\x1b[K')), (0, 'agree 104\n', True))
+    expect('pieces', list(pieces_of([('frames', 1, 7000), ('seconds', 5)])),
+           [('frames 01 3000\n', 3000), ('frames 01 3000\n', 3000), ('frames 01 1000\n', 1000), ('seconds 5\n', 1)])
+    told = io.StringIO()
+    with contextlib.redirect_stderr(told), subprocess.Popen(['sleep', '60']) as goes_on:
+        tell(room.program, str(CART), [('frames', 0, 60), ('frames', START, 4), ('seconds', 1), ('frames', RIGHT, 3001)], 3066, goes_on)
+        goes_on.kill()
+    expect('what is told', told.getvalue(), ''.join(f'\r{played} of 3,066 inputs' for played in ('60', '64', '65', '3,065', '3,066')) + '\r\x1b[K')
+    other, branch = room.path('branch.gbkeep'), room.path('branch.rec')
+    expect('a branch', room.tool('branch', CART, recording, '62', other, branch), 'saved 62\n')
+    expect('its inputs', run(room.program, 'recorded', str(CART), str(branch)), 'frames 00 60\nframes 80 2\n')
+    expect('its size', branch.stat().st_size, recording.stat().st_size)
+    expect('a branch over a file', 'exists already' in room.tool('branch', CART, recording, '3', other, room.path('new.rec')), True)
+    expect('and nothing is made', room.path('new.rec').exists(), False)
+    expect('too many', 'has 3 inputs fewer' in room.tool('branch', CART, recording, '107', room.path('far.gbkeep'), room.path('far.rec')), True)
+    expect('a film', room.tool('film', '--from', '100', CART, recording, room.path('run.y4m')), '')
+    expect('its size', room.path('run.y4m').stat().st_size, len(FILM_HEAD) + 5 * (6 + 160 * 144))
+    expect('a recorded game', refusal(lambda: Game(CART, save, room.program)), 'gbkeep: recorded game: play it by record')
+    room.path('run.gbkeep.recorded').unlink()
+    with Game(CART, save, room.program) as game:
+        game.frame(A)
+    expect('played by another command', refusal(lambda: Game(CART, save, room.program, recording)), 'gbkeep: recording behind, 104 inputs')
+    expect('verify then', room.tool('verify', CART, save, recording)[:36], 'gbkeep: recording behind, 104 inputs')
+
+
+if __name__ == '__main__':
+    support.run_room_tests("player's tools", globals(), __doc__, Room)

@@ -1,0 +1,786 @@
+"""Tries save slots, the cartridge's clock and the window's files: what would lose a game, or give time twice, is done to them, and they are killed at
+each point.
+
+usage: test_slots.py GBKEEP [TEST..]
+
+Time is told by a clock that is not real. The status is 1 where a test fails."""
+import contextlib
+import fcntl
+import os
+import shutil
+import signal
+import stat
+import subprocess
+import time
+from pathlib import Path
+
+from gbkeep_tests import support
+from gbkeep_tests.support import CART, DAY, TOP, clock_cart, clock_shown, expect, seconds_shown, wrong
+from gbkeep import slots as slots_module
+from gbkeep.game import A, LEFT, RIGHT, Game, Refused, begin, header_of, run
+from gbkeep.input_files import WrongInput
+from gbkeep.slots import NotReplaced, Slots
+from gbkeep.timed_game import INPUTS_BETWEEN, YEAR, SaveTime, TimedGame, WrongTime, given_until, lines_of, merged, span
+from gbkeep.window_files import (back_to_slot, battery_name, keep_in_slot, keep_palette, kept_palette, leave_picture, own_save, recording_of, take_battery,
+                          with_recording)
+
+
+
+def refusal(call):
+    return support.refusal(call, NotReplaced, Refused, WrongInput, WrongTime)
+
+
+class Room(support.Room):
+    """A folder with a program and the cartridge that shows its clock, for one test."""
+
+    def __init__(self, program, folder):
+        super().__init__(program, folder)
+        self.clock_cart, self.known = clock_cart(self.folder), {}
+
+    def game(self, name, inputs, cart=CART):
+        """A SAVE with so many inputs."""
+        save, known = self.path(name), self.known.get((inputs, cart))
+        if known:
+            return self.write(name, known)
+        with Game(cart, save, self.program) as game:
+            game.frames(A, inputs)
+        self.known[inputs, cart] = save.read_bytes()
+        return save
+
+    def inputs(self, save, cart=CART):
+        """The count of inputs of a SAVE that `gbkeep show` takes."""
+        return int(run(self.program, 'show', str(cart), str(save)).split()[1])
+
+    def state(self, save, cart=CART):
+        """What a SAVE holds, by `gbkeep show`: its inputs and its machine."""
+        says = dict(line.split(' ', 1) for line in run(self.program, 'show', str(cart), str(save)).splitlines())
+        return says['inputs'], says['state']
+
+    def keeps(self, save, inputs=0, buttons=A):
+        """Plays so many inputs, and keeps the game in its slot."""
+        with Game(CART, save, self.program) as game:
+            game.frames(buttons, inputs)
+            game.save()
+            return self.slots(save).keep()
+
+    def goes_back(self, save, inputs=0, buttons=LEFT, meanwhile=lambda: None):
+        """Plays so many inputs, and goes back to the slot, as the window does."""
+        slots = self.slots(save)
+        with Game(CART, save, self.program) as game:
+            game.frames(buttons, inputs)
+            game.save()
+            left = slots.left()
+        with left:
+            meanwhile()
+            return slots.go_back(left)
+
+    def slots(self, save, has_clock=False):
+        return Slots(self.clock_cart if has_clock else CART, save, self.program, has_clock)
+
+    def games(self, save, cart=CART):
+        """The states of all files of a game."""
+        return {self.state(path, cart) for path in self.folder.glob(f'{Path(save).name}*') if path.suffix != '.time' and path.is_file()}
+
+    def there(self, name):
+        return sorted(path.name for path in self.folder.iterdir() if path.name.startswith(name) or path.name.startswith('.gbkeep'))
+
+
+class Times:
+    """The computer's date, and a clock that nobody sets."""
+
+    def __init__(self, date=1_000_000.5):
+        self.date, self.ran = date, 500.25
+
+    def passes(self, seconds):
+        self.date, self.ran = self.date + seconds, self.ran + seconds
+
+    def open(self, room, save, **more):
+        return TimedGame(room.clock_cart, save, room.program, lambda: self.date, elapsed=lambda: self.ran, **more)
+
+
+def killed_at(point, names, call):
+    """Does this in a process that is killed before the point-th call of these functions of `os`; answers whether it came so far."""
+    child = os.fork()
+    if child == 0:
+        left = [point]
+
+        def counted(real):
+            def counts(*words, **more):
+                left[0] -= 1
+                if left[0] < 0:
+                    os.kill(os.getpid(), signal.SIGKILL)
+                return real(*words, **more)
+            return counts
+        for name in names:
+            setattr(os, name, counted(getattr(os, name)))
+        with contextlib.suppress(BaseException):
+            call()
+            os._exit(0)
+        os._exit(1)
+    status = os.waitpid(child, 0)[1]
+    if os.WIFEXITED(status):
+        expect('a run that nobody kills', os.WEXITSTATUS(status), 0)
+    return os.WIFSIGNALED(status)
+
+
+def until_free(save):
+    """Waits until no program holds SAVE."""
+    with open(save, 'rb') as file:
+        for _ in range(2000):
+            with contextlib.suppress(BlockingIOError):
+                fcntl.flock(file, fcntl.LOCK_EX | fcntl.LOCK_NB)
+                return
+            time.sleep(0.01)
+    wrong('a program goes on after its window')
+
+
+# ---- slots
+
+
+def test_copies(room):
+    """A copy of SAVE, made while nothing has it open, is a save slot."""
+    save, slot = room.path('copies.gbkeep'), room.path('copy.gbkeep')
+    with Game(CART, save, room.program) as game:
+        game.frames(RIGHT, 200)
+        before = game.picture().shades
+    shutil.copy(save, slot)
+    with Game(CART, save, room.program) as game:
+        game.frames(LEFT, 300)
+        after = game.picture().shades
+    with Game(CART, slot, room.program) as game:
+        expect('a slot', (game.resumed, game.picture().shades == before, before == after), (200, True, False))
+
+
+def test_no_game_is_lost(room):
+    """Each game that was ever kept or played stands in a file, whatever is pressed."""
+    save, seen = room.path('twice.gbkeep'), set()
+    room.keeps(save, 30)
+    seen.add(room.state(save))
+    with Game(CART, save, room.program) as game:
+        game.frames(A, 100)
+    seen.add(room.state(save))
+    expect('what it replaces', room.goes_back(save), f'{save}.before')
+    expect('back', (room.state(f'{save}.before')[0], room.inputs(save)), ('130', 30))
+    expect('twice', room.goes_back(save, 7), f'{save}.before.2')
+    expect('the first is there', (room.inputs(f'{save}.before'), room.inputs(f'{save}.before.2')), (130, 37))
+    # a slot that is replaced is no less a game
+    shutil.copy(room.game('fifth.gbkeep', 5), save)
+    expect('the slot before', room.keeps(save), f'{save}.before.3')
+    expect('slots', (room.inputs(f'{save}.before.3'), room.inputs(f'{save}.slot')), (30, 5))
+    expect('lost', seen - room.games(save), set())
+    # the same bytes are not kept again
+    held = save.read_bytes()
+    save.write_bytes(room.path('twice.gbkeep.before').read_bytes())
+    slots = room.slots(save)
+    with slots.left() as left:
+        expect('a game that stands elsewhere', (slots.go_back(left), room.there('twice')),
+               (None, [f'twice.gbkeep{end}' for end in ('', '.before', '.before.2', '.before.3', '.slot')]))
+    save.write_bytes(held)
+    with slots.left() as left:
+        expect('the game of the slot', (slots.go_back(left), save.read_bytes() == held), (None, True))
+    # a name that is taken by anything at all is passed over
+    os.mkfifo(f'{save}.before.4')
+    os.symlink('nowhere', f'{save}.before.5')
+    room.write('twice.gbkeep.before.6.time', 'mine')
+    expect('the next free name', room.goes_back(save, 3), f'{save}.before.7')
+    expect('what had names', (os.readlink(f'{save}.before.5'), room.path('twice.gbkeep.before.6.time').read_text()), ('nowhere', 'mine'))
+
+
+def test_links_that_seem_copies(room):
+    """A name that leads to what is replaced is no other place where the game stands."""
+    save = room.game('led.gbkeep', 10)
+    room.keeps(save)
+    os.symlink('led.gbkeep', f'{save}.before')
+    expect('past the link', room.goes_back(save, 20), f'{save}.before.2')
+    expect('the game before', room.inputs(f'{save}.before.2'), 30)
+    # a slot that leads to a copy
+    os.remove(f'{save}.slot')
+    os.symlink('led.gbkeep.before.2', f'{save}.slot')
+    expect('the slot before', room.keeps(save), f'{save}.before.3')
+    expect('it stands there', (room.inputs(f'{save}.before.3'), room.inputs(f'{save}.before.2')), (30, 10))
+    # a slot that is SAVE itself
+    other = room.game('itself.gbkeep', 10)
+    os.symlink('itself.gbkeep', f'{other}.slot')
+    expect('a slot that is SAVE', refusal(lambda: room.keeps(other)), 'itself.gbkeep.slot is itself.gbkeep itself')
+    expect('back to itself', 'in use' in refusal(lambda: room.goes_back(other)), True)
+    expect('untouched', room.inputs(other), 10)
+
+
+def test_names_of_others(room):
+    """Files of others beside SAVE stay what they are."""
+    for name, others in (('run', ['run.new']), ('two', ['two.slot.new', 'two.new', 'two.before.new', 'two.time.new', 'two.slot.time.new'])):
+        save = room.game(name, 10)
+        held = {other: room.game(other, 17).read_bytes() for other in others}
+        room.keeps(save)
+        room.goes_back(save, 1)
+        expect(f'beside {name}', {other: room.path(other).read_bytes() for other in others}, held)
+    save, victim = room.game('s', 10), room.write('victim', 'a file of mine')
+    for end in ('.slot.new', '.new', '.before.new'):
+        os.symlink(victim, f'{save}{end}')
+    room.keeps(save)
+    room.goes_back(save, 1)
+    expect('what a link leads to', (victim.read_text(), os.path.islink(f'{save}.slot.new')), ('a file of mine', True))
+    # what is no slot is not written over
+    save, other = room.game('taken', 10), room.game('another', 5, cart=room.clock_cart).read_bytes()
+    for content in (b'mine', b'GBKP' + bytes(508), b'GBKPROOT' * 100, b'GBKPREC1' + bytes(1024), other):
+        slot = room.write('taken.slot', content)
+        expect('a slot of somebody else', (refusal(lambda: room.keeps(save)), slot.read_bytes() == content),
+               ('taken.slot exists already and is another kind of file: take it away', True))
+    # one of this game that was never resumed is a slot
+    slot.unlink()
+    begin(CART, slot, room.program)
+    expect('a new game as a slot', (room.keeps(save), room.inputs(f'{save}.before'), room.inputs(slot)), (f'{save}.before', 0, 10))
+    # another game in use
+    save, other = room.game('mine', 10), room.game('mine.slot', 17)
+    with Game(CART, other, room.program) as second:
+        expect('a slot in use', refusal(lambda: room.keeps(save)), 'mine.slot is in use')
+        second.frame(A)
+        expect('it is saved', second.save(), 18)
+        expect('and no way back', refusal(lambda: room.goes_back(save)), 'mine.slot is in use')
+    expect('both', (room.inputs(save), room.inputs(other)), (10, 18))
+
+
+def test_links_and_modes(room):
+    """A SAVE that is a link stays one, and so do the modes of files."""
+    os.mkdir(room.path('far'))
+    real = room.game('far/real.gbkeep', 10)
+    save = room.path('link.gbkeep')
+    os.symlink('far/real.gbkeep', save)
+    os.chmod(real, 0o600)
+    room.keeps(save)
+    before = room.goes_back(save, 5)
+    mode = {path: stat.S_IMODE(os.stat(path).st_mode) for path in (str(real), f'{save}.slot', before)}
+    expect('a link stays', (os.readlink(save), room.inputs(real), room.inputs(before)), ('far/real.gbkeep', 10, 15))
+    expect('modes', set(mode.values()), {0o600})
+    os.chmod(f'{save}.slot', 0o640)
+    room.keeps(save, 5)
+    expect('the slot has its own', stat.S_IMODE(os.stat(f'{save}.slot').st_mode), 0o640)
+    os.rename(f'{save}.slot', room.path('far/slot'))
+    os.symlink('far/slot', f'{save}.slot')
+    room.keeps(save, 5)
+    expect('a slot that is a link', (os.readlink(f'{save}.slot'), room.inputs(room.path('far/slot'))), ('far/slot', 20))
+
+
+def test_wrong_slots(room):
+    """What `gbkeep show` does not take does not take SAVE's place."""
+    save, good = room.game('wrong.gbkeep', 10), room.game('good.gbkeep', 5).read_bytes()
+    other, held, slots = room.game('other.gbkeep', 5, cart=room.clock_cart).read_bytes(), save.read_bytes(), room.slots(save)
+    slot, damaged = room.path('wrong.gbkeep.slot'), bytearray(good)
+    for area in (0, 1):
+        # a byte of the machine in each of the two places of a snapshot
+        damaged[512 * (2 + area * (len(good) // 512 - 2) // 2 + 32) + 60] ^= 0xff
+
+    def back():
+        with slots.left() as left:
+            return slots.go_back(left)
+    for content in (bytes(1000), b'', good[:512 * 9], bytes(damaged), other, bytes(len(good)), b'GBKP' * 128):
+        slot.write_bytes(content)
+        expect(f'a slot of {len(content)} bytes', (bool(refusal(back)), save.read_bytes() == held), (True, True))
+    slot.unlink()
+    for make in (lambda: os.mkfifo(slot), lambda: os.symlink('/dev/zero', slot), lambda: os.symlink('nowhere', slot), lambda: os.symlink(room.folder, slot),
+                 lambda: os.symlink(slot.name, slot)):
+        make()
+        expect('no file', (bool(refusal(back)), save.read_bytes() == held), (True, True))
+        slot.unlink()
+    with open(slot, 'wb') as file:
+        file.truncate(1 << 40)
+    expect('a slot of a terabyte', refusal(back), 'wrong.gbkeep.slot is longer than a save file')
+    slot.unlink()
+    slot.write_bytes(good)
+    expect('nothing else was made', room.there('wrong'), ['wrong.gbkeep', 'wrong.gbkeep.slot'])
+    expect('a good one', (back(), room.inputs(save)), (f'{save}.before', 5))
+
+
+def test_another_process(room):
+    """Another program that plays SAVE while the window goes back loses nothing that it was told."""
+    save = room.game('raced.gbkeep', 0)
+    room.keeps(save)
+    told, real = [], os.replace
+
+    def plays():
+        """Tries to play, and notes what it was told."""
+        done = subprocess.run([room.program, 'stream', CART, save], input='frames 01 70\nsave\n', capture_output=True, text=True)
+        told.append((done.returncode, done.stdout.split('\n')[-2:], done.stderr.strip()))
+
+    def replace(source, target, **more):
+        if str(target) == str(save):
+            plays()
+        real(source, target, **more)
+    os.replace = replace
+    try:
+        room.goes_back(save, 10)
+    finally:
+        os.replace = real
+    expect('it holds the lock until the rename', told, [(1, [''], 'gbkeep: device failed')])
+    expect('back', room.inputs(save), 0)
+    # one that comes between the end of the window's program and the lock
+    changed = 'raced.gbkeep was changed meanwhile by something else'
+    expect('played meanwhile', refusal(lambda: room.goes_back(save, 20, meanwhile=plays)), changed)
+    expect('it was told so', (told[-1], room.inputs(save)), ((0, ['saved 90', ''], ''), 90))
+    other = room.game('other.gbkeep', 5)
+    expect('replaced meanwhile', refusal(lambda: room.goes_back(save, meanwhile=lambda: os.replace(other, save))), changed)
+    with Game(CART, save, room.program), room.slots(save).left() as left:
+        expect('in use', refusal(lambda: room.slots(save).go_back(left)), 'raced.gbkeep is in use')
+    # one without locks that writes to it
+    real_put = slots_module.Slots.put
+
+    def put(self, *words):
+        with open(save, 'r+b') as file:
+            file.write(b'X')
+        real_put(self, *words)
+    slots_module.Slots.put = put
+    try:
+        expect('written meanwhile', refusal(lambda: room.goes_back(save)), changed)
+    finally:
+        slots_module.Slots.put = real_put
+    expect('as it was left', (save.read_bytes()[:8], room.there('.gbkeep')), (b'XBKPROOT', []))
+
+
+def test_slots_cut(room):
+    """Killed at each point, SAVE holds the one game or the other, and the game that was played stands somewhere."""
+    save, slot = room.game('cut.gbkeep', 10), room.path('cut.gbkeep.slot')
+    shutil.copy(room.game('other.gbkeep', 5), slot)
+    old, new, slots, real = save.read_bytes(), slot.read_bytes(), room.slots(save), slots_module.run
+    slots_module.run = lambda *words: ''
+    try:
+        for name, call in (('back', lambda: slots.go_back(slots.left())), ('keep', lambda: slots.keep())):
+            point, is_killed, seen = 0, True, set()
+            while is_killed:
+                save.write_bytes(old)
+                slot.write_bytes(new)
+                is_killed = killed_at(point, ('open', 'fsync', 'replace', 'link', 'unlink', 'rename'), call)
+                files = {path.name: path.read_bytes() for path in room.folder.glob('cut.gbkeep*')}
+                expect(f'{name}, killed at {point}', (files['cut.gbkeep'] in (old, new), set(files.values()) == {old, new}), (True, True))
+                seen.add(files['cut.gbkeep' if name == 'back' else 'cut.gbkeep.slot'] == (new if name == 'back' else old))
+                for path in [*room.folder.glob('cut.gbkeep.before*'), *room.folder.glob('.gbkeep-*')]:
+                    path.unlink()
+                point += 1
+            expect(f'{name}: before and after', (seen, point > 8), ({False, True}, True))
+    finally:
+        slots_module.run = real
+
+
+def test_time_of_slots(room):
+    save = room.path('back.gbkeep')
+    times = Times(1_000)
+    slots = room.slots(save, has_clock=True)
+    with times.open(room, save) as game:
+        game.frames(A, 100)
+        game.keep()
+        slots.keep()
+        shutil.copy(save, room.path('kept'))
+        kept = room.state(room.path('kept'), room.clock_cart), SaveTime(save).read()
+        game.frames(LEFT, 50)
+    times.passes(1_000)
+    with times.open(room, save) as game:
+        newer = game.keep()
+        left = slots.left()
+    expect('the slot', (room.state(f'{save}.slot', room.clock_cart), SaveTime(f'{save}.slot').read()), kept)
+    replaced = room.state(save, room.clock_cart), SaveTime(save).read()
+    with left:
+        slots.go_back(left)
+    expect('back', (room.state(save, room.clock_cart), SaveTime(save).read()), kept)
+    expect('what it replaces', (room.state(f'{save}.before', room.clock_cart), SaveTime(f'{save}.before').read()), replaced)
+    expect('nothing else', room.there('back'), [f'back.gbkeep{end}' for end in ('', '.before', '.before.time', '.slot', '.slot.time', '.time')])
+    times.passes(1_000)
+    with times.open(room, save) as game:
+        expect('the game of the slot, and the time since', (game.resumed < newer, game.notice, seconds_shown(game)), (True, None, 2_000))
+        game.keep()
+    # cut between the game and its time: of either game the time says how far its clock was given
+    point, is_killed, seen = 0, True, set()
+    while is_killed:
+        is_killed = killed_at(point, ('fsync', 'replace', 'link', 'unlink'), lambda: slots.go_back(slots.left()))
+        with times.open(room, save) as game:
+            expect(f'killed at {point}', (int(times.date) - 1_000 - seconds_shown(game) in (0, 1), game.notice), (True, None))
+            seen.add(game.resumed > 110)
+            times.passes(50)
+            game.frames(0, 30)
+        point += 1
+        for path in [*room.folder.glob('back.gbkeep.before*'), *room.folder.glob('.gbkeep-*')]:
+            path.unlink()
+    expect('before and after', (seen, point > 12), ({False, True}, True))
+
+
+# ---- the clock
+
+
+def test_clock(room):
+    times = Times()
+    save, clock = room.path('clock.gbkeep'), room.path('clock.gbkeep.time')
+    cart = room.clock_cart
+
+    def opened():
+        return times.open(room, save)
+
+    with opened() as game:
+        expect('a new game', (game.notice, game.keep()), (None, 0))
+        times.passes(5.2)
+        game.keep()
+        expect('five seconds', clock_shown(game), (5, 0, 0, 0))
+        times.passes(0.9)
+        kept = game.keep()
+    expect('SAVE.time', clock.read_text().split('\n')[0], f'{kept} 1000006')
+    # what `trace` and `frame` do to the file changes nothing
+    run(room.program, 'frame', str(cart), str(save), str(room.path('out.pgm')))
+    run(room.program, 'trace', str(cart), str(save), '3')
+    os.utime(save)
+    times.passes(3600)
+    with opened() as game:
+        expect('an hour away', (game.notice, clock_shown(game)), (None, (6, 0, 1, 0)))
+        game.keep()
+    # the power was cut after inputs that SAVE.time does not know
+    with Game(cart, save, room.program) as game:
+        game.frames(0, INPUTS_BETWEEN)
+    times.passes(60)
+    with opened() as game:
+        expect('cut between', (game.notice, clock_shown(game)), (None, (6, 1, 1, 0)))
+        game.keep()
+    shutil.copy(save, room.path('older.gbkeep'))
+    # played by something else
+    run(room.program, 'play', str(cart), str(save), str(room.write('long.script', 'frames 00 500')))
+    times.passes(60)
+    with opened() as game:
+        expect('played without it', ('played without the window' in game.notice, '60 seconds' in game.notice, clock_shown(game)), (True, True, (6, 2, 1, 0)))
+        game.keep()
+    with opened() as game:
+        expect('told once', game.notice, None)
+    shutil.copy(room.path('older.gbkeep'), save)
+    with opened() as game:
+        expect('an older copy', ('older copy' in game.notice, clock_shown(game)), (True, (6, 1, 1, 0)))
+    times.date -= 1000
+    with opened() as game:
+        expect('set back', ('16 minutes and 40 seconds before' in game.notice, clock_shown(game)), (True, (6, 1, 1, 0)))
+        times.passes(2)
+        game.keep()
+        expect('on from there', clock_shown(game), (8, 1, 1, 0))
+    clock.unlink()
+    times.passes(50)
+    with opened() as game:
+        expect('no SAVE.time', ('no SAVE.time' in game.notice, clock_shown(game)), (True, (8, 1, 1, 0)))
+    with TimedGame(CART, room.path('none.gbkeep'), room.program, lambda: times.date) as game:
+        times.passes(100)
+        game.frame()
+        expect('a cartridge without a clock', (game.keep(), room.path('none.gbkeep.time').exists()), (1, False))
+    size = lambda cart, path: (path.stat().st_size, header_of(cart, room.program).sectors * 512)
+    expect('as many sectors as it needs', *size(cart, save))
+    begin(CART, room.path('size.gbkeep'), room.program)
+    expect('as many sectors as it needs', *size(CART, room.path('size.gbkeep')))
+    expect('header', (header_of(cart, room.program).title, header_of(CART, room.program).sectors), ('CLOCK', 284))
+
+
+def test_date_is_set(room):
+    """A date that is set gives no time, in a session or between two; of a leap of years the player is asked."""
+    save, times, asked = room.path('set.gbkeep'), Times(), []
+
+    def asks(answer):
+        def ask(game, question):
+            asked.append(question)
+            return answer
+        return ask
+    with times.open(room, save) as game:
+        for step in (3600, -3600, 7200, -7200, YEAR, -YEAR, 3600, -3600):
+            times.date += step
+            times.passes(1)
+            game.frame()
+            game.keep()
+        expect('back and forth in a session', seconds_shown(game), 8)
+    # between sessions: back, and then forth again
+    for step in (3600, -3600, 3600, -3600):
+        times.date += step
+        with times.open(room, save) as game:
+            shown = seconds_shown(game)
+    expect('back and forth between', shown, 8 + 3600)
+    times.date -= 30
+    with times.open(room, save, ask=asks(True)) as game:
+        expect('what is no fault', 'set back' in str(game.notice), False)
+    # a computer that begins in 1970 and is then set right
+    first, later = room.path('first.gbkeep'), Times(10.0)
+    with later.open(room, first) as game:
+        later.passes(5)
+        game.keep()
+    later.date = 1_780_000_000.0
+    with later.open(room, first, ask=asks(False)) as game:
+        expect('56 years are not given', (seconds_shown(game), '56 years' in asked[-1]), (5, True))
+        later.passes(3)
+        game.keep()
+    later.passes(60)
+    count = len(asked)
+    with later.open(room, first, ask=asks(True)) as game:
+        expect('from then on', (seconds_shown(game), len(asked)), (68, count))
+    later.passes(2 * YEAR)
+    with later.open(room, first, ask=asks(True)) as game:
+        expect('two years that are agreed to', (seconds_shown(game) % DAY, len(asked)), (68 + 2 * YEAR % DAY, count + 1))
+    later.passes(2 * YEAR)
+    with later.open(room, first, ask=asks(None)) as game:
+        later.passes(4)
+        game.keep()
+        expect('a window that was closed over the question', seconds_shown(game) % DAY, 72 + 2 * YEAR % DAY)
+    later.passes(-4)
+    with later.open(room, first, ask=asks(False)) as game:
+        expect('it is asked again', (seconds_shown(game) % DAY, len(asked)), (72 + 2 * YEAR % DAY, count + 3))
+    later.date -= 3 * YEAR
+    with later.open(room, first) as game:
+        expect('years back', ('2 years' in game.notice or '3 years' in game.notice, seconds_shown(game) % DAY), (True, 72))
+    with later.open(room, first, ask=asks(True)) as game:
+        expect('anew from now', (game.notice, seconds_shown(game) % DAY), (None, 72))
+    later.passes(100)
+    with later.open(room, first) as game:
+        expect('and on', (game.notice, seconds_shown(game) % DAY), (None, 172))
+
+
+def test_time_that_is_not_written(room):
+    """Where SAVE.time can't be written, no time is given, and none is lost."""
+    save, times = room.path('full.gbkeep'), Times()
+    with times.open(room, save) as game:
+        game.keep()
+    times.passes(DAY)
+    real = os.replace
+
+    def full(source, target, **more):
+        if str(target).endswith('.time'):
+            raise OSError(28, 'No space left on device')
+        real(source, target, **more)
+    for _ in range(4):
+        os.replace = full
+        try:
+            with times.open(room, save) as game:
+                expect('the clock stands', (seconds_shown(game), 'No space left' in game.trouble), (0, True))
+                game.keep()
+        finally:
+            os.replace = real
+    with times.open(room, save) as game:
+        expect('a day once', (seconds_shown(game), game.trouble), (DAY, None))
+
+
+def test_clock_cut(room):
+    """Killed at each point, with its program or before it, the clock is given no second twice, and at most two are lost."""
+    save, times = room.path('killed.gbkeep'), Times()
+    with times.open(room, save) as game:
+        game.frames(A, 20)
+        game.keep()
+    begun = int(times.date)
+    games, at = (save.read_bytes(), SaveTime(save).read()), times.date
+    for kills_program in (False, True):
+        point, is_killed, given = 0, True, set()
+        while is_killed:
+            save.write_bytes(games[0])
+            SaveTime(save).write(games[1])
+            times.date = at + DAY
+
+            def session():
+                real = os.kill
+                game = times.open(room, save)
+                if kills_program:
+                    os.kill = lambda process, number: (real(game.process.pid, signal.SIGKILL), real(process, number))
+                game.frames(A, 3)
+                times.passes(3)
+                game.keep()
+                times.passes(2)
+                game.keep()
+                game.close()
+            is_killed = killed_at(point, ('fsync', 'replace', 'write'), session)
+            until_free(save)
+            times.date = at + DAY + 100
+            with times.open(room, save) as game:
+                off = int(times.date) - begun - seconds_shown(game)
+                expect(f'killed at {point}', (off in (0, 1, 2), game.notice), (True, None))
+                given.add(off)
+            point += 1
+        expect('points', point > 12, True)
+
+
+def test_crafted_times(room):
+    """Whatever SAVE.time holds, the game is played, and a file of somebody else's stays."""
+    save, times = room.path('crafted.gbkeep'), Times(1_780_000_000.5)
+    with times.open(room, save) as game:
+        game.frames(A, 20)
+    clock = room.path('crafted.gbkeep.time')
+    for content in (b'mine', b'\xff\xfe', b'20 -1\n', b'-1 20\n', b'9' * 5000 + b' 1\n', b'20 ' + b'9' * 5000, b'99999999999999999999 5\n',
+                    b'20 999999999999\n', b'1 1\n' * 9, b'20 9223372036854775807\n', b'0x14 5\n', b'20 5\0', bytes(10_000), '٢٠ ٥\n'.encode(),
+                    b'20 5 7\n', b'\n\n', b'20 5\n\x1b[2J\n', b'GBKP'):
+        clock.write_bytes(content)
+        with times.open(room, save) as game:
+            times.passes(10)
+            game.keep()
+            expect(f'{content[:20]!r}', ('no time' in game.notice, seconds_shown(game), clock.read_bytes() == content, game.notice.isprintable()),
+                   (True, 0, True, True))
+    clock.unlink()
+    for make in (lambda: os.mkfifo(clock), lambda: os.symlink('/dev/zero', clock), lambda: os.symlink('nowhere', clock), lambda: clock.mkdir()):
+        make()
+        with times.open(room, save) as game:
+            game.keep()
+            expect('no file', ('no time' in game.notice, seconds_shown(game)), (True, 0))
+        clock.rmdir() if clock.is_dir() and not clock.is_symlink() else clock.unlink()
+    # a link to a plain file stays one, and an empty file holds nothing
+    os.symlink('far.time', clock)
+    room.write('far.time', '')
+    times.passes(10)
+    with times.open(room, save) as game:
+        game.keep()
+    expect('a link stays', (os.readlink(clock), bool(lines_of(room.path('far.time').read_text()))), ('far.time', True))
+    # what holds the most and the least
+    clock.unlink()
+    for content in ('0 0\n', '18446744073709551615 99999999999\n', '0 99999999999\n', '18446744073709551615 0\n'):
+        clock.write_text(content)
+        with times.open(room, save) as game:
+            times.passes(2)
+            game.keep()
+            expect(content, seconds_shown(game) <= 100, True)
+        clock.unlink()
+    expect('lines', (given_until([(21, 90), (7, 50)], 20), given_until([(21, 90), (7, 50)], 21), given_until([(21, 90), (7, 50)], 3)), (50, 90, 90))
+    expect('merged', merged([(5, 10), (3, 8)], [(100, 70), (90, 60)]), [(100, 70), (90, 60), (5, 10), (3, 8)])
+    expect('merged, the newer has fewer', merged([(100, 7)], [(5, 10)]), [(5, 10)])
+    expect('spans', [span(seconds) for seconds in (0, 1, 61, 3600, 2 * 365 * DAY + 5)],
+           ['0 seconds', '1 second', '1 minute and 1 second', '1 hour', '2 years and 5 seconds'])
+
+
+# ---- the window's files
+
+
+class Window:
+    """What a window says and asks, and whether its player agrees."""
+
+    def __init__(self, agrees=False):
+        self.agrees, self.said, self.asked = agrees, [], []
+
+    def say(self, line, seconds=2):
+        self.said.append(line)
+
+    def ask(self, *texts):
+        self.asked.append(' '.join(texts))
+        return self.agrees
+
+
+def test_names(room):
+    """A SAVE is not called as the battery files of other emulators are."""
+    os.environ.update(XDG_DATA_HOME=str(room.path('data')), XDG_CONFIG_HOME=str(room.path('config')))
+    save = Path(own_save(str(CART)))
+    expect('its own', (save.parent, save.name[:5], save.suffix), (room.path('data/gbkeep'), 'demo-', '.gbkeep'))
+    room.game(save.with_suffix('.sav'), 1)
+    expect('one with an older ending', own_save(str(CART)), str(save.with_suffix('.sav')))
+    room.game(save, 1)
+    expect('both', own_save(str(CART)), str(save))
+    expect('warnings', [bool(battery_name(name)) for name in ('a.sav', 'b.SRM', 'a.sav/b', 'a.gbkeep', 'sav')], [True, True, False, False, False])
+    expect('what it says', battery_name('/tmp/x\x1b.sav'), 'other emulators take x\\x1b.sav for their battery file, and write over it: call it x\\x1b.gbkeep')
+    os.mkfifo(room.path('fifo'))
+    for cart in ('/dev/zero', room.path('fifo'), room.folder, room.path('none')):
+        expect(f'{cart} as a cartridge', bool(refusal(lambda: own_save(str(cart)))), True)
+    # what `make play` starts: the window, which keeps the game where it keeps all of them
+    quiet = {name: value for name, value in os.environ.items() if not name.startswith('MAKE')}
+    made = subprocess.run(['make', '-s', '-o', 'bin/gbkeep', 'play', 'PYTHON=echo', f'CART={room.path("a game.gb")}'], cwd=TOP, env=quiet,
+                          capture_output=True, text=True)
+    expect('make play', (made.stdout, made.stderr), (f'-B -m gbkeep.window {room.path("a game.gb")}\n', ''))
+    # the palette of the last time
+    palette = room.path('config/gbkeep/palette')
+    expect('none yet', kept_palette(), None)
+    keep_palette(3)
+    expect('kept', (kept_palette(), palette.read_text()), (3, '4\n'))
+    for content in (b'mine', b'5\n', b'9' * 5000, b'\xff', bytes(99)):
+        palette.write_bytes(content)
+        keep_palette(1)
+        expect('a file of somebody else', (kept_palette(), palette.read_bytes()), (None, content))
+    # pictures take names that are free
+    game = Game(CART, room.path('seen.gbkeep'), room.program)
+    victim, window = room.path('victim'), Window()
+    os.symlink(victim, room.path('seen.gbkeep-1.png'))
+    room.write('seen.gbkeep-2.png', 'mine')
+    leave_picture(window, game, str(room.path('seen.gbkeep')))
+    expect('a picture', (window.said, victim.exists(), room.path('seen.gbkeep-2.png').read_text(), room.path('seen.gbkeep-3.png').read_bytes()[:4]),
+           (['picture: seen.gbkeep-3.png'], False, 'mine', b'\x89PNG'))
+    # the end of a login is for the window: its program goes on until it is told the last inputs
+    for number in (signal.SIGTERM, signal.SIGHUP, signal.SIGINT):
+        os.kill(game.process.pid, number)
+    game.frames(A, 5)
+    game.close()
+    expect('saved', room.inputs(room.path('seen.gbkeep')), 5)
+    expect('no program', 'make build' in refusal_told(lambda: Game(CART, room.path('seen.gbkeep'), room.path('nothing'))), True)
+
+
+def refusal_told(call):
+    try:
+        call()
+    except Refused as refused:
+        return refused.told()
+    return ''
+
+
+def test_said_of_slots(room):
+    """What the window says as it keeps a game and goes back."""
+    save, window = room.path('said.gbkeep'), Window()
+    slots = room.slots(save)
+
+    def opened():
+        return TimedGame(CART, save, room.program)
+    game = opened()
+    keep_in_slot(window, game, slots)
+    game.frames(A, 7)
+    game = back_to_slot(window, game, slots, opened)
+    expect('said', (window.said, game.count), (['kept in the slot: 0 inputs', 'back to the slot: 0 inputs; the game before is said.gbkeep.before'], 0))
+    game.frames(A, 9)
+    Path(slots.slot).write_bytes(bytes(1000))
+    game = back_to_slot(window, game, slots, opened)
+    keep_in_slot(window, game, slots)
+    expect('not', (window.said[2:], game.count), (['not back: said.gbkeep.slot: device size 1000: 9 inputs',
+                                                   'not kept: said.gbkeep.slot exists already and is another kind of file: take it away'], 9))
+    game.close()
+    # a recorded game does not go back, and that is said when it is kept
+    save, recording = room.path('run.gbkeep'), room.path('run.rec')
+    slots, window = room.slots(save), Window()
+    with TimedGame(CART, save, room.program, recording=recording) as game:
+        game.frames(A, 7)
+        keep_in_slot(window, game, slots)
+        expect('the same game', back_to_slot(window, game, slots, opened) is game, True)
+    expect('said', window.said, ['kept as run.gbkeep.slot: a game of its own, since a recorded game does not go back', 'a recorded game does not go back'])
+    plain, none = room.game('plain.gbkeep', 1), room.path('none.rec')
+    expect('no recording', 'is not there' in refusal(lambda: TimedGame(CART, plain, room.program, recording=none)), True)
+
+
+def test_recorded(room):
+    """A recorded game is played with its recording or not at all."""
+    save, recording = room.path('run.gbkeep'), room.path('run.rec')
+    with Game(CART, save, room.program, recording) as game:
+        game.frames(A, 7)
+    mark = room.write('run.gbkeep.recorded', f'{recording}\n')
+    for agrees in (False, True):
+        window = Window(agrees)
+        expect('asked', (with_recording(window, str(save)), str(recording) in window.asked[0]), ((str(recording), agrees), True))
+    mark.write_text('run.rec\n')
+    expect('beside SAVE', recording_of(str(save)), str(recording))
+    os.symlink(save, room.path('link.gbkeep'))
+    expect('by a link', recording_of(str(room.path('link.gbkeep'))), str(recording))
+    for content in ('', '\n', '/nowhere\n', 'x' * 20_000, b'\xff\n', 'a\0b\n'):
+        mark.write_bytes(content if isinstance(content, bytes) else content.encode())
+        window = Window(True)
+        expect(f'{content[:20]!r}', ('is not there' in str(refusal(lambda: with_recording(window, str(save)))), window.asked), (True, []))
+    mark.unlink()
+    os.mkfifo(mark)
+    expect('a FIFO', 'is not there' in str(refusal(lambda: with_recording(Window(True), str(save)))), True)
+    expect('a game that nobody records', with_recording(Window(), str(room.path('other.gbkeep'))), (None, True))
+
+
+def test_batteries(room):
+    """The time since a battery file was written is offered, and given once."""
+    cart, battery = room.clock_cart, room.path('battery')
+    size = int(run(room.program, 'info', str(cart)).split('\nram ')[1].split()[0])
+    registers = b''.join(value.to_bytes(4, 'little') for value in (7, 0, 0, 0, 0) * 2)
+    for name, behind, agrees, asked, seconds in (
+            ('yes', 8, True, 1, 5 * DAY + 7), ('no', 8, False, 1, 7), ('short', 4, True, 1, 5 * DAY + 7), ('zero', 0, True, 0, 7),
+            ('future', -1, True, 0, 7), ('none', None, True, 0, 0)):
+        written = {0: bytes(8), -1: (1 << 62).to_bytes(8, 'little')}.get(behind) or (int(time.time()) - 5 * DAY).to_bytes(behind or 8, 'little')
+        battery.write_bytes(bytes(size) + (registers + written if behind is not None else b''))
+        save, window = room.path(f'{name}.gbkeep'), Window(agrees)
+        agreed = take_battery(window, str(battery), str(cart), str(save), room.program)
+        with TimedGame(cart, save, room.program, ask=lambda *_: agreed) as game:
+            shown = seconds_shown(game)
+            expect(f'{name}: asked', (len(window.asked), game.notice, seconds <= shown < seconds + 60), (asked, None, True))
+        with TimedGame(cart, save, room.program) as game:
+            expect(f'{name}: given once', seconds <= seconds_shown(game) < seconds + 60, True)
+        expect('exists already', 'exists already' in refusal_told(lambda: take_battery(window, str(battery), str(cart), str(save), room.program)), True)
+    wrong = room.path('wrong.gbkeep')
+    for path in ('/dev/zero', room.folder, room.path('none')):
+        refused = refusal(lambda: take_battery(Window(), str(path), str(cart), str(wrong), room.program))
+        expect(f'{path}', (bool(refused), wrong.exists()), (True, False))
+
+
+if __name__ == '__main__':
+    support.run_room_tests('slots, clock and files of the window', globals(), __doc__, Room)
