@@ -3,6 +3,7 @@ use Rattle.std.proofs.Common.{◌≡◌, Bor, List, ℕ, Ok, Option, refl, sym, 
 use Rattle.command_line.specs.declared.Request.{Request}
 use Rattle.command_line.specs.declared.Request.TheVariants.{Info, List as Listing, Step, New, Play, Frame, Trace, Stream, NewRecording, Record, Recorded, Verify, Test, Show, Export, Import, Debug}
 use Rattle.test_run.specs.declared.verdict.Verdict.TheVariants.{Failed, Undecided}
+use Rattle.replaying.specs.declared.error.VerifyError.TheVariants.{Behind as RecordingBehind, Differ as MachinesDiffer}
 use Rattle.gbkeep.specs.declared.words.Asked.TheVariants.{Command}
 use Rattle.gbkeep.specs.declared.fault.Fault.{Fault}
 use Rattle.gbkeep.specs.declared.fault.Fault.TheVariants.{Cart, Memory, File, Output, Address, Word, Device, Script, Session, Line, Input, Recording, Behind, Ahead, Differ, RecordedGame, TestFailed, TestUndecided, NoBattery, BatteryLength}
@@ -65,9 +66,9 @@ unread_by request (Session fault) run unread is why line = refused_by request (S
 unread_by request (Line number) run unread is why line = absurd is
 unread_by request Input run unread is why line = absurd is
 unread_by request (Recording fault) run unread is why line = refused_by request (Recording fault) run refl (elsewhere (λ r. IsRecordingRefused r fault run.output.before run.output.since) (λ cart address count no. no) request is) why line
-unread_by request (Behind count) run unread is why line = refused_by request (Behind count) run refl (elsewhere (λ r. IsCompared r run.output.before run.output.since) (λ cart address count no. no) request is) why line
+unread_by request (Behind count) run unread is why line = refused_by request (Behind count) run refl (elsewhere (λ r. IsCompared r (RecordingBehind count) run.output.before run.output.since) (λ cart address count no. no) request is) why line
 unread_by request (Ahead count) run unread is why line = absurd is
-unread_by request Differ run unread is why line = refused_by request Differ run refl (elsewhere (λ r. IsCompared r run.output.before run.output.since) (λ cart address count no. no) request is) why line
+unread_by request Differ run unread is why line = refused_by request Differ run refl (elsewhere (λ r. IsCompared r MachinesDiffer run.output.before run.output.since) (λ cart address count no. no) request is) why line
 unread_by request RecordedGame run unread is why line = refused_by request RecordedGame run refl (elsewhere (λ r. GivesInputs r) (λ cart address count no. no) request is.0) why line
 unread_by request TestFailed run unread is why line = refused_by request TestFailed run refl (elsewhere (λ r. IsTestDecided r Failed run.output.before run.output.since) (λ cart address count no. no) request is) why line
 unread_by request TestUndecided run unread is why line = refused_by request TestUndecided run refl (elsewhere (λ r. IsTestDecided r Undecided run.output.before run.output.since) (λ cart address count no. no) request is) why line

@@ -9,3 +9,6 @@ pub mod DebugTexts
 pub mod Endings
 pub mod TestTexts
 pub mod BegunTexts
+pub mod FileTexts
+pub mod LoopSteps
+pub mod Serving

@@ -1,28 +1,28 @@
 -- A play that was not begun, and why one was refused.
-use Rattle.std.proofs.Common.{◌≡◌, ◌∙◌, ◌⊎◌, ◌+◌, inl, inr, refl, sym, ap, subst, ℕ, List, [], length, Option, Result, Ok, Err, arith}
+use Rattle.std.proofs.Common.{◌≡◌, Bor, ◌+◌, inl, refl, sym, ap, subst, ℕ, List, [], length, Option, Result, Ok, Err, arith}
 use Rattle.std.specs.Io.KnownBytes.{Appends}
 use Rattle.machine.specs.Machine.{MachineState, after}
 use Rattle.machine.specs.Machine.{Input}
-use Rattle.cartridge.specs.Accepted.{IsAccepted}
 use Rattle.std.specs.Prelude.{IfErr}
 use Rattle.sector_device.specs.DiskState.{DiskState, HasAnswered}
 use Rattle.sector_device.specs.Runs.{HoldsSince}
-use Rattle.session.specs.declared.error.SessionError.{SessionError}
 use Rattle.session.proofs.Beginnings.{since_now}
 use Rattle.session.proofs.Writes.{since_weaker}
-use Rattle.playing.specs.Played.{PlayImage, HasPlayed, HasReached, IsNotTakenUp, HasStopped}
+use Rattle.playing.specs.Played.{PlayImage, HasPlayed, HasReached}
 use Rattle.playing.specs.Report.{inputs_of_moves, report_of}
-use Rattle.script.specs.Script.{moves_from, moves_of}
+use Rattle.script.specs.Script.{moves_of}
 use Rattle.script.specs.declared.moves.Move.{Move}
-use Rattle.command_line.specs.declared.Request.{Request}
+use Rattle.sector_device.specs.FileDevice.{file_disk}
+use Rattle.sector_device.specs.declared.file.FileDevice.{FileDevice}
+use Rattle.command_line.specs.declared.Request.TheVariants.{Play, Frame}
 use Rattle.gbkeep.specs.declared.error.PlayError.{PlayError}
 use Rattle.gbkeep.specs.declared.error.PlayError.TheVariants.{Cart, Script, Session, Picture}
 use Rattle.gbkeep.specs.declared.error.PlayRefused.{PlayRefused}
 use Rattle.session.proofs.Answering.{answered_otherwise}
-use Rattle.gbkeep.specs.Playing.{HasReported, IsLastMachine, IsPlayable, IsPlayCause, faults_after_play, inputs_of_script, left_by, moves_in, moves_read}
+use Rattle.gbkeep.specs.Playing.{HasReported, IsLastMachine, IsPlayable, IsPlayCause, faults_after_play, inputs_of_script, left_by, moves_read}
 use Rattle.gbkeep.specs.Text.{Text}
 use Rattle.gbkeep.specs.Program.{IsRefused, fault_of_play}
-use Rattle.gbkeep.specs.Request.{HasAddress, HasScript, IsCutShort, IsGameRefused, IsOutputRefused, IsReported, IsScriptOf, OfAScript}
+use Rattle.gbkeep.specs.Request.{call_on}
 
 -- no call of the device
 pub nothing_played : (rom : List ℕ) (now : DiskState) (given : List Input) → ((image : List (List ℕ)) → now.since now.moment image → now.image image) → HoldsSince now now (PlayImage rom now given)
@@ -60,51 +60,21 @@ last_machine cart rom script moves start all machine same read reached = record 
       (there.from, there.stood, last);
 }
 
-cut_short : (rom : List ℕ) (start now : DiskState) (moves : List Move) (why : SessionError) (old new : Option (List ℕ))
-    → IsNotTakenUp rom start now why old new ⊎ HasStopped rom start now moves why old new → IsCutShort moves why old new
-cut_short rom start now moves why old new (inl begun) = inl begun.report
-cut_short rom start now moves why old new (inr stopped) = inr (stopped.count, stopped.saved, stopped.report)
+-- ---- for the program
 
-whole_report : (rom script : List ℕ) (start : DiskState) (old new : Option (List ℕ)) → HasReported rom script start old new → IsReported (moves_in script) old new
-whole_report rom script start old new reported = record { count = reported.count; report = reported.report }
+pub play_refused : (cart save script : Bor (List ℕ)) (rom text : List ℕ) (file left : FileDevice) (old new : Option (List ℕ)) (why : PlayError) → (why ≡ Picture → ⊥)
+    → IsPlayCause rom text (call_on (file_disk file) (file_disk left) old new) why → IsRefused (Play cart save script) (fault_of_play why) old new
+play_refused cart save script rom text file left old new (Cart fault) drawn cause = (tt, cause.1, (rom, cause.0))
+play_refused cart save script rom text file left old new (Script fault) drawn cause = (tt, cause.2, (text, tt, cause.1))
+play_refused cart save script rom text file left old new (Session fault) drawn cause = (rom, text, (file, left, cause))
+play_refused cart save script rom text file left old new Picture drawn cause = absurd (drawn refl)
 
-pub no_moves : moves_in [] ≡ []
-unfolding moves_from
-no_moves = refl
-
-pub play_done : (rom script : List ℕ) (start : DiskState) (old new : Option (List ℕ)) → IsPlayable rom script → HasReported rom script start old new
-    → IsAccepted rom × OfAScript (λ moves. IsReported moves old new)
-play_done rom script start old new playable reported = (playable.cartridge, (script, playable.moves, whole_report rom script start old new reported))
-
-pub frame_done : (rom script : List ℕ) (start : DiskState) (old new : Option (List ℕ)) → script ≡ [] → IsPlayable rom script → HasReported rom script start old new
-    → IsAccepted rom × IsReported [] old new
-frame_done rom script start old new none playable reported =
-    (playable.cartridge, subst (λ (moves : List Move). IsReported moves old new) (ap moves_in none ∙ no_moves) (whole_report rom script start old new reported))
-
--- why a request is refused whose game was played
-pub play_refused : (request : Request) (rom script : List ℕ) (start now : DiskState) (old new : Option (List ℕ)) (why : PlayError)
-    → HasAddress request → HasScript request → IsScriptOf request script
-    → ((fault : SessionError) → IsPlayable rom script → IsCutShort (moves_in script) fault old new → IsGameRefused request fault old new)
-    → (IsPlayable rom script → IsReported (moves_in script) old new → IsOutputRefused request old new)
-    → IsPlayCause rom script (record { old = start; now = now; output = record { before = old; since = new } }) why → IsRefused request (fault_of_play why) old new
-play_refused request rom script start now old new (Cart fault) address plays of game output cause = (address, cause.1, (rom, cause.0))
-play_refused request rom script start now old new (Script fault) address plays of game output cause = (plays, cause.2, (script, of, cause.1))
-play_refused request rom script start now old new (Session fault) address plays of game output cause =
-    game fault cause.0 (cut_short rom start now (moves_in script) fault old new cause.1)
-play_refused request rom script start now old new Picture address plays of game output cause =
-    (address, output cause.0 (whole_report rom script start old new cause.1))
-
--- and one that plays no moves
-pub empty_refused : (request : Request) (rom script : List ℕ) (start now : DiskState) (old new : Option (List ℕ)) (why : PlayError)
-    → script ≡ [] → HasAddress request → HasScript request → IsScriptOf request script
-    → ((fault : SessionError) → IsAccepted rom → IsCutShort [] fault old new → IsGameRefused request fault old new)
-    → (IsAccepted rom → IsReported [] old new → IsOutputRefused request old new)
-    → IsPlayCause rom script (record { old = start; now = now; output = record { before = old; since = new } }) why → IsRefused request (fault_of_play why) old new
-empty_refused request rom script start now old new why none address plays of game output cause =
-    let empty = ap moves_in none ∙ no_moves in
-    play_refused request rom script start now old new why address plays of
-    (λ fault playable cut. game fault playable.cartridge (subst (λ (moves : List Move). IsCutShort moves fault old new) empty cut))
-    (λ playable report. output playable.cartridge (subst (λ (moves : List Move). IsReported moves old new) empty report)) cause
+pub frame_refused : (cart save out : Bor (List ℕ)) (rom : List ℕ) (file left : FileDevice) (old new : Option (List ℕ)) (why : PlayError)
+    → IsPlayCause rom [] (call_on (file_disk file) (file_disk left) old new) why → IsRefused (Frame cart save out) (fault_of_play why) old new
+frame_refused cart save out rom file left old new (Cart fault) cause = (tt, cause.1, (rom, cause.0))
+frame_refused cart save out rom file left old new (Script fault) cause = (tt, cause.2, ([], refl, cause.1))
+frame_refused cart save out rom file left old new (Session fault) cause = (rom, (file, left, cause))
+frame_refused cart save out rom file left old new Picture cause = (tt, (rom, (file, left, cause)))
 
 -- ---- a picture behind a play
 

@@ -1,60 +1,75 @@
 -- What a recorded play wrote, and why one was refused.
-use Rattle.std.proofs.Common.{inl, inr, refl, ◌+◌, List, ℕ, Option, length}
+use Rattle.std.proofs.Common.{inl, inr, refl, List, ℕ, Option, Some}
 use Rattle.cartridge.specs.Accepted.{IsAccepted}
 use Rattle.sector_device.specs.DiskState.{DiskState}
+use Rattle.sector_device.specs.FileDevice.{file_disk}
+use Rattle.sector_device.specs.declared.file.FileDevice.{FileDevice}
+use Rattle.replaying.specs.Verifying.{IsVerifyCause}
+use Rattle.replaying.specs.declared.error.VerifyError.{VerifyError}
+use Rattle.replaying.specs.declared.error.VerifyError.TheVariants.{Save, Recording as Taped, Behind as IsBehind, Ahead as IsAhead, Memory as Lacked, Differ as Differing}
+use Rattle.recording_lines.specs.declared.error.VerifyLineError.TheVariants.{Verify as Compared}
 use Rattle.streaming.specs.declared.obeying.End.{End}
-use Rattle.recorded_play.specs.Whole.{HasRecorded, HasStopped, IsRecordCause}
-use Rattle.recorded_play.specs.Steps.{told_as}
+use Rattle.recorded_play.specs.Whole.{HasRecorded, IsRecordCause}
 use Rattle.recorded_play.specs.declared.error.RecordError.{RecordError}
 use Rattle.recorded_play.specs.declared.error.RecordError.TheVariants.{Session, Recording, Behind, Line, Input}
 use Rattle.playing.proofs.Telling.{keeps_same}
 use Rattle.gbkeep.specs.declared.fault.Fault.{Fault}
 use Rattle.gbkeep.specs.declared.fault.Fault.TheVariants.{Cart as ACart, Memory as AMemory, File as AFile, Output as AnOutput, Address as AnAddress, Word as AWord, Device as ADevice, Script as AScript, Session as ASession, Line as ALine, Input as AnInput, Recording as ARecording, Behind as ABehind, Ahead as AnAhead, Differ as ADiffer, RecordedGame as ARecordedGame, TestFailed as ATestFailed, TestUndecided as ATestUndecided, NoBattery as NoBatteryThere, BatteryLength as ABatteryLength}
-use Rattle.gbkeep.specs.Program.{IsNotBelonging, IsRecordRefused, fault_of_record}
-use Rattle.gbkeep.specs.Request.{IsRecordedTo, IsRecordStopped}
+use Rattle.gbkeep.specs.Program.{IsNotOf, IsRecordRefused, fault_of_record, fault_of_verifying}
+use Rattle.gbkeep.specs.Request.{IsNotBelonging, IsRecordedTo, record_limits}
 
-module _ (rom : List ℕ) (accepted : IsAccepted rom) (save now_save recording now_recording : DiskState) (before_in since_in before since : Option (List ℕ)) where
-  pub recorded_to : (end : End) → HasRecorded rom save now_save recording now_recording end before_in since_in before since
+module _ (rom : List ℕ) (accepted : IsAccepted rom) (save now_save recording now_recording : FileDevice) (before_in since_in before since : Option (List ℕ)) where
+  pub recorded_to : (end : End)
+      → HasRecorded rom (file_disk save) (file_disk now_save) (file_disk recording) (file_disk now_recording) end before_in since_in before since
       → IsRecordedTo end (record { before = before_in; since = since_in }) (record { before = before; since = since })
-  recorded_to end it = (rom, accepted, (it.at, it.of_rom, (it.more, (it.lines, it.right, it.read, it.answered))))
+  recorded_to end it = (rom, accepted, (save, now_save, recording, now_recording, it))
 
-  stopped : (why : RecordError) → HasStopped rom save now_save recording now_recording why before_in since_in before since
-      → IsRecordStopped (told_as why) (record { before = before_in; since = since_in }) (record { before = before; since = since })
-  stopped why it = (rom, accepted, inr (it.at, it.of_rom, (it.more, (it.lines, it.right, (it.unread, it.read), (it.at.count + length it.more + it.least, it.told)))))
-
-  pub record_refused : (why : RecordError) → IsRecordCause why rom save now_save recording now_recording before_in since_in before since
+  pub record_refused : (why : RecordError)
+      → IsRecordCause why rom (file_disk save) (file_disk now_save) (file_disk recording) (file_disk now_recording) before_in since_in before since
       → IsRecordRefused (fault_of_record why) (record { before = before_in; since = since_in }) (record { before = before; since = since })
-  record_refused (Session why) (inl it) = (rom, accepted, inl (it.2, it.1))
-  record_refused (Session why) (inr it) = stopped (Session why) it
-  record_refused (Recording why) (inl it) = (rom, accepted, inl (it.2, it.1))
-  record_refused (Recording why) (inr it) = stopped (Recording why) it
-  record_refused (Behind count) (inl it) = (it.2, it.1, (rom, accepted))
-  record_refused (Behind count) (inr never) = absurd never
+  record_refused (Session why) cause = inl (rom, accepted, (save, now_save, recording, now_recording, cause))
+  record_refused (Recording why) cause = inl (rom, accepted, (save, now_save, recording, now_recording, cause))
+  record_refused (Behind count) cause = inl (rom, accepted, (save, now_save, recording, now_recording, cause))
   record_refused (Line number) (inl it) = absurd it.0.kind
   record_refused (Line number) (inr it) = recorded_to _ it
   record_refused Input (inl it) = absurd it.0.kind
   record_refused Input (inr it) = recorded_to _ it
 
--- a game that was not taken up, since its recording is not its own
-pub not_belonging : (rom : List ℕ) → IsAccepted rom → (input output : Option (List ℕ)) (fault : Fault) → IsNotBelonging fault
-    → IsRecordRefused fault (record { before = input; since = input }) (record { before = output; since = output })
-not_belonging rom accepted input output (ASession why) cause = (rom, accepted, inl (refl, keeps_same output))
-not_belonging rom accepted input output (ARecording why) cause = (rom, accepted, inl (refl, keeps_same output))
-not_belonging rom accepted input output (ABehind count) cause = (refl, keeps_same output, (rom, accepted))
-not_belonging rom accepted input output (AnAhead count) cause = (refl, keeps_same output, (rom, accepted))
-not_belonging rom accepted input output ADiffer cause = (refl, keeps_same output, (rom, accepted))
-not_belonging rom accepted input output AMemory cause = (refl, keeps_same output)
-not_belonging rom accepted input output (ACart why) cause = absurd cause
-not_belonging rom accepted input output AFile cause = absurd cause
-not_belonging rom accepted input output AnOutput cause = absurd cause
-not_belonging rom accepted input output AnAddress cause = absurd cause
-not_belonging rom accepted input output AWord cause = absurd cause
-not_belonging rom accepted input output (ADevice why) cause = absurd cause
-not_belonging rom accepted input output (AScript why) cause = absurd cause
-not_belonging rom accepted input output (ALine number) cause = absurd cause
-not_belonging rom accepted input output AnInput cause = absurd cause
-not_belonging rom accepted input output ARecordedGame cause = absurd cause
-not_belonging rom accepted input output ATestFailed cause = absurd cause
-not_belonging rom accepted input output ATestUndecided cause = absurd cause
-not_belonging rom accepted input output NoBatteryThere cause = absurd cause
-not_belonging rom accepted input output (ABatteryLength found needed) cause = absurd cause
+-- why a recording is not taken for that of a game
+pub not_of : (rom : List ℕ) (game tape : DiskState) (why : VerifyError)
+    → (game.honest → tape.honest → IsVerifyCause (Some record_limits) rom game tape why) → IsNotOf rom game tape (fault_of_verifying (Compared why))
+not_of rom game tape (Save why) cause = cause
+not_of rom game tape (Taped why) cause = cause
+not_of rom game tape (IsBehind count) cause = cause
+not_of rom game tape (IsAhead count) cause = cause
+not_of rom game tape Lacked cause = tt
+not_of rom game tape Differing cause = cause
+
+module _ (rom : List ℕ) (accepted : IsAccepted rom) (game tape : FileDevice) (input output : Option (List ℕ)) where
+  unbegun : (why : VerifyError) → ((file_disk game).honest → (file_disk tape).honest → IsVerifyCause (Some record_limits) rom (file_disk game) (file_disk tape) why)
+      → IsNotBelonging why (record { before = input; since = input }) (record { before = output; since = output })
+  unbegun why cause = (refl, keeps_same output, (rom, accepted, (game, tape, cause)))
+
+  -- a game that was not taken up, since its recording is not its own
+  pub not_belonging : (fault : Fault) → IsNotOf rom (file_disk game) (file_disk tape) fault
+      → IsRecordRefused fault (record { before = input; since = input }) (record { before = output; since = output })
+  not_belonging (ASession why) cause = inr (unbegun (Save why) cause)
+  not_belonging (ARecording why) cause = inr (unbegun (Taped why) cause)
+  not_belonging (ABehind count) cause = inr (unbegun (IsBehind count) cause)
+  not_belonging (AnAhead count) cause = unbegun (IsAhead count) cause
+  not_belonging ADiffer cause = unbegun Differing cause
+  not_belonging AMemory cause = (refl, keeps_same output)
+  not_belonging (ACart why) cause = absurd cause
+  not_belonging AFile cause = absurd cause
+  not_belonging AnOutput cause = absurd cause
+  not_belonging AnAddress cause = absurd cause
+  not_belonging AWord cause = absurd cause
+  not_belonging (ADevice why) cause = absurd cause
+  not_belonging (AScript why) cause = absurd cause
+  not_belonging (ALine number) cause = absurd cause
+  not_belonging AnInput cause = absurd cause
+  not_belonging ARecordedGame cause = absurd cause
+  not_belonging ATestFailed cause = absurd cause
+  not_belonging ATestUndecided cause = absurd cause
+  not_belonging NoBatteryThere cause = absurd cause
+  not_belonging (ABatteryLength found needed) cause = absurd cause

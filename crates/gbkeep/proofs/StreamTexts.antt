@@ -1,11 +1,11 @@
 -- What a stream wrote, and why one was refused.
-use Rattle.std.proofs.Common.{◌≡◌, ◌⊎◌, inl, inr, ◌+◌, List, ℕ, Option, subst}
+use Rattle.std.proofs.Common.{◌≡◌, List, ℕ, Option, subst}
 use Rattle.cartridge.specs.Accepted.{IsAccepted}
 use Rattle.sector_device.specs.DiskState.{DiskState}
-use Rattle.session.specs.declared.error.SessionError.{SessionError}
-use Rattle.playing.specs.Played.{IsNotTakenUp}
+use Rattle.sector_device.specs.FileDevice.{file_disk}
+use Rattle.sector_device.specs.declared.file.FileDevice.{FileDevice}
 use Rattle.machine.specs.Machine.{MachineState}
-use Rattle.streaming.specs.Streamed.{HasStopped, HasStreamed, HasStreamedAll, IsStreamCause}
+use Rattle.streaming.specs.Streamed.{HasStreamed, HasStreamedAll, IsStreamCause}
 use Rattle.streaming.specs.declared.error.StreamError.{StreamError}
 use Rattle.streaming.specs.declared.error.StreamError.TheVariants.{Session, Line, Input}
 use Rattle.streaming.specs.declared.obeying.End.{End}
@@ -13,28 +13,21 @@ use Rattle.streaming.specs.declared.obeying.End.TheVariants.{Whole}
 use Rattle.gbkeep.specs.declared.error.StreamPlayError.{StreamPlayError}
 use Rattle.gbkeep.specs.declared.error.StreamPlayError.TheVariants.{Cart, Stream}
 use Rattle.gbkeep.specs.Program.{IsStreamRefused, fault_of_stream}
-use Rattle.gbkeep.specs.Request.{IsStreamedTo, IsStreamStopped}
+use Rattle.gbkeep.specs.Request.{IsStreamedTo, call_on}
 use Rattle.gbkeep.specs.Streaming.{IsStreamPlayCause}
 
-pub streamed_to : (rom : List ℕ) (before now : DiskState) (end : End) (before_in since_in old new : Option (List ℕ)) → IsAccepted rom
-    → HasStreamed rom before now end before_in since_in old new → IsStreamedTo end (record { before = before_in; since = since_in }) (record { before = old; since = new })
-streamed_to rom before now end before_in since_in old new accepted streamed =
-    (rom, accepted, (streamed.from, streamed.of_rom, (streamed.lines, streamed.right, streamed.read, streamed.answered)))
+module _ (rom : List ℕ) (file left : FileDevice) (before_in since_in old new : Option (List ℕ)) where
+  pub streamed_to : (end : End) → IsAccepted rom → HasStreamed rom (file_disk file) (file_disk left) end before_in since_in old new
+      → IsStreamedTo end (record { before = before_in; since = since_in }) (record { before = old; since = new })
+  streamed_to end accepted streamed = (rom, accepted, (file, left, streamed))
 
-stopped : (rom : List ℕ) (before now : DiskState) (why : SessionError) (before_in since_in old new : Option (List ℕ)) → IsAccepted rom
-    → (IsNotTakenUp rom before now why old new × (since_in ≡ before_in)) ⊎ HasStopped rom before now why before_in since_in old new
-    → IsStreamStopped why (record { before = before_in; since = since_in }) (record { before = old; since = new })
-stopped rom before now why before_in since_in old new accepted (inl begun) = (rom, accepted, inl (begun.1, begun.0.report))
-stopped rom before now why before_in since_in old new accepted (inr it) =
-    (rom, accepted, inr (it.from, it.of_rom, (it.lines, it.right, (it.more, it.read), (it.from.count + it.least, it.told))))
-
-pub stream_refused : (rom : List ℕ) (before now : DiskState) (before_in since_in old new : Option (List ℕ)) (why : StreamPlayError)
-    → IsStreamPlayCause rom (record { before = before_in; since = since_in }) (record { old = before; now = now; output = record { before = old; since = new } }) why
-    → IsStreamRefused (fault_of_stream why) (record { before = before_in; since = since_in }) (record { before = old; since = new })
-stream_refused rom before now before_in since_in old new (Cart fault) cause = (cause.1, cause.2, (rom, cause.0))
-stream_refused rom before now before_in since_in old new (Stream (Session fault)) cause = stopped rom before now fault before_in since_in old new cause.0 cause.1
-stream_refused rom before now before_in since_in old new (Stream (Line number)) cause = streamed_to rom before now _ before_in since_in old new cause.0 cause.1
-stream_refused rom before now before_in since_in old new (Stream Input) cause = streamed_to rom before now _ before_in since_in old new cause.0 cause.1
+  pub stream_refused : (why : StreamPlayError)
+      → IsStreamPlayCause rom (record { before = before_in; since = since_in }) (call_on (file_disk file) (file_disk left) old new) why
+      → IsStreamRefused (fault_of_stream why) (record { before = before_in; since = since_in }) (record { before = old; since = new })
+  stream_refused (Cart fault) cause = (cause.1, cause.2, (rom, cause.0))
+  stream_refused (Stream (Session fault)) cause = (rom, (file, left, cause))
+  stream_refused (Stream (Line number)) cause = streamed_to _ cause.0 cause.1
+  stream_refused (Stream Input) cause = streamed_to _ cause.0 cause.1
 
 -- ---- of the image that was read as a cartridge
 

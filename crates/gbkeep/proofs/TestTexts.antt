@@ -1,5 +1,5 @@
 -- What a test did, of the program.
-use Rattle.std.proofs.Common.{◌≡◌, Bor, List, ℕ, [], Option, None, Some, Result, Ok, Err}
+use Rattle.std.proofs.Common.{Bor, List, ℕ, Option, Result, Ok, Err}
 use Rattle.command_line.specs.declared.Request.TheVariants.{Test}
 use Rattle.gbkeep.specs.Program.{IsServed, IsTestServed}
 use Rattle.gbkeep.specs.Request.{IsGiven}

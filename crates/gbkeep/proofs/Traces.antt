@@ -1,40 +1,32 @@
 -- The text of a trace, which is written line by line, and why there is none.
-use Rattle.std.proofs.Common.{◌≡◌, ℕ, List, Option, Some, Result, Ok, Err, refl, subst}
+use Rattle.std.proofs.Common.{◌≡◌, Bor, ℕ, List, Option, Some, Result, Ok, Err, refl, subst}
 use Rattle.std.specs.Prelude.{IfOk}
 use Rattle.std.specs.Result.{result_ok}
-use Rattle.std.specs.Io.KnownBytes.{Appends, Keeps}
 use Rattle.cartridge.specs.Accepted.{IsAccepted}
-use Rattle.exact_text.specs.Written.{AppendsProperPrefix}
 use Rattle.snapshot.specs.Legal.{IsMachineOf}
 use Rattle.sector_device.specs.DiskState.{DiskState}
 use Rattle.session.specs.Stands.{Position}
 use Rattle.session.specs.declared.error.SessionError.{SessionError}
 use Rattle.machine.specs.Machine.{MachineState}
 use Rattle.playing.specs.Played.{IsNotTakenUp}
-use Rattle.command_line.specs.declared.Request.{Request}
+use Rattle.sector_device.specs.FileDevice.{file_disk}
+use Rattle.sector_device.specs.declared.file.FileDevice.{FileDevice}
+use Rattle.command_line.specs.declared.Request.TheVariants.{Trace}
 use Rattle.gbkeep.specs.declared.error.TraceError.{TraceError}
 use Rattle.gbkeep.specs.declared.error.TraceError.TheVariants.{Cart, Session, Memory, Output}
 use Rattle.gbkeep.specs.Program.{IsRefused, fault_of_trace}
-use Rattle.gbkeep.specs.Request.{HasAddress, IsGameRefused, IsOutputRefused, OfATrace}
+use Rattle.gbkeep.specs.Request.{call_on}
 use Rattle.debug_lines.specs.Debugging.{IsTakenUp}
-use Rattle.gbkeep.specs.Tracing.{HasStopped, HasTraced, IsTraceCause, IsUntraced, faults_after_trace, trace_text}
+use Rattle.gbkeep.specs.Tracing.{IsTraceCause, IsUntraced, faults_after_trace, trace_text}
 
 -- ---- for the program
 
-pub traced_text : (rom : List ℕ) (before now : DiskState) (steps : ℕ) (old new : Option (List ℕ)) → HasTraced rom before now steps old new → OfATrace rom steps (Appends old new)
-traced_text rom before now steps old new traced = (traced.from, traced.taken_up.of_rom, traced.written)
-
-pub stopped_text : (rom : List ℕ) (before now : DiskState) (steps : ℕ) (old new : Option (List ℕ)) → HasStopped rom before now steps old new → OfATrace rom steps (AppendsProperPrefix old new)
-stopped_text rom before now steps old new stopped = (stopped.from, stopped.taken_up.of_rom, stopped.written)
-
-pub trace_refused : (request : Request) (rom : List ℕ) (steps : ℕ) (before now : DiskState) (old new : Option (List ℕ)) (why : TraceError)
-    → HasAddress request → ((fault : SessionError) → Keeps old new → IsAccepted rom → IsGameRefused request fault old new)
-    → (IsAccepted rom → OfATrace rom steps (AppendsProperPrefix old new) → IsOutputRefused request old new)
-    → IsTraceCause rom steps (record { old = before; now = now; output = record { before = old; since = new } }) why → IsRefused request (fault_of_trace why) old new
-trace_refused request rom steps before now old new (Cart fault) address game output cause = (address, cause.1, (rom, cause.0))
-trace_refused request rom steps before now old new (Session fault) address game output cause = game fault cause.1.report cause.0
-trace_refused request rom steps before now old new Memory address game output cause = (address, cause.1)
-trace_refused request rom steps before now old new Output address game output cause = (address, output cause.0 (stopped_text rom before now steps old new cause.1))
+pub trace_refused : (cart save : Bor (List ℕ)) (count : ℕ) (rom : List ℕ) (file left : FileDevice) (old new : Option (List ℕ)) (why : TraceError)
+    → IsTraceCause rom count (call_on (file_disk file) (file_disk left) old new) why → IsRefused (Trace cart save count) (fault_of_trace why) old new
+trace_refused cart save count rom file left old new (Cart fault) cause = (tt, cause.1, (rom, cause.0))
+trace_refused cart save count rom file left old new (Session fault) cause = (rom, (file, left, cause))
+trace_refused cart save count rom file left old new Memory cause = (tt, cause.1)
+trace_refused cart save count rom file left old new Output cause = (tt, (rom, (file, left, cause)))
 
 -- ---- answers without their errors
 

@@ -72,6 +72,12 @@ HasDrawnPart rom script old before since Picture =
 abbrev pub IsPlayEnd : (rom script : List ℕ) → (old now : DiskState) → SessionError → (before since : Option (List ℕ)) → Type 0
 IsPlayEnd rom script old now why before since = IsNotTakenUp rom old now why before since ⊎ HasStopped rom old now (moves_in script) why before since
 
+-- Both are accepted and all was played: the whole report went out, and, if the device is honest, it is at rest with all inputs.
+abbrev pub IsPlayedWhole : (rom script : List ℕ) → Call → Type 0
+IsPlayedWhole rom script play =
+    IsPlayable rom script × HasReported rom script play.old play.output.before play.output.since
+    × (play.old.honest → HasPlayed rom play.old play.now (inputs_of_script script))
+
 -- Why ROM and script are not played to the end: the first rule of a cartridge that the image breaks; the script is refused, of a
 -- cartridge that is accepted; and nothing was written then. Or the play ended; or all was played, saved and reported, and the picture
 -- could not be written.
@@ -79,9 +85,7 @@ abbrev pub IsPlayCause : (rom script : List ℕ) → Call → PlayError → Type
 IsPlayCause rom script play (Cart fault) = (refusal_of rom ≡ Some fault) × IsUnwritten play.output
 IsPlayCause rom script play (Script fault) = IsAccepted rom × IsScriptRefused script fault × IsUnwritten play.output
 IsPlayCause rom script play (Session fault) = IsPlayable rom script × IsPlayEnd rom script play.old play.now fault play.output.before play.output.since
-IsPlayCause rom script play Picture =
-    IsPlayable rom script × HasReported rom script play.old play.output.before play.output.since
-    × (play.old.honest → HasPlayed rom play.old play.now (inputs_of_script script))
+IsPlayCause rom script play Picture = IsPlayedWhole rom script play
 
 -- it is refused before the device is touched
 abbrev pub IsUnplayable : PlayError → Type 0

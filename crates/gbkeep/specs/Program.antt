@@ -3,7 +3,7 @@ use Rattle.std.specs.Prelude.{◌≡◌, ◌≤◌, ◌↔◌, ◌≢◌, ◌⊎
 use Rattle.std.specs.Borrow.{Bor}
 use Rattle.std.specs.Io.KnownBytes.{Appends, Keeps}
 use Rattle.exact_text.specs.Written.{AppendsProperPrefix}
-use Rattle.cartridge.specs.Accepted.{IsAccepted, refusal_of}
+use Rattle.cartridge.specs.Accepted.{refusal_of}
 use Rattle.cartridge.specs.Header.{has_battery, ram_length_of}
 use Rattle.battery_files.specs.Importing.{is_taken_length}
 use Rattle.clap.specs.Words.{HasKind, fault_of, kind_of}
@@ -46,6 +46,8 @@ use Rattle.debug_lines.specs.declared.error.DebugRomError.{DebugRomError}
 use Rattle.debug_lines.specs.declared.error.DebugRomError.TheVariants.{Cart as DebugRomCart, Memory as DebugRomMemory, Debug as DebugRomStopped}
 use Rattle.debug_lines.specs.declared.error.DebugGameError.{DebugGameError}
 use Rattle.debug_lines.specs.declared.error.DebugGameError.TheVariants.{Cart as DebugGameCart, Session as DebugGameSession, Memory as DebugGameMemory, Debug as DebugGameStopped}
+use Rattle.sector_device.specs.DiskState.{DiskState}
+use Rattle.replaying.specs.Verifying.{IsVerifyCause}
 use Rattle.replaying.specs.declared.error.VerifyError.TheVariants.{Save as NoSave, Recording as NoRecording, Behind as RecordingBehind, Ahead as RecordingAhead, Memory as NoMemory, Differ as MachinesDiffer}
 use Rattle.gbkeep.specs.declared.error.StreamPlayError.{StreamPlayError}
 use Rattle.gbkeep.specs.declared.error.StreamPlayError.TheVariants.{Cart as StreamCart, Stream as StreamFault}
@@ -54,7 +56,7 @@ use Rattle.streaming.specs.declared.error.StreamError.TheVariants.{Session as St
 use Rattle.gbkeep.specs.declared.fault.Fault.TheVariants.{Cart, Memory, File, Output, Address, Word, Device, Script, Session, Line, Input, Recording, Behind, Ahead, Differ, RecordedGame, TestFailed, TestUndecided, NoBattery, BatteryLength}
 use Rattle.script.specs.Script.{IsRefused as IsScriptRefused}
 use Rattle.gbkeep.specs.Text.{Exchange, Text, IsUnread, IsUnwritten}
-use Rattle.gbkeep.specs.Request.{HasAddress, HasDevice, HasScript, IsDone, IsCompared, GivesInputs, IsGameRefused, IsOutputRefused, IsRecordingRefused, IsTestDecided, IsWithoutBattery, IsOtherLength, IsScriptOf, makes_battery_name, IsStreamStopped, IsStreamedTo, IsRecordStopped, IsRecordedTo, IsDebugged, IsDebugStopped, IsDebugUnbegun}
+use Rattle.gbkeep.specs.Request.{HasAddress, HasDevice, HasScript, IsDone, IsCompared, GivesInputs, IsGameRefused, IsOutputRefused, IsRecordingRefused, IsTestDecided, IsWithoutBattery, IsOtherLength, IsScriptOf, makes_battery_name, IsStreamStopped, IsStreamedTo, IsNotBelonging, IsRecordStopped, IsRecordedTo, record_limits, IsDebugged, IsDebugStopped, IsDebugUnbegun, IsDebugNotTakenUp}
 
 abbrev pub status_of : Fault → ℕ
 status_of (Cart fault) = 1
@@ -195,14 +197,14 @@ IsPairFault (Device fault) = ⊤
 IsPairFault fault = ⊥
 
 -- why a recording is not taken for that of a game
-abbrev pub IsNotBelonging : Fault → Type 0
-IsNotBelonging Memory = ⊤
-IsNotBelonging (Session why) = ⊤
-IsNotBelonging (Recording why) = ⊤
-IsNotBelonging (Behind count) = ⊤
-IsNotBelonging (Ahead count) = ⊤
-IsNotBelonging Differ = ⊤
-IsNotBelonging fault = ⊥
+abbrev pub IsNotOf : (rom : List ℕ) → (game tape : DiskState) → Fault → Type 0
+IsNotOf rom game tape Memory = ⊤
+IsNotOf rom game tape (Session why) = game.honest → tape.honest → IsVerifyCause (Some record_limits) rom game tape (NoSave why)
+IsNotOf rom game tape (Recording why) = game.honest → tape.honest → IsVerifyCause (Some record_limits) rom game tape (NoRecording why)
+IsNotOf rom game tape (Behind count) = game.honest → tape.honest → IsVerifyCause (Some record_limits) rom game tape (RecordingBehind count)
+IsNotOf rom game tape (Ahead count) = game.honest → tape.honest → IsVerifyCause (Some record_limits) rom game tape (RecordingAhead count)
+IsNotOf rom game tape Differ = game.honest → tape.honest → IsVerifyCause (Some record_limits) rom game tape MachinesDiffer
+IsNotOf rom game tape fault = ⊥
 
 -- its line on standard error; None for a fault of the cartridge, of a script, of a line of the input, or with a number, and of a game that
 -- is damaged, whose text no definition gives
@@ -274,8 +276,8 @@ IsRefused request (Device fault) old new = HasDevice request × Keeps old new
 IsRefused request (Script fault) old new = HasScript request × Keeps old new × ((text : List ℕ) × IsScriptOf request text × IsScriptRefused text fault)
 IsRefused request (Session fault) old new = IsGameRefused request fault old new
 IsRefused request (Recording fault) old new = IsRecordingRefused request fault old new
-IsRefused request (Behind count) old new = IsCompared request old new
-IsRefused request Differ old new = IsCompared request old new
+IsRefused request (Behind count) old new = IsCompared request (RecordingBehind count) old new
+IsRefused request Differ old new = IsCompared request MachinesDiffer old new
 IsRefused request RecordedGame old new = GivesInputs request × Keeps old new
 IsRefused request TestFailed old new = IsTestDecided request Failed old new
 IsRefused request TestUndecided old new = IsTestDecided request Undecided old new
@@ -311,13 +313,13 @@ IsRecordRefused (Cart fault) input output = IsUnread input × IsUnwritten output
 IsRecordRefused Memory input output = IsUnread input × IsUnwritten output
 IsRecordRefused File input output = IsUnread input × IsUnwritten output
 IsRecordRefused (Device fault) input output = IsUnread input × IsUnwritten output
-IsRecordRefused (Session why) input output = IsRecordStopped why input output
+IsRecordRefused (Session why) input output = IsRecordStopped (RecordSession why) input output ⊎ IsNotBelonging (NoSave why) input output
 IsRecordRefused (Line number) input output = IsRecordedTo (WrongLine number) input output
 IsRecordRefused Input input output = IsRecordedTo FailedRead input output
-IsRecordRefused (Recording fault) input output = IsRecordStopped GameDevice input output
-IsRecordRefused (Behind count) input output = IsUnread input × IsUnwritten output × ((rom : List ℕ) × IsAccepted rom)
-IsRecordRefused (Ahead count) input output = IsUnread input × IsUnwritten output × ((rom : List ℕ) × IsAccepted rom)
-IsRecordRefused Differ input output = IsUnread input × IsUnwritten output × ((rom : List ℕ) × IsAccepted rom)
+IsRecordRefused (Recording fault) input output = IsRecordStopped (RecordRecording fault) input output ⊎ IsNotBelonging (NoRecording fault) input output
+IsRecordRefused (Behind count) input output = IsRecordStopped (RecordBehind count) input output ⊎ IsNotBelonging (RecordingBehind count) input output
+IsRecordRefused (Ahead count) input output = IsNotBelonging (RecordingAhead count) input output
+IsRecordRefused Differ input output = IsNotBelonging MachinesDiffer input output
 IsRecordRefused fault input output = ⊥
 
 -- a recorded play was done or refused
@@ -332,7 +334,7 @@ IsDebugRefused save Memory input output = (IsUnread input × IsUnwritten output)
 IsDebugRefused save File input output = IsUnread input × IsUnwritten output
 IsDebugRefused save Output input output = IsDebugStopped save DebugOutput input output
 IsDebugRefused save (Device fault) input output = IsDebugUnbegun save input output
-IsDebugRefused save (Session why) input output = IsDebugUnbegun save input output × ((rom : List ℕ) × IsAccepted rom)
+IsDebugRefused save (Session why) input output = IsDebugNotTakenUp save why input output
 IsDebugRefused save Input input output = IsDebugStopped save DebugInput input output
 IsDebugRefused save fault input output = ⊥
 

@@ -1,5 +1,5 @@
 -- What a request wants of a ROM, and when the program has done it.
-use Rattle.std.specs.Prelude.{◌≡◌, ◌⊎◌, ◌≤◌, ◌++◌, ℕ, List, [], length, codes, decimal, Bool, true, false, ◌==◌, ◌||◌, Option, None, Some, unwrap_or, IsOk, All}
+use Rattle.std.specs.Prelude.{◌≡◌, ◌≤◌, ◌<◌, ◌++◌, ℕ, List, [], length, codes, decimal, Bool, true, false, ◌==◌, ◌||◌, Option, None, Some, unwrap_or, ⊤}
 use Rattle.std.specs.List.{ends_with}
 use Rattle.std.specs.Str.Parse.{IsNumeral, digits_value}
 use Rattle.std.specs.Borrow.{Bor}
@@ -9,42 +9,55 @@ use Rattle.cartridge.specs.Accepted.{IsAccepted}
 use Rattle.cartridge.specs.Header.{has_battery, ram_length_of}
 use Rattle.command_line.specs.declared.Request.{Request}
 use Rattle.command_line.specs.declared.Request.TheVariants.{Info, List as Listing, Step, New, Play, Frame, Trace, Stream, NewRecording, Record, Recorded, Verify, Test, Show, Export, Import, Debug}
-use Rattle.machine.specs.Machine.{start}
-use Rattle.machine.specs.Machine.{Input}
-use Rattle.snapshot.specs.Legal.{IsMachineOf}
+use Rattle.machine.specs.Machine.{MachineState, start}
 use Rattle.snapshot.specs.Encoding.{snapshot_length}
 use Rattle.log_format.specs.Content.{need}
-use Rattle.script.specs.Script.{moves_of}
-use Rattle.script.specs.declared.moves.Move.{Move}
+use Rattle.sector_device.specs.DiskState.{DiskState}
+use Rattle.sector_device.specs.FileDevice.{file_disk}
+use Rattle.sector_device.specs.declared.file.FileDevice.{FileDevice}
 use Rattle.recording.specs.declared.fault.RecordingFault.{RecordingFault}
-use Rattle.recording.specs.declared.fault.RecordingFault.TheVariants.{Device}
-use Rattle.recorded_play.specs.Whole.{behind}
-use Rattle.recording_lines.specs.Verifying.{agree_line}
+use Rattle.recording.specs.declared.fault.RecordingFault.TheVariants.{Memory, Device, TooSmall}
+use Rattle.recorded_play.specs.Whole.{HasRecorded, IsRecordCause}
+use Rattle.recorded_play.specs.declared.error.RecordError.{RecordError}
+use Rattle.replaying.specs.Verifying.{IsVerifyCause}
+use Rattle.replaying.specs.declared.verifying.Limits.{Limits}
+use Rattle.replaying.specs.declared.error.VerifyError.{VerifyError}
+use Rattle.replaying.specs.declared.error.VerifyError.TheVariants.{Save as NoSave, Recording as NoRecording}
+use Rattle.recording_lines.specs.Beginning.{IsNewRecording}
+use Rattle.recording_lines.specs.Script.{HasWrittenScript, IsScriptCause}
+use Rattle.recording_lines.specs.Verifying.{HasAgreed, IsLineCause}
+use Rattle.recording_lines.specs.declared.error.ScriptLinesError.TheVariants.{Recording as ScriptRecording, Output as ScriptOutput}
+use Rattle.recording_lines.specs.declared.error.VerifyLineError.TheVariants.{Verify as Compared, Output as VerifyOutput}
+use Rattle.session.specs.Calls.{IsAtRest}
 use Rattle.session.specs.declared.error.SessionError.{SessionError}
 use Rattle.session.specs.Found.{IsNewGameCause}
-use Rattle.session.specs.Stands.{Position}
-use Rattle.playing.specs.Report.{Line, texts, report_lines, report_of, HasTold}
-use Rattle.streaming.specs.Answers.{stream_lines}
-use Rattle.streaming.specs.Orders.{orders_of, IsRight}
-use Rattle.input_lines.specs.Reading.{ReadsLines}
-use Rattle.streaming.specs.Reading.{ReadsTo}
+use Rattle.streaming.specs.Streamed.{HasStreamed}
+use Rattle.streaming.specs.declared.error.StreamError.TheVariants.{Session as StreamSession}
 use Rattle.streaming.specs.declared.obeying.End.{End}
 use Rattle.debugger.specs.Listing.{lines_from}
 use Rattle.test_run.specs.Refusals.{IsTested, IsCutOff}
 use Rattle.test_run.specs.declared.verdict.Verdict.{Verdict}
 use Rattle.test_run.specs.declared.verdict.Verdict.TheVariants.{Passed}
-use Rattle.save_lines.specs.Shown.{Seen, shown_text}
-use Rattle.battery_files.specs.Importing.{is_taken_length}
+use Rattle.save_lines.specs.Shown.{HasShown, IsShowCause}
+use Rattle.save_lines.specs.declared.error.ShowError.TheVariants.{Session as ShowSession, Output as ShowOutput}
+use Rattle.battery_files.specs.Exporting.{IsExportCause, IsExported}
+use Rattle.battery_files.specs.declared.error.ExportError.TheVariants.{Session as ExportSession}
+use Rattle.battery_files.specs.Importing.{is_taken_length, start_with}
 use Rattle.gbkeep.specs.Beginning.{begun_line}
 use Rattle.gbkeep.specs.Info.{info_of}
-use Rattle.gbkeep.specs.Playing.{moves_in}
+use Rattle.gbkeep.specs.Playing.{IsPlayCause, IsPlayedWhole}
+use Rattle.gbkeep.specs.declared.error.PlayError.TheVariants.{Session as PlaySession, Picture as PlayPicture}
 use Rattle.gbkeep.specs.StepLine.{line_after}
-use Rattle.gbkeep.specs.Text.{Text, IsUnread, IsUnwritten}
-use Rattle.gbkeep.specs.Tracing.{trace_text}
+use Rattle.gbkeep.specs.Streaming.{IsStreamPlayCause}
+use Rattle.gbkeep.specs.declared.error.StreamPlayError.TheVariants.{Stream as StreamFault}
+use Rattle.gbkeep.specs.Text.{Call, Text, IsUnread, IsUnwritten}
+use Rattle.gbkeep.specs.Tracing.{HasTraced, IsTraceCause}
+use Rattle.gbkeep.specs.declared.error.TraceError.TheVariants.{Session as TraceSession, Output as TraceOutput}
 use Rattle.debugging.specs.Run.{begun}
 use Rattle.debugging.specs.Debugged.{Exchange as Exchanged, HasAnsweredAll, IsDebugCause}
 use Rattle.debugging.specs.declared.error.DebugError.{DebugError}
-use Rattle.debug_lines.specs.Debugging.{IsBegunAndBroken, IsBegunAndDebugged}
+use Rattle.debug_lines.specs.Debugging.{HasDebugged, IsDebugGameCause}
+use Rattle.debug_lines.specs.declared.error.DebugGameError.TheVariants.{Session as DebugGameSession, Debug as DebugGameStopped}
 
 -- how many sectors a new game's file has: as many as the words say, or else as many as a game of this ROM needs
 abbrev pub sectors_for : List ℕ → Option ℕ → ℕ
@@ -74,79 +87,113 @@ HasAddress (Export cart save out) = Unit {0}
 HasAddress (Import cart battery save sectors) = Unit {0}
 HasAddress (Debug cart save) = Unit {0}
 
--- what it prints of a ROM; not here what is of a game of the ROM: the report of a play, a trace, a stream and a recorded play, and what a
--- game holds; nor what is answered to lines
+-- what it prints of a ROM; not here what is of a game or a recording of the ROM, nor what is answered to lines
 abbrev pub printed : Request → List ℕ → List ℕ
 printed (Info cart) rom = info_of rom
 printed (Listing cart address count) rom = lines_from (start rom) (digits_value 16 address.now) count
 printed (Step cart count) rom = line_after rom count
-printed (New cart save sectors) rom = begun_line
+printed (New cart save sectors) rom = []
 printed (Play cart save script) rom = []
 printed (Frame cart save out) rom = []
 printed (Trace cart save count) rom = []
 printed (Stream cart save) rom = []
-printed (NewRecording cart recording sectors) rom = begun_line
+printed (NewRecording cart recording sectors) rom = []
 printed (Record cart save recording) rom = []
 printed (Recorded cart recording) rom = []
 printed (Verify cart save recording) rom = []
 printed (Test cart frames script) rom = []
 printed (Show cart save) rom = []
 printed (Export cart save out) rom = []
-printed (Import cart battery save sectors) rom = begun_line
+printed (Import cart battery save sectors) rom = []
 printed (Debug cart save) rom = []
 
--- a count of inputs and a machine of this ROM, of which the text of a trace has P
-abbrev pub OfATrace : (rom : List ℕ) → (steps : ℕ) → (List ℕ → Type 0) → Type 0
-OfATrace rom steps P = (from : Position) × IsMachineOf rom from.machine × P (trace_text from.count from.machine steps)
+-- ---- files. No clause can say which file a word names: so each is the device over some file, of which what a call on it promises holds.
 
--- some number of sectors and what was seen of a game of this ROM on them, of the lines of which P holds
-abbrev pub OfALook : (rom : List ℕ) → (List ℕ → Type 0) → Type 0
-OfALook rom P = (sectors : ℕ) × (seen : Seen) × IsMachineOf rom seen.machine × P (shown_text rom sectors seen)
+-- the device over some file has P
+abbrev pub OfAFile : (DiskState → Type 0) → Type 0
+OfAFile P = (file : FileDevice) × P (file_disk file)
+
+-- that over some file as it was opened, and as the call on it left it
+abbrev pub OfAFileSince : (DiskState → DiskState → Type 0) → Type 0
+OfAFileSince P = (file left : FileDevice) × P (file_disk file) (file_disk left)
+
+-- those over a SAVE and over a recording
+abbrev pub OfAPair : (DiskState → DiskState → Type 0) → Type 0
+OfAPair P = (save recording : FileDevice) × P (file_disk save) (file_disk recording)
+
+-- and as the call on both left them
+abbrev pub OfAPairSince : (DiskState → DiskState → DiskState → DiskState → Type 0) → Type 0
+OfAPairSince P = (save now_save recording now_recording : FileDevice) × P (file_disk save) (file_disk now_save) (file_disk recording) (file_disk now_recording)
+
+-- a call from this device to that one, and what went out
+abbrev pub call_on : (old now : DiskState) → (before since : Option (List ℕ)) → Call
+call_on old now before since = record { old = old; now = now; output = record { before = before; since = since } }
+
+-- ---- what a request begins, in a file that is made
+
+-- it has so many sectors, and is at rest with the game of this ROM that begins with this machine
+abbrev pub IsGameBegun : (rom : List ℕ) → (sectors : ℕ) → MachineState → DiskState → Type 0
+IsGameBegun rom sectors machine now = (length now.sectors ≡ sectors) × IsAtRest rom now 0 [] machine
+
+-- it has so many sectors, and is a recording of this ROM without inputs
+abbrev pub IsRecordingBegun : (rom : List ℕ) → (sectors : ℕ) → DiskState → Type 0
+IsRecordingBegun rom sectors now = (length now.sectors ≡ sectors) × IsNewRecording rom now
+
+-- this battery file is taken, and the device, whose sectors stay, is at rest with the game that begins with its RAM and its clocks
+pub record IsImported (rom kept : List ℕ) (old now : DiskState) : Type 0 where
+  pub battery : has_battery rom ≡ true
+  pub taken : is_taken_length rom (length kept) ≡ true
+  pub count : length now.sectors ≡ length old.sectors
+  pub rests : IsAtRest rom now 0 [] (start_with rom kept)
+
+-- so many sectors are enough for a game of this ROM
+abbrev pub IsEnough : (rom : List ℕ) → (sectors : ℕ) → Type 0
+IsEnough rom sectors = need (snapshot_length (ram_length_of rom)) ≤ sectors
+
+-- the game begins at power-on, or with the RAM and the clocks of a battery file that is taken
+abbrev pub HasBegun : Request → (rom : List ℕ) → Type 0
+HasBegun (New cart save sectors) rom =
+    IsEnough rom (sectors_for rom sectors) × OfAFile (IsGameBegun rom (sectors_for rom sectors) (start rom))
+HasBegun (Import cart battery save sectors) rom = IsEnough rom (sectors_for rom sectors) × (has_battery rom ≡ true)
+    × ((kept : List ℕ) × (is_taken_length rom (length kept) ≡ true) × OfAFile (IsGameBegun rom (sectors_for rom sectors) (start_with rom kept)))
+HasBegun (NewRecording cart recording sectors) rom = (2 ≤ sectors) × OfAFile (IsRecordingBegun rom sectors)
+HasBegun request rom = ⊥
+
+-- ---- what was done
 
 -- the line of a game whose battery file was written
 abbrev pub exported_line : ℕ → List ℕ
 exported_line count = codes "exported " ++ (decimal count ++ codes "\n")
 
+-- a count of inputs, of whose line P holds; if the device is honest, it is that of the game that it stands for, and there is a battery file of this
+abbrev pub HasExported : (rom : List ℕ) → DiskState → (List ℕ → Type 0) → Type 0
+HasExported rom old P = (count : ℕ) × (old.honest → (bytes : List ℕ) × IsExported rom old.sectors count bytes) × P (exported_line count)
+
 -- some battery file is taken for this cartridge
 abbrev pub IsBatteryTaken : (rom : List ℕ) → Type 0
 IsBatteryTaken rom = (has_battery rom ≡ true) × ((battery : List ℕ) × (is_taken_length rom (length battery) ≡ true))
-
--- the whole report of these moves, from some count on
-pub record IsReported (moves : List Move) (old new : Option (List ℕ)) : Type 0 where
-  pub count : ℕ
-  pub report : Appends old new (report_of count moves)
-
--- nothing of the report of these moves went out, or it was cut short
-abbrev pub IsCutShort : List Move → SessionError → Option (List ℕ) → Option (List ℕ) → Type 0
-IsCutShort moves why old new = Keeps old new ⊎ ((count saved : ℕ) × HasTold why saved (report_lines count moves) old new)
-
--- the moves of some script, of which P holds
-abbrev pub OfAScript : (List Move → Type 0) → Type 0
-OfAScript P = (script : List ℕ) × IsOk (moves_of script) × P (moves_in script)
 
 -- the text of the script that a test is given: none where it names none
 abbrev pub IsGiven : Option (Bor (List ℕ)) → (text : List ℕ) → Type 0
 IsGiven None text = text ≡ []
 IsGiven (Some path) text = Unit {0}
 
--- It was done on this ROM; what reads the input has words of its own below. What goes out of a recording is stated where its device is a value, by `recorded_lines`.
+-- It was done on this ROM; what reads the input has words of its own below.
 abbrev pub IsDoneOn : List ℕ → Request → Option (List ℕ) → Option (List ℕ) → Type 0
-IsDoneOn rom (Play cart save script) old new = IsAccepted rom × OfAScript (λ moves. IsReported moves old new)
-IsDoneOn rom (Frame cart save out) old new = IsAccepted rom × IsReported [] old new
-IsDoneOn rom (Trace cart save count) old new = IsAccepted rom × OfATrace rom count (Appends old new)
+IsDoneOn rom (Play cart save script) old new = (text : List ℕ) × OfAFileSince (λ was now. IsPlayedWhole rom text (call_on was now old new))
+IsDoneOn rom (Frame cart save out) old new = OfAFileSince (λ was now. IsPlayedWhole rom [] (call_on was now old new))
+IsDoneOn rom (Trace cart save count) old new = IsAccepted rom × OfAFileSince (λ was now. HasTraced rom was now count old new)
 IsDoneOn rom (Stream cart save) old new = ⊥
 IsDoneOn rom (Record cart save recording) old new = ⊥
 IsDoneOn rom (Debug cart save) old new = ⊥
-IsDoneOn rom (New cart save sectors) old new =
-    IsAccepted rom × (need (snapshot_length (ram_length_of rom)) ≤ sectors_for rom sectors) × Appends old new (printed (New cart save sectors) rom)
-IsDoneOn rom (NewRecording cart recording sectors) old new = IsAccepted rom × (2 ≤ sectors) × Appends old new (printed (NewRecording cart recording sectors) rom)
-IsDoneOn rom (Recorded cart recording) old new = IsAccepted rom
-IsDoneOn rom (Verify cart save recording) old new = IsAccepted rom × ((count : ℕ) × Appends old new (agree_line count))
+IsDoneOn rom (New cart save sectors) old new = IsAccepted rom × HasBegun (New cart save sectors) rom × Appends old new begun_line
+IsDoneOn rom (NewRecording cart recording sectors) old new = IsAccepted rom × HasBegun (NewRecording cart recording sectors) rom × Appends old new begun_line
+IsDoneOn rom (Recorded cart recording) old new = IsAccepted rom × OfAFile (λ was. was.honest → HasWrittenScript rom was old new)
+IsDoneOn rom (Verify cart save recording) old new = IsAccepted rom × ((count : ℕ) × OfAPair (λ game tape. HasAgreed rom game tape count old new))
 IsDoneOn rom (Test cart frames script) old new = (text : List ℕ) × IsGiven script text × IsTested rom text frames old new Passed
-IsDoneOn rom (Show cart save) old new = IsAccepted rom × OfALook rom (Appends old new)
-IsDoneOn rom (Export cart save out) old new = IsAccepted rom × (has_battery rom ≡ true) × ((count : ℕ) × Appends old new (exported_line count))
-IsDoneOn rom (Import cart battery save sectors) old new = IsAccepted rom × IsBatteryTaken rom
-    × (need (snapshot_length (ram_length_of rom)) ≤ sectors_for rom sectors) × Appends old new (printed (Import cart battery save sectors) rom)
+IsDoneOn rom (Show cart save) old new = IsAccepted rom × OfAFile (λ was. HasShown rom was old new)
+IsDoneOn rom (Export cart save out) old new = IsAccepted rom × (has_battery rom ≡ true) × OfAFile (λ was. HasExported rom was (Appends old new))
+IsDoneOn rom (Import cart battery save sectors) old new = IsAccepted rom × HasBegun (Import cart battery save sectors) rom × Appends old new begun_line
 IsDoneOn rom request old new = IsAccepted rom × HasAddress request × Appends old new (printed request rom)
 
 -- it was done, on what its file gave
@@ -190,6 +237,7 @@ makes_battery_name request = false
 -- this is the text of the script that it names, or of none
 abbrev pub IsScriptOf : Request → (text : List ℕ) → Type 0
 IsScriptOf (Test cart frames script) text = IsGiven script text
+IsScriptOf (Frame cart save out) text = text ≡ []
 IsScriptOf request text = Unit {0}
 
 -- it gives a game inputs, and reads none of its lines from the input
@@ -197,36 +245,46 @@ abbrev pub GivesInputs : Request → Type 0
 GivesInputs (Play cart save script) = Unit {0}
 GivesInputs request = ⊥
 
--- why no game is begun or taken up to be traced, and then nothing went out; or why a play ended, and then its report was cut short
+-- why a game and its recording don't agree, or are not compared; nothing went out
+abbrev pub IsCompared : Request → VerifyError → Option (List ℕ) → Option (List ℕ) → Type 0
+IsCompared (Verify cart save recording) why old new = (rom : List ℕ) × OfAPair (λ game tape. IsLineCause rom game tape old new (Compared why))
+IsCompared request why old new = ⊥
+
+-- why no game is begun, taken up or looked at, and then nothing went out; or why a play ended, and then its report was cut short
 abbrev pub IsGameRefused : Request → SessionError → Option (List ℕ) → Option (List ℕ) → Type 0
 IsGameRefused (New cart save sectors) why old new =
     Keeps old new × ((rom : List ℕ) × IsAccepted rom × IsNewGameCause (snapshot_length (ram_length_of rom)) (sectors_for rom sectors) why)
-IsGameRefused (Play cart save script) why old new = (rom : List ℕ) × IsAccepted rom × OfAScript (λ moves. IsCutShort moves why old new)
-IsGameRefused (Frame cart save out) why old new = (rom : List ℕ) × IsAccepted rom × IsCutShort [] why old new
-IsGameRefused (Trace cart save count) why old new = Keeps old new × ((rom : List ℕ) × IsAccepted rom)
-IsGameRefused (Verify cart save recording) why old new = Keeps old new × ((rom : List ℕ) × IsAccepted rom)
-IsGameRefused (Show cart save) why old new = Keeps old new × ((rom : List ℕ) × IsAccepted rom)
-IsGameRefused (Export cart save out) why old new = Keeps old new × ((rom : List ℕ) × IsAccepted rom × (has_battery rom ≡ true))
+IsGameRefused (Play cart save script) why old new =
+    (rom text : List ℕ) × OfAFileSince (λ was now. IsPlayCause rom text (call_on was now old new) (PlaySession why))
+IsGameRefused (Frame cart save out) why old new = (rom : List ℕ) × OfAFileSince (λ was now. IsPlayCause rom [] (call_on was now old new) (PlaySession why))
+IsGameRefused (Trace cart save count) why old new =
+    (rom : List ℕ) × OfAFileSince (λ was now. IsTraceCause rom count (call_on was now old new) (TraceSession why))
+IsGameRefused (Verify cart save recording) why old new = IsCompared (Verify cart save recording) (NoSave why) old new
+IsGameRefused (Show cart save) why old new = (rom : List ℕ) × OfAFile (λ was. IsShowCause rom was old new (ShowSession why))
+IsGameRefused (Export cart save out) why old new = Keeps old new × ((rom : List ℕ) × OfAFile (λ was. IsExportCause rom was (ExportSession why)))
 IsGameRefused (Import cart battery save sectors) why old new = Keeps old new
     × ((rom : List ℕ) × IsAccepted rom × IsBatteryTaken rom × IsNewGameCause (snapshot_length (ram_length_of rom)) (sectors_for rom sectors) why)
 IsGameRefused request why old new = ⊥
 
+-- why no recording is begun, on a file of so many sectors; nothing is said of running out of memory
+abbrev pub IsNewRecordingCause : (sectors : ℕ) → RecordingFault → Type 0
+IsNewRecordingCause sectors Memory = ⊤
+IsNewRecordingCause sectors TooSmall = sectors < 2
+IsNewRecordingCause sectors Device = 2 ≤ sectors
+IsNewRecordingCause sectors why = ⊥
+
 -- why no recording is begun, read or compared; nothing went out, unless a call failed while a recording was written
 abbrev pub IsRecordingRefused : Request → RecordingFault → Option (List ℕ) → Option (List ℕ) → Type 0
-IsRecordingRefused (NewRecording cart recording sectors) why old new = Keeps old new × ((rom : List ℕ) × IsAccepted rom)
-IsRecordingRefused (Recorded cart recording) why old new = ((rom : List ℕ) × IsAccepted rom) × (Keeps old new ⊎ (why ≡ Device))
-IsRecordingRefused (Verify cart save recording) why old new = Keeps old new × ((rom : List ℕ) × IsAccepted rom)
+IsRecordingRefused (NewRecording cart recording sectors) why old new =
+    Keeps old new × ((rom : List ℕ) × IsAccepted rom) × IsNewRecordingCause sectors why
+IsRecordingRefused (Recorded cart recording) why old new = (rom : List ℕ) × OfAFile (λ was. IsScriptCause rom was old new (ScriptRecording why))
+IsRecordingRefused (Verify cart save recording) why old new = IsCompared (Verify cart save recording) (NoRecording why) old new
 IsRecordingRefused request why old new = ⊥
 
 -- a test was run, all of its text went out, and this is its verdict
 abbrev pub IsTestDecided : Request → Verdict → Option (List ℕ) → Option (List ℕ) → Type 0
 IsTestDecided (Test cart frames script) verdict old new = (rom text : List ℕ) × IsGiven script text × IsTested rom text frames old new verdict
 IsTestDecided request verdict old new = ⊥
-
--- the game and its recording were compared on a ROM that is accepted, and nothing went out
-abbrev pub IsCompared : Request → Option (List ℕ) → Option (List ℕ) → Type 0
-IsCompared (Verify cart save recording) old new = Keeps old new × ((rom : List ℕ) × IsAccepted rom)
-IsCompared request old new = ⊥
 
 -- the cartridge has no battery, and nothing went out
 abbrev pub IsWithoutBattery : Request → Option (List ℕ) → Option (List ℕ) → Type 0
@@ -247,77 +305,55 @@ IsOutputRefused (Info cart) old new = (rom : List ℕ) × IsAccepted rom × Appe
 IsOutputRefused (Listing cart address count) old new =
     (rom : List ℕ) × IsAccepted rom × AppendsProperPrefix old new (printed (Listing cart address count) rom)
 IsOutputRefused (Step cart count) old new = (rom : List ℕ) × IsAccepted rom × AppendsProperPrefix old new (printed (Step cart count) rom)
-IsOutputRefused (New cart save sectors) old new = (rom : List ℕ) × IsAccepted rom × (need (snapshot_length (ram_length_of rom)) ≤ sectors_for rom sectors)
-    × AppendsProperPrefix old new (printed (New cart save sectors) rom)
-IsOutputRefused (Frame cart save out) old new = (rom : List ℕ) × IsAccepted rom × IsReported [] old new
-IsOutputRefused (Trace cart save count) old new = (rom : List ℕ) × IsAccepted rom × OfATrace rom count (AppendsProperPrefix old new)
+IsOutputRefused (New cart save sectors) old new =
+    (rom : List ℕ) × IsAccepted rom × HasBegun (New cart save sectors) rom × AppendsProperPrefix old new begun_line
+IsOutputRefused (Frame cart save out) old new = (rom : List ℕ) × OfAFileSince (λ was now. IsPlayCause rom [] (call_on was now old new) PlayPicture)
+IsOutputRefused (Trace cart save count) old new =
+    (rom : List ℕ) × OfAFileSince (λ was now. IsTraceCause rom count (call_on was now old new) TraceOutput)
 IsOutputRefused (NewRecording cart recording sectors) old new =
-    (rom : List ℕ) × IsAccepted rom × (2 ≤ sectors) × AppendsProperPrefix old new (printed (NewRecording cart recording sectors) rom)
+    (rom : List ℕ) × IsAccepted rom × HasBegun (NewRecording cart recording sectors) rom × AppendsProperPrefix old new begun_line
 IsOutputRefused (Test cart frames script) old new = (rom text : List ℕ) × IsGiven script text × IsCutOff rom text frames old new
-IsOutputRefused (Recorded cart recording) old new = (rom : List ℕ) × IsAccepted rom
-IsOutputRefused (Verify cart save recording) old new = (rom : List ℕ) × IsAccepted rom × ((count : ℕ) × AppendsProperPrefix old new (agree_line count))
-IsOutputRefused (Show cart save) old new = (rom : List ℕ) × IsAccepted rom × OfALook rom (AppendsProperPrefix old new)
+IsOutputRefused (Recorded cart recording) old new = (rom : List ℕ) × OfAFile (λ was. IsScriptCause rom was old new ScriptOutput)
+IsOutputRefused (Verify cart save recording) old new = (rom : List ℕ) × OfAPair (λ game tape. IsLineCause rom game tape old new VerifyOutput)
+IsOutputRefused (Show cart save) old new = (rom : List ℕ) × OfAFile (λ was. IsShowCause rom was old new ShowOutput)
 IsOutputRefused (Export cart save out) old new =
-    (rom : List ℕ) × IsAccepted rom × (has_battery rom ≡ true) × ((count : ℕ) × AppendsProperPrefix old new (exported_line count))
-IsOutputRefused (Import cart battery save sectors) old new = (rom : List ℕ) × IsAccepted rom × IsBatteryTaken rom
-    × (need (snapshot_length (ram_length_of rom)) ≤ sectors_for rom sectors)
-    × AppendsProperPrefix old new (printed (Import cart battery save sectors) rom)
+    (rom : List ℕ) × IsAccepted rom × (has_battery rom ≡ true) × OfAFile (λ was. HasExported rom was (AppendsProperPrefix old new))
+IsOutputRefused (Import cart battery save sectors) old new =
+    (rom : List ℕ) × IsAccepted rom × HasBegun (Import cart battery save sectors) rom × AppendsProperPrefix old new begun_line
 IsOutputRefused request old new = ⊥
 
 -- ---- a stream, a recorded play and a debugger, the only requests that read the input
 
--- of the answers to some lines of the input, from some position of this ROM, P holds: those up to this end
-abbrev pub OfAStream : (rom : List ℕ) → End → (input : Text) → (List Line → Type 0) → Type 0
-OfAStream rom end input P =
-    (from : Position) × IsMachineOf rom from.machine
-    × ((lines : List (List ℕ)) × All IsRight lines × ReadsTo end lines input.before input.since × P (stream_lines from (orders_of lines)))
-
--- or those that were read, with some bytes more, when one of them was refused
-abbrev pub OfABrokenStream : (rom : List ℕ) → (input : Text) → (List Line → Type 0) → Type 0
-OfABrokenStream rom input P =
-    (from : Position) × IsMachineOf rom from.machine
-    × ((lines : List (List ℕ)) × All IsRight lines
-    × ((more : List ℕ) × ReadsLines lines more input.before input.since) × P (stream_lines from (orders_of lines)))
-
 -- all that the lines up to this end ask for was done and answered
 abbrev pub IsStreamedTo : End → (input output : Text) → Type 0
-IsStreamedTo end input output =
-    (rom : List ℕ) × IsAccepted rom × OfAStream rom end input (λ lines. Appends output.before output.since (texts lines))
+IsStreamedTo end input output = (rom : List ℕ) × IsAccepted rom
+    × OfAFileSince (λ was now. HasStreamed rom was now end input.before input.since output.before output.since)
 
 -- why the game was not taken up, with nothing read and nothing written; or why a line was refused, with what was answered up to there
 abbrev pub IsStreamStopped : SessionError → (input output : Text) → Type 0
-IsStreamStopped why input output =
-    (rom : List ℕ) × IsAccepted rom
-    × ((IsUnread input × IsUnwritten output)
-    ⊎ OfABrokenStream rom input (λ lines. (saved : ℕ) × HasTold why saved lines output.before output.since))
+IsStreamStopped why input output = (rom : List ℕ)
+    × OfAFileSince (λ was now. IsStreamPlayCause rom input (call_on was now output.before output.since) (StreamFault (StreamSession why)))
 
--- ---- a recorded play, from some position of this ROM and the inputs that the recording has beyond it
-
-abbrev pub OfARecordedPlay : (rom : List ℕ) → End → (input : Text) → (List Line → Type 0) → Type 0
-OfARecordedPlay rom end input P =
-    (from : Position) × IsMachineOf rom from.machine
-    × ((beyond : List Input) × ((lines : List (List ℕ)) × All IsRight lines × ReadsTo end lines input.before input.since
-    × P (stream_lines (behind from beyond) (orders_of lines))))
-
--- or the lines that were read, with some bytes more, when one of them was refused
-abbrev pub OfABrokenRecordedPlay : (rom : List ℕ) → (input : Text) → (List Line → Type 0) → Type 0
-OfABrokenRecordedPlay rom input P =
-    (from : Position) × IsMachineOf rom from.machine
-    × ((beyond : List Input) × ((lines : List (List ℕ)) × All IsRight lines
-    × ((more : List ℕ) × ReadsLines lines more input.before input.since) × P (stream_lines (behind from beyond) (orders_of lines))))
+-- ---- a recorded play
 
 -- all that the lines up to this end ask for was done and answered
 abbrev pub IsRecordedTo : End → (input output : Text) → Type 0
-IsRecordedTo end input output =
-    (rom : List ℕ) × IsAccepted rom × OfARecordedPlay rom end input (λ lines. Appends output.before output.since (texts lines))
+IsRecordedTo end input output = (rom : List ℕ) × IsAccepted rom
+    × OfAPairSince (λ was now tape new_tape. HasRecorded rom was now tape new_tape end input.before input.since output.before output.since)
 
--- Why the game was not taken up, with nothing read and nothing written; or why a line was refused, with what was answered up to there. To
--- the report a recording that is refused is what a device that failed is.
-abbrev pub IsRecordStopped : SessionError → (input output : Text) → Type 0
-IsRecordStopped why input output =
-    (rom : List ℕ) × IsAccepted rom
-    × ((IsUnread input × IsUnwritten output)
-    ⊎ OfABrokenRecordedPlay rom input (λ lines. (saved : ℕ) × HasTold why saved lines output.before output.since))
+-- why the game was not taken up, with nothing read and nothing written; or why a line was refused, with what was answered up to there
+abbrev pub IsRecordStopped : RecordError → (input output : Text) → Type 0
+IsRecordStopped why input output = (rom : List ℕ) × IsAccepted rom
+    × OfAPairSince (λ was now tape new_tape. IsRecordCause why rom was now tape new_tape input.before input.since output.before output.since)
+
+-- how far `record` compares before it takes a game up
+abbrev pub record_limits : Limits
+record_limits = record { beyond = 3200; replayed = 20000 }
+
+-- why the recording can't be that of the game, as far as they are compared before the game is taken up: nothing was read, and nothing went out
+abbrev pub IsNotBelonging : VerifyError → (input output : Text) → Type 0
+IsNotBelonging why input output = IsUnread input × IsUnwritten output
+    × ((rom : List ℕ) × IsAccepted rom × OfAPair (λ game tape. game.honest → tape.honest → IsVerifyCause (Some record_limits) rom game tape why))
 
 -- ---- a debugger, from power-on or over a game
 
@@ -327,16 +363,21 @@ exchange_of input output = record { unread = input.before; left = input.since; b
 -- all lines were answered
 abbrev pub IsDebugged : (save : Option (Bor (List ℕ))) → (input output : Text) → Type 0
 IsDebugged None input output = (rom : List ℕ) × IsAccepted rom × HasAnsweredAll (begun (start rom)) (exchange_of input output)
-IsDebugged (Some save) input output = (rom : List ℕ) × IsAccepted rom
-    × ((from : Position) × IsMachineOf rom from.machine × IsBegunAndDebugged from.count from.machine (exchange_of input output))
+IsDebugged (Some save) input output = (rom : List ℕ) × IsAccepted rom × OfAFileSince (λ was now. HasDebugged rom was now (exchange_of input output))
 
 -- or not all, for this cause
 abbrev pub IsDebugStopped : (save : Option (Bor (List ℕ))) → DebugError → (input output : Text) → Type 0
 IsDebugStopped None why input output = (rom : List ℕ) × IsAccepted rom × IsDebugCause why (begun (start rom)) (exchange_of input output)
-IsDebugStopped (Some save) why input output = (rom : List ℕ) × IsAccepted rom
-    × ((from : Position) × IsMachineOf rom from.machine × IsBegunAndBroken why from.count from.machine (exchange_of input output))
+IsDebugStopped (Some save) why input output =
+    (rom : List ℕ) × OfAFileSince (λ was now. IsDebugGameCause rom was now (exchange_of input output) (DebugGameStopped why))
 
--- a game was to be debugged and was not taken up: nothing was read, and nothing went out
+-- a file that a game was to be debugged in was not opened: nothing was read, and nothing went out
 abbrev pub IsDebugUnbegun : (save : Option (Bor (List ℕ))) → (input output : Text) → Type 0
 IsDebugUnbegun None input output = ⊥
 IsDebugUnbegun (Some save) input output = IsUnread input × IsUnwritten output
+
+-- why a game that was to be debugged was not taken up
+abbrev pub IsDebugNotTakenUp : (save : Option (Bor (List ℕ))) → SessionError → (input output : Text) → Type 0
+IsDebugNotTakenUp None why input output = ⊥
+IsDebugNotTakenUp (Some save) why input output =
+    (rom : List ℕ) × OfAFileSince (λ was now. IsDebugGameCause rom was now (exchange_of input output) (DebugGameSession why))

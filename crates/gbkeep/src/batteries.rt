@@ -1,14 +1,15 @@
 //! Battery files: out of a game, and into a new one.
 
-ghost use Rattle.std.specs.Prelude.{◌≡◌, length, IfErr, IfSome, OnErr, OnOk};
+ghost use Rattle.std.specs.Prelude.{◌≡◌, length, IfErr, IfOk, IfSome, OnErr, OnOk};
 ghost use Rattle.std.specs.Io.KnownBytes.{Appends};
 ghost use Rattle.exact_text.specs.Written.{AppendsProperPrefix};
 ghost use Rattle.sector_device.specs.FileDevice.{file_disk};
 ghost use Rattle.cartridge.specs.Header.{ram_length_of};
 ghost use Rattle.snapshot.specs.Encoding.{snapshot_length};
+ghost use Rattle.session.specs.Accessors.{device_of};
 ghost use Rattle.session.specs.Found.{IsNewGameCause};
 ghost use Rattle.gbkeep.specs.Program.{IsBatteryFault, IsServed};
-ghost use Rattle.gbkeep.specs.Request.{IsBatteryTaken, exported_line};
+ghost use Rattle.gbkeep.specs.Request.{IsBatteryTaken, IsImported, exported_line};
 
 use crate::begun::tell_begun;
 use crate::fault::Fault;
@@ -130,6 +131,8 @@ fn begin_import(
     cartridge: &Cartridge,
     battery: &[u8],
 ) -> Result<Session<FileDevice>, SessionError>
+    ensures begun { IfOk result (λ session. (file_disk device).honest →
+        IsImported cartridge.now battery.now (file_disk device) (file_disk (device_of session))) }
     ensures cause { IfErr result (IsNewGameCause (snapshot_length (ram_length_of cartridge.now)) (length (file_disk device).sectors)) }
 {
     let Ok(machine) = machine_with_battery(alloc, cartridge, battery) else {

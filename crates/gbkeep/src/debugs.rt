@@ -57,7 +57,7 @@ fn resumed<R: Files<File = File> + AllocGlobal, I: Read, O: Write>(
 {
     let device = FileDevice::attach(rt, Path::new(save))?;
     match debug_game(rt.alloc(), device, rom, input, out) {
-        Ok(_) => Ok(()),
+        Ok(_left) => Ok(()),
         Err(refused) => Err(Fault::from(refused.why)),
     }
 }

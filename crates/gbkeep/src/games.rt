@@ -86,7 +86,7 @@ pub(crate) fn play<R: Files<File = File> + AllocGlobal, O: Write>(
         out,
         None::<&mut File>,
     ) {
-        Ok(_) => Ok(()),
+        Ok(_left) => Ok(()),
         Err(refused) => Err(Fault::from(refused.why)),
     }
 }
@@ -106,7 +106,7 @@ pub(crate) fn frame<R: Files<File = File> + AllocGlobal, O: Write>(
     let device = FileDevice::attach(rt, Path::new(save))?;
     let mut picture = emptied_file(rt, picture, [cart, save])?;
     match play_to_picture(rt.alloc(), device, rom, b"", out, Some(&mut picture)) {
-        Ok(_) => Ok(()),
+        Ok(_left) => Ok(()),
         Err(refused) => Err(Fault::from(refused.why)),
     }
 }
@@ -124,7 +124,7 @@ pub(crate) fn show<R: Files<File = File> + AllocGlobal, O: Write>(
     let device = FileDevice::attach(rt, Path::new(save))?;
     match show_lines(rt.alloc(), device, rom, out) {
         Ok(_) => Ok(()),
-        Err(refused) => Err(Fault::from(refused.why)),
+        Err(unshown) => Err(Fault::from(unshown.why)),
     }
 }
 
@@ -141,8 +141,8 @@ pub(crate) fn trace<R: Files<File = File> + AllocGlobal, O: Write>(
     let rom = file_bytes(rt, cart, MOST_ROM)?;
     let device = FileDevice::attach(rt, Path::new(save))?;
     match trace_lines(rt.alloc(), device, rom, count, out) {
-        Ok(_) => Ok(()),
-        Err(refused) => Err(Fault::from(refused.why)),
+        Ok(_left) => Ok(()),
+        Err(untraced) => Err(Fault::from(untraced.why)),
     }
 }
 
@@ -161,7 +161,7 @@ pub(crate) fn stream<R: Files<File = File> + AllocGlobal, I: Read, O: Write>(
     let device = FileDevice::attach(rt, Path::new(save))?;
     unless_recorded(rt, save)?;
     match stream_play(rt.alloc(), device, rom, input, out) {
-        Ok(_) => Ok(()),
-        Err(refused) => Err(Fault::from(refused.why)),
+        Ok(_left) => Ok(()),
+        Err(stopped) => Err(Fault::from(stopped.why)),
     }
 }

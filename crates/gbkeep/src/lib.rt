@@ -13,6 +13,7 @@ mod fault;
 mod files;
 mod games;
 mod info;
+mod laws;
 mod listing;
 mod making;
 mod marks;
@@ -29,6 +30,7 @@ pub use error::{
     PlayError, PlayRefused, StreamPlayError, StreamPlayRefused, TextError, TraceError, TraceRefused,
 };
 pub use info::info_lines;
+pub use laws::{new_files_stand_together, nothing_more_happens};
 pub use listing::list_lines;
 pub use program::{run, run_program};
 pub use stepping::step_line;

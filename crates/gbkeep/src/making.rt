@@ -112,6 +112,7 @@ pub(crate) fn new_device<'a, R: Files<File = File> + AllocGlobal>(
     sectors: u64,
 ) -> Result<MakingDevice<'a>, Fault>
     ensures zero { IfOk result (λ made. (file_disk made.device).sectors ≡ replicate sectors (replicate 512 0)) }
+    ensures honest { IfOk result (λ made. (file_disk made.device).honest) }
     ensures fault { IfErr result (λ fault. (fault ≡ Fault.Memory) ⊎ (fault ≡ Fault.Device DeviceFault.Device)) }
 {
     let making = match Making::begin(rt, path) {

@@ -1,7 +1,8 @@
 //! Recordings in files.
 
 ghost use Rattle.std.specs.Prelude.{IfErr};
-ghost use Rattle.gbkeep.specs.Program.{IsServed, IsRecordServed, IsPairFault, IsNotBelonging};
+ghost use Rattle.sector_device.specs.FileDevice.{file_disk};
+ghost use Rattle.gbkeep.specs.Program.{IsServed, IsRecordServed, IsPairFault, IsNotOf};
 
 use crate::begun::tell_begun;
 use crate::fault::Fault;
@@ -87,14 +88,14 @@ pub(crate) fn record<R: Files<File = File> + AllocGlobal, I: Read, O: Write>(
         input,
         out,
     ) {
-        Ok(_) => Ok(()),
+        Ok(_left) => Ok(()),
         Err(refused) => Err(Fault::from(refused.why)),
     }
 }
 
 /// A game and a recording that can be its own.
 fn belonging(alloc: Global, pair: Pair, cartridge: &Cartridge) -> Result<Pair, Fault>
-    ensures { IfErr result IsNotBelonging }
+    ensures { IfErr result (IsNotOf cartridge.now (file_disk pair.save) (file_disk pair.recording)) }
 {
     let found = verify_within(alloc, pair.save, pair.recording, cartridge, Some(LIMITS));
     match found.answer {
@@ -137,7 +138,7 @@ pub(crate) fn verify<R: Files<File = File> + AllocGlobal, O: Write>(
     let pair = game_and_recording(rt, save, recording)?;
     let compared = verify_line(rt.alloc(), pair.save, pair.recording, rom, out);
     match compared.answer {
-        Ok(_) => Ok(()),
+        Ok(_count) => Ok(()),
         Err(why) => Err(Fault::from(why)),
     }
 }

@@ -1,2 +1,3 @@
 pub mod Script
 pub mod Verifying
+pub mod Beginning

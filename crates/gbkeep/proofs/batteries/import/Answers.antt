@@ -4,8 +4,10 @@ use Rattle.command_line.specs.declared.Request.TheVariants.{Import}
 use Rattle.log_format.specs.Content.{need}
 use Rattle.cartridge.specs.Header.{ram_length_of}
 use Rattle.snapshot.specs.Encoding.{snapshot_length}
+use Rattle.session.specs.Accessors.{device_of}
 use Rattle.gbkeep.specs.Request.{sectors_for}
 use Rattle.gbkeep.proofs.BegunTexts.{begun_served}
+use Rattle.gbkeep.proofs.FileTexts.{import_begun}
 use Rattle.playing.proofs.Telling.{keeps_same}
 use Rattle.gbkeep.proofs.BatteryTexts.{accepted_image, battery_refused}
 use Rattle.gbkeep.proofs.batteries.import.Goals as goal
@@ -22,6 +24,10 @@ returns-in-Ok g c =
     let accepted = accepted_image _ _ c.in_ok-cartridge.ensures.image (c.in_ok-cartridge.ensures.accepted.0 refl) in
     let same = c.sectors_or-sectors.ensures ∙ ap (λ (n : ℕ). unwrap_or c.args.sectors n) c.sectors_needed-need.ensures in
     let enough : need (snapshot_length (ram_length_of rom)) ≤ sectors_for rom c.args.sectors = omega (arith, same, c.sectors_needed-need.ensures, c.if-sectors-need.false) in
+    let zero = c.in_ok-making.ensures.zero in
+    let honest = c.in_ok-making.ensures.honest in
+    let begun = import_begun c.args.cart c.args.battery c.args.save c.args.sectors rom _ c.sectors_or-sectors.result c.in_ok-making.field-0.device (device_of c.in-Ok._session) enough
+    zero same (c.in-Ok.ensures.begun honest) in
     begun_served (Import c.args.cart c.args.battery c.args.save c.args.sectors) _ _ tt tt
-    (λ written. (rom, (accepted, c.in_default.ensures.ok, enough, written))) (λ cut. (rom, accepted, c.in_default.ensures.ok, enough, cut))
+    (λ written. (rom, (accepted, begun, written))) (λ cut. (rom, accepted, begun, cut))
     c.tell_begun.result c.tell_begun.ensures.written c.tell_begun.ensures.cause

@@ -5,9 +5,9 @@ use Rattle.gbkeep.proofs.DebugTexts.{debug_game_refused, game_debugged}
 use Rattle.gbkeep.proofs.debugs.resumed.Goals as goal
 
 pub returns-in-Ok : goal.returns-in-Ok
-returns-in-Ok g c = game_debugged c.args.save c.args.rom.items _ _ _ _ c.in-Ok.ensures.accepted c.in-Ok.ensures.debugged
+returns-in-Ok g c = game_debugged c.args.save c.args.rom.items c.in_ok-device.device c.in-Ok._left _ _ c.in-Ok.ensures.accepted c.in-Ok.ensures.debugged
 
-pub returns : goal.returns
-returns g c =
+pub returns-in-Err : goal.returns-in-Err
+returns-in-Err g c =
     subst (λ (fault : Fault). IsDebugRefused (Some c.args.save) fault (record { before = g.I.Read.remaining c.args.input.now; since = g.I.Read.remaining c.debug_game.new.input }) (record { before = g.O.Write.contents c.args.out.now; since = g.O.Write.contents c.debug_game.new.out })) (sym c.from.ensures)
-    (debug_game_refused c.args.save c.args.rom.items _ _ _ _ c.in-Err.refused.why c.in-Err.ensures.cause)
+    (debug_game_refused c.args.save c.args.rom.items c.in_ok-device.device c.in-Err.refused.device _ _ c.in-Err.refused.why c.in-Err.ensures.cause)

@@ -4,9 +4,12 @@ use Rattle.command_line.specs.declared.Request.TheVariants.{New}
 use Rattle.log_format.specs.Content.{need}
 use Rattle.cartridge.specs.Header.{ram_length_of}
 use Rattle.snapshot.specs.Encoding.{snapshot_length}
+use Rattle.machine.specs.Machine.{start}
+use Rattle.session.specs.Accessors.{device_of}
 use Rattle.gbkeep.specs.Request.{sectors_for}
 use Rattle.gbkeep.proofs.BatteryTexts.{accepted_image}
 use Rattle.gbkeep.proofs.BegunTexts.{begun_served}
+use Rattle.gbkeep.proofs.FileTexts.{game_begun}
 use Rattle.gbkeep.proofs.games.new.Goals as goal
 
 pub returns-in-Ok : goal.returns-in-Ok
@@ -15,6 +18,10 @@ returns-in-Ok g c =
     let accepted = accepted_image _ _ c.in_ok-cartridge.ensures.image (c.in_ok-cartridge.ensures.accepted.0 refl) in
     let same = c.sectors_or-sectors.ensures ∙ ap (λ (n : ℕ). unwrap_or c.args.sectors n) c.sectors_needed-need.ensures in
     let enough : need (snapshot_length (ram_length_of rom)) ≤ sectors_for rom c.args.sectors = omega (arith, same, c.sectors_needed-need.ensures, c.if-sectors-need.false) in
+    let zero = c.in_ok-making.ensures.zero in
+    let honest = c.in_ok-making.ensures.honest in
+    let begun = game_begun rom c.sectors_or-sectors.result (sectors_for rom c.args.sectors) (start rom) c.in_ok-making.field-0.device (device_of c.in-Ok._session) zero same
+    c.in-Ok.ensures.answered.count (c.in-Ok.ensures.rests honest) in
     begun_served (New c.args.cart c.args.save c.args.sectors) _ _ tt tt
-    (λ written. (rom, (accepted, enough, written))) (λ cut. (rom, accepted, enough, cut))
+    (λ written. (rom, (accepted, (enough, begun), written))) (λ cut. (rom, accepted, (enough, begun), cut))
     c.tell_begun.result c.tell_begun.ensures.written c.tell_begun.ensures.cause

@@ -5,9 +5,9 @@ use Rattle.gbkeep.proofs.StreamTexts.{streamed_to, stream_refused}
 use Rattle.gbkeep.proofs.games.stream.Goals as goal
 
 pub returns-in-Ok : goal.returns-in-Ok
-returns-in-Ok g c = streamed_to c.in_ok-rom.rom.items _ _ _ _ _ _ _ c.in-Ok.ensures.accepted c.in-Ok.ensures.streamed
+returns-in-Ok g c = streamed_to c.in_ok-rom.rom.items c.in_ok-device.device c.in-Ok._left _ _ _ _ _ c.in-Ok.ensures.accepted c.in-Ok.ensures.streamed
 
-pub returns : goal.returns
-returns g c =
+pub returns-in-Err : goal.returns-in-Err
+returns-in-Err g c =
     subst (λ (fault : Fault). IsStreamRefused fault (record { before = g.I.Read.remaining c.args.input.now; since = g.I.Read.remaining c.stream_play.new.input }) (record { before = g.O.Write.contents c.args.out.now; since = g.O.Write.contents c.stream_play.new.out })) (sym c.from.ensures)
-    (stream_refused c.in_ok-rom.rom.items _ _ _ _ _ _ c.in-Err.refused.why c.in-Err.ensures.cause)
+    (stream_refused c.in_ok-rom.rom.items c.in_ok-device.device c.in-Err.stopped.device _ _ _ _ c.in-Err.stopped.why c.in-Err.ensures.cause)

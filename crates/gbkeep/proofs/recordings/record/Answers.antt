@@ -1,5 +1,7 @@
 use Rattle.std.proofs.Common.{◌≡◌, List, ℕ, refl, subst, sym}
 use Rattle.cartridge.specs.Accepted.{IsAccepted}
+use Rattle.recording.specs.Accessors.{device_of as device_of_recording}
+use Rattle.session.specs.Accessors.{device_of}
 use Rattle.gbkeep.specs.Program.{IsRecordRefused}
 use Rattle.gbkeep.specs.declared.fault.Fault.{Fault}
 use Rattle.gbkeep.proofs.RecordTexts.{not_belonging, recorded_to, record_refused}
@@ -10,13 +12,16 @@ accepted_as rom image is accepted = subst (λ (r : List ℕ). IsAccepted r) (sym
 
 pub returns-in-Ok-record_play : goal.returns-in-Ok-record_play
 returns-in-Ok-record_play g c =
-    recorded_to c.in_ok-cartridge.cartridge (accepted_as _ _ c.in_ok-cartridge.ensures.image (c.in_ok-cartridge.ensures.accepted.0 refl)) _ _ _ _ _ _ _ _ _ c.in-Ok-record_play.ensures.recorded
+    recorded_to c.in_ok-cartridge.cartridge (accepted_as _ _ c.in_ok-cartridge.ensures.image (c.in_ok-cartridge.ensures.accepted.0 refl)) c.in-Ok.pair.save
+    (device_of c.in-Ok-record_play._left.session) c.in-Ok.pair.recording (device_of_recording c.in-Ok-record_play._left.recording) _ _ _ _ _ c.in-Ok-record_play.ensures.recorded
 
 pub returns-in-Err : goal.returns-in-Err
 returns-in-Err g c =
-    not_belonging c.in_ok-cartridge.cartridge (accepted_as _ _ c.in_ok-cartridge.ensures.image (c.in_ok-cartridge.ensures.accepted.0 refl)) (g.I.Read.remaining c.args.input.now) (g.O.Write.contents c.args.out.now) c.in-Err.fault c.in-Err.ensures
+    not_belonging c.in_ok-cartridge.cartridge (accepted_as _ _ c.in_ok-cartridge.ensures.image (c.in_ok-cartridge.ensures.accepted.0 refl)) c.in_ok-pair.pair.save c.in_ok-pair.pair.recording
+    (g.I.Read.remaining c.args.input.now) (g.O.Write.contents c.args.out.now) c.in-Err.fault c.in-Err.ensures
 
 pub returns : goal.returns
 returns g c =
     subst (λ (fault : Fault). IsRecordRefused fault (record { before = g.I.Read.remaining c.args.input.now; since = g.I.Read.remaining c.record.new.input }) (record { before = g.O.Write.contents c.args.out.now; since = g.O.Write.contents c.record.new.out })) (sym c.from.ensures)
-    (record_refused c.in_ok-cartridge.cartridge (accepted_as _ _ c.in_ok-cartridge.ensures.image (c.in_ok-cartridge.ensures.accepted.0 refl)) _ _ _ _ _ _ _ _ c.in-Err-record_play.refused.why c.in-Err-record_play.ensures.refused)
+    (record_refused c.in_ok-cartridge.cartridge (accepted_as _ _ c.in_ok-cartridge.ensures.image (c.in_ok-cartridge.ensures.accepted.0 refl)) c.in-Ok.pair.save
+    c.in-Err-record_play.refused.save c.in-Ok.pair.recording c.in-Err-record_play.refused.recording _ _ _ _ c.in-Err-record_play.refused.why c.in-Err-record_play.ensures.refused)

@@ -1,0 +1,116 @@
+-- Why a command over a file was refused, and what is begun in one, of the program.
+use Rattle.std.proofs.Common.{◌≡◌, ◌∙◌, ◌<◌, Bor, List, ℕ, [], Option, Result, Ok, Err, ap, subst, length, replicate, arith}
+use Rattle.std.proofs.lemmas.List.{get_or-replicate, length-replicate}
+use Rattle.std.specs.Prelude.{IfErr, IfOk}
+use Rattle.std.specs.Io.KnownBytes.{Keeps}
+use Rattle.machine.specs.Machine.{MachineState}
+use Rattle.sector_device.specs.DiskState.{DiskState, sector_at}
+use Rattle.sector_device.specs.FileDevice.{file_disk}
+use Rattle.sector_device.specs.declared.file.FileDevice.{FileDevice}
+use Rattle.session.specs.Calls.{IsAtRest}
+use Rattle.recording.specs.Calls.{IsBlank, IsCreateCause}
+use Rattle.recording.specs.declared.fault.RecordingFault.{RecordingFault}
+use Rattle.recording.specs.declared.fault.RecordingFault.TheVariants.{Memory, Device, TooSmall, NotBlank, NoRecording, OtherCartridge, Full, Broken}
+use Rattle.recording_lines.specs.Beginning.{IsNewRecording}
+use Rattle.recording_lines.specs.Script.{IsScriptCause}
+use Rattle.recording_lines.specs.Verifying.{IsLineCause}
+use Rattle.recording_lines.specs.declared.error.ScriptLinesError.{ScriptLinesError}
+use Rattle.recording_lines.specs.declared.error.ScriptLinesError.TheVariants.{Cart as ScriptCart, Recording as ScriptRecording, Output as ScriptOutput}
+use Rattle.recording_lines.specs.declared.error.VerifyLineError.{VerifyLineError}
+use Rattle.recording_lines.specs.declared.error.VerifyLineError.TheVariants.{Cart as VerifyCart, Verify as Compared, Output as VerifyOutput}
+use Rattle.replaying.specs.declared.error.VerifyError.TheVariants.{Save, Recording, Behind, Ahead, Memory as Lacked, Differ}
+use Rattle.save_lines.specs.Shown.{IsShowCause}
+use Rattle.save_lines.specs.declared.error.ShowError.{ShowError}
+use Rattle.save_lines.specs.declared.error.ShowError.TheVariants.{Cart as ShowCart, Session as ShowSession, Output as ShowOutput}
+use Rattle.battery_files.specs.Exporting.{IsExportCause}
+use Rattle.battery_files.specs.declared.error.ExportError.{ExportError}
+use Rattle.battery_files.specs.declared.error.ExportError.TheVariants.{Cart as ExportCart, NoBattery, Session as ExportSession}
+use Rattle.battery_files.specs.Importing.{start_with}
+use Rattle.command_line.specs.declared.Request.TheVariants.{Show, Export, Import, Recorded, Verify}
+use Rattle.gbkeep.specs.Request.{HasBegun, IsEnough, IsGameBegun, IsImported, IsNewRecordingCause, IsRecordingBegun, OfAFile, sectors_for}
+use Rattle.gbkeep.specs.Program.{IsRefused, fault_of_export, fault_of_script, fault_of_show, fault_of_verifying}
+
+-- ---- a refusal
+
+pub show_refused : (cart save : Bor (List ℕ)) (rom : List ℕ) (file : FileDevice) (old new : Option (List ℕ)) (why : ShowError)
+    → IsShowCause rom (file_disk file) old new why → IsRefused (Show cart save) (fault_of_show why) old new
+show_refused cart save rom file old new (ShowCart fault) cause = (tt, cause.1, (rom, cause.0))
+show_refused cart save rom file old new (ShowSession why) cause = (rom, (file, cause))
+show_refused cart save rom file old new ShowOutput cause = (tt, (rom, (file, cause)))
+
+pub export_refused : (cart save out : Bor (List ℕ)) (rom : List ℕ) (file : FileDevice) (old new : Option (List ℕ)) → Keeps old new → (why : ExportError)
+    → IsExportCause rom (file_disk file) why → IsRefused (Export cart save out) (fault_of_export why) old new
+export_refused cart save out rom file old new keeps (ExportCart fault) cause = (tt, keeps, (rom, cause))
+export_refused cart save out rom file old new keeps NoBattery cause = (keeps, (rom, cause.0, cause.1))
+export_refused cart save out rom file old new keeps (ExportSession why) cause = (keeps, (rom, (file, cause)))
+
+pub recorded_refused : (cart recording : Bor (List ℕ)) (rom : List ℕ) (file : FileDevice) (old new : Option (List ℕ)) (why : ScriptLinesError)
+    → IsScriptCause rom (file_disk file) old new why → IsRefused (Recorded cart recording) (fault_of_script why) old new
+recorded_refused cart recording rom file old new (ScriptCart fault) cause = (tt, cause.1, (rom, cause.0))
+recorded_refused cart recording rom file old new (ScriptRecording why) cause = (rom, (file, cause))
+recorded_refused cart recording rom file old new ScriptOutput cause = (tt, (rom, (file, cause)))
+
+pub verify_refused : (cart save recording : Bor (List ℕ)) (rom : List ℕ) (game tape : FileDevice) (old new : Option (List ℕ)) (why : VerifyLineError)
+    → IsLineCause rom (file_disk game) (file_disk tape) old new why → IsRefused (Verify cart save recording) (fault_of_verifying why) old new
+verify_refused cart save recording rom game tape old new (VerifyCart fault) cause = (tt, cause.1, (rom, cause.0))
+verify_refused cart save recording rom game tape old new (Compared (Save why)) cause = (rom, (game, tape, cause))
+verify_refused cart save recording rom game tape old new (Compared (Recording why)) cause = (rom, (game, tape, cause))
+verify_refused cart save recording rom game tape old new (Compared (Behind count)) cause = (rom, (game, tape, cause))
+verify_refused cart save recording rom game tape old new (Compared (Ahead count)) cause = absurd cause.2
+verify_refused cart save recording rom game tape old new (Compared Lacked) cause = (tt, cause.1)
+verify_refused cart save recording rom game tape old new (Compared Differ) cause = (rom, (game, tape, cause))
+verify_refused cart save recording rom game tape old new VerifyOutput cause = (tt, (rom, (game, tape, cause)))
+
+-- ---- what is begun in a file that was made of so many zero sectors
+
+made_count : (n sectors : ℕ) (made left : FileDevice) → (file_disk made).sectors ≡ replicate n (replicate 512 0) → n ≡ sectors
+    → length (file_disk left).sectors ≡ length (file_disk made).sectors → length (file_disk left).sectors ≡ sectors
+made_count n sectors made left zero is count = count ∙ ap (λ (s : List (List ℕ)). length s) zero ∙ length-replicate n (replicate 512 0) ∙ is
+
+pub game_begun : (rom : List ℕ) (n sectors : ℕ) (machine : MachineState) (made left : FileDevice) → (file_disk made).sectors ≡ replicate n (replicate 512 0) → n ≡ sectors
+    → length (file_disk left).sectors ≡ length (file_disk made).sectors → IsAtRest rom (file_disk left) 0 [] machine → OfAFile (IsGameBegun rom sectors machine)
+game_begun rom n sectors machine made left zero is count rests = (left, (made_count n sectors made left zero is count, rests))
+
+-- with the RAM and the clocks of a battery file
+pub import_begun : (cart battery save : Bor (List ℕ)) (sectors : Option ℕ) (rom kept : List ℕ) (n : ℕ) (made left : FileDevice) → IsEnough rom (sectors_for rom sectors)
+    → (file_disk made).sectors ≡ replicate n (replicate 512 0) → n ≡ sectors_for rom sectors → IsImported rom kept (file_disk made) (file_disk left)
+    → HasBegun (Import cart battery save sectors) rom
+import_begun cart battery save sectors rom kept n made left enough zero is it =
+    (enough, it.battery, (kept, it.taken, game_begun rom n (sectors_for rom sectors) (start_with rom kept) made left zero is it.count it.rests))
+
+pub recording_begun : (rom : List ℕ) (n sectors : ℕ) (made left : FileDevice) → (file_disk made).sectors ≡ replicate n (replicate 512 0) → n ≡ sectors
+    → length (file_disk left).sectors ≡ length (file_disk made).sectors → IsNewRecording rom (file_disk left) → OfAFile (IsRecordingBegun rom sectors)
+recording_begun rom n sectors made left zero is count new = (left, (made_count n sectors made left zero is count, new))
+
+-- the sectors that were made are blank
+all_blank : (image : List (List ℕ)) (n : ℕ) → image ≡ replicate n (replicate 512 0) → IsBlank image
+all_blank image n is k below =
+    let count : length image ≡ n = ap (λ (s : List (List ℕ)). length s) is ∙ length-replicate n (replicate 512 0) in
+    let within : k < n = omega (arith, count, below) in
+    ap (λ (s : List (List ℕ)). sector_at s k) is ∙ get_or-replicate n k (replicate 512 0) [] within
+
+-- why no recording is begun on them
+pub not_begun : (sectors n : ℕ) (made : DiskState) → made.honest → made.sectors ≡ replicate n (replicate 512 0) → n ≡ sectors → (why : RecordingFault)
+    → IsCreateCause why made → IsNewRecordingCause sectors why
+not_begun sectors n made honest zero is Memory cause = tt
+not_begun sectors n made honest zero is TooSmall cause =
+    let count : length made.sectors ≡ n = ap (λ (s : List (List ℕ)). length s) zero ∙ length-replicate n (replicate 512 0) in
+    omega (arith, count, is, cause)
+not_begun sectors n made honest zero is Device cause =
+    let count : length made.sectors ≡ n = ap (λ (s : List (List ℕ)). length s) zero ∙ length-replicate n (replicate 512 0) in
+    omega (arith, count, is, cause)
+not_begun sectors n made honest zero is NotBlank cause = absurd (cause.1 honest (all_blank made.sectors n zero))
+not_begun sectors n made honest zero is NoRecording cause = absurd cause
+not_begun sectors n made honest zero is OtherCartridge cause = absurd cause
+not_begun sectors n made honest zero is Full cause = absurd cause
+not_begun sectors n made honest zero is Broken cause = absurd cause
+
+-- ---- what a clause says of an answer that is known
+
+pub ok_at : {T E : Type 0} (r : Result T E) (x : T) (P : T → Type 0) → r ≡ Ok x → IfOk r P → P x
+ok_at (Ok y) x P is p = let same : y ≡ x = cc in subst P same p
+ok_at (Err e) x P is p = absurd (cc)
+
+pub err_at : {T E : Type 0} (r : Result T E) (e : E) (P : E → Type 0) → r ≡ Err e → IfErr r P → P e
+err_at (Ok y) e P is p = absurd (cc)
+err_at (Err f) e P is p = let same : f ≡ e = cc in subst P same p

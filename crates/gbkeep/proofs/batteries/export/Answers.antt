@@ -1,0 +1,47 @@
+use Rattle.std.proofs.Common.{subst, sym}
+use Rattle.playing.proofs.Telling.{keeps_same}
+use Rattle.command_line.specs.declared.Request.TheVariants.{Export}
+use Rattle.gbkeep.specs.Program.{IsRefused}
+use Rattle.gbkeep.specs.declared.fault.Fault.{Fault}
+use Rattle.gbkeep.proofs.FileTexts.{export_refused}
+use Rattle.gbkeep.proofs.batteries.export.Goals as goal
+
+pub returns-in-Ok-write_exported : goal.returns-in-Ok-write_exported
+returns-in-Ok-write_exported g c = (
+  c.in_ok-rom.rom.items,
+  (
+    c.in-Ok.ensures.accepted,
+    c.in-Ok.ensures.battery,
+    (
+      c.in_ok-device.device,
+      (
+        c.in-Ok.exported.count,
+        (λ honest. (c.in-Ok.exported.bytes.items, c.in-Ok.ensures.exported honest)),
+        c.in-Ok-write_exported.ensures.ok,
+      ),
+    ),
+  ),
+)
+
+pub returns : goal.returns
+returns g c = (
+  tt,
+  (
+    c.in_ok-rom.rom.items,
+    c.in-Ok.ensures.accepted,
+    c.in-Ok.ensures.battery,
+    (
+      c.in_ok-device.device,
+      (
+        c.in-Ok.exported.count,
+        (λ honest. (c.in-Ok.exported.bytes.items, c.in-Ok.ensures.exported honest)),
+        c.in-Err-write_exported.ensures.err,
+      ),
+    ),
+  ),
+)
+
+pub returns-in-Err : goal.returns-in-Err
+returns-in-Err g c =
+    subst (λ (fault : Fault). IsRefused (Export c.args.cart c.args.save c.args.battery) fault (g.O.Write.contents c.args.out.now) (g.O.Write.contents c.args.out.now)) (sym c.from.ensures)
+    (export_refused c.args.cart c.args.save c.args.battery c.in_ok-rom.rom.items c.in_ok-device.device _ _ (keeps_same (g.O.Write.contents c.args.out.now)) c.in-Err.refused.why c.in-Err.ensures.cause)

@@ -1,0 +1,14 @@
+use Rattle.std.proofs.Common.{subst, sym}
+use Rattle.command_line.specs.declared.Request.TheVariants.{Trace}
+use Rattle.gbkeep.specs.Program.{IsRefused}
+use Rattle.gbkeep.specs.declared.fault.Fault.{Fault}
+use Rattle.gbkeep.proofs.Traces.{trace_refused}
+use Rattle.gbkeep.proofs.games.trace.Goals as goal
+
+pub returns-in-Ok : goal.returns-in-Ok
+returns-in-Ok g c = (c.in_ok-rom.rom.items, (c.in-Ok.ensures.accepted, (c.in_ok-device.device, c.in-Ok._left, c.in-Ok.ensures.traced)))
+
+pub returns-in-Err : goal.returns-in-Err
+returns-in-Err g c =
+    subst (λ (fault : Fault). IsRefused (Trace c.args.cart c.args.save c.args.count) fault (g.O.Write.contents c.args.out.now) (g.O.Write.contents c.trace_lines.new.out)) (sym c.from.ensures)
+    (trace_refused c.args.cart c.args.save c.args.count c.in_ok-rom.rom.items c.in_ok-device.device c.in-Err.untraced.device _ _ c.in-Err.untraced.why c.in-Err.ensures.cause)

@@ -1,0 +1,14 @@
+use Rattle.std.proofs.Common.{subst, sym}
+use Rattle.command_line.specs.declared.Request.TheVariants.{Recorded}
+use Rattle.gbkeep.specs.Program.{IsRefused}
+use Rattle.gbkeep.specs.declared.fault.Fault.{Fault}
+use Rattle.gbkeep.proofs.FileTexts.{recorded_refused}
+use Rattle.gbkeep.proofs.recordings.recorded.Goals as goal
+
+pub returns-in-Ok : goal.returns-in-Ok
+returns-in-Ok g c = (c.in_ok-rom.rom.items, (c.in-Ok.ensures.accepted, (c.in_ok-device.device, c.in-Ok.ensures.script)))
+
+pub returns : goal.returns
+returns g c =
+    subst (λ (fault : Fault). IsRefused (Recorded c.args.cart c.args.recording) fault (g.O.Write.contents c.args.out.now) (g.O.Write.contents c.recorded_lines.new.out)) (sym c.from.ensures)
+    (recorded_refused c.args.cart c.args.recording c.in_ok-rom.rom.items c.in_ok-device.device _ _ c.in-Err.refused.why c.in-Err.ensures.cause)

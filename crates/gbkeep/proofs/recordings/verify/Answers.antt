@@ -1,0 +1,37 @@
+use Rattle.std.proofs.Common.{ℕ, subst, sym}
+use Rattle.cartridge.specs.Accepted.{IsAccepted}
+use Rattle.sector_device.specs.FileDevice.{file_disk}
+use Rattle.command_line.specs.declared.Request.TheVariants.{Verify}
+use Rattle.recording_lines.specs.Verifying.{HasAgreed, IsLineCause}
+use Rattle.gbkeep.specs.Program.{IsRefused}
+use Rattle.gbkeep.specs.declared.fault.Fault.{Fault}
+use Rattle.gbkeep.proofs.FileTexts.{err_at, ok_at, verify_refused}
+use Rattle.gbkeep.proofs.recordings.verify.Goals as goal
+
+pub returns-in-Ok : goal.returns-in-Ok
+returns-in-Ok g c =
+    let answer = c.verify_line-compared.result.answer in
+    let said = c.verify_line-compared.ensures in
+    let rom = c.in_ok-rom.rom.items in (
+      rom,
+      (
+        ok_at answer c.in-Ok._count (λ count. IsAccepted rom) c.in-Ok.is said.accepted,
+        (
+          c.in-Ok._count,
+          (
+            c.in_ok-pair.pair.save,
+            c.in_ok-pair.pair.recording,
+            ok_at answer c.in-Ok._count (λ (count : ℕ). HasAgreed rom (file_disk c.in_ok-pair.pair.save) (file_disk c.in_ok-pair.pair.recording) count (g.O.Write.contents c.args.out.now) (g.O.Write.contents c.verify_line-compared.new.out))
+                c.in-Ok.is said.agreed,
+          ),
+        ),
+      ),
+    )
+
+pub returns : goal.returns
+returns g c =
+    let rom = c.in_ok-rom.rom.items in
+    subst (λ (fault : Fault). IsRefused (Verify c.args.cart c.args.save c.args.recording) fault (g.O.Write.contents c.args.out.now) (g.O.Write.contents c.verify_line-compared.new.out)) (sym c.from.ensures)
+    (verify_refused c.args.cart c.args.save c.args.recording rom c.in_ok-pair.pair.save c.in_ok-pair.pair.recording _ _ c.in-Err.why
+    (err_at c.verify_line-compared.result.answer c.in-Err.why (IsLineCause rom (file_disk c.in_ok-pair.pair.save) (file_disk c.in_ok-pair.pair.recording) (g.O.Write.contents c.args.out.now) (g.O.Write.contents c.verify_line-compared.new.out))
+    c.in-Err.is c.verify_line-compared.ensures.cause))
