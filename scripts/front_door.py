@@ -13,7 +13,7 @@ FAULT_FILES = ['crates/cartridge/src/error.rt', 'crates/sector_device/src/device
 FAULT_LINES, COMMANDS, LINES = 'crates/gbkeep/src/fault.rt', 'crates/command_line/specs/Commands.antt', 'crates/script/specs/Line.antt'
 README, MANUAL, MAN, COMPLETION, MAKE, TOOLS = 'README.md', 'docs/COMMANDS.md', 'docs/gbkeep.1', 'completions/gbkeep.bash', 'Makefile', 'python/gbkeep/faults.py'
 PLAYERS, TESTERS = 'docs/PLAYING.md', 'docs/TESTING_ROMS.md'
-ORDERS, PROMPT = 'crates/debugging/specs/Orders.antt', 'python/gbkeep/debug.py'
+ORDERS, STREAM_ORDERS, PROMPT = 'crates/debugging/specs/Orders.antt', 'crates/streaming/specs/Orders.antt', 'python/gbkeep/debug.py'
 WORDS, ARCHITECTURE = 'crates/command_line/src/words.rt', 'docs/ARCHITECTURE.md'
 # a library's answers: the program stops at the call that breaks a session or a recording, saves before 3,200 inputs are unsaved, and makes a
 # recording only in a new file
@@ -58,6 +58,11 @@ def lines_of(texts):
 def orders_of(texts):
     """The names of a debugger's lines."""
     return set(re.findall(r'name \(codes "([\w-]+)"\)', texts[ORDERS])) | lines_of(texts) - {'save'}
+
+
+def stream_lines_of(texts):
+    """The names of a stream's own lines."""
+    return set(re.findall(r'name \(codes "([\w-]+)"\)', texts[STREAM_ORDERS])) | {'picture'}
 
 
 # ---- what the documents have
@@ -110,7 +115,7 @@ def helps(texts):
 
 def helps_of(texts):
     """The commands whose help has lines: the name of its text, and these lines."""
-    return {'play': ('SCRIPT_LINES', lines_of(texts)), 'stream': ('STREAM_LINES', lines_of(texts) | {'picture'}), 'debug': ('DEBUG_LINES', orders_of(texts))}
+    return {'play': ('SCRIPT_LINES', lines_of(texts)), 'stream': ('STREAM_LINES', lines_of(texts) | stream_lines_of(texts)), 'debug': ('DEBUG_LINES', orders_of(texts))}
 
 
 # ---- the comparison
@@ -136,7 +141,7 @@ def differences(texts):
                       {(f'`{fault}`' + (f', of `{of}`' if of else ''), means, advice) for fault, of, means, advice in table})
     wrong += compared(MANUAL, 'line of a script', [code(one)[0].split()[0] for _, cells in rows(texts[MANUAL], 'Line | Means') for one in cells[:1]], lines_of(texts))
     wrong += compared(MANUAL, 'line of a stream', [one.split()[0] for _, cells in rows(texts[MANUAL], 'Line | Answer') for one in code(cells[0])],
-                      lines_of(texts) | {'picture'})
+                      lines_of(texts) | stream_lines_of(texts))
     wrong += compared(MANUAL, 'line of a debugger', [one.split()[0] for _, cells in rows(texts[MANUAL], 'Line | Does') for one in code(cells[0])], orders_of(texts))
     prompt = re.search(r"^HELP = '''(.*?)'''", texts[PROMPT], re.S | re.M)
     wrong += compared(PROMPT, 'line of its help', re.findall(r'^  ([a-z-]+) ', prompt[1] if prompt else '', re.M), orders_of(texts))
@@ -211,7 +216,8 @@ def deletions(texts):
     for path in FAULT_FILES:
         for line in re.findall(r'^ *#\[error\("[^"{][^"]*"\)\]\n', texts[path], re.M):
             # a line that another crate's table has too is not gone
-            if sum(with_n(texts[other]).count(with_n(line.strip())) for other in FAULT_FILES) == 1 and not re.search('|'.join(NOT_OF_THE_PROGRAM), line):
+            others = {line.strip(), line.strip().replace('"', '"damaged ', 1)}
+            if sum(with_n(texts[other]).count(with_n(one)) for other in FAULT_FILES for one in others) == 1 and not re.search('|'.join(NOT_OF_THE_PROGRAM), line):
                 text = re.search(r'"(.*)"', line)[1]
                 if f'gbkeep: {text}' not in texts[FAULT_LINES] and f'gbkeep: {re.sub(r"{.*", "", text)}' not in texts[FAULT_LINES]:
                     yield path, line, ''
@@ -226,6 +232,8 @@ def deletions(texts):
         yield PROMPT, line, ''
     for name in orders_of(texts) - lines_of(texts):
         yield ORDERS, f'name (codes "{name}")', 'name (codes "")'
+    for name in stream_lines_of(texts) - {'picture'}:
+        yield STREAM_ORDERS, f'name (codes "{name}")', 'name (codes "")'
     for line in re.findall(r'^\| `\w+`.*\| `\S+\.rt` \|.*$', texts[ARCHITECTURE], re.M):
         yield ARCHITECTURE, line, re.sub(r'^\| `(\w+)`', r'| `\1x`', line)
 
@@ -368,7 +376,7 @@ def completes_names(room, texts):
 
 
 def main():
-    texts = {path: Path(path).read_text() for path in [README, MANUAL, PLAYERS, TESTERS, MAN, COMPLETION, MAKE, TOOLS, COMMANDS, LINES, ORDERS, PROMPT, FAULT_LINES, WORDS, ARCHITECTURE, *FAULT_FILES]}
+    texts = {path: Path(path).read_text() for path in [README, MANUAL, PLAYERS, TESTERS, MAN, COMPLETION, MAKE, TOOLS, COMMANDS, LINES, ORDERS, STREAM_ORDERS, PROMPT, FAULT_LINES, WORDS, ARCHITECTURE, *FAULT_FILES]}
     wrong, seen = differences(texts), 0
     for path, piece, left in deletions(texts) if not wrong else []:
         seen += 1

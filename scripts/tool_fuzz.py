@@ -292,9 +292,9 @@ def debuggers(rnd, room):
     if rnd.random() < 0.3:
         room.write('demo.cdb', damaged(rnd, b'M:main\nL:C$moves.txt$1$0_0$2:150\nL:C$main.c$3$1_0$2:34000\nL:C$../moves.txt$1$1_0$2:154\n'))
     names = [b'step', b'until', b'until-op', b'frame', b'frames', b'seconds', b'registers', b'history', b'list', b'memory', b'serial', b'picture', b'digest', b'help', b'quit', b'save',
-             b'until-write', b'until-read', b'until-change', b'bank', b'over', b'out', b'where', b'tiles', b'map 9800', b'map', b'objects']
-    typed = b'\n'.join(b' '.join([rnd.choice(names), *(rnd.choice([b'Main', b'Elsewhere', b'2:4000', b'0150', b'$156', b'3', b'00', b'wKeys', some_count(rnd)]) for _ in range(rnd.randrange(3)))]) for _ in range(rnd.randrange(6)))
-    if re.search(rb'(step|until|until-op|until-write|until-read|until-change|over|out|frames|seconds) [0-9]{6}', typed):
+             b'until-write', b'until-read', b'until-change', b'bank', b'set', b'set-register', b'profile', b'over', b'out', b'where', b'tiles', b'map 9800', b'map', b'objects']
+    typed = b'\n'.join(b' '.join([rnd.choice(names), *(rnd.choice([b'Main', b'Elsewhere', b'2:4000', b'0150', b'$156', b'3', b'00', b'HL', b'wKeys', some_count(rnd)]) for _ in range(rnd.randrange(3)))]) for _ in range(rnd.randrange(6)))
+    if re.search(rb'(step|until|until-op|until-write|until-read|until-change|profile|over|out|frames|seconds) [0-9]{6}', typed):
         typed = b'registers\n'
     typed = damaged(rnd, typed) if rnd.random() < 0.3 else typed
     typed = b'digest\n' if re.search(rb'[0-9]{7}', typed) else typed

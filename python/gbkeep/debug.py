@@ -7,6 +7,8 @@ CART begins at power-on, or with the game in SAVE, which keeps nothing of what i
 beside CART. The lines come from the prompt, or from standard input where that is no terminal; with --do these lines are done and it ends. Then
 the first wrong line ends it, with status 1. `help` lists the lines. It needs nothing but Python."""
 import argparse
+import bisect
+import collections
 import contextlib
 import os
 import re
@@ -36,10 +38,14 @@ HELP = '''\
                       the same, to one that reads
   until-change [N] ADDR
                       up to N steps, to behind the one that changes the byte at ADDR
+  profile [N] [PLACE..]
+                      up to N steps, to a place; the M-cycles by label, the most first
   frame [BB]          a frame with the buttons BB (00): the sum of 01 right, 02 left,
                       04 up, 08 down, 10 A, 20 B, 40 select, 80 start
   frames BB [N]       N such frames (60); the history is empty then
   seconds N           N seconds of the cartridge's clock
+  set ADDR XX         writes the byte XX to ADDR as the program would; the history is empty then
+  set-register R XXXX R, such as A, HL or PC, becomes XXXX; the history is empty then
   registers           the registers
   history [N]         the last N instructions (16) that step and until ran, 1,024 at most
   list [ADDR [N]]     N instructions (10) from ADDR on (PC)
@@ -78,18 +84,21 @@ ends the prompt; so until-op, until-write and until-read take 10,000,000 steps t
 COMMANDS = re.findall(r'^  ([a-z-]+) ', f'{HELP}\n{OWN_HELP}', re.M) + ['help', 'quit']
 STEPS, ROOM = (1, 0xffff_ffff), (1, 65_536)
 UNTIL, FRAMES, HISTORY, LIST, MEMORY = 1_000_000, 60, 16, 10, 64
-MOST_ADDRESSES = 16
+MOST_ADDRESSES, MOST_ROM = 16, 8 << 20
+# the labels that a profile shows
+PROFILE = 20
 # what is run between two looks at whether Ctrl-C was pressed, each some tenths of a second
 SLICE, STEP_SLICE, FRAME_SLICE = 2_000_000, 1_000, 20
 # runs whose next step has to be known by the program to end them, so that they go in one piece
 PROMPT_STEPS = (1, 10_000_000)
 # a line that nobody types, and an answer of the program
 MOST_LINE, MOST_ANSWER = 1 << 16, 1 << 12
+BYTE_REGISTERS, WORD_REGISTERS = 'AFBCDEHL', ('AF', 'BC', 'DE', 'HL', 'SP', 'PC')
 # as many words of the stack as a return address is looked for in
 STACK_WORDS = 128
 CALLS, RESTARTS = (0xcd, 0xc4, 0xcc, 0xd4, 0xdc), (0xc7, 0xcf, 0xd7, 0xdf, 0xe7, 0xef, 0xf7, 0xff)
 # what moves the machine, so that the prompt shows where it is
-MOVES = ('step', 'until', 'until-op', 'until-write', 'until-read', 'until-change', 'frame', 'frames', 'restore', 'back', 'power', 'over', 'out')
+MOVES = ('step', 'until', 'until-op', 'until-write', 'until-read', 'until-change', 'profile', 'frame', 'frames', 'restore', 'back', 'power', 'set', 'set-register', 'over', 'out')
 
 
 class Wrong(Failed):
@@ -381,6 +390,29 @@ class Session:
         before = self.byte_list(address, 1)
         return self.shown_place(self.in_slices(count, lambda part: f'until-change {part} {address:04X}', lambda _: self.byte_list(address, 1) != before))
 
+    def do_profile(self, words):
+        has_count = bool(words) and words[0] not in self.labels.named and is_decimal(words[0])
+        count, words = count_of(words[0], self.most_steps()) if has_count else UNTIL, words[has_count:]
+        if len(words) > MOST_ADDRESSES:
+            raise Wrong(f'there are {len(words)} addresses, and it takes {MOST_ADDRESSES}')
+        answer = self.program.ask(' '.join([f'profile {count}', *map(self.place, words)]))
+        elsewhere = self.program.line()
+        lines = [self.program.line() for _ in range(self.program.number(self.program.line(), MOST_ROM))]
+        return [*self.shown_place(answer), elsewhere, *self.by_label(lines)]
+
+    def by_label(self, lines):
+        """The M-cycles of each label of ROM, the most first. What no label stands before is told by its address."""
+        places = sorted((max(bank, 1) if address in SWITCHED else 0, address, name) for name, (bank, address) in self.labels.named.items() if address < 0x8000)
+        cycles = collections.Counter()
+        for line in lines:
+            found = re.fullmatch('(([0-9A-F]{4}):([0-9A-F]{4})) ([0-9]+)', line)
+            if not found:
+                raise Refused(f'the program answers {quoted(line)}', 'debug')
+            bank, address = int(found[2], 16), int(found[3], 16)
+            before = bisect.bisect_right(places, (bank, address, chr(0x10ffff)))
+            cycles[places[before - 1][2] if before and places[before - 1][0] == bank else found[1]] += int(found[4])
+        return [f'{many:10} {name}' for name, many in cycles.most_common(PROFILE)]
+
     def do_frame(self, words):
         return [self.program.ask(f'frame {byte_of((few(words, 0, 1) or ["00"])[0])}')]
 
@@ -394,6 +426,19 @@ class Session:
 
     def do_seconds(self, words):
         return [self.program.ask(f'seconds {count_of(few(words, 1, 1)[0], (0, MOST_SECONDS))}')]
+
+    def do_set(self, words):
+        address, byte = few(words, 2, 2)
+        return [self.program.ask(f'set {self.address(address):04X} {byte_of(byte)}')]
+
+    def do_set_register(self, words):
+        register, value = few(words, 2, 2)
+        register = register.upper()
+        if register in WORD_REGISTERS:
+            return [self.program.ask(f'set-register {register} {self.address(value):04X}')]
+        if len(register) != 1 or register not in BYTE_REGISTERS:
+            raise Wrong(f'{quoted(register)} is none of {", ".join((*BYTE_REGISTERS, *WORD_REGISTERS))}')
+        return [self.program.ask(f'set-register {register} {byte_of(value)}')]
 
     def do_registers(self, words):
         few(words, 0, 0)

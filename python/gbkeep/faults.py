@@ -28,6 +28,8 @@ FAULTS = [
     ('no session', '', 'there is no game in SAVE', 'begin one by `new`, under another name, or by `import` if this is a battery file'),
     ('other cartridge', '', 'the game in SAVE, or RECORDING, is of another ROM', 'use the ROM that it was begun with'),
     ('damaged count', '', 'SAVE does not hold what `gbkeep` wrote: the sum of its inputs', 'nothing was written: take a copy of it'),
+    ('damaged snapshot', 'stream', 'the bytes behind a `restore` are no snapshot of this cartridge, and what was given before is saved; or SAVE does not hold what `gbkeep` wrote: its snapshot',
+     'give a state of this cartridge; a SAVE that says so at once was not written to: take a copy of it'),
     ('damaged snapshot', '', 'SAVE does not hold what `gbkeep` wrote: its snapshot', 'nothing was written: take a copy of it'),
     ('damaged entry N', '', 'SAVE does not hold what `gbkeep` wrote: entry N of its log, from 0', 'nothing was written: take a copy of it'),
     ('generations used up', '', 'SAVE has had 2^64 - 1 checkpoints', 'begin a new game'),

@@ -230,12 +230,13 @@ def moves_of(script: bytes) -> list[tuple]:
     return moves
 
 
-def inputs_of(move: tuple) -> list[bytes]:
+def inputs_of(move: tuple) -> list[Optional[bytes]]:
     if move[0] == 'frames':
         return [b'\0' + bytes([move[1]])] * move[2]
     if move[0] == 'seconds':
         return [b'\1' + move[1].to_bytes(4, 'little') + b'\0']
-    return []
+    # the power switch and another machine are inputs that no log holds
+    return [None] if move[0] == 'other' else []
 
 
 # ---- a play
@@ -288,9 +289,8 @@ class Game:
 
     def save(self) -> None:
         if self.pending:
-            entries = self.with_pending()
-            logged = sum(le(code[2:6]) if code[0] == 0 else 1 for code in entries)
-            if len(entries) <= MOST_ENTRIES and logged <= MOST_INPUTS:
+            entries = self.with_pending() if None not in self.pending else None
+            if entries and len(entries) <= MOST_ENTRIES and sum(le(code[2:6]) if code[0] == 0 else 1 for code in entries) <= MOST_INPUTS:
                 self.append(entries)
             elif self.generation == MOST:
                 raise Refused('generations used up')
@@ -309,7 +309,7 @@ class Game:
             self.image[at:at + SECTOR] = data + bytes(SECTOR - len(data))
         self.entries = entries
 
-    def give(self, code: bytes) -> None:
+    def give(self, code: Optional[bytes]) -> None:
         if self.count == MOST:
             raise Refused('count full')
         self.count += 1
@@ -323,5 +323,7 @@ class Game:
                 self.give(code)
             if move[0] == 'save':
                 self.save()
+            if move[0] == 'told':
+                self.report += move[1]
         if self.pending:
             self.save()

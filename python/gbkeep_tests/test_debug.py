@@ -262,12 +262,30 @@ def test_lines(room):
     expect('the pictures', (data[:13], len(data), path.with_suffix('.png').read_bytes()[:4]), (b'P2\n160 144\n3\n', 46_093, b'\x89PNG'))
     for line, why in (('jump', "'jump' is no line"), ('stepp', 'there is step'), ('save', 'saves nothing'), ('step 0', "'0' is no number from 1"), ('step 1 2', '2, and it takes 0 to 1'),
                       ('until', 'no address'), ('until 5 ' + '0150 ' * 17, 'there are 17 addresses'), ('until wolk', f'no label of {DEMO / "demo.sym"} (there is walk)'),
-                      ('until-op 5 4', "'4' is not two"), ('memory C000 65537', 'no number from 1 to 65,536'), ('memory 12345', "'12345' is no address"),
+                      ('until-op 5 4', "'4' is not two"), ('set C000', 'takes 2'), ('set C000 5', "'5' is not two"), ('set-register A 100', "'100' is not two"),
+                      ('set-register IX 0', "'IX' is none of A, F,"), ('set-register PC wolk', 'no label'), ('profile 5 ' + '0150 ' * 17, 'there are 17 addresses'),
+                      ('memory C000 65537', 'no number from 1 to 65,536'), ('memory 12345', "'12345' is no address"),
                       ('frame 8', "'8' is not two"), ('seconds', 'words behind it: 0'), ('registers 1', 'takes 0'), ('picture', 'takes 1'), ('picture /none/out.png', 'no such folder')):
         status, out, err = room.tool(CART, typed=f'registers\n{line}\nregisters\n')
         expect(f'the error of {line!r}', (status, len(out.splitlines()), err.startswith('gbkeep-debug: line 2: '), why in err), (1, 1, True, True))
     expect('no .sym', room.tool(room.write('bare.gb', ''), program=room.write('taken', '#!/bin/sh\nread line\necho\nread line\n', 0o755), typed='until walk\n'),
            (1, '', "gbkeep-debug: line 1: 'walk' is no address, and there are no labels\n"))
+
+
+def test_sets(room):
+    """A byte and registers that are set, PC by a label; an address of the prompt may have its $."""
+    status, out, err = room.tool(CART, *do('set $C000 5A', 'memory C000 1', 'set-register a 07', 'set-register hl $C0DE', 'set-register PC walk', 'registers', 'history'))
+    expect('what is set', (status, out.splitlines(), err),
+           (0, ['done', 'C000 5A', 'done', 'done', 'done', 'A=07 F=B0 B=00 C=13 D=00 E=D8 H=C0 L=DE SP=FFFE PC=020F IME=0', 'history 0'], ''))
+
+
+def test_profiles(room):
+    """M-cycles by the label before each byte of ROM, the most first; by its address where there is none."""
+    sym = room.write('own.sym', SYM)
+    status, out, err = room.tool(CART, sym, *do('profile 10', 'profile 3 Main.loop'))
+    expect('what a run takes', (status, out.splitlines(), err),
+           (0, ['limit 0154 ; Main.loop ; Elsewhere, bank 03', 'elsewhere 0', '        16 Main.loop', '         4 0000:0101', '         4 Main', '         1 0000:0100',
+                'limit 0154 ; Main.loop ; Elsewhere, bank 03', 'elsewhere 0', '         8 Main.loop'], ''))
 
 
 def test_saves(room):

@@ -202,6 +202,28 @@ def test_a_picture_is_what_frame_writes(room):
     room.expect('the stream', streamed, b'resumed 0\n' + picture + b'saved 2\n')
 
 
+def test_states_go_through_a_stream(room):
+    """A state that is told is taken by another stream, in which it is an input; what was given before bytes that are none is saved."""
+    room.rom('states.gb', LOOP)
+    room.done('new states.gb states.gbkeep 156', 'begun 0\n')
+    head = b'resumed 0\nkept 0\nback 0\n'
+    told = room.printed('stream states.gb states.gbkeep', 'frames 01 2\nkeep 0\nframe 02\nback 0\npower\nframes 03 2\nstate\n')
+    room.expect('the answers', (told[:len(head)], told[-8:]), (head, b'saved 7\n'))
+    state = told[len(head):-8]
+    line, state = state[:state.index(b'\n')], state[state.index(b'\n') + 1:]
+    room.expect('the line of the state', line, b'state %d' % len(state))
+    given = b'frame 00\nrestore %d\n' % len(state) + state + b'state\n'
+    room.expect('the state that was taken', room.printed('stream states.gb states.gbkeep', given), b'resumed 7\nrestored\n' + line + b'\n' + state + b'saved 9\n')
+    other = bytes([state[0] ^ 1]) + state[1:]
+    room.refused('stream states.gb states.gbkeep', 'gbkeep: damaged snapshot\n', given=b'frame 00\nrestore %d\n' % len(state) + other, out='resumed 9\nsaved 10\n')
+    room.refused('stream states.gb states.gbkeep', 'gbkeep: damaged snapshot\n', given=b'restore %d\n' % len(state) + state[:-1], out='resumed 10\n')
+    room.refused('stream states.gb states.gbkeep', 'gbkeep: script line 2\n', given='frame 00\nback 1\n', out='resumed 10\nsaved 11\n')
+    room.done('stream states.gb states.gbkeep', 'resumed 11\n0147 00 00 00\n', 'memory 147 3\n')
+    room.done('new-recording states.gb states.rec 20', 'begun 0\n')
+    room.done('new states.gb recorded.gbkeep 156', 'begun 0\n')
+    room.refused('record states.gb recorded.gbkeep states.rec', 'gbkeep: script line 2\n', given='frame 00\npower\n', out='resumed 0\nsaved 1\n')
+
+
 # ---- recordings
 
 def test_a_recording_is_begun_read_and_compared(room):
@@ -601,6 +623,86 @@ def test_the_power_is_switched(room):
     room.rom('power.none.gb', SENDS)
     room.expect('all else is as at power-on', room.printed('debug power.none.gb', 'frames 80 9\npower\ndigest\n').splitlines()[-1], room.printed('debug power.none.gb', 'digest\n').splitlines()[-1])
     room.done('debug power.none.gb', 'done\nkept 3\ndone\nserial 1\nA\nback 3\n', 'frames 00 2\nkeep 3\npower\nserial\nback 3\n')
+
+
+def test_bytes_and_registers_are_set(room):
+    """A byte is written as the program writes it, and a register gets its value, in no time; the history is empty then."""
+    room.rom('set.gb', LOOP, {0x147: 0x13, 0x149: 3})
+    for lines, answers in {
+        # what a write reaches, and what it does not: ROM, OAM in mode 2, RAM that is shut, and FEA0 to FEFF
+        'set C000 5A\nset E001 a5\nset FF80 01\nset ffff 1F\nmemory C000 2\nmemory FF80 1\nmemory FFFF 1': 'done\ndone\ndone\ndone\nC000 5A A5\nFF80 01\nFFFF 1F',
+        'set 100 00\nset FE00 11\nset A000 22\nset FEA0 33\nmemory 100 2\nmemory FE00 1\nmemory A000 1\nmemory FEA0 1':
+            'done\ndone\ndone\ndone\n0100 18 FE\nFE00 00\nA000 FF\nFEA0 00',
+        # RAM is opened, and a bank of it chosen
+        'set 0 0A\nset 4000 03\nset A000 22\nbank A000\nmemory A000 1\nset 4000 02\nmemory A000 1\nset 0 00\nmemory A000 1':
+            'done\ndone\ndone\nbank 0003\nA000 22\ndone\nA000 00\ndone\nA000 FF',
+        # what a register does when it is written
+        'set FF04 55\nmemory FF04 1': 'done\nFF04 00',
+        'set FF0F FF\nset FF41 FF\nset FF44 12\nmemory FF0F 1\nmemory FF41 1\nmemory FF44 1': 'done\ndone\ndone\nFF0F FF\nFF41 FE\nFF44 00',
+        'set C100 77\nset FF46 C1\nmemory FE00 1\nstep 1\nmemory FE00 1': 'done\ndone\nFE00 00\n0100 18FE   JR -02\nFE00 77',
+        'set FF01 42\nset FF02 81\nserial\nframe 00\nserial': 'done\ndone\nserial 0\n\ndone\nserial 1\nB',
+        # an interrupt that is let in is taken by the next step
+        'set FFFF 04\nset FF0F 04\nset C000 FB\nset C001 00\nset-register PC C000\nstep 3': 'done\ndone\ndone\ndone\ndone\nC000 FB     EI\nC001 00     NOP\ninterrupt 50',
+        # no step is made, and none is kept
+        'step 1\nhistory 9\nset C000 01\nhistory 9\nstep 1\nset-register A 7\nhistory 9':
+            '0100 18FE   JR -02\nhistory 1\n0100 18FE   JR -02\ndone\nhistory 0\n0100 18FE   JR -02\ndone\nhistory 0',
+        'set-register A 1\nset-register B 23\nset-register C 4\nset-register D 56\nset-register E 7\nset-register H 89\nset-register L a\nset-register F FF\nregisters':
+            'done\ndone\ndone\ndone\ndone\ndone\ndone\ndone\nA=01 F=F0 B=23 C=04 D=56 E=07 H=89 L=0A SP=FFFE PC=0100 IME=0',
+        'set-register AF 125F\nset-register BC 3456\nset-register DE 789\nset-register HL ab\nset-register SP c\nset-register PC DEF0\nregisters':
+            'done\ndone\ndone\ndone\ndone\ndone\nA=12 F=50 B=34 C=56 D=07 E=89 H=00 L=AB SP=000C PC=DEF0 IME=0',
+    }.items():
+        room.done('debug set.gb', answers + '\n', lines + '\n')
+    wrong = ['set', 'set C000', 'set C000 5', 'set C000 005', 'set 10000 00', 'set C000 5G', 'set C000 00 00', 'Set C000 00', 'set  C000 00', 'set-register', 'set-register A', 'set-register A 100',
+             'set-register A 000', 'set-register a 00', 'set-register G 00', 'set-register AF 10000', 'set-register PC 00000', 'set-register FA 00', 'set-register IME 1', 'set-register A 1 1', 'set-register HL  1']
+    room.done('debug set.gb', ''.join(f'wrong {number}\n' for number in range(1, len(wrong) + 1)), '\n'.join(wrong))
+    # a processor that waits goes on waiting where PC is set
+    room.rom('set.halt.gb', '76')
+    room.done('debug set.halt.gb', '0100 76     HALT\nwait\ndone\nwait\ndone\ndone\n0200 00     NOP\n', 'step 2\nset-register PC 0200\nstep 1\nset FFFF 04\nset FF0F 04\nstep 1\n')
+
+
+def test_a_run_is_measured(room):
+    """The M-cycles of a run, by the byte of ROM with which each instruction began; what waits, takes an interrupt or runs in RAM is elsewhere."""
+    room.rom('profile.gb', '00 c30601 00 00 20fe 18fc')
+    lines = 'profile 9\nhistory 2\nprofile 100 0000 106\nprofile 1 106\nregisters\n'
+    answers = '''\
+limit 0108
+elsewhere 0
+profile 4
+0000:0100 1
+0000:0101 4
+0000:0106 8
+0000:0108 9
+history 2
+0108 18FC   JR -04
+0106 20FE   JR NZ,-02
+stopped 0106
+elsewhere 0
+profile 1
+0000:0108 3
+limit 0108
+elsewhere 0
+profile 1
+0000:0106 2
+A=01 F=80 B=00 C=13 D=00 E=D8 H=01 L=4D SP=FFFE PC=0108 IME=0
+'''
+    room.done('debug profile.gb', answers, lines)
+    # HALT waits until the timer overflows, and the interrupt takes 5 M-cycles
+    room.rom('profile.halt.gb', INTERRUPTED)
+    told = room.printed('debug profile.halt.gb', 'profile 9\nprofile 1\nprofile 1000000 50\nprofile 1').decode().splitlines()
+    room.expect('a wait and an interrupt', (told[0:3:2], told[10:14], told[-4:]), (['limit 010D', 'profile 8'], ['0000:010C 1', 'limit 010D', 'elsewhere 1', 'profile 0'], ['limit 0051', 'elsewhere 0', 'profile 1', '0000:0050 1']))
+    # code in RAM is elsewhere
+    room.done('debug profile.gb', 'done\ndone\ndone\nlimit C000\nelsewhere 3\nprofile 0\n', 'set C000 18\nset C001 FE\nset-register PC C000\nprofile 1\n')
+    # each bank has its own bytes
+    rom = bytearray(0x10000)
+    code = bytes.fromhex(BANKED)
+    rom[0x100:0x100 + len(code)], rom[0x147] = code, 1
+    for bank in (1, 2, 3):
+        rom[0x4000 * bank] = 0xc9
+    room.write('profile.banked.gb', bytes(rom))
+    told = room.printed('debug profile.banked.gb', 'profile 9\n').decode().splitlines()
+    room.expect('banks', told[-2:], ['0002:4000 4', '0003:4000 4'])
+    wrong = ['profile', 'profile ', 'profile 0', 'profile 4294967296', 'profile x', 'profile 1 10000', 'profile 1 g', 'profile 1  1', 'profile 1 ', 'Profile 1', 'profile 1' + 17 * ' 1', 'profile 1 1:2:3', 'profile on']
+    room.done('debug profile.gb', ''.join(f'wrong {number}\n' for number in range(1, len(wrong) + 1)), '\n'.join(wrong))
 
 
 def test_a_game_keeps_nothing_of_a_debugger(room):

@@ -136,23 +136,25 @@ def with_stack(room, words, given, kibibytes):
 
 
 def test_a_small_stack_loses_nothing(room):
-    """With 256 KiB each command does what it does with more. With less a command may end by a signal, and what was saved stays."""
+    """With 256 KiB, `debug` with 320, each command does what it does with more. With less it may end by a signal, and what was saved stays."""
     cartridge(room)
     room.write('one.script', 'frames 01 60\n')
     room.done('new game.gb game.gbkeep', 'begun 0\n')
     room.done('play game.gb game.gbkeep one.script', 'resumed 0\nsaved 60\n')
     copy(room, 'game.gbkeep', 'kept.gbkeep')
-    lines = 'until 1000 FFFF\nregisters\nhistory 5\nframes 00 2\npicture\ndigest\n'
-    commands = (('debug game.gb game.gbkeep', lines), ('stream game.gb game.gbkeep', 'frame 01\npicture\n'), ('play game.gb game.gbkeep one.script', ''),
-                ('frame game.gb game.gbkeep out.pgm', ''), ('trace game.gb game.gbkeep 5', ''), ('show game.gb game.gbkeep', ''))
-    for words, given in commands:
+    lines = ('until 1000 FFFF\nregisters\nhistory 5\nframes 00 2\npicture\ndigest\nstep 9\nprofile 9\nset C000 01\nset-register HL 1\nkeep 1\nback 1\npower\n'
+             'memory 0 32\nlist 100 5\nuntil-write 9 0 FFFF\nstate\n')
+    commands = (('debug game.gb game.gbkeep', lines, 320), ('stream game.gb game.gbkeep', 'frame 01\npicture\nkeep 1\nback 1\npower\nmemory 0 32\nstate\n', 256),
+                ('play game.gb game.gbkeep one.script', '', 256), ('frame game.gb game.gbkeep out.pgm', '', 256), ('trace game.gb game.gbkeep 5', '', 256),
+                ('show game.gb game.gbkeep', '', 256))
+    for words, given, enough in commands:
         copy(room, 'kept.gbkeep', 'game.gbkeep')
         wanted = room.run(words, given)
         room.expect(f'{words}: the status with the stack that is usual', wanted[0], 0)
-        for kibibytes in (256, 240, 224, 200, 160, 128, 96, 64):
+        for kibibytes in (enough, 240, 224, 200, 160, 128, 96, 64):
             copy(room, 'kept.gbkeep', 'game.gbkeep')
             got = with_stack(room, words, given, kibibytes)
-            is_cut = got[0] < 0 and wanted[1].startswith(got[1]) and kibibytes < 256
+            is_cut = got[0] < 0 and wanted[1].startswith(got[1]) and kibibytes < enough
             room.expect(f'{words} with {kibibytes} KiB of stack', got if not is_cut else wanted, wanted)
             counts = [int(line.split()[1]) for line in got[1].split(b'\n') if line.startswith((b'resumed ', b'saved '))]
             held = room.printed('show game.gb game.gbkeep').split()[1]

@@ -15,6 +15,7 @@ def room(word): return within(word, 1, 65536)
 def slot(word): return within(word, 0, 999)
 def byte(word): return int(word, 16)
 def address(word): return int(word, 16)
+def text(word): return word.decode()
 
 
 def places(words):
@@ -43,6 +44,10 @@ FORMS = [(re.compile(form), name, readers) for form, name, readers in (
     (rb'until-write ' + COUNT + b' ' + SPAN, 'until-write', (steps, span)),
     (rb'until-read ' + COUNT + b' ' + SPAN, 'until-read', (steps, span)),
     (rb'bank ' + ADDRESS, 'bank', (address,)),
+    (rb'profile ' + COUNT + rb'((?: (?:' + HEX + rb'{1,3}:)?' + HEX + rb'{1,4}){0,16})', 'profile', (steps, places)),
+    (rb'set ' + ADDRESS + b' ' + BYTE, 'set', (address, byte)),
+    (rb'set-register ([AFBCDEHL]) (' + HEX + rb'{1,2})', 'set-register', (text, byte)),
+    (rb'set-register (AF|BC|DE|HL|SP|PC) ' + ADDRESS, 'set-register', (text, address)),
     (rb'frame ' + BYTE, 'frame', (byte,)),
     (rb'frames ' + BYTE + b' ' + COUNT, 'frames', (byte, lambda word: within(word, 1, 1000000))),
     (rb'seconds ' + COUNT, 'seconds', (lambda word: within(word, 0, 4294967295),)),
@@ -185,6 +190,16 @@ def pass_seconds(m, count):
     c[4] = c[4] & 0xC0 | days // 256 % 2 | (0x80 if days >= 512 else 0)
 
 
+def set_register(m, name, value):
+    """One of B, C, D, E, H, L, F and A, two of them, or SP or PC."""
+    if name in ('SP', 'PC'):
+        setattr(m, name.lower(), value)
+        return
+    for one in reversed(name):
+        m.r['BCDEHLFA'.index(one)] = value & (0xF0 if one == 'F' else 0xFF)
+        value >>= 8
+
+
 class Debugger:
     """A machine that is run by lines. It draws from power-on, since `picture` and `state` show what was drawn."""
 
@@ -234,6 +249,20 @@ class Debugger:
             self.step()
         return '%s %04X\n' % ('stopped' if made < limit else 'limit', m.pc)
 
+    def profile(self, limit, places):
+        """Up to one of these places, and the M-cycles by the byte of ROM with which each instruction began."""
+        m, taken, elsewhere, made, there = self.m, {}, 0, 0, False
+        while made < limit and not there:
+            before = m.cycles
+            at = m.rom_bank(m.pc) * 16384 + m.pc % 16384 if m.pc < 0x8000 else None
+            self.step()
+            if at is None or m.what: elsewhere += m.cycles - before
+            else: taken[at] = taken.get(at, 0) + m.cycles - before
+            made += 1
+            there = made < limit and self.is_at(places)
+        rows = ''.join('%04X:%04X %d\n' % (at // 16384, at if at < 16384 else 16384 + at % 16384, taken[at]) for at in sorted(taken))
+        return '%s %04X\nelsewhere %d\nprofile %d\n%s' % ('stopped' if there else 'limit', m.pc, elsewhere, len(taken), rows)
+
     def memory(self, at, count):
         rows = []
         for first in range(0, count, 16):
@@ -270,11 +299,16 @@ class Debugger:
             byte = m.read(words[1], peek=True)
             return self.until(words[0], lambda: m.read(words[1], peek=True) != byte)
         if name in ('until-write', 'until-read'): return self.until_access(words[0], *words[1], name == 'until-write')
+        if name == 'profile': return self.profile(*words)
         if name == 'bank': return 'bank %04X\n' % m.bank_at(words[0])
         if name == 'frame': return self.frames(words[0], 1)
         if name == 'frames': return self.frames(*words)
         if name == 'seconds':
             pass_seconds(m, words[0])
+            return 'done\n'
+        if name in ('set', 'set-register'):
+            m.write(*words) if name == 'set' else set_register(m, *words)
+            self.history.clear()
             return 'done\n'
         if name == 'registers': return m.registers()
         if name == 'history':
@@ -332,6 +366,13 @@ WRONG = [b'step', b'step 0', b'step 4294967296', b'step 00000000001', b'step -1'
          b'until-change 1 1:1', b'until-write', b'until-write 1', b'until-write 0 1', b'until-write 1 10000', b'until-write 1 1 0', b'until-write 1 1 1 1',
          b'until-write 1 FFFF 0', b'until-write 1 1 ', b'until-write 4294967296 1 1', b'until-write 1 0 10000', b'until-read 1 8000 7fff', b'until-read 1 1:1',
          b'until-read', b'until-read 1 1 1 ', b'until-Read 1 1', b'bank', b'bank 10000', b'bank 1 1', b'bank 1:1', b'bank g',
+         b'profile', b'profile ', b'profile 0', b'profile 4294967296', b'profile 1 ', b'profile 1 10000', b'profile 1 :100', b'profile 1 1000:0', b'profile 1 g', b'profile 1  1',
+         b'profile -1', b'Profile 1', b'profile x', b'profile 1 1 g', b'profile 1 ' + b' '.join([b'1'] * 17), b'profile 1 1:2:3', b'profile 1\x00', b'profile 100 on',
+         b'set', b'set ', b'set 1', b'set C000 1', b'set C000 100', b'set 10000 00', b'set C000 0G', b'set C000 00 ', b'set C000 00 00', b'set  C000 00', b'set 1:4000 00',
+         b'set g 00', b'set -1 00', b'Set C000 00', b'set A 00 00', b'set-register', b'set-register A', b'set-register A ', b'set-register A 100', b'set-register A 000',
+         b'set-register A G', b'set-register a 00', b'set-register G 00', b'set-register F 1FF', b'set-register AF 10000', b'set-register af 0', b'set-register BC -1',
+         b'set-register SP 00000', b'set-register PC', b'set-register PC g', b'set-register IME 1', b'set-register BD 0', b'set-register FA 0', b'set-register A 1 1',
+         b'set-register  A 1', b'set-register A\x00 1', b'set_register A 1', b'set-registerA 1', b'set-register HLL 1', b'set-register  1', b'Set-register A 1',
          b'until 1 10000', b'until 1 100 ', b'until 1  100', b'until 1 100 g', b'until 1 ' + b' '.join([b'0'] * 17), b'until-op 1', b'until-op 1 4',
          b'until-op 1 040', b'until-op 1 GG', b'until-op 0 40', b'until-op 1 40 41', b'until_op 1 40', b'frame', b'frame 1', b'frame 1G', b'frames 00 0',
          b'frames 00 1000001', b'frames 00', b'frame 00 1', b'seconds', b'seconds -1', b'seconds 4294967296', b'registers ', b'registers 1', b'Registers',
@@ -372,7 +413,11 @@ def a_line(rnd, most, seen):
         last = min(first + rnd.choice([0, 1, 15, 255, rnd.randrange(65536)]), 0xFFFF)
         return rnd.choice(['%04X %04x' % (first, last), '%X' % first])
 
-    choice = rnd.randrange(23)
+    def register():
+        name = rnd.choice(['A', 'F', 'B', 'C', 'D', 'E', 'H', 'L', 'AF', 'BC', 'DE', 'HL', 'SP', 'PC'])
+        return '%s %s' % (name, rnd.choice(['%X', '%02x']) % rnd.randrange(256) if len(name) == 1 else place())
+
+    choice = rnd.randrange(27)
     if choice < 2: return 'step ' + count(most // 4 + 1)
     if choice < 4: return 'until %s %s' % (count(most), ' '.join(banked() for _ in range(rnd.choice([1, 1, 2, 3, 12]))))
     if choice < 6: return 'until-op %s %02x' % (count(most), rnd.choice([0x40, rnd.choice(opcodes), rnd.choice(opcodes), rnd.randrange(256)]))
@@ -387,6 +432,9 @@ def a_line(rnd, most, seen):
     if choice < 17: return 'until-read %s %s' % (count(most), spanned())
     if choice < 20: return '%s %s' % (rnd.choice(['keep', 'back']), rnd.choice(['0', '0', '1', '00001', '999', '%d' % rnd.randrange(1000)]))
     if choice == 20: return rnd.choice(['power', 'registers', 'digest'])
+    if choice == 21: return 'set %s %02X' % (place(), rnd.choice([0, 1, 0x0A, 0x81, 0xFF, rnd.randrange(256)]))
+    if choice == 22: return 'set-register ' + register()
+    if choice < 25: return ' '.join(['profile', count(most), *[banked() for _ in range(rnd.choice([0, 0, 1, 2, 16]))]])
     return rnd.choice(['registers', 'serial', 'digest', 'digest'] + ['picture', 'state'] * (rnd.random() < 0.2))
 
 
@@ -448,12 +496,17 @@ def check():
             if name in (b'list', b'memory') and len(rest) == 2: return name.decode(), hexes(rest[0], 1, 4), number(rest[1], 1, 2 ** 16)
             if name == b'until-op' and len(rest) == 2: return 'until-op', number(rest[0], 1, 2 ** 32 - 1), hexes(rest[1], 2, 2)
             if name == b'until' and 2 <= len(rest) <= 17: return 'until', number(rest[0], 1, 2 ** 32 - 1), [banked(word) for word in rest[1:]]
+            if name == b'profile' and 1 <= len(rest) <= 17: return 'profile', number(rest[0], 1, 2 ** 32 - 1), [banked(word) for word in rest[1:]]
             if name == b'until-change' and len(rest) == 2: return 'until-change', number(rest[0], 1, 2 ** 32 - 1), hexes(rest[1], 1, 4)
             if name in (b'until-write', b'until-read') and 2 <= len(rest) <= 3:
                 first, last = hexes(rest[1], 1, 4), hexes(rest[-1], 1, 4)
                 return (name.decode(), number(rest[0], 1, 2 ** 32 - 1), (first, last)) if last >= first else None
             if name in (b'keep', b'back') and len(rest) == 1: return name.decode(), number(rest[0], 0, 999)
             if name == b'bank' and len(rest) == 1: return 'bank', hexes(rest[0], 1, 4)
+            if name == b'set' and len(rest) == 2: return 'set', hexes(rest[0], 1, 4), hexes(rest[1], 2, 2)
+            if name == b'set-register' and len(rest) == 2:
+                most = 2 if rest[0] in (b'A', b'F', b'B', b'C', b'D', b'E', b'H', b'L') else 4 if rest[0] in (b'AF', b'BC', b'DE', b'HL', b'SP', b'PC') else 0
+                return ('set-register', rest[0].decode(), hexes(rest[1], 1, most)) if most else None
             if name == b'frame' and len(rest) == 1: return 'frame', hexes(rest[0], 2, 2)
             if name == b'frames' and len(rest) == 2: return 'frames', hexes(rest[0], 2, 2), number(rest[1], 1, 1000000)
             if name == b'seconds' and len(rest) == 1: return 'seconds', number(rest[0], 0, 2 ** 32 - 1)

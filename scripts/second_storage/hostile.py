@@ -9,7 +9,7 @@ save file and script), kills (a play is killed at a random moment, and taken up 
 holds), places (no plain file, no room or no leave where one is wanted), pipes (an output that nobody reads to its end, or that has no
 room), shrinks (a save file that another process cuts, removes or replaces while it is played), names (OUT is SAVE or CART by another name, or another
 file that is no picture; a SAVE with the name of a battery file), closed (a standard
-stream is closed, also in a root without /dev), streams (lines as they come, whole, in pieces, wrong ones, pictures, and a kill), injected (a
+stream is closed, also in a root without /dev), streams (lines as they come, whole, in pieces, wrong ones, pictures, and a kill), states (streams with snapshots, byte for byte, by a second machine), injected (a
 system call fails, is cut short, or is the last; needs strace), recordings (a game with its recording, damaged, full, of another ROM, ahead, behind,
 killed), batteries (battery files that are taken and written, and what `show` prints), debugs (lines of `debug`, right and wrong, from power-on and over
 games, sound and damaged), hosts (a host that plays by libgbkeep, with its disk cut behind each call that it was handed out; needs bin/libgbkeep.so, or the
@@ -793,11 +793,28 @@ def bare(rnd, seed):
 
 # ---- lines as they come
 
+def state_moves(line, kept):
+    """The moves of a line of the power switch or of a kept state, which no script has; None of any other one, and of a number under which none is kept."""
+    found = re.fullmatch(rb'(power)|(keep|back) ([0-9]{1,10})', line)
+    if not found or found[3] and int(found[3]) > 999:
+        return None
+    if found[1]:
+        return [('other',)]
+    if found[2] == b'keep':
+        kept.add(int(found[3]))
+        return [('told', b'kept %d\n' % int(found[3]))]
+    return [('other',), ('told', b'back %d\n' % int(found[3]))] if int(found[3]) in kept else None
+
+
 def moves_before(lines):
     """The moves of the lines before the first wrong one, and its number; None where no line is wrong. A `picture` is no move."""
-    moves = []
+    moves, kept = [], set()
     for number, line in enumerate(lines, 1):
         if line == b'picture':
+            continue
+        others = state_moves(line, kept)
+        if others is not None:
+            moves += others
             continue
         try:
             if len(line) > 64:
@@ -841,6 +858,8 @@ def streams(rnd, seed):
     lines = text.split(b'\n')
     for _ in range(rnd.choice([0, 1, 3])):
         lines.insert(rnd.randrange(len(lines) + 1), rnd.choice([b'picture', b'picture', b'', b'p' * 64, b'save' + b' ' * 61, b'0' * 70]))
+    for _ in range(rnd.choice([0, 0, 4, 12])):
+        lines.insert(rnd.randrange(len(lines) + 1), rnd.choice([b'power', b'keep 0', b'keep 7', b'back 0', b'back 7', b'back 007', b'keep 1000', b'power ']))
     text = b'\n'.join(lines)
     want = streamed(image, cart, lines)
     put(SAVE, image)
@@ -931,6 +950,11 @@ def debugs(rnd, seed):
     kind.debugs(rnd, seed)
 
 
+def states(rnd, seed):
+    import states as kind
+    kind.states(rnd, seed)
+
+
 def hosts(rnd, seed):
     import hosts as kind
     kind.hosts(rnd, seed)
@@ -938,7 +962,7 @@ def hosts(rnd, seed):
 
 KINDS = {'saves': saves, 'scripts': scripts, 'bytes': arbitrary, 'kills': kills, 'holds': holds, 'places': places, 'pipes': pipes,
          'shrinks': shrinks, 'names': names, 'closed': closed, 'streams': streams, 'injected': injected, 'recordings': recordings,
-         'batteries': batteries, 'debugs': debugs, 'hosts': hosts}
+         'batteries': batteries, 'debugs': debugs, 'states': states, 'hosts': hosts}
 
 
 def run(kind, seconds, first):

@@ -72,11 +72,17 @@ def counts_told(out):
     return [int(count) for count in re.findall(rb'^(?:resumed|saved) (\d+)\n', out, re.M)]
 
 
+def inputs_in(lines):
+    """How many inputs the lines of a script or a stream are."""
+    moves = b'\n'.join(line for line in lines.split(b'\n') if not re.fullmatch(rb'power|keep \d+|back \d+', line))
+    return sum(len(ref.inputs_of(move)) for move in ref.moves_of(moves)) + len(re.findall(rb'^(?:power|back \d+)$', lines, re.M))
+
+
 def is_as_it_should_be(seed, what, got, image, cart, rom, script):
     """Whether the game has what was told, and nothing else was touched."""
     status, out, err = got
     before = hostile.count_of(image, cart)
-    given = sum(len(ref.inputs_of(move)) for move in ref.moves_of(script))
+    given = inputs_in(script)
     if status not in (0, 1, -9, 137) or err not in LINES or (status == 1) != (err != b''):
         hostile.differs('injected', seed, '%s: %r' % (what, got))
         return False
@@ -101,6 +107,8 @@ def of_a_game(rnd, seed):
     words = rnd.choice([['play', hostile.CART, hostile.SAVE, hostile.SCRIPT], ['stream', hostile.CART, hostile.SAVE],
                         ['frame', hostile.CART, hostile.SAVE, hostile.OUT], ['trace', hostile.CART, hostile.SAVE, '5'], ['debug', hostile.CART, hostile.SAVE]])
     gives = script if words[0] in ('play', 'stream') else b''
+    if words[0] == 'stream' and rnd.random() < 0.5:
+        gives += b'\nkeep 1\nframe 01\nback 1\nsave\npower\nframe 02\n'
     text = b'step 3\nframes 01 2\nmemory 0 100\ndigest\n' if words[0] == 'debug' else gives
     put(hostile.SCRIPT, gives)
     counts = calls_of(words, text)

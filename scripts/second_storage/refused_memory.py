@@ -49,8 +49,8 @@ void *realloc(void *old, size_t size) {
 }
 '''
 LINES = b'frames 01 2\nsave\npicture\nseconds 3\nsave\nframe 02\n'     # what a stream reads
-# what a debugger reads: `power` and the first `keep` of a number take memory, and the answers before that line have gone out
-DEBUGGED = LINES + b'keep 1\nkeep 999\nkeep 1\nback 999\npower\nregisters\n'
+# what a debugger reads: `power`, `profile` and the first `keep` of a number take memory, and the answers before that line have gone out
+DEBUGGED = LINES + b'keep 1\nkeep 999\nkeep 1\nback 999\npower\nprofile 9\nregisters\n'
 differences = 0
 
 

@@ -27,7 +27,13 @@ const STREAM_LINES: &str = "Lines of the standard input:
   frames BB N  N such frames, 1 to 1,000,000
   seconds N    N seconds pass on the cartridge's clock, 0 to 4,294,967,295
   save         saves what is unsaved, and answers saved N
-  picture      answers the picture as plain PGM, 46,093 bytes";
+  picture      answers the picture as plain PGM, 46,093 bytes
+  state        answers state N, and the N bytes of the machine's snapshot
+  memory ADDR N  answers N bytes as the program sees them, sixteen a line
+  power        the power switch, off and on
+  restore N    and N bytes: goes on with the machine of this snapshot, and answers restored
+  keep K       keeps the machine under K, 0 to 999, and answers kept K
+  back K       goes on with the machine that was kept last under K, and answers back K";
 
 const DEBUG_LINES: &str = "Lines of the standard input, each answered before the next is read:
   step N            the next N steps, a line each
@@ -36,9 +42,12 @@ const DEBUG_LINES: &str = "Lines of the standard input, each answered before the
   until-change N ADDR        up to N steps, until the byte at ADDR is another
   until-write N ADDR [LAST]  up to N steps, to one that writes ADDR, or up to LAST
   until-read N ADDR [LAST]   up to N steps, to one that reads it
+  profile N [PLACE..]        as until, with the M-cycles of each instruction in ROM
   frame BB          one frame with the buttons BB, as in a script
   frames BB N       N such frames, 1 to 1,000,000
   seconds N         N seconds pass on the cartridge's clock
+  set ADDR XX       writes the byte XX to ADDR as an instruction would
+  set-register R XXXX        R, such as A, HL or PC, becomes XXXX
   registers         the registers
   history N         the last N instructions, at most 1,024
   list ADDR N       N instructions from ADDR on

@@ -1,22 +1,22 @@
 -- Lines that were obeyed one after another.
 use Rattle.std.proofs.Common.{◌≡◌, ◌∙◌, ⊎_elim, inl, inr, ℕ, ◌+◌, ◌<◌, ◌^◌, ◌-◌, List, [], ◌∷◌, ◌++◌, append-nil, append_assoc, length, length-append, Option, None, Some, ap, refl, subst, sym, arith, true, false}
 use Rattle.std.specs.Prelude.{◌==◌, nat_le}
-use Rattle.std.specs.Io.KnownBytes.{Appends, Consumes, IsAtEnd}
+use Rattle.std.specs.Io.KnownBytes.{Appends}
 use Rattle.std.proofs.lemmas.Bool.{lt-leb}
 use Rattle.std.proofs.lemmas.Bool.Decides.{nat_tests}
 use Rattle.exact_text.specs.Written.{AppendsProperPrefix}
 use Rattle.exact_text.proofs.Writes.{appends_nothing, appends_twice, whole_then_prefix}
 use Rattle.arrayvec.specs.ArrayVec.{ArrayVec}
 use Rattle.input_lines.specs.Reading.{left_of}
-use Rattle.input_lines.specs.Given.{Given, HasTakenGiven, TakesGiven, EndsWithin, IsUnfinished, HasReadGiven}
+use Rattle.input_lines.specs.Given.{Given, HasTakenGiven, TakesGiven, HasReadGiven}
 use Rattle.input_lines.proofs.Givings.{given_none, given_more, given_left, given_rest, given_last}
 use Rattle.cartridge.specs.Header.{ram_length_of}
 use Rattle.snapshot.specs.Encoding.{snapshot_length}
 use Rattle.debugging.specs.declared.order.StateOrder.{StateOrder}
 use Rattle.debugging.specs.Orders.{asked, order_of, restore_of, state_order_of}
 use Rattle.debugging.specs.Run.{RunState}
-use Rattle.debugging.specs.States.{is_given, rom_of}
-use Rattle.debugging.specs.KeptStates.{DebugState, KeptMachine, with_none_kept}
+use Rattle.debugging.specs.States.{rom_of}
+use Rattle.debugging.specs.KeptStates.{DebugState, with_none_kept}
 use Rattle.debugging.specs.Answers.{after_given, after_line, after_lines, after_restore, after_state_order, answer_given, answer_line, answer_restore, answer_state_order, answers, takes_memory, wrong_line}
 use Rattle.debugging.specs.Debugged.{HasAnsweredAll, HasAnsweredSome, HasBrokenOff, HasLackedMemory, IsDebugCause}
 use Rattle.debugging.specs.declared.error.DebugError.{DebugError}
@@ -24,9 +24,10 @@ use Rattle.debugging.specs.declared.error.DebugError.TheVariants.{Input, Output,
 use Rattle.debugging.specs.NextGiven.{IsNextGiven, IsWrong}
 use Rattle.debugging.specs.declared.given.NextGiven.TheVariants.{Line, State, Wrong, Last, End, Failed}
 use Rattle.debugging.proofs.Restoring.{is_given_short}
-use Rattle.debugging.specs.Slots.{AreKept}
 use Rattle.debugging.specs.Switching.{HasSwitched, IsNotSwitched}
 use Rattle.debugging.proofs.Givens.{long_asks_none}
+use Rattle.machine_lines.specs.KeptStates.{KeptMachine}
+use Rattle.machine_lines.specs.Slots.{AreKept}
 
 -- ---- one line more
 

@@ -1,17 +1,14 @@
 -- The next line of an input, with the bytes that it asks for.
-use Rattle.std.proofs.Common.{◌≡◌, ◌≢◌, inl, inr, ℕ, zero, suc, ◌<◌, ◌≤◌, Bool, true, false, List, [], ◌∷◌, ◌++◌, length, Option, None, Some, refl, sym, ap, subst, ◌∙◌, arith, append-nil}
+use Rattle.std.proofs.Common.{◌≡◌, ◌≢◌, inl, inr, ℕ, zero, suc, ◌<◌, false, List, [], length, Option, None, Some, refl, sym, ap, ◌∙◌, arith}
 use Rattle.std.specs.Prelude.{nat_le}
-use Rattle.std.specs.Io.KnownBytes.{Consumes, IsAtEnd}
 use Rattle.std.proofs.KnownBytes.{Consumes-nil, prepend_known-nil}
 use Rattle.std.proofs.lemmas.Bool.{lt-leb}
-use Rattle.arrayvec.specs.ArrayVec.{ArrayVec}
 use Rattle.input_lines.specs.Newlines.{HasNoNewline}
-use Rattle.input_lines.specs.Reading.{left_of, IsNextLine, TakesLine}
-use Rattle.input_lines.specs.declared.lines.NextLine.TheVariants as lines
-use Rattle.input_lines.specs.Given.{Given, TakesGiven, EndsWithin, IsUnfinished}
+use Rattle.input_lines.specs.Reading.{left_of, TakesLine}
+use Rattle.input_lines.specs.Given.{TakesGiven}
 use Rattle.input_lines.proofs.Givings.{takes_given, ends_within, unfinished}
 use Rattle.debugging.specs.Orders.{asked, asked_by, restore_of}
-use Rattle.debugging.specs.NextGiven.{IsNextGiven, IsTakenAsked, IsWrong}
+use Rattle.debugging.specs.NextGiven.{IsNextGiven, IsTakenAsked}
 use Rattle.debugging.specs.declared.given.NextGiven.{NextGiven}
 use Rattle.debugging.specs.declared.given.NextGiven.TheVariants.{Line, State, Wrong, Last, End, Failed}
 

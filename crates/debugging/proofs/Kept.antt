@@ -12,10 +12,11 @@ use Rattle.std.proofs.lemmas.List.Elements.{All-cons, All-nil}
 use Rattle.machine.specs.Machine.{Frame, PassesTime, after}
 use Rattle.machine.proofs.KeptByInputs.{bus_keeps, by_inputs}
 use Rattle.debugging.specs.declared.order.Order.{Order}
-use Rattle.debugging.specs.declared.order.Order.TheVariants.{Frames, Seconds, Step, Until, UntilOpcode, UntilChange, UntilWrite, UntilRead, Registers, History, List as Listing, Memory, Bank, Serial, Picture, State, Digest}
+use Rattle.debugging.specs.declared.order.Order.TheVariants.{Frames, Seconds, Step, Until, UntilOpcode, UntilChange, UntilWrite, UntilRead, Set, SetRegister, Registers, History, List as Listing, Memory, Bank, Serial, Picture, State, Digest}
 use Rattle.cartridge.specs.Header.{ram_length_of}
 use Rattle.snapshot.specs.Encoding.{snapshot_length}
 use Rattle.snapshot.specs.Legal.{IsOfImage}
+use Rattle.memory_map.proofs.SameCartridge.{write_same}
 use Rattle.debugging.specs.States.{rom_of}
 use Rattle.debugging.specs.Orders.{order_of}
 use Rattle.debugging.specs.Quiet.{HasRom}
@@ -60,6 +61,8 @@ order_keeps (UntilOpcode limit opcode) r = steps_keep _ r
 order_keeps (UntilChange limit address) r = steps_keep _ r
 order_keeps (UntilWrite limit span) r = steps_keep _ r
 order_keeps (UntilRead limit span) r = steps_keep _ r
+order_keeps (Set address byte) r = write_same address byte (processor_of r).memory
+order_keeps (SetRegister value) r = itself r
 order_keeps Registers r = itself r
 order_keeps (History n) r = itself r
 order_keeps (Listing address n) r = itself r
@@ -97,6 +100,9 @@ room_is size rom old new is before after = is ∙ ap snapshot_length (before.ram
 
 pub room_of : (size : ℕ) (rom : List ℕ) (r : RunState) → size ≡ snapshot_length (ram_length r) → IsOfImage rom r.debugger.machine → size ≡ snapshot_length (ram_length_of (rom_of r))
 room_of size rom r is of = is ∙ ap snapshot_length (of.ram_length ∙ ap ram_length_of (sym of.rom))
+
+pub steps_of_image : (rom : List ℕ) (n : ℕ) (old now : RunState) → now ≡ after_steps_of n old → IsOfImage rom old.debugger.machine → IsOfImage rom now.debugger.machine
+steps_of_image rom n old now is of = subst (λ (x : RunState). IsOfImage rom x.debugger.machine) (sym is) (of_kept rom old (after_steps_of n old) (steps_keep n old) of)
 
 -- ---- the ROM
 

@@ -6,9 +6,11 @@ pub mod Places
 pub mod Opcodes
 pub mod Runs
 pub mod Parts
-pub mod Bytes
 pub mod Kept
 pub mod Exchanges
 pub mod Restoring
 pub mod Givens
 pub mod StatesKept
+pub mod Setting
+pub mod Profiles
+pub mod RomPlaces

@@ -12,7 +12,8 @@ use Rattle.exact_text.specs.Written.{AppendsProperPrefix}
 use Rattle.sm83_processor.specs.declared.step.Executed.{Executed}
 use Rattle.debugger.specs.Report.{line_seen}
 use Rattle.debugger.proofs.Lines.{IsWrittenBut, all_written, none_written, one_more_written, part_failed}
-use Rattle.debugging.specs.Answers.{count_line, history_text, serial_text}
+use Rattle.debugging.specs.Answers.{history_text, serial_text}
+use Rattle.machine_lines.specs.Texts.{count_line}
 
 -- ---- items
 
@@ -94,14 +95,6 @@ last_of most history size first all is =
     ∙ ap (λ (n : ℕ). count_line (codes "history") (length (keep_last most history)) ++ flat_map line_seen (drop n history)) start
 
 -- ---- a call that may fail
-
-pub on_ok : {T E : Type 0} (r : Result T E) {P Q : Type 0} → (P → Q) → OnOk r P → OnOk r Q
-on_ok (Ok x) to p = to p
-on_ok (Err e) to p = tt
-
-pub on_err : {T E : Type 0} (r : Result T E) {P Q : Type 0} → (P → Q) → OnErr r P → OnErr r Q
-on_err (Ok x) to p = tt
-on_err (Err e) to p = to p
 
 pub on_ok_of : {T E : Type 0} (r : Result T E) {b : Bool} {P : Type 0} → b ≡ is_err r → b ≡ false → OnOk r P → P
 on_ok_of (Ok x) is fine p = p

@@ -1,9 +1,7 @@
 -- A machine that is given as its snapshot.
-use Rattle.std.proofs.Common.{◌≡◌, ◌≢◌, ◌⊎◌, inl, inr, ℕ, ◌<◌, Bool, true, false, List, [], ◌∷◌, length, Option, None, Some, refl, sym, ap, subst, ◌∙◌, arith, ◌&&◌, ◌==◌}
-use Rattle.std.specs.Prelude.{if◌then◌else◌, nat_le}
+use Rattle.std.proofs.Common.{◌≡◌, ◌≢◌, ◌⊎◌, inl, inr, ℕ, Bool, true, false, List, [], ◌∷◌, length, refl, sym, ap, subst, ◌∙◌, ◌==◌}
 use Rattle.std.specs.List.{All, list_all}
-use Rattle.std.proofs.lemmas.Bool.{eqb-true, eqb-false, eq-eqb, cases_Bool, lt-leb, and_parts}
-use Rattle.std.proofs.lemmas.Bool.Decides.{nat_tests}
+use Rattle.std.proofs.lemmas.Bool.{eqb-true, eq-eqb, and_parts}
 use Rattle.std.proofs.lemmas.List.Elements.{All-nil, All-cons, All-head, All-tail}
 use Rattle.cartridge.specs.Header.{ram_length_of}
 use Rattle.machine.specs.Machine.{MachineState}
@@ -15,10 +13,9 @@ use Rattle.snapshot.specs.Table.{is_legal, table_of}
 use Rattle.snapshot.proofs.Machines.{machine_back, encoded_legal}
 use Rattle.debugger.specs.History.{DebuggerState}
 use Rattle.sm83_processor.specs.declared.step.Executed.{Executed}
-use Rattle.debugging.specs.Run.{RunState, processor_of}
-use Rattle.debugging.specs.States.{is_given, is_snapshot, restored, rom_of}
-use Rattle.debugging.specs.Answers.{after_given, after_restore, answer_given, answer_restore, wrong_line}
-use Rattle.debugging.specs.Orders.{order_of, restore_of}
+use Rattle.debugging.specs.Run.{RunState}
+use Rattle.debugging.specs.States.{is_given, is_snapshot, rom_of}
+use Rattle.debugging.specs.Answers.{after_restore}
 
 all_true : {X : Type 0} (p : X → Bool) (xs : List X) → All (λ x. p x ≡ true) xs → list_all p xs ≡ true
 all_true p [] h = refl

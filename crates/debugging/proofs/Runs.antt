@@ -224,6 +224,13 @@ module _ (is_there : Processor BusState → Bool) (limit left : ℕ) (old now : 
         steps = more.1 ∙ ap (λ (n : ℕ). (limit - (left - k)) + n) (from (left - k) after elsewhere);
       }
 
+  -- how many steps are made where it stops
+  pub stopped_after : (after : RunState) (it : StopsBefore is_there left now after) → steps_up_to is_there limit (processor_of old) ≡ limit - (left - it.steps)
+  stopped_after after it =
+      let more = more_made it.steps after (omega (arith, it.due)) it.made in
+      let none = before_there is_there (left - it.steps) (processor_of after) it.there in
+      omega (arith, more.1, none)
+
   -- it stops, before all steps are made
   pub stops : (after : RunState) → StopsBefore is_there left now after
       → (after ≡ after_steps_of (steps_up_to is_there limit (processor_of old)) old) × (true ≡ nat_lt (steps_up_to is_there limit (processor_of old)) limit)
@@ -235,6 +242,12 @@ module _ (is_there : Processor BusState → Bool) (limit left : ℕ) (old now : 
         more.0 ∙ ap (λ (n : ℕ). after_steps_of n old) (sym total),
         sym (lt-ltb _ _ (omega (arith, total, it.due, going.few))),
       )
+
+pub all_counted : (is_there : Processor BusState → Bool) (limit left : ℕ) (old now : RunState) → IsGoing is_there limit left old now → left ≡ 0
+    → steps_up_to is_there limit (processor_of old) ≡ limit - left
+all_counted is_there limit left old now going none =
+    let rest : steps_up_to is_there left (processor_of now) ≡ 0 = ap (λ (n : ℕ). steps_up_to is_there n (processor_of now)) none in
+    omega (arith, going.steps, rest)
 
 -- all steps were made
 pub all_made : (is_there : Processor BusState → Bool) (limit left : ℕ) (old now : RunState) → IsGoing is_there limit left old now → left ≡ 0

@@ -1,33 +1,29 @@
 -- States that are kept, as snapshots and as machines.
-use Rattle.std.proofs.Common.{◌≡◌, ◌≢◌, ◌⊎◌, ⊎_elim, inl, inr, ◌∙◌, ℕ, zero, suc, ◌<◌, Bool, true, false, List, [], ◌∷◌, length, Option, None, Some, ap, refl, subst, sym, arith}
-use Rattle.std.specs.Prelude.{◌==◌, slice_index_or, slice_set, Result, Ok, Err, IfOk, IfErr, OnOk, OnErr}
+use Rattle.std.proofs.Common.{◌≡◌, ◌≢◌, ◌∙◌, ℕ, ◌<◌, true, List, length, Option, None, Some, ap, refl, subst, sym}
+use Rattle.std.specs.Prelude.{Result, Ok, Err, IfOk, IfErr, OnOk, OnErr}
 use Rattle.std.specs.Io.KnownBytes.{Appends}
 use Rattle.exact_text.specs.Written.{AppendsProperPrefix}
-use Rattle.std.specs.List.{All}
-use Rattle.std.proofs.lemmas.Bool.{cases_eq, eq-eqb, ne_eqb}
-use Rattle.std.proofs.lemmas.List.{get_or-set_same, get_or-set_other}
-use Rattle.std.proofs.lemmas.List.Elements.{All-head, All-tail}
 use Rattle.bank_controllers.specs.CartridgeState.{IsSameCartridge, cartridge_at_power_on}
 use Rattle.cartridge.specs.Header.{has_rumble, ram_length_of}
-use Rattle.machine.specs.Legal.{IsLegalMachine}
 use Rattle.machine.specs.Machine.{MachineState, start}
-use Rattle.snapshot.specs.Encoding.{encoded, snapshot_length}
-use Rattle.snapshot.specs.Legal.{IsLegalSnapshot, IsMachineOf, IsOfImage}
+use Rattle.snapshot.specs.Encoding.{snapshot_length}
+use Rattle.snapshot.specs.Legal.{IsLegalSnapshot, IsOfImage}
 use Rattle.snapshot.specs.Table.{kind_of_image}
 use Rattle.snapshot.proofs.Machines.{encoded_long}
 use Rattle.std.proofs.lemmas.List.{length-replicate}
-use Rattle.debugging.specs.declared.order.StateOrder.TheVariants.{Keep, Back}
+use Rattle.debugging.specs.declared.order.StateOrder.TheVariants.{Keep}
 use Rattle.debugging.specs.declared.order.StateOrder.{StateOrder}
 use Rattle.debugging.specs.declared.error.DebugError.{DebugError}
 use Rattle.debugging.specs.declared.error.DebugError.TheVariants.{Input, Output, Memory}
 use Rattle.debugging.specs.Run.{RunState, processor_of}
-use Rattle.debugging.specs.States.{is_given, with_machine}
-use Rattle.debugging.specs.KeptStates.{DebugState, KeptMachine, kept_under}
+use Rattle.debugging.specs.States.{is_given}
+use Rattle.debugging.specs.KeptStates.{DebugState}
 use Rattle.debugging.specs.Answers.{after_back, after_restore, after_state_order, answer_back, answer_state_order, takes_memory}
-use Rattle.debugging.specs.Numbers.{slots}
-use Rattle.debugging.specs.Slots.{AreKept, IsKeptAs, state_under}
 use Rattle.debugging.specs.Switching.{HasSwitched, IsNotSwitched, IsRefusedAnswer, back_text}
 use Rattle.debugging.proofs.Restoring.{machine_given, nothing_given}
+use Rattle.machine_lines.proofs.SlotLaws.{none_legal}
+use Rattle.machine_lines.specs.KeptStates.{slots, KeptMachine, kept_under}
+use Rattle.machine_lines.specs.Slots.{state_under, IsKeptAs, AreKept}
 
 -- ---- the power switch
 
@@ -56,45 +52,7 @@ same_as_start rom m of = record {
   kind = start_kind rom ∙ sym of.kind;
 }
 
-pub of_machine : (rom : List ℕ) (m : MachineState) → IsMachineOf rom m → IsOfImage rom m
-of_machine rom m of = record { rom = of.rom; kind = of.kind; rumble = of.rumble; ram_length = of.ram_length }
-
-pub machine_of : (rom : List ℕ) (m : MachineState) → IsOfImage rom m → IsLegalMachine m → IsMachineOf rom m
-machine_of rom m of legal = record { legal = legal; rom = of.rom; kind = of.kind; rumble = of.rumble; ram_length = of.ram_length }
-
--- ---- what is kept
-
-none_under : (states : List (List ℕ)) (n : ℕ) → All (λ bytes. bytes ≡ []) states → slice_index_or states n [] ≡ []
-none_under [] n all = refl
-none_under (x ∷ xs) zero all = All-head (λ bytes. bytes ≡ []) x xs all
-none_under (x ∷ xs) (suc n) all = none_under xs n (All-tail (λ bytes. bytes ≡ []) x xs all)
-
-pub none_kept : (rom : List ℕ) (states : List (List ℕ)) → All (λ bytes. bytes ≡ []) states → AreKept rom states []
-none_kept rom states all n below = none_under states n all
-
--- one more, where the machine under its number is replaced
-module _ (rom : List ℕ) (old new : List (List ℕ)) (machines : List KeptMachine) (n : ℕ) (m : MachineState) (of : IsMachineOf rom m) (size : length old ≡ slots) (below : n < slots)
-    (is : new ≡ slice_set old n (encoded m)) (kept : AreKept rom old machines) where
-  under : (k : ℕ) → state_under new k ≡ state_under (slice_set old n (encoded m)) k
-  under k = ap (λ states. state_under states k) is
-
-  pub one_kept : AreKept rom new (record { number = n; machine = m } ∷ machines)
-  one_kept k within = elim (cases_eq k n) [
-    | inl e ↦
-        let t : (n == k) ≡ true = eq-eqb n k (sym e) in
-        let here : state_under new k ≡ encoded m = under k ∙ ap (λ j. state_under (slice_set old n (encoded m)) j) e ∙ get_or-set_same old n (encoded m) [] (omega (arith, size, below)) in
-        rw t (of, sym here)
-    | inr ne ↦
-        let f : (n == k) ≡ false = ne_eqb n k (λ e. ne (sym e)) in
-        let here : state_under new k ≡ state_under old k = under k ∙ get_or-set_other old n k (encoded m) [] ne in
-        rw f (subst (λ bytes. IsKeptAs rom bytes (kept_under k machines)) (sym here) (kept k within))
-  ]
-
 -- ---- one that is taken up again
-
--- no bytes are no snapshot
-none_legal : (rom : List ℕ) → IsLegalSnapshot rom [] → ⊥
-none_legal rom legal = absurd (omega (arith, legal.length))
 
 module _ (rom bytes : List ℕ) (r : RunState) (of : IsOfImage rom r.debugger.machine) where
   pub back_is : (machines : List KeptMachine) (o : Option MachineState) → IsKeptAs rom bytes o

@@ -1,42 +1,14 @@
 -- The words of a line: places, one after another.
-use Rattle.std.proofs.Common.{◌≡◌, ℕ, ◌+◌, ◌^◌, ◌<◌, ◌≤◌, ◌++◌, ◌&&◌, Bool, true, false, List, [], ◌∷◌, length, Option, None, Some, is_some, Bor, MatchOption, ap, sym, length-append, refl, ◌∙◌, if◌then◌else◌, arith, lit<, append_assoc, append-nil}
-use Rattle.std.proofs.Math.Nat.{pow-le-pow_right}
+use Rattle.std.proofs.Common.{◌≡◌, ℕ, ◌+◌, ◌<◌, ◌≤◌, ◌++◌, ◌&&◌, Bool, true, false, List, [], ◌∷◌, length, Option, None, Some, is_some, Bor, MatchOption, ap, sym, length-append, refl, ◌∙◌, if◌then◌else◌, arith, append_assoc, append-nil}
 use Rattle.std.specs.Prelude.{IfSome, ◌==◌, codes, nat_le}
 use Rattle.std.specs.Str.{bytes_eq}
 use Rattle.script.proofs.Words.{split_begins}
-use Rattle.std.specs.Char.{is_digit}
-use Rattle.std.specs.List.{list_all, slice_split}
-use Rattle.std.specs.Str.Parse.{AllDigits, digits_value}
-use Rattle.std.proofs.lemmas.Bool.{ltb-true, le-leb, lt-leb}
-use Rattle.std.proofs.lemmas.Int.Digits.{digits_value-lt}
+use Rattle.std.specs.List.{slice_split}
+use Rattle.std.proofs.lemmas.Bool.{le-leb, lt-leb}
 use Rattle.script.specs.Line.{words_of}
 use Rattle.debugging.specs.declared.order.Place.{Place}
-use Rattle.debugging.specs.Orders.{place_by, place_of, all_places, both, order_of_words, places_of, restore_of_words, state_order_of_words}
+use Rattle.debugging.specs.Orders.{place_by, place_of, all_places, both, order_of_words, places_of, any_places_of, profile_order, restore_of_words, state_order_of_words}
 use Rattle.debugging.specs.Words.{words_after}
-
--- ---- an address
-
-conjuncts : (a b : Bool) → (a && b) ≡ true → (a ≡ true) × (b ≡ true)
-conjuncts true true e = (refl, refl)
-conjuncts true false e = cc
-conjuncts false b e = cc
-
-all_digits : (ds : List ℕ) → list_all (λ byte. is_digit byte 16) ds ≡ true → AllDigits 16 ds
-all_digits [] e = tt
-all_digits (d ∷ ds) e =
-    let f = conjuncts (is_digit d 16) (list_all (λ byte. is_digit byte 16) ds) e in
-    (ltb-true _ _ f.0, all_digits ds f.1)
-
-pub three_digits : (ds : List ℕ) → list_all (λ byte. is_digit byte 16) ds ≡ true → length ds ≤ 3 → digits_value 16 ds < 4096
-three_digits ds e short =
-    let low = digits_value-lt 16 ds (all_digits ds e) in
-    let more : 16 ^ length ds ≤ 16 ^ 3 = pow-le-pow_right (lit< tt) short in
-    let most : 16 ^ 3 ≡ 4096 = refl in
-    omega (arith, low, more, most)
-
-pub digit_read : (t : Bool) (value digit : ℕ) → Some digit ≡ (if t then Some value else None) → (t ≡ true) × (digit ≡ value)
-digit_read true value digit e = (refl, cc)
-digit_read false value digit e = cc
 
 -- ---- places
 
@@ -176,10 +148,25 @@ restore_too_many line name word a (Some y) x p ea q more =
     sym (ap restore_of_words words)
 
 pub state_too_many : (line name word : List ℕ) (a b : Option (Bor (List ℕ))) (x : Bor (List ℕ)) → IsCutAt line name a → a ≡ Some x → IsCutAt x.now word b
-    → true ≡ is_some b → None ≡ state_order_of_words (words_of line)
-state_too_many line name word a None x p ea q more = absurd (cc)
-state_too_many line name word a (Some y) x p ea q more =
+    → true ≡ is_some b → bytes_eq name (codes "profile") ≡ false → None ≡ state_order_of_words (words_of line)
+state_too_many line name word a None x p ea q more differs = absurd (cc)
+state_too_many line name word a (Some y) x p ea q more differs =
     let one = rw ea at p in
     let rest = split_begins (λ byte. byte == 32) y.now in
     let words : words_of line ≡ name ∷ word ∷ rest.0 ∷ rest.1 = rw (one, q, rest.2) refl in
-    sym (ap state_order_of_words words)
+    rw (words, differs) refl
+
+-- a line of a count and places
+pub profile_read : (line name word : List ℕ) (a b : Option (Bor (List ℕ))) (x : Bor (List ℕ)) → IsCutAt line name a → a ≡ Some x → IsCutAt x.now word b
+    → bytes_eq name (codes "profile") ≡ true → profile_order word (words_after b) ≡ state_order_of_words (words_of line)
+profile_read line name word a b x p ea q same =
+    let one = rw ea at p in
+    let words : words_of line ≡ name ∷ word ∷ words_after b = one ∙ ap (λ (ws : List (List ℕ)). name ∷ ws) (words_cut x.now word b q) in
+    rw (words, same) refl
+
+-- some words are one at least
+pub some_places : (text : List ℕ) → places_of (words_of text) ≡ any_places_of (words_of text)
+some_places text =
+    let more = split_begins (λ byte. byte == 32) text in
+    let low : nat_le 1 (length (words_of text)) ≡ true = le-leb _ _ (omega (arith, ap length more.2)) in
+    rw low refl

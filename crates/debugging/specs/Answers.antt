@@ -1,10 +1,10 @@
 -- What a debugger answers, and how it is then.
-use Rattle.std.specs.Prelude.{ℕ, zero, suc, ◌+◌, ◌*◌, ◌/◌, ◌%◌, ◌==◌, not, is_some, Bool, true, false, List, [], ◌∷◌, ◌++◌, codes, decimal, length, nat_lt, if◌then◌else◌, Option, None, Some}
+use Rattle.std.specs.Prelude.{ℕ, ◌+◌, ◌==◌, not, is_some, Bool, true, false, List, [], ◌∷◌, ◌++◌, codes, decimal, length, nat_lt, if◌then◌else◌, Option, None, Some}
 use Rattle.std.specs.List.{flat_map}
 use Rattle.hex.specs.Hex.{encode_lower}
 use Rattle.sha2.specs.Sha256.{sha256}
 use Rattle.circular_buffer.specs.Buffer.{keep_last}
-use Rattle.exact_text.specs.Hex.{byte_text, word_text}
+use Rattle.exact_text.specs.Hex.{word_text}
 use Rattle.picture_unit.specs.Pgm.{picture_text}
 use Rattle.memory_map.specs.State.{BusState}
 use Rattle.memory_map.specs.Bus.{peeked}
@@ -13,22 +13,26 @@ use Rattle.sm83_processor.specs.declared.processor.Processor.{Processor}
 use Rattle.sm83_processor.specs.declared.step.Executed.{Executed}
 use Rattle.machine.specs.Machine.{MachineState, picture_rows}
 use Rattle.snapshot.specs.Encoding.{encoded}
-use Rattle.debugger.specs.Listing.{byte_after, lines_from}
+use Rattle.debugger.specs.Listing.{lines_from}
 use Rattle.debugger.specs.Registers.{register_line}
 use Rattle.debugger.specs.Report.{line_seen, step_lines}
 use Rattle.debugging.specs.declared.order.Order.{Order}
-use Rattle.debugging.specs.declared.order.Order.TheVariants.{Frames, Seconds, Step, Until, UntilOpcode, UntilChange, UntilWrite, UntilRead, Registers, History, List as Listing, Memory, Bank, Serial, Picture, State, Digest}
+use Rattle.debugging.specs.declared.order.Order.TheVariants.{Frames, Seconds, Step, Until, UntilOpcode, UntilChange, UntilWrite, UntilRead, Set, SetRegister, Registers, History, List as Listing, Memory, Bank, Serial, Picture, State, Digest}
 use Rattle.debugging.specs.declared.order.StateOrder.{StateOrder}
-use Rattle.debugging.specs.declared.order.StateOrder.TheVariants.{Power, Keep, Back}
+use Rattle.debugging.specs.declared.order.StateOrder.TheVariants.{Power, Keep, Back, Profile}
+use Rattle.debugging.specs.Profile.{cycles_text, no_cycles, with_steps}
+use Rattle.debugging.specs.Setting.{byte_set, register_set}
 use Rattle.debugging.specs.Orders.{order_of, restore_of, state_order_of}
-use Rattle.debugging.specs.States.{after_power, is_given, restored, with_machine}
-use Rattle.debugging.specs.KeptStates.{DebugState, kept_under}
+use Rattle.debugging.specs.States.{after_power, is_given, restored, rom_of, with_machine}
+use Rattle.debugging.specs.KeptStates.{DebugState}
 use Rattle.input_lines.specs.Given.{Given}
 use Rattle.debugging.specs.declared.order.Place.{Place}
 use Rattle.debugging.specs.declared.order.Span.{Span}
 use Rattle.debugging.specs.Banks.{bank_at}
 use Rattle.debugging.specs.Accesses.{is_reading, is_writing}
 use Rattle.debugging.specs.Run.{RunState, processor_of, after_steps_of, steps_up_to, is_at, is_before, is_changed, after_frames, after_seconds}
+use Rattle.machine_lines.specs.KeptStates.{kept_under}
+use Rattle.machine_lines.specs.Texts.{count_line, memory_text, state_text}
 
 -- ---- texts
 
@@ -36,31 +40,9 @@ use Rattle.debugging.specs.Run.{RunState, processor_of, after_steps_of, steps_up
 abbrev pub place_text : Bool → Processor BusState → List ℕ
 place_text is_there p = (if is_there then codes "stopped " else codes "limit ") ++ (word_text p.registers.pc ++ codes "\n")
 
--- how many follow
-abbrev pub count_line : List ℕ → ℕ → List ℕ
-count_line word count = word ++ (codes " " ++ (decimal count ++ codes "\n"))
-
 -- the last n instructions, or all if there are fewer: how many, and their lines, the oldest first
 abbrev pub history_text : ℕ → List Executed → List ℕ
 history_text n history = count_line (codes "history") (length (keep_last n history)) ++ flat_map line_seen (keep_last n history)
-
--- the bytes of n addresses from one on, a space before each; addresses wrap around after FFFF
-unfoldable pub bytes_from : MachineState → ℕ → ℕ → List ℕ
-bytes_from m address zero = []
-bytes_from m address (suc n) = codes " " ++ (byte_text (byte_after m address 0) ++ bytes_from m ((address + 1) % 65536) n)
-
-abbrev pub memory_line : MachineState → ℕ → ℕ → List ℕ
-memory_line m address n = word_text address ++ (bytes_from m address n ++ codes "\n")
-
--- k lines of sixteen bytes
-unfoldable pub full_lines : MachineState → ℕ → ℕ → List ℕ
-full_lines m address zero = []
-full_lines m address (suc k) = memory_line m address 16 ++ full_lines m ((address + 16) % 65536) k
-
--- n bytes from an address on, sixteen a line, and fewer in the last one
-abbrev pub memory_text : MachineState → ℕ → ℕ → List ℕ
-memory_text m address n =
-    full_lines m address (n / 16) ++ (if n % 16 == 0 then [] else memory_line m ((address + n / 16 * 16) % 65536) (n % 16))
 
 -- a bank in four digits
 abbrev pub bank_line : ℕ → List ℕ
@@ -77,10 +59,6 @@ digest_line digest = codes "digest " ++ (encode_lower digest ++ codes "\n")
 -- the SHA-256 of the machine's snapshot
 abbrev pub digest_text : MachineState → List ℕ
 digest_text m = digest_line (sha256 (encoded m))
-
--- how many bytes a snapshot has, and its bytes
-abbrev pub state_text : List ℕ → List ℕ
-state_text bytes = count_line (codes "state") (length bytes) ++ bytes
 
 -- ---- orders
 
@@ -110,6 +88,8 @@ after_order (UntilOpcode limit opcode) r = after_steps_of (until_opcode_steps li
 after_order (UntilChange limit address) r = after_steps_of (until_change_steps limit address r) r
 after_order (UntilWrite limit span) r = after_steps_of (until_write_steps limit span r) r
 after_order (UntilRead limit span) r = after_steps_of (until_read_steps limit span r) r
+after_order (Set address byte) r = with_machine (byte_set address byte r.debugger.machine) r
+after_order (SetRegister value) r = with_machine (register_set value r.debugger.machine) r
 after_order Registers r = r
 after_order (History n) r = r
 after_order (Listing address n) r = r
@@ -130,6 +110,8 @@ answer_from (UntilOpcode limit opcode) old new = place_text (nat_lt (until_opcod
 answer_from (UntilChange limit address) old new = place_text (nat_lt (until_change_steps limit address old) limit) (processor_of new)
 answer_from (UntilWrite limit span) old new = place_text (nat_lt (until_write_steps limit span old) limit) (processor_of new)
 answer_from (UntilRead limit span) old new = place_text (nat_lt (until_read_steps limit span old) limit) (processor_of new)
+answer_from (Set address byte) old new = codes "done\n"
+answer_from (SetRegister value) old new = codes "done\n"
 answer_from Registers old new = register_line (processor_of old)
 answer_from (History n) old new = history_text n old.debugger.history
 answer_from (Listing address n) old new = lines_from old.debugger.machine address n
@@ -170,7 +152,7 @@ after_restore n bytes r = if is_given n bytes r then restored bytes r else r
 abbrev pub answer_restore : (n : ℕ) → (bytes : List ℕ) → (number : ℕ) → RunState → List ℕ
 answer_restore n bytes number r = if is_given n bytes r then codes "restored\n" else wrong_line number
 
--- ---- the power switch, and states that are kept
+-- ---- the power switch, states that are kept, and a run that is measured
 
 -- where no machine is kept under a number, nothing is done
 abbrev pub after_back : Option MachineState → DebugState → DebugState
@@ -181,15 +163,22 @@ abbrev pub answer_back : Option MachineState → (kept number : ℕ) → List �
 answer_back None kept number = wrong_line number
 answer_back (Some m) kept number = count_line (codes "back") kept
 
+-- where so many steps lead, and the M-cycles of each
+abbrev pub profile_text : (steps limit : ℕ) → RunState → List ℕ
+profile_text steps limit r =
+    place_text (nat_lt steps limit) (processor_of (after_steps_of steps r)) ++ cycles_text (with_steps steps (processor_of r) (no_cycles (length (rom_of r))))
+
 abbrev pub after_state_order : StateOrder → DebugState → DebugState
 after_state_order Power d = record d { run = after_power d.run }
 after_state_order (Keep n) d = record d { kept = record { number = n; machine = d.run.debugger.machine } ∷ d.kept }
 after_state_order (Back n) d = after_back (kept_under n d.kept) d
+after_state_order (Profile limit places) d = record d { run = after_steps_of (until_steps limit places.items d.run) d.run }
 
 abbrev pub answer_state_order : StateOrder → (number : ℕ) → DebugState → List ℕ
 answer_state_order Power number d = codes "done\n"
 answer_state_order (Keep n) number d = count_line (codes "kept") n
 answer_state_order (Back n) number d = answer_back (kept_under n d.kept) n number
+answer_state_order (Profile limit places) number d = profile_text (until_steps limit places.items d.run) limit d.run
 
 -- ---- lines, and the bytes that they ask for
 
@@ -227,8 +216,9 @@ after_lines (given ∷ rest) d = after_lines rest (after_given given d)
 
 -- ---- memory
 
--- the machine at power-on takes some, and so does the first state that is kept under a number
+-- the machine at power-on takes some, and so do the first state that is kept under a number and the counts of a profile
 abbrev pub takes_memory : Option StateOrder → DebugState → Bool
 takes_memory (Some Power) d = true
 takes_memory (Some (Keep n)) d = not (is_some (kept_under n d.kept))
+takes_memory (Some (Profile limit places)) d = true
 takes_memory order d = false

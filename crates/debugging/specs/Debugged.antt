@@ -48,8 +48,8 @@ pub record HasBrokenOff (r : RunState) (io : Exchange) : Type 0 where
   pub read : HasReadGiven asked given more io.unread io.left
   pub answered : AppendsProperPrefix io.before io.since (answers_of r given)
 
--- There was no memory for a line that takes some, be it the first state under its number or the power switch: the lines before it were done, and
--- each of them was answered, and nothing more went out.
+-- There was no memory for a line that takes some, be it the first state under its number, the power switch or a profile: the lines before it were
+-- done, and each of them was answered, and nothing more went out.
 pub record HasLackedMemory (r : RunState) (io : Exchange) : Type 0 where
   pub given : List Given
   pub last : Given

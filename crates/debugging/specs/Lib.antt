@@ -1,7 +1,9 @@
+pub mod Setting
 pub mod Orders
 pub mod Banks
 pub mod Accesses
 pub mod Run
+pub mod Profile
 pub mod States
 pub mod KeptStates
 pub mod Numbers
@@ -10,6 +12,6 @@ pub mod Debugged
 -- what only the code needs
 pub mod Words
 pub mod Quiet
+pub mod Counting
 pub mod NextGiven
-pub mod Slots
 pub mod Switching

@@ -1,5 +1,5 @@
 -- The next line of an input, with the bytes that it asks for.
-use Rattle.std.specs.Prelude.{◌≡◌, ◌≢◌, ◌⊎◌, ◌<◌, ◌≤◌, ℕ, List, [], length, Option, None, Some}
+use Rattle.std.specs.Prelude.{◌≡◌, ◌≢◌, ◌⊎◌, ◌<◌, ℕ, List, [], length, Option, None, Some}
 use Rattle.std.specs.Io.KnownBytes.{Consumes, IsAtEnd}
 use Rattle.input_lines.specs.Given.{Given, TakesGiven, EndsWithin, IsUnfinished}
 use Rattle.debugging.specs.Orders.{asked, restore_of}

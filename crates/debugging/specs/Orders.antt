@@ -1,31 +1,21 @@
 -- What a line asks a debugger for: a move of a script but no save, or one of the words below. Words are separated by exactly one space.
-use Rattle.std.specs.Prelude.{ℕ, ◌&&◌, ◌==◌, Bool, List, [], ◌∷◌, codes, length, nat_le, if◌then◌else◌, Option, None, Some}
-use Rattle.std.specs.Char.{is_digit}
-use Rattle.std.specs.List.{list_all, slice_split}
+use Rattle.std.specs.Prelude.{ℕ, ◌&&◌, ◌==◌, List, [], ◌∷◌, codes, length, nat_le, if◌then◌else◌, Option, None, Some}
+use Rattle.std.specs.List.{slice_split}
 use Rattle.std.specs.Option.{option_map}
 use Rattle.std.specs.Str.{bytes_eq}
-use Rattle.std.specs.Str.Parse.{digits_value}
 use Rattle.script.specs.declared.moves.Move.{Move}
 use Rattle.script.specs.declared.moves.Move.TheVariants.{Frames as FramesMove, Seconds as SecondsMove, Save}
 use Rattle.script.specs.Line.{byte_of, count_of, move_of_line, words_of}
 use Rattle.debugging.specs.declared.order.Place.{Place}
 use Rattle.debugging.specs.declared.order.Span.{Span}
 use Rattle.debugging.specs.declared.order.Order.{Order}
-use Rattle.debugging.specs.declared.order.Order.TheVariants.{Frames, Seconds, Step, Until, UntilOpcode, UntilChange, UntilWrite, UntilRead, Registers, History, List as Listing, Memory, Bank, Serial, Picture, State, Digest}
+use Rattle.debugging.specs.declared.order.Order.TheVariants.{Frames, Seconds, Step, Until, UntilOpcode, UntilChange, UntilWrite, UntilRead, Set, SetRegister, Registers, History, List as Listing, Memory, Bank, Serial, Picture, State, Digest}
+use Rattle.debugging.specs.Setting.{register_of}
 use Rattle.debugging.specs.declared.order.StateOrder.{StateOrder}
-use Rattle.debugging.specs.declared.order.StateOrder.TheVariants.{Power, Keep, Back}
+use Rattle.debugging.specs.declared.order.StateOrder.TheVariants.{Power, Keep, Back, Profile}
+use Rattle.machine_lines.specs.Words.{hex_of, address_of, room_of, slot_of, size_of}
 
 -- ---- words
-
--- one hexadecimal digit to so many, in either case
-abbrev pub is_hex : (most : ℕ) → List ℕ → Bool
-is_hex most word = nat_le 1 (length word) && nat_le (length word) most && list_all (λ byte. is_digit byte 16) word
-
-abbrev pub hex_of : (most : ℕ) → List ℕ → Option ℕ
-hex_of most word = if is_hex most word then Some (digits_value 16 word) else None
-
-abbrev pub address_of : List ℕ → Option ℕ
-address_of word = hex_of 4 word
 
 -- a place in one bank, where both words were read
 abbrev pub place_in : Option ℕ → Option ℕ → Option Place
@@ -55,10 +45,6 @@ all_places (word ∷ words) = both (place_of word) (all_places words)
 -- a count of steps
 abbrev pub steps_of : List ℕ → Option ℕ
 steps_of word = count_of 1 4294967295 word
-
--- a count of lines, or of bytes
-abbrev pub room_of : List ℕ → Option ℕ
-room_of word = count_of 1 65536 word
 
 -- ---- orders
 
@@ -109,14 +95,17 @@ order_of_span name word first last =
     if bytes_eq name (codes "until-write") then with_span UntilWrite (steps_of word) (span_of (address_of first) (address_of last))
     else (if bytes_eq name (codes "until-read") then with_span UntilRead (steps_of word) (span_of (address_of first) (address_of last)) else None)
 
--- `list ADDR N`, `memory ADDR N`, `until-op N XX`, `until-change N ADDR`; `until-write N ADDR` and `until-read N ADDR` of one address
+-- `list ADDR N`, `memory ADDR N`, `until-op N XX`, `until-change N ADDR`, `set ADDR XX`, `set-register R XXXX`; `until-write N ADDR` and
+-- `until-read N ADDR` of one address
 abbrev pub order_of_three : List ℕ → List ℕ → List ℕ → Option Order
 order_of_three name word other =
     if bytes_eq name (codes "list") then with_two Listing (address_of word) (room_of other)
     else (if bytes_eq name (codes "memory") then with_two Memory (address_of word) (room_of other)
     else (if bytes_eq name (codes "until-op") then with_two UntilOpcode (steps_of word) (byte_of other)
     else (if bytes_eq name (codes "until-change") then with_two UntilChange (steps_of word) (address_of other)
-    else order_of_span name word other other)))
+    else (if bytes_eq name (codes "set") then with_two Set (address_of word) (byte_of other)
+    else (if bytes_eq name (codes "set-register") then option_map SetRegister (register_of word other)
+    else order_of_span name word other other)))))
 
 -- one to sixteen places
 abbrev pub places_of : List (List ℕ) → Option (List Place)
@@ -145,19 +134,33 @@ order_by None line = order_of_words (words_of line)
 abbrev pub order_of : List ℕ → Option Order
 order_of line = if nat_le (length line) 128 then order_by (move_of_line line) line else None
 
--- ---- the power switch, and states that are kept
+-- ---- the power switch, states that are kept, and a run that is measured
 
--- the number under which a state is kept
-abbrev pub slot_of : List ℕ → Option ℕ
-slot_of word = count_of 0 999 word
+-- none to sixteen places
+abbrev pub any_places_of : List (List ℕ) → Option (List Place)
+any_places_of words = if nat_le (length words) 16 then all_places words else None
 
--- `power`, `keep N`, `back N`
-abbrev pub state_order_of_words : List (List ℕ) → Option StateOrder
-state_order_of_words (name ∷ []) = if bytes_eq name (codes "power") then Some Power else None
-state_order_of_words (name ∷ word ∷ []) =
+abbrev pub profile_by : Option (List Place) → Option ℕ → Option StateOrder
+profile_by (Some places) (Some steps) = Some (Profile steps (record { items = places }))
+profile_by (Some places) None = None
+profile_by None steps = None
+
+-- `profile N PLACE..`
+abbrev pub profile_order : List ℕ → List (List ℕ) → Option StateOrder
+profile_order count words = profile_by (any_places_of words) (steps_of count)
+
+-- `keep N`, `back N`
+abbrev pub state_order_of_few : List ℕ → List ℕ → List (List ℕ) → Option StateOrder
+state_order_of_few name word [] =
     if bytes_eq name (codes "keep") then option_map Keep (slot_of word)
     else (if bytes_eq name (codes "back") then option_map Back (slot_of word) else None)
-state_order_of_words words = None
+state_order_of_few name word words = None
+
+-- and `power`
+abbrev pub state_order_of_words : List (List ℕ) → Option StateOrder
+state_order_of_words [] = None
+state_order_of_words (name ∷ []) = if bytes_eq name (codes "power") then Some Power else None
+state_order_of_words (name ∷ word ∷ words) = if bytes_eq name (codes "profile") then profile_order word words else state_order_of_few name word words
 
 -- one that is no order of this kind may be one of those above
 abbrev pub state_order_of : List ℕ → Option StateOrder
@@ -166,7 +169,7 @@ state_order_of line = if nat_le (length line) 128 then state_order_of_words (wor
 -- ---- `restore N`, which asks for N bytes behind its newline
 
 abbrev pub restore_of_words : List (List ℕ) → Option ℕ
-restore_of_words (name ∷ word ∷ []) = if bytes_eq name (codes "restore") then count_of 1 1048576 word else None
+restore_of_words (name ∷ word ∷ []) = if bytes_eq name (codes "restore") then size_of word else None
 restore_of_words words = None
 
 abbrev pub restore_of : List ℕ → Option ℕ

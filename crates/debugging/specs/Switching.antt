@@ -7,8 +7,9 @@ use Rattle.debugging.specs.declared.error.DebugError.TheVariants.{Input, Output,
 use Rattle.debugging.specs.declared.order.StateOrder.{StateOrder}
 use Rattle.debugging.specs.Run.{RunState}
 use Rattle.debugging.specs.KeptStates.{DebugState}
-use Rattle.debugging.specs.Answers.{after_state_order, answer_state_order, count_line, takes_memory, wrong_line}
-use Rattle.debugging.specs.Slots.{AreKept}
+use Rattle.debugging.specs.Answers.{after_state_order, answer_state_order, takes_memory, wrong_line}
+use Rattle.machine_lines.specs.Slots.{AreKept}
+use Rattle.machine_lines.specs.Texts.{count_line}
 
 -- it was done and answered
 pub record HasSwitched (rom : List ℕ) (order : StateOrder) (number : ℕ) (old : DebugState) (now : RunState) (states : List (List ℕ)) (before since : Option (List ℕ)) : Type 0 where

@@ -4,19 +4,19 @@ ghost use Rattle.std.specs.Prelude.{◌≡◌, [], drop, length, IfSome, OnErr, 
 ghost use Rattle.std.specs.Io.KnownBytes.{Appends};
 ghost use Rattle.exact_text.specs.Written.{AppendsProperPrefix};
 ghost use Rattle.memory_map.specs.BusRules.{bus_rules};
+ghost use Rattle.machine_lines.specs.Texts.{count_line, memory_text, state_text};
 ghost use Rattle.snapshot.specs.Encoding.{encoded, snapshot_length};
 ghost use Rattle.snapshot.specs.Legal.{IsOfImage};
 ghost use Rattle.std.specs.List.{flat_map};
 ghost use Rattle.debugger.specs.Registers.{register_line};
 ghost use Rattle.debugger.specs.Report.{line_seen, step_lines};
-ghost use Rattle.debugging.specs.Answers.{after_line, after_order, answer_line, answer_to, count_line, history_text, after_restore, answer_restore, digest_line, digest_text, place_text, serial_text, state_text, wrong_line};
+ghost use Rattle.debugging.specs.Answers.{after_line, after_order, answer_line, answer_to, history_text, after_restore, answer_restore, digest_line, digest_text, place_text, serial_text, wrong_line};
 ghost use Rattle.debugging.specs.Answers.{bank_line};
 ghost use Rattle.debugging.specs.Banks.{bank_at};
 ghost use Rattle.debugging.specs.Quiet.{HasRom};
 ghost use Rattle.debugging.specs.Run.{after_steps_of, processor_of};
 
 use crate::banks::bank_at;
-use crate::memory::write_memory;
 use crate::order::{Order, read_order};
 use crate::run::{Run, RunRestored, RunUntil};
 use arrayvec::ArrayString;
@@ -25,6 +25,7 @@ use debugger::{Debugger, register_line, write_stepped};
 use digest_text::digest_digits;
 use exact_text::{OutputFailed, word_digits, write_whole};
 use machine::{Machine, Processor, StepKind, Stepped};
+use machine_lines::{write_count, write_memory, write_state};
 use memory_map::Bus;
 use sha2::{Digest, Sha256};
 use snapshot::encode;
@@ -159,6 +160,16 @@ fn obey<W: Write>(run: Run, order: Order, rom: usize, snapshot: &mut [u8], out: 
             let written = write_place(is_there, run.processor(), out);
             Answered { run, written }
         }
+        Order::Set { address, byte } => {
+            let run = run.set(address, byte);
+            let written = write_whole(out, b"done\n");
+            Answered { run, written }
+        }
+        Order::SetRegister(value) => {
+            let run = run.set_register(value);
+            let written = write_whole(out, b"done\n");
+            Answered { run, written }
+        }
         Order::Serial => write_serial(run, out),
         Order::Picture => {
             let run = run.draw_late();
@@ -255,7 +266,7 @@ fn write_steps<W: Write>(run: Run, count: u32, out: &mut W) -> Answered
 }
 
 /// Writes where a run is, and whether it stopped there.
-fn write_place<W: Write>(
+pub(crate) fn write_place<W: Write>(
     is_there: bool,
     processor: &Processor<Bus>,
     out: &mut W,
@@ -275,31 +286,6 @@ fn place_text(is_there: bool, processor: &Processor<Bus>) -> ArrayString<16>
     text.push_str(word_digits(processor.registers.pc).as_str());
     text.push_str("\n");
     text
-}
-
-/// The line that says how many lines or bytes follow.
-fn count_text(word: &str, count: usize) -> Option<ArrayString<32>>
-    ensures { IfSome result (λ text. text.bytes ≡ count_line word.now count) }
-{
-    let mut text = ArrayString::new();
-    match writeln!(text, "{word} {count}") {
-        Ok(()) => Some(text),
-        Err(_) => None,
-    }
-}
-
-pub(crate) fn write_count<W: Write>(
-    word: &str,
-    count: usize,
-    out: &mut W,
-) -> Result<(), OutputFailed>
-    ensures ok { OnOk result (Appends (W.contents out.old) (W.contents out.new) (count_line word.now count)) }
-    ensures err { OnErr result (AppendsProperPrefix (W.contents out.old) (W.contents out.new) (count_line word.now count)) }
-{
-    match count_text(word, count) {
-        Some(text) => write_whole(out, text.as_bytes()),
-        None => Err(OutputFailed),
-    }
 }
 
 /// Writes how many instructions follow, and then the last ones of the history, at most `most`.
@@ -363,31 +349,6 @@ fn write_sent<W: Write>(run: &Run, out: &mut W) -> Result<(), OutputFailed>
         return Err(fault);
     }
     write_whole(out, b"\n")
-}
-
-/// Writes how many bytes the machine's snapshot has, and its bytes. There is room for them.
-fn write_state<W: Write>(
-    machine: &Machine,
-    bytes: &mut [u8],
-    out: &mut W,
-) -> Result<(), OutputFailed>
-    requires { length bytes.old ≡ snapshot_length (length machine.now.processor.memory.banks.ram) }
-    ensures ok { OnOk result (Appends (W.contents out.old) (W.contents out.new) (state_text (encoded machine.now))) }
-    ensures err { OnErr result (AppendsProperPrefix (W.contents out.old) (W.contents out.new) (state_text (encoded machine.now))) }
-    ensures room { length bytes.new ≡ length bytes.old }
-{
-    encode(machine, bytes);
-    write_bytes(bytes, out)
-}
-
-fn write_bytes<W: Write>(bytes: &[u8], out: &mut W) -> Result<(), OutputFailed>
-    ensures ok { OnOk result (Appends (W.contents out.old) (W.contents out.new) (state_text bytes.now)) }
-    ensures err { OnErr result (AppendsProperPrefix (W.contents out.old) (W.contents out.new) (state_text bytes.now)) }
-{
-    if let Err(fault) = write_count("state", bytes.len(), out) {
-        return Err(fault);
-    }
-    write_whole(out, bytes)
 }
 
 /// Writes the digest of the machine's snapshot, for which there is room.

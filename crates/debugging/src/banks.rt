@@ -1,8 +1,10 @@
 //! Which bank is mapped at an address.
 
-ghost use Rattle.std.specs.Prelude.{◌≡◌, ◌<◌, ◌%◌, ℕ};
+ghost use Rattle.std.specs.Prelude.{◌≡◌, ◌<◌, ◌+◌, ◌*◌, ◌%◌, ℕ, length, IfSome};
+ghost use Rattle.bank_controllers.specs.CartridgeState.{place_of};
 ghost use Rattle.bank_controllers.specs.Places.{high_bank_of, in_enabled_ram, in_mbc3, in_ram, in_ram_bank, is_ram_enabled, low_bank_of};
 ghost use Rattle.debugging.specs.Banks.{bank_at, bank_of};
+ghost use Rattle.debugging.specs.Profile.{rom_offset};
 ghost use Rattle.debugging.specs.Quiet.{HasRom};
 
 use bank_controllers::BanksState;
@@ -34,10 +36,36 @@ pub(crate) fn bank_at(memory: &Bus, rom: usize, address: u16) -> u16
     0
 }
 
+/// The byte of ROM that is mapped at an address, by its place in the image. Condition: the ROM has so many bytes.
+#[tactic(auto, unfolding(bank_controllers::specs::CartridgeState::place_of, bank_controllers::specs::Places::low_start, bank_controllers::specs::Places::high_start))]
+pub(crate) fn rom_offset(memory: &Bus, rom: usize, address: u16) -> Option<usize>
+    requires { HasRom rom memory.now }
+    ensures offset { result ≡ rom_offset (place_of memory.now.banks address) }
+    ensures inside { IfSome result (λ at. at < length memory.now.banks.rom) }
+{
+    let banks = memory.state().banks;
+    if address < 0x4000 {
+        let bank = present(low_bank(&banks), rom / ROM_BANK);
+        return Some(offset_in(bank, address));
+    }
+    if address < 0x8000 {
+        let bank = present(high_bank(&banks), rom / ROM_BANK);
+        return Some(offset_in(bank, address));
+    }
+    None
+}
+
+fn offset_in(bank: u16, address: u16) -> usize
+    ensures { result ≡ 16384 * bank + address % 16384 }
+{
+    ROM_BANK * usize::from(bank) + usize::from(address) % ROM_BANK
+}
+
 /// Which of so many banks a number chooses. Condition: there is one.
 fn present(bank: u16, banks: usize) -> u16
     requires { 0 < banks }
-    ensures { result ≡ bank % banks }
+    ensures bank { result ≡ bank % banks }
+    ensures below { result < banks }
 {
     (usize::from(bank) % banks) as u16
 }

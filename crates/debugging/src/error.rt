@@ -11,7 +11,7 @@ pub enum DebugError {
     /// A write failed or took no byte: a proper prefix of the answers went out.
     #[error("output failed")]
     Output,
-    /// There is no memory for a line that takes some: `power`, or the first `keep` of a number.
+    /// There is no memory for a line that takes some: `power`, `profile`, or the first `keep` of a number.
     #[error("no memory")]
     Memory,
 }

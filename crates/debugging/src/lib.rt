@@ -6,16 +6,18 @@
 
 mod answering;
 mod banks;
+mod cycles;
 pub mod error;
 mod given;
-mod kept_states;
-mod memory;
 mod obeying;
 pub mod order;
 mod probe;
+mod profiling;
+pub mod registers;
 mod run;
 mod switching;
 
 pub use error::DebugError;
 pub use obeying::LineDebugger;
 pub use order::{Order, Place, Span, StateOrder, read_order, read_restore, read_state_order};
+pub use registers::RegisterValue;

@@ -9,13 +9,13 @@ ghost use Rattle.debugging.specs.Debugged.{HasAnsweredAll, IsDebugCause};
 use crate::answering::{answer, restore, write_wrong};
 use crate::error::DebugError;
 use crate::given::{NextGiven, next_given};
-use crate::kept_states::KeptStates;
 use crate::order::read_state_order;
 use crate::run::Run;
 use crate::switching::switch;
 use arrayvec::ArrayVec;
 use cartridge::Cartridge;
 use machine::Machine;
+use machine_lines::KeptStates;
 use memory_map::Region;
 use snapshot::length;
 use std::alloc::{AllocError, Global};
@@ -86,6 +86,8 @@ impl LineDebugger {
     /// | `until-read N ADDR [LAST]` | steps up to one that reads one, but at most N | the same |
     /// | `frame BB`, `frames BB N` | frames with these buttons; the history is empty then | `done` |
     /// | `seconds N` | seconds of the cartridge's clock | `done` |
+    /// | `set ADDR XX` | the byte is written as an instruction writes it, but no M-cycle passes; the history is empty then | `done` |
+    /// | `set-register R XXXX` | a register, or a pair of them, gets a value; the history is empty then | `done` |
     /// | `registers` | nothing | the line of registers |
     /// | `history N` | nothing | `history K`, and the lines of the last K instructions that `step` and `until` ran: N of them, if there are as many, of 1,024 at most |
     /// | `list ADDR N` | nothing | N lines |
@@ -99,12 +101,13 @@ impl LineDebugger {
     /// | `power` | the power switch, off and on: RAM and clock stay where the cartridge has a battery; the history is empty then | `done` |
     /// | `keep N` | nothing; the machine is kept under N, 0 to 999, in place of one that was | `kept N` |
     /// | `back N` | the machine becomes the one that was kept last under N; the history is empty then. The line is wrong where none was | `back N` |
+    /// | `profile N PLACE..` | steps as `until` makes them, or N where there is no place | that of `until`; `elsewhere` and the M-cycles of steps that ran no instruction of ROM; `profile K`, and K lines: BANK:ADDR of each byte of ROM with which instructions began, and the M-cycles that they took |
     ///
     /// The bytes of `restore` stand right behind its newline, and the next line behind them. Where they are no snapshot of this cartridge,
     /// or fewer to the end of the input, nothing is done, and the line is wrong. So it is, with no bytes behind it, where K is more than 1,048,576.
     ///
     /// Refusals: input failed, once every line that is whole, with its bytes, is answered; output failed, where a proper prefix of the answers went
-    /// out; no memory for a line, where every line before it is answered. Such a line is `power`, or the first `keep` of a number.
+    /// out; no memory for a line, where every line before it is answered. Such a line is `power`, `profile`, or the first `keep` of a number.
     pub fn obey<R: Read, W: Write>(
         self,
         alloc: Global,

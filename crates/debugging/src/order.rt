@@ -4,12 +4,16 @@ ghost use Rattle.std.specs.Prelude.{◌≡◌, ◌≤◌, IfSome, ◌<◌, ◌^�
 ghost use Rattle.std.specs.Option.{option_map};
 ghost use Rattle.std.specs.Str.{bytes_eq};
 ghost use Rattle.script.specs.Line.{words_of};
-ghost use Rattle.debugging.specs.Numbers.{IsNumbered, slots};
-ghost use Rattle.debugging.specs.Orders.{address_of, hex_of, order_of, order_of_few, order_of_move, order_of_one, order_of_span, order_of_three, order_of_two, order_of_words, place_of, places_of, restore_of, restore_of_words, room_of, slot_of, span_of, state_order_of, state_order_of_words, steps_of, until_order};
+ghost use Rattle.machine_lines.specs.KeptStates.{slots};
+ghost use Rattle.machine_lines.specs.Words.{address_of, hex_of, room_of, slot_of};
+ghost use Rattle.debugging.specs.Numbers.{IsNumbered};
+ghost use Rattle.debugging.specs.Orders.{order_of, order_of_few, order_of_move, order_of_one, order_of_span, order_of_three, order_of_two, order_of_words, any_places_of, place_of, places_of, profile_order, restore_of, restore_of_words, span_of, state_order_of, state_order_of_words, steps_of, until_order};
 ghost use Rattle.debugging.specs.Words.{words_after};
 
+use crate::registers::{RegisterValue, read_register};
 use arrayvec::ArrayVec;
-use script::{Move, cut, digit_in, read_byte, read_count, read_line};
+use machine_lines::{read_address, read_hex, read_room, read_size, read_slot};
+use script::{Move, cut, read_byte, read_count, read_line};
 
 const SPACE: u8 = b' ';
 
@@ -19,20 +23,8 @@ const COLON: u8 = b':';
 /// The most bytes of a line.
 const MOST_BYTES: usize = 128;
 
-/// The most digits of an address.
-const ADDRESS_DIGITS: usize = 4;
-
 /// The most digits of a bank.
 const BANK_DIGITS: usize = 3;
-
-/// The most lines, or bytes, that one order lists.
-const MOST_ROOM: u32 = 65_536;
-
-/// The most bytes that a line asks for.
-const MOST_GIVEN: u32 = 1_048_576;
-
-/// The highest number under which a state is kept.
-const LAST_SLOT: u32 = 999;
 
 /// The most places at which a run stops.
 pub const MOST_PLACES: usize = 16;
@@ -90,6 +82,13 @@ pub enum Order {
         steps: u32,
         span: Span,
     },
+    /// A byte is written to an address.
+    Set {
+        address: u16,
+        byte: u8,
+    },
+    /// A register gets a value.
+    SetRegister(RegisterValue),
     /// The registers.
     Registers,
     /// The last instructions, at most so many.
@@ -116,8 +115,8 @@ pub enum Order {
     Digest,
 }
 
-/// What a line asks for that makes the machine another one, or keeps it.
-#[derive(Clone, Copy, Debug, PartialEq, Eq)]
+/// What a line asks for that takes memory, or goes back to what has taken some.
+#[derive(Clone, Debug, PartialEq, Eq, Drop)]
 pub enum StateOrder {
     /// The power switch, off and on.
     Power,
@@ -125,6 +124,11 @@ pub enum StateOrder {
     Keep(u32),
     /// The machine becomes the one that was kept under a number, 0 to 999.
     Back(u32),
+    /// Steps up to one of these places, if there are any, but at most so many, whose M-cycles are counted.
+    Profile {
+        steps: u32,
+        places: ArrayVec<Place, 16>,
+    },
 }
 
 /// What one line asks for, without its newline. `None` if it is wrong, or if it has more than 128 bytes; an empty line is wrong here.
@@ -140,7 +144,7 @@ pub fn read_order(line: &[u8]) -> Option<Order>
     }
 }
 
-/// What `power`, `keep N` and `back N` ask for. `None`: it is another line.
+/// What `power`, `keep N`, `back N` and `profile N PLACE..` ask for. `None`: it is another line.
 pub fn read_state_order(line: &[u8]) -> Option<StateOrder>
     ensures order { result ≡ state_order_of line.now }
     ensures numbered { IfSome result IsNumbered }
@@ -164,6 +168,9 @@ fn read_state_words(line: &[u8]) -> Option<StateOrder>
         };
     };
     let (word, rest) = cut(rest, SPACE);
+    if is_word(name, b"profile") {
+        return read_profile(word, rest);
+    }
     if rest.is_some() {
         return None;
     }
@@ -176,6 +183,26 @@ fn read_state_words(line: &[u8]) -> Option<StateOrder>
         return Some(StateOrder::Back(number));
     }
     None
+}
+
+/// The order of a count of steps and places, be there some or none.
+fn read_profile(count: &[u8], rest: Option<&[u8]>) -> Option<StateOrder>
+    ensures order { result ≡ profile_order count.now (words_after rest.entry) }
+    ensures numbered { IfSome result IsNumbered }
+{
+    let places = read_any_places(rest)?;
+    let steps = read_steps(count)?;
+    Some(StateOrder::Profile { steps, places })
+}
+
+/// The places that the words write, if they all are places and no more than sixteen; no words are none.
+fn read_any_places(rest: Option<&[u8]>) -> Option<ArrayVec<Place, 16>>
+    ensures { option_map (λ v. v.items) result ≡ any_places_of (words_after rest.entry) }
+{
+    match rest {
+        Some(text) => read_places(text),
+        None => Some(ArrayVec::new()),
+    }
 }
 
 /// How many bytes `restore N` asks for behind its newline: N. `None`: it is another line.
@@ -199,7 +226,7 @@ fn read_restore_words(line: &[u8]) -> Option<u32>
     if !is_word(name, b"restore") {
         return None;
     }
-    read_count(word, 1, MOST_GIVEN)
+    read_size(word)
 }
 
 fn order_of_move(a_move: Move) -> Option<Order>
@@ -238,7 +265,7 @@ fn read_words(line: &[u8]) -> Option<Order>
     }
 }
 
-fn is_word(word: &[u8], name: &[u8]) -> bool
+pub(crate) fn is_word(word: &[u8], name: &[u8]) -> bool
     ensures { result ≡ bytes_eq word.now name.now }
 {
     word == name
@@ -305,6 +332,15 @@ fn with_two(name: &[u8], word: &[u8], other: &[u8]) -> Option<Order>
         let steps = read_steps(word)?;
         let address = read_address(other)?;
         return Some(Order::UntilChange { steps, address });
+    }
+    if is_word(name, b"set") {
+        let address = read_address(word)?;
+        let byte = read_byte(other)?;
+        return Some(Order::Set { address, byte });
+    }
+    if is_word(name, b"set-register") {
+        let value = read_register(word, other)?;
+        return Some(Order::SetRegister(value));
     }
     with_span(name, word, other, other)
 }
@@ -392,39 +428,4 @@ fn read_steps(word: &[u8]) -> Option<u32>
     ensures { result ≡ steps_of word.now }
 {
     read_count(word, 1, u32::MAX)
-}
-
-fn read_room(word: &[u8]) -> Option<u32>
-    ensures { result ≡ room_of word.now }
-{
-    read_count(word, 1, MOST_ROOM)
-}
-
-fn read_slot(word: &[u8]) -> Option<u32>
-    ensures number { result ≡ slot_of word.now }
-    ensures below { IfSome result (λ number. number < slots) }
-{
-    read_count(word, 0, LAST_SLOT)
-}
-
-fn read_address(word: &[u8]) -> Option<u16>
-    ensures { result ≡ address_of word.now }
-{
-    read_hex(word, ADDRESS_DIGITS)
-}
-
-/// The number that one hexadecimal digit to `most` write, in either case. Condition: `most` is 4 at most.
-fn read_hex(word: &[u8], most: usize) -> Option<u16>
-    requires { most ≤ 4 }
-    ensures { result ≡ hex_of most word.now }
-{
-    if word.is_empty() || word.len() > most {
-        return None;
-    }
-    let mut value = 0;
-    for byte in word {
-        let digit = digit_in(*byte, 16)?;
-        value = value * 16 + u16::from(digit);
-    }
-    Some(value)
 }

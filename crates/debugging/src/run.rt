@@ -8,7 +8,8 @@ ghost use Rattle.sm83_processor.specs.Steps.{step_of};
 ghost use Rattle.memory_map.specs.State.{BusState};
 ghost use Rattle.sm83_processor.specs.declared.processor.Processor.{Processor};
 ghost use Rattle.snapshot.specs.Legal.{IsOfImage};
-ghost use Rattle.debugging.specs.States.{after_power, is_given};
+ghost use Rattle.debugging.specs.States.{after_power, is_given, with_machine};
+ghost use Rattle.debugging.specs.Setting.{byte_set, register_set};
 ghost use Rattle.debugging.specs.Answers.{after_restore, until_change_steps, until_opcode_steps, until_read_steps, until_steps, until_write_steps};
 ghost use Rattle.debugging.specs.Run.{after_frame, after_frames, after_seconds, after_steps_of, begun, is_at, is_bank, is_before, is_changed, is_place, processor_of, steps_up_to};
 ghost use Rattle.debugging.specs.Quiet.{HasRom, IsQuietFor, Makes, MakesIn, StopsBefore, StopsIn, has_pc, is_aim, is_interrupted, is_next, is_waiting};
@@ -16,6 +17,7 @@ ghost use Rattle.debugging.specs.Quiet.{HasRom, IsQuietFor, Makes, MakesIn, Stop
 use crate::banks::bank_at;
 use crate::order::{Place, Span};
 use crate::probe::{is_reading, is_writing};
+use crate::registers::{RegisterValue, with_register};
 use arrayvec::ArrayVec;
 use cartridge::Cartridge;
 use circular_buffer::HeapCircularBuffer;
@@ -376,6 +378,36 @@ impl Run {
         }
     }
 
+    /// Writes a byte to an address as an instruction does, but no M-cycle passes.
+    pub(crate) fn set(self, address: u16, byte: u8) -> Run
+        ensures { result ≡ with_machine (byte_set address byte self.debugger.machine) self }
+    {
+        let Run { debugger, sent } = self;
+        let (mut machine, mut seen) = debugger.into_parts();
+        machine.write(address, byte);
+        seen.clear();
+        Run {
+            debugger: Debugger::from_parts(machine, seen),
+            sent,
+        }
+    }
+
+    /// Sets a register, or a pair of them.
+    pub(crate) fn set_register(self, value: RegisterValue) -> Run
+        ensures { result ≡ with_machine (register_set value self.debugger.machine) self }
+    {
+        let Run { debugger, sent } = self;
+        let (mut machine, mut instructions) = debugger.into_parts();
+        let mut state = machine.state();
+        state.registers = with_register(state.registers, value);
+        machine.restore(&state);
+        instructions.clear();
+        Run {
+            debugger: Debugger::from_parts(machine, instructions),
+            sent,
+        }
+    }
+
     /// Makes the machine the one of these bytes, if they are a snapshot of the cartridge. Condition: the machine is one of it.
     pub(crate) fn restore(self, cartridge: &Cartridge, bytes: &[u8]) -> RunRestored
         requires { IsOfImage cartridge.now self.debugger.machine }
@@ -513,7 +545,7 @@ fn is_aim(aim: &Aim, rom: usize, processor: &Processor<Bus>) -> bool
     }
 }
 
-fn is_at(places: &[Place], rom: usize, processor: &Processor<Bus>) -> bool
+pub(crate) fn is_at(places: &[Place], rom: usize, processor: &Processor<Bus>) -> bool
     requires { HasRom rom processor.now.memory }
     ensures { result ≡ is_at places.now processor.now }
 {

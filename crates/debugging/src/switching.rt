@@ -1,27 +1,32 @@
-//! The power switch, and states that are kept and taken up again.
+//! The power switch, states that are kept and taken up again, and runs that are measured.
 
-ghost use Rattle.std.specs.Prelude.{◌≡◌, ◌≢◌, ◌<◌, List, codes, length, slice_set, IfErr, IfOk, OnErr, OnOk};
+ghost use Rattle.std.specs.Prelude.{◌≡◌, ◌≢◌, ◌<◌, ◌≤◌, ◌++◌, ◌^◌, List, codes, length, slice_set, IfErr, IfOk, OnErr, OnOk};
 ghost use Rattle.std.specs.Io.KnownBytes.{Appends};
 ghost use Rattle.exact_text.specs.Written.{AppendsProperPrefix};
 ghost use Rattle.machine.specs.Legal.{IsLegalMachine};
 ghost use Rattle.snapshot.specs.Encoding.{encoded, snapshot_length};
 ghost use Rattle.snapshot.specs.Legal.{IsOfImage};
-ghost use Rattle.debugging.specs.Answers.{after_restore, count_line};
-ghost use Rattle.debugging.specs.KeptStates.{KeptMachine};
-ghost use Rattle.debugging.specs.Run.{processor_of};
-ghost use Rattle.debugging.specs.Numbers.{IsNumbered, slots};
-ghost use Rattle.debugging.specs.Slots.{AreKept, state_under};
+ghost use Rattle.debugging.specs.Answers.{after_restore, place_text, profile_text, until_steps};
+ghost use Rattle.debugging.specs.Profile.{cycles_text};
+ghost use Rattle.machine_lines.specs.Texts.{count_line};
+ghost use Rattle.machine_lines.specs.KeptStates.{slots, KeptMachine};
+ghost use Rattle.debugging.specs.Run.{after_steps_of, processor_of};
+ghost use Rattle.debugging.specs.Numbers.{IsNumbered};
+ghost use Rattle.machine_lines.specs.Slots.{AreKept, state_under};
 ghost use Rattle.debugging.specs.States.{after_power, is_given};
 ghost use Rattle.debugging.specs.Switching.{HasSwitched, IsNotSwitched, IsRefusedAnswer, back_text};
 
-use crate::answering::{write_count, write_wrong};
+use crate::answering::{write_place, write_wrong};
+use crate::cycles::CycleCounts;
 use crate::error::DebugError;
-use crate::kept_states::KeptStates;
-use crate::order::StateOrder;
-use crate::run::{Run, RunRestored};
+use crate::order::{Place, StateOrder};
+use crate::profiling::run_counted;
+use crate::run::{Run, RunRestored, RunUntil};
 use cartridge::Cartridge;
 use exact_text::{OutputFailed, write_whole};
-use machine::Region;
+use machine::{Processor, Region};
+use machine_lines::{KeptStates, write_count};
+use memory_map::Bus;
 use snapshot::length;
 use std::alloc::Global;
 use std::io::Write;
@@ -57,6 +62,9 @@ pub(crate) fn switch<W: Write>(
             number,
             out,
         ),
+        StateOrder::Profile { steps, places } => {
+            profile(alloc, cartridge, run, steps, places.as_slice(), out)
+        }
     }
 }
 
@@ -80,6 +88,49 @@ fn power<W: Write>(
         Ok(()) => Ok(run),
         Err(_) => Err(DebugError::Output),
     }
+}
+
+/// Makes steps whose M-cycles are counted, and tells them. Condition: the machine is one of the cartridge.
+fn profile<W: Write>(
+    alloc: Global,
+    cartridge: &Cartridge,
+    run: Run,
+    steps: u32,
+    places: &[Place],
+    out: &mut W,
+) -> Result<Run, DebugError>
+    requires { IsOfImage cartridge.now run.debugger.machine }
+    ensures of { IfOk result (λ now. IsOfImage cartridge.now now.debugger.machine) }
+    ensures run { IfOk result (λ now. now ≡ after_steps_of (until_steps steps places.now run) run) }
+    ensures ok { OnOk result (Appends (W.contents out.old) (W.contents out.new) (profile_text (until_steps steps places.now run) steps run)) }
+    ensures err { IfErr result (λ why. IsRefusedAnswer why (profile_text (until_steps steps places.now run) steps run) (W.contents out.old) (W.contents out.new)) }
+{
+    let rom = cartridge.rom().len();
+    let Ok(mut counts) = CycleCounts::new(alloc, rom) else {
+        return Err(DebugError::Memory);
+    };
+    let RunUntil { run, is_there } = run_counted(run, places, rom, steps, &mut counts);
+    match write_profile(is_there, run.processor(), &counts, out) {
+        Ok(()) => Ok(run),
+        Err(_) => Err(DebugError::Output),
+    }
+}
+
+/// Writes where a run is, and the M-cycles that it took. Condition: the ROM has 2^30 bytes at most.
+fn write_profile<W: Write>(
+    is_there: bool,
+    processor: &Processor<Bus>,
+    counts: &CycleCounts,
+    out: &mut W,
+) -> Result<(), OutputFailed>
+    requires { length counts.now.rom ≤ 2 ^ 30 }
+    ensures ok { OnOk result (Appends (W.contents out.old) (W.contents out.new) (place_text is_there processor.now ++ cycles_text counts.now)) }
+    ensures err { OnErr result (AppendsProperPrefix (W.contents out.old) (W.contents out.new) (place_text is_there processor.now ++ cycles_text counts.now)) }
+{
+    if let Err(fault) = write_place(is_there, processor, out) {
+        return Err(fault);
+    }
+    counts.write(out)
 }
 
 /// Keeps the machine under a number, and answers it. Condition: it is one of the numbers.

@@ -5,7 +5,7 @@ use Rattle.cartridge.specs.Accepted.{IsAccepted}
 use Rattle.command_line.specs.declared.Request.TheVariants.{Import}
 use Rattle.gbkeep.specs.Program.{IsBatteryFault, IsRefused}
 use Rattle.gbkeep.specs.declared.fault.Fault.{Fault}
-use Rattle.gbkeep.specs.declared.fault.Fault.TheVariants.{Cart, Memory, File, Output, Address, Word, Device, Script, Session, Line, Input, Recording, Behind, Ahead, Differ, RecordedGame, TestFailed, TestUndecided, NoBattery, BatteryLength}
+use Rattle.gbkeep.specs.declared.fault.Fault.TheVariants.{Cart, Memory, File, Output, Address, Word, Device, Script, Session, Line, Input, Snapshot, Recording, Behind, Ahead, Differ, RecordedGame, TestFailed, TestUndecided, NoBattery, BatteryLength}
 
 pub accepted_image : (rom image : List ℕ) → image ≡ rom → IsAccepted rom → IsAccepted image
 accepted_image rom image is accepted = subst (λ (r : List ℕ). IsAccepted r) (sym is) accepted
@@ -25,6 +25,7 @@ battery_refused rom accepted cart battery save sectors old new keeps (Script why
 battery_refused rom accepted cart battery save sectors old new keeps (Session why) is = absurd is
 battery_refused rom accepted cart battery save sectors old new keeps (Line number) is = absurd is
 battery_refused rom accepted cart battery save sectors old new keeps Input is = absurd is
+battery_refused rom accepted cart battery save sectors old new keeps Snapshot is = absurd is
 battery_refused rom accepted cart battery save sectors old new keeps (Recording why) is = absurd is
 battery_refused rom accepted cart battery save sectors old new keeps (Behind count) is = absurd is
 battery_refused rom accepted cart battery save sectors old new keeps (Ahead count) is = absurd is

@@ -6,7 +6,7 @@ use Rattle.test_run.specs.declared.verdict.Verdict.TheVariants.{Failed, Undecide
 use Rattle.replaying.specs.declared.error.VerifyError.TheVariants.{Behind as RecordingBehind, Differ as MachinesDiffer}
 use Rattle.gbkeep.specs.declared.words.Asked.TheVariants.{Command}
 use Rattle.gbkeep.specs.declared.fault.Fault.{Fault}
-use Rattle.gbkeep.specs.declared.fault.Fault.TheVariants.{Cart, Memory, File, Output, Address, Word, Device, Script, Session, Line, Input, Recording, Behind, Ahead, Differ, RecordedGame, TestFailed, TestUndecided, NoBattery, BatteryLength}
+use Rattle.gbkeep.specs.declared.fault.Fault.TheVariants.{Cart, Memory, File, Output, Address, Word, Device, Script, Session, Line, Input, Snapshot, Recording, Behind, Ahead, Differ, RecordedGame, TestFailed, TestUndecided, NoBattery, BatteryLength}
 use Rattle.gbkeep.specs.Text.{Exchange, Text, IsUnread, IsUnwritten}
 use Rattle.gbkeep.specs.Request.{GivesInputs, HasAddress, HasDevice, HasScript, IsCompared, IsGameRefused, IsRecordingRefused, IsTestDecided, IsWithoutBattery, IsOtherLength}
 use Rattle.gbkeep.specs.Program.{HasEnded, HasLine, IsDebugRefused, IsRecordRefused, IsRefused, IsRefusedReading, IsStreamRefused, line_of, status_of}
@@ -65,6 +65,7 @@ unread_by request (Script fault) run unread is why line = refused_by request (Sc
 unread_by request (Session fault) run unread is why line = refused_by request (Session fault) run refl (elsewhere (λ r. IsGameRefused r fault run.output.before run.output.since) (λ cart address count no. no) request is) why line
 unread_by request (Line number) run unread is why line = absurd is
 unread_by request Input run unread is why line = absurd is
+unread_by request Snapshot run unread is why line = absurd is
 unread_by request (Recording fault) run unread is why line = refused_by request (Recording fault) run refl (elsewhere (λ r. IsRecordingRefused r fault run.output.before run.output.since) (λ cart address count no. no) request is) why line
 unread_by request (Behind count) run unread is why line = refused_by request (Behind count) run refl (elsewhere (λ r. IsCompared r (RecordingBehind count) run.output.before run.output.since) (λ cart address count no. no) request is) why line
 unread_by request (Ahead count) run unread is why line = absurd is
@@ -87,6 +88,7 @@ stream_status (Script fault) input output is = absurd is
 stream_status (Session fault) input output is = refl
 stream_status (Line number) input output is = refl
 stream_status Input input output is = refl
+stream_status Snapshot input output is = refl
 stream_status (Recording fault) input output is = absurd is
 stream_status (Behind count) input output is = absurd is
 stream_status (Ahead count) input output is = absurd is
@@ -109,6 +111,7 @@ record_status (Script fault) input output is = absurd is
 record_status (Session fault) input output is = refl
 record_status (Line number) input output is = refl
 record_status Input input output is = refl
+record_status Snapshot input output is = absurd is
 record_status (Recording fault) input output is = refl
 record_status (Behind count) input output is = refl
 record_status (Ahead count) input output is = refl
@@ -131,6 +134,7 @@ debug_status save (Script fault) input output is = absurd is
 debug_status save (Session fault) input output is = refl
 debug_status save (Line number) input output is = absurd is
 debug_status save Input input output is = refl
+debug_status save Snapshot input output is = absurd is
 debug_status save (Recording fault) input output is = absurd is
 debug_status save (Behind count) input output is = absurd is
 debug_status save (Ahead count) input output is = absurd is

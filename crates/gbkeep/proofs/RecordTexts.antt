@@ -14,7 +14,7 @@ use Rattle.recorded_play.specs.declared.error.RecordError.{RecordError}
 use Rattle.recorded_play.specs.declared.error.RecordError.TheVariants.{Session, Recording, Behind, Line, Input}
 use Rattle.playing.proofs.Telling.{keeps_same}
 use Rattle.gbkeep.specs.declared.fault.Fault.{Fault}
-use Rattle.gbkeep.specs.declared.fault.Fault.TheVariants.{Cart as ACart, Memory as AMemory, File as AFile, Output as AnOutput, Address as AnAddress, Word as AWord, Device as ADevice, Script as AScript, Session as ASession, Line as ALine, Input as AnInput, Recording as ARecording, Behind as ABehind, Ahead as AnAhead, Differ as ADiffer, RecordedGame as ARecordedGame, TestFailed as ATestFailed, TestUndecided as ATestUndecided, NoBattery as NoBatteryThere, BatteryLength as ABatteryLength}
+use Rattle.gbkeep.specs.declared.fault.Fault.TheVariants.{Cart as ACart, Memory as AMemory, File as AFile, Output as AnOutput, Address as AnAddress, Word as AWord, Device as ADevice, Script as AScript, Session as ASession, Line as ALine, Input as AnInput, Snapshot as ASnapshot, Recording as ARecording, Behind as ABehind, Ahead as AnAhead, Differ as ADiffer, RecordedGame as ARecordedGame, TestFailed as ATestFailed, TestUndecided as ATestUndecided, NoBattery as NoBatteryThere, BatteryLength as ABatteryLength}
 use Rattle.gbkeep.specs.Program.{IsNotOf, IsRecordRefused, fault_of_record, fault_of_verifying}
 use Rattle.gbkeep.specs.Request.{IsNotBelonging, IsRecordedTo, record_limits}
 
@@ -68,6 +68,7 @@ module _ (rom : List ℕ) (accepted : IsAccepted rom) (game tape : FileDevice) (
   not_belonging (AScript why) cause = absurd cause
   not_belonging (ALine number) cause = absurd cause
   not_belonging AnInput cause = absurd cause
+  not_belonging ASnapshot cause = absurd cause
   not_belonging ARecordedGame cause = absurd cause
   not_belonging ATestFailed cause = absurd cause
   not_belonging ATestUndecided cause = absurd cause

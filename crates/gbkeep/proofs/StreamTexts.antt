@@ -1,5 +1,5 @@
 -- What a stream wrote, and why one was refused.
-use Rattle.std.proofs.Common.{◌≡◌, List, ℕ, Option, subst}
+use Rattle.std.proofs.Common.{◌≡◌, List, ℕ, Option, subst, inr}
 use Rattle.cartridge.specs.Accepted.{IsAccepted}
 use Rattle.sector_device.specs.DiskState.{DiskState}
 use Rattle.sector_device.specs.FileDevice.{file_disk}
@@ -7,7 +7,7 @@ use Rattle.sector_device.specs.declared.file.FileDevice.{FileDevice}
 use Rattle.machine.specs.Machine.{MachineState}
 use Rattle.streaming.specs.Streamed.{HasStreamed, HasStreamedAll, IsStreamCause}
 use Rattle.streaming.specs.declared.error.StreamError.{StreamError}
-use Rattle.streaming.specs.declared.error.StreamError.TheVariants.{Session, Line, Input}
+use Rattle.streaming.specs.declared.error.StreamError.TheVariants.{Session, Line, Input, Snapshot, Memory}
 use Rattle.streaming.specs.declared.obeying.End.{End}
 use Rattle.streaming.specs.declared.obeying.End.TheVariants.{Whole}
 use Rattle.gbkeep.specs.declared.error.StreamPlayError.{StreamPlayError}
@@ -28,6 +28,8 @@ module _ (rom : List ℕ) (file left : FileDevice) (before_in since_in old new :
   stream_refused (Stream (Session fault)) cause = (rom, (file, left, cause))
   stream_refused (Stream (Line number)) cause = streamed_to _ cause.0 cause.1
   stream_refused (Stream Input) cause = streamed_to _ cause.0 cause.1
+  stream_refused (Stream Snapshot) cause = streamed_to _ cause.0 cause.1
+  stream_refused (Stream Memory) cause = inr (streamed_to _ cause.0 cause.1)
 
 -- ---- of the image that was read as a cartridge
 

@@ -4,7 +4,7 @@ use Rattle.command_line.specs.declared.Request.TheVariants.{Test}
 use Rattle.gbkeep.specs.Program.{IsServed, IsTestServed}
 use Rattle.gbkeep.specs.Request.{IsGiven}
 use Rattle.gbkeep.specs.declared.fault.Fault.{Fault}
-use Rattle.gbkeep.specs.declared.fault.Fault.TheVariants.{Cart, Memory, File, Output, Address, Word, Device, Script, Session, Line, Input, Recording, Behind, Ahead, Differ, RecordedGame, TestFailed, TestUndecided, NoBattery, BatteryLength}
+use Rattle.gbkeep.specs.declared.fault.Fault.TheVariants.{Cart, Memory, File, Output, Address, Word, Device, Script, Session, Line, Input, Snapshot, Recording, Behind, Ahead, Differ, RecordedGame, TestFailed, TestUndecided, NoBattery, BatteryLength}
 
 pub test_served : (cart : Bor (List ℕ)) (frames : ℕ) (script : Option (Bor (List ℕ))) (rom text : List ℕ) (old new : Option (List ℕ)) → IsGiven script text → (r : Result Unit Fault)
     → IsTestServed rom text frames r old new → IsServed (Test cart frames script) r old new
@@ -20,6 +20,7 @@ test_served cart frames script rom text old new given (Err (Script fault)) it = 
 test_served cart frames script rom text old new given (Err (Session fault)) it = absurd it
 test_served cart frames script rom text old new given (Err (Line number)) it = absurd it
 test_served cart frames script rom text old new given (Err Input) it = absurd it
+test_served cart frames script rom text old new given (Err Snapshot) it = absurd it
 test_served cart frames script rom text old new given (Err (Recording fault)) it = absurd it
 test_served cart frames script rom text old new given (Err (Behind count)) it = absurd it
 test_served cart frames script rom text old new given (Err (Ahead count)) it = absurd it

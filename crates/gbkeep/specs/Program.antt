@@ -51,9 +51,9 @@ use Rattle.replaying.specs.Verifying.{IsVerifyCause}
 use Rattle.replaying.specs.declared.error.VerifyError.TheVariants.{Save as NoSave, Recording as NoRecording, Behind as RecordingBehind, Ahead as RecordingAhead, Memory as NoMemory, Differ as MachinesDiffer}
 use Rattle.gbkeep.specs.declared.error.StreamPlayError.{StreamPlayError}
 use Rattle.gbkeep.specs.declared.error.StreamPlayError.TheVariants.{Cart as StreamCart, Stream as StreamFault}
-use Rattle.streaming.specs.declared.obeying.End.TheVariants.{Whole, Wrong as WrongLine, Failed as FailedRead}
-use Rattle.streaming.specs.declared.error.StreamError.TheVariants.{Session as StreamSession, Line as StreamLine, Input as StreamInput}
-use Rattle.gbkeep.specs.declared.fault.Fault.TheVariants.{Cart, Memory, File, Output, Address, Word, Device, Script, Session, Line, Input, Recording, Behind, Ahead, Differ, RecordedGame, TestFailed, TestUndecided, NoBattery, BatteryLength}
+use Rattle.streaming.specs.declared.obeying.End.TheVariants.{Whole, Wrong as WrongLine, Failed as FailedRead, Damaged as DamagedBytes, NoMemory as LackedMemory}
+use Rattle.streaming.specs.declared.error.StreamError.TheVariants.{Session as StreamSession, Line as StreamLine, Input as StreamInput, Snapshot as StreamSnapshot, Memory as StreamMemory}
+use Rattle.gbkeep.specs.declared.fault.Fault.TheVariants.{Cart, Memory, File, Output, Address, Word, Device, Script, Session, Line, Input, Snapshot, Recording, Behind, Ahead, Differ, RecordedGame, TestFailed, TestUndecided, NoBattery, BatteryLength}
 use Rattle.script.specs.Script.{IsRefused as IsScriptRefused}
 use Rattle.gbkeep.specs.Text.{Exchange, Text, IsUnread, IsUnwritten}
 use Rattle.gbkeep.specs.Request.{HasAddress, HasDevice, HasScript, IsDone, IsCompared, GivesInputs, IsGameRefused, IsOutputRefused, IsRecordingRefused, IsTestDecided, IsWithoutBattery, IsOtherLength, IsScriptOf, makes_battery_name, IsStreamStopped, IsStreamedTo, IsNotBelonging, IsRecordStopped, IsRecordedTo, record_limits, IsDebugged, IsDebugStopped, IsDebugUnbegun, IsDebugNotTakenUp}
@@ -70,6 +70,7 @@ status_of (Script fault) = 1
 status_of (Session fault) = 1
 status_of (Line number) = 1
 status_of Input = 1
+status_of Snapshot = 1
 status_of (Recording fault) = 1
 status_of (Behind count) = 1
 status_of (Ahead count) = 1
@@ -106,6 +107,8 @@ fault_of_stream (StreamCart fault) = Cart fault
 fault_of_stream (StreamFault (StreamSession fault)) = Session fault
 fault_of_stream (StreamFault (StreamLine number)) = Line number
 fault_of_stream (StreamFault StreamInput) = Input
+fault_of_stream (StreamFault StreamSnapshot) = Snapshot
+fault_of_stream (StreamFault StreamMemory) = Memory
 
 -- and what a recorded play that was refused is
 abbrev pub fault_of_record : RecordError → Fault
@@ -231,6 +234,7 @@ line_of (Session (GameTooSmall needed)) = None
 line_of (Session (GameDamaged damage)) = None
 line_of (Line number) = None
 line_of Input = Some (codes "gbkeep: input failed\n")
+line_of Snapshot = Some (codes "gbkeep: damaged snapshot\n")
 line_of (Recording TapeMemory) = Some (codes "gbkeep: no memory\n")
 line_of (Recording TapeDevice) = Some (codes "gbkeep: device failed\n")
 line_of (Recording TapeTooSmall) = Some (codes "gbkeep: too small, 2 sectors needed\n")
@@ -293,12 +297,13 @@ IsServed request (Err fault) old new = IsRefused request fault old new
 -- why a stream was refused, and what was read and went out then
 abbrev pub IsStreamRefused : Fault → (input output : Text) → Type 0
 IsStreamRefused (Cart fault) input output = IsUnread input × IsUnwritten output × ((rom : List ℕ) × (refusal_of rom ≡ Some fault))
-IsStreamRefused Memory input output = IsUnread input × IsUnwritten output
+IsStreamRefused Memory input output = (IsUnread input × IsUnwritten output) ⊎ IsStreamedTo LackedMemory input output
 IsStreamRefused File input output = IsUnread input × IsUnwritten output
 IsStreamRefused (Device fault) input output = IsUnread input × IsUnwritten output
 IsStreamRefused (Session why) input output = IsStreamStopped why input output
 IsStreamRefused (Line number) input output = IsStreamedTo (WrongLine number) input output
 IsStreamRefused Input input output = IsStreamedTo FailedRead input output
+IsStreamRefused Snapshot input output = IsStreamedTo DamagedBytes input output
 IsStreamRefused RecordedGame input output = IsUnread input × IsUnwritten output
 IsStreamRefused fault input output = ⊥
 

@@ -48,6 +48,8 @@ pub(crate) enum Fault {
     Line(u64),
     /// The input can't be read.
     Input,
+    /// The bytes of a state are no snapshot of the cartridge.
+    Snapshot,
     /// A recording is not begun, read or appended to.
     Recording(RecordingFault),
     /// The recording has fewer inputs than the game: so many.
@@ -131,6 +133,8 @@ impl From<StreamPlayError> for Fault {
             StreamPlayError::Stream(StreamError::Session(why)) => Fault::Session(why),
             StreamPlayError::Stream(StreamError::Line(number)) => Fault::Line(number),
             StreamPlayError::Stream(StreamError::Input) => Fault::Input,
+            StreamPlayError::Stream(StreamError::Snapshot) => Fault::Snapshot,
+            StreamPlayError::Stream(StreamError::Memory) => Fault::Memory,
         }
     }
 }
@@ -288,6 +292,7 @@ pub(crate) fn report<E: Write>(fault: Fault, err: &mut E) -> u8
         Fault::Behind(count) => write_behind_line(count, err),
         Fault::Ahead(count) => write_ahead_line(count, err),
         Fault::Differ => write_line("gbkeep: machines differ\n", err),
+        Fault::Snapshot => write_line("gbkeep: damaged snapshot\n", err),
         Fault::RecordedGame => write_line("gbkeep: recorded game: play it by record\n", err),
         Fault::TestFailed => write_line("gbkeep: test failed\n", err),
         Fault::TestUndecided => write_line("gbkeep: test undecided\n", err),

@@ -94,7 +94,7 @@ impl Machine {
         (processor, overrun)
     }
 
-    ghost use Rattle.memory_map.specs.Bus.{peeked};
+    ghost use Rattle.memory_map.specs.Bus.{peeked, written};
     ghost use Rattle.memory_map.specs.Stores.{region_of, region_filled, FitsRegion};
     ghost use Rattle.machine.specs.Machine.{start, frame_played, as_input, applied, picture_rows};
     ghost use Rattle.machine.specs.MachineStores.{without_memory, restored, row_set, AreLegalFor};
@@ -212,6 +212,14 @@ impl Machine {
         ensures { result ≡ peeked self.now.processor.memory address }
     {
         self.processor.memory.peek(address)
+    }
+
+    /// Writes a byte to an address as an instruction does at this moment, but no M-cycle passes: a closed place ignores it, and a register
+    /// has the effect of its write.
+    pub fn write(&mut self, address: u16, byte: u8)
+        ensures { self.new ≡ record self.old { processor = record self.old.processor { memory = written address byte self.old.processor.memory } } }
+    {
+        Bus::write(&mut self.processor.memory, address, byte);
     }
 
     /// The M-cycles by which the last frame overran, 0 to 5.

@@ -33,6 +33,12 @@ module _ {G F : Type 0} (game : Ghosts G F) where
       ∙ after_append (game.machine a) (input ∷ []) more
   advances_machine (by_save {more = more} one rest) = advances_machine rest ∙ ap (λ (m : MachineState). after m more) one.machine_is
 
+  -- the cartridge stays
+  pub advances_rom : {a b : G} {inputs : List Input} → Advances game a b inputs → game.rom b ≡ game.rom a
+  advances_rom (stays a) = refl
+  advances_rom (by_input one rest) = advances_rom rest ∙ one.rom_is
+  advances_rom (by_save one rest) = advances_rom rest ∙ one.rom_is
+
   pub advances_later : {a b : G} {inputs : List Input} → Advances game a b inputs → game.acknowledged a ≤ game.acknowledged b
   advances_later (stays a) = omega arith
   advances_later (by_input one rest) = let then = advances_later rest in omega (arith, then, one.acknowledged_is)

@@ -1,5 +1,5 @@
 -- How a play goes on over one save, over one input, and over several.
-use Rattle.std.proofs.Common.{◌≡◌, inl, inr, ⊎_elim, Bool, true, ℕ, ◌+◌, ◌≤◌, List, [], ◌∷◌, ◌++◌, length, take, drop, Some, Result, Ok, Err, OnOk, sym, ap, ◌∙◌, subst, arith, length-append, length-drop, append-nil}
+use Rattle.std.proofs.Common.{◌≡◌, inl, inr, ⊎_elim, Bool, true, false, true≢false, ℕ, ◌+◌, ◌≤◌, List, [], ◌∷◌, ◌++◌, length, take, drop, Some, Result, Ok, Err, OnOk, sym, ap, ◌∙◌, subst, arith, length-append, length-drop, append-nil}
 use Rattle.std.proofs.Math.Seq.{take-add}
 use Rattle.std.proofs.lemmas.Bool.{cases_Bool}
 use Rattle.std.proofs.lemmas.List.{take_all, drop_all, drop-append-le, take-append-le, length-take-le}
@@ -13,7 +13,8 @@ use Rattle.session.specs.Calls.{IsAtRest}
 use Rattle.session.specs.Inputs.{can_be_logged, entry_of, inputs_of}
 use Rattle.session.specs.Stands.{Position, stands, further, StandsWithin, StandsBetween}
 use Rattle.session.proofs.StandsLaws.{after_append, after_none, after_one}
-use Rattle.session.proofs.Saving.{leading}
+use Rattle.input_entries.specs.Inputs.{is_input}
+use Rattle.session.proofs.Saving.{leading, not_logged}
 use Rattle.session.proofs.Writes.{since_weaker}
 use Rattle.session.proofs.Beginnings.{since_then}
 use Rattle.playing.specs.Played.{Reaches, IsPlayed, Going, Stopped}
@@ -33,6 +34,16 @@ one_logged pending more input is same given = record {
   logged = λ logged. sym same ∙ logged;
   given = λ logged. given;
 }
+
+-- one that no log holds
+pub one_unlogged : (pending more : List Entry) (input : Input) → more ≡ pending ++ entry_of input ∷ [] → is_input (entry_of input) ≡ false → IsOneMore pending more input
+one_unlogged pending more input is none =
+    let other : can_be_logged more ≡ false = ap can_be_logged is ∙ not_logged pending (entry_of input) none in
+    record {
+      size = ap length is ∙ length-append pending (entry_of input ∷ []);
+      logged = λ logged. absurd (true≢false (sym logged ∙ other));
+      given = λ logged. absurd (true≢false (sym logged ∙ other));
+    }
 
 -- ---- how far an image reaches
 

@@ -1,10 +1,11 @@
 -- Why a play stops.
-use Rattle.std.proofs.Common.{◌≡◌, ◌==◌, ℕ, ◌≤◌, ◌<◌, ◌-◌, ◌^◌, Bool, false, true, inl, inr, ◌⊎◌, ⊎_elim, if◌then◌else◌, Result, Ok, Err, refl, sym, ap, subst, arith}
+use Rattle.std.proofs.Common.{◌≡◌, ◌==◌, ℕ, ◌≤◌, ◌<◌, ◌-◌, ◌^◌, List, Bool, false, true, inl, inr, ◌⊎◌, ⊎_elim, if◌then◌else◌, Result, Ok, Err, refl, sym, ap, subst, arith}
 use Rattle.std.specs.Prelude.{IfErr, IsErrAnd}
 use Rattle.std.proofs.lemmas.Bool.{eqb-true}
 use Rattle.sector_device.specs.DiskState.{DiskState}
 use Rattle.log_format.specs.Content.{generation_in}
-use Rattle.session.specs.Calls.{IsSaveCause, input_answer}
+use Rattle.session.specs.Calls.{IsRestoreAnswer, IsSaveCause, input_answer}
+use Rattle.session.specs.declared.error.Damage.{Damage}
 use Rattle.session.specs.declared.error.SessionError.{SessionError}
 use Rattle.session.specs.declared.error.SessionError.TheVariants.{Memory, Device, NoSession, TooSmall, OtherCartridge, Damaged, GenerationsUsedUp, Broken, SaveFirst, CountFull, Output}
 use Rattle.playing.specs.Played.{IsStop}
@@ -53,6 +54,26 @@ input_refused why broken pending all whole few answer =
     (λ (most : (pending == 3200) ≡ true). let e = eqb-true pending 3200 most in absurd (omega (arith, e, few)))
     (λ (full : (why ≡ CountFull) × ((all == 2 ^ 64 - 1) ≡ true)). (full.0, eqb-true all (2 ^ 64 - 1) full.1))
     (refused_by why (pending == 3200) (all == 2 ^ 64 - 1) (subst (λ (b : Bool). Err why ≡ input_answer b pending all) whole answer))
+
+-- so is the power switch, where there is memory for it
+pub power_refused : (why : SessionError) (taken : Result (Unit {0}) SessionError) → (Err why ≡ taken) ⊎ (Path (Result (Unit {0}) SessionError) (Err why) (Err Memory) × (taken ≡ Ok tt)) → (why ≡ Memory → ⊥) → Err why ≡ taken
+power_refused why taken (inl is) other = is
+power_refused why taken (inr is) other = absurd (other (cc))
+
+-- and so is a legal snapshot
+pub restore_refused : (rom bytes : List ℕ) (why : SessionError) (taken : Result (Unit {0}) SessionError) → IsRestoreAnswer rom bytes taken (Err why) → ((damage : Damage) → why ≡ Damaged damage → ⊥) → Err why ≡ taken
+restore_refused rom bytes why (Err first) answer other = answer
+restore_refused rom bytes (Damaged damage) (Ok done) answer other = absurd (other damage refl)
+restore_refused rom bytes Memory (Ok done) answer other = absurd answer
+restore_refused rom bytes Device (Ok done) answer other = absurd answer
+restore_refused rom bytes NoSession (Ok done) answer other = absurd answer
+restore_refused rom bytes (TooSmall needed) (Ok done) answer other = absurd answer
+restore_refused rom bytes OtherCartridge (Ok done) answer other = absurd answer
+restore_refused rom bytes GenerationsUsedUp (Ok done) answer other = absurd answer
+restore_refused rom bytes Broken (Ok done) answer other = absurd answer
+restore_refused rom bytes SaveFirst (Ok done) answer other = absurd answer
+restore_refused rom bytes CountFull (Ok done) answer other = absurd answer
+restore_refused rom bytes Output (Ok done) answer other = absurd answer
 
 pub full_not_output : (why : SessionError) → why ≡ CountFull → why ≡ Output → ⊥
 full_not_output why full is = cc

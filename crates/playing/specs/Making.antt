@@ -18,12 +18,14 @@ module _ {G F : Type 0} (game : Ghosts G F) where
     pub machine_is : game.machine b ≡ applied input (game.machine a)
     pub acknowledged_is : game.acknowledged b ≡ game.acknowledged a
     pub unsaved_is : game.unsaved b ≡ game.unsaved a + 1
+    pub rom_is : game.rom b ≡ game.rom a
 
   pub record IsSaved (a b : G) : Type 0 where
     pub saves : game.saves a b
     pub machine_is : game.machine b ≡ game.machine a
     pub acknowledged_is : game.acknowledged b ≡ count_of a
     pub unsaved_is : game.unsaved b ≡ 0
+    pub rom_is : game.rom b ≡ game.rom a
 
   -- ---- several
 

@@ -7,7 +7,7 @@ mod playable;
 mod played;
 mod report;
 
-pub use moves::{give, make_move, make_moves, save_line};
+pub use moves::{give, give_power, give_state, make_move, make_moves, save_line};
 pub use playable::Playable;
 pub use played::play;
 pub use report::{Report, Silent, write_resumed, write_saved};

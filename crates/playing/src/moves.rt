@@ -1,15 +1,19 @@
 //! Moves made on a game, saved when a save is due, and reported.
-ghost use Rattle.std.specs.Prelude.{◌≡◌, ◌<◌, ◌∷◌, [], replicate, ⊤, OnOk, IfErr};
-ghost use Rattle.machine.specs.Machine.{Frame, as_input};
+ghost use Rattle.std.specs.Prelude.{◌≡◌, ◌<◌, ◌≤◌, ◌∷◌, [], replicate, true, false, ⊤, OnOk, IfOk, IfErr};
+ghost use Rattle.machine.specs.Machine.{Frame, Power, State, Input as GivenInput, as_input};
+ghost use Rattle.snapshot.specs.Legal.{IsLegalSnapshot};
+ghost use Rattle.snapshot.specs.Reading.{machine_in};
 ghost use Rattle.session.specs.Calls.{most_unsaved};
-ghost use Rattle.playing.specs.Making.{count_of, Makes, StopsMaking, GivesInputs, StopsAmongInputs, MakesMoves, StopsAmongMoves};
+ghost use Rattle.playing.specs.Making.{count_of, IsGiven, Makes, StopsMaking, GivesInputs, StopsAmongInputs, MakesMoves, StopsAmongMoves};
 ghost use Rattle.playing.specs.Report.{saved_line, report_lines, inputs_of_moves};
 
 use crate::playable::Playable;
 use crate::report::{Report, write_resumed};
+use cartridge::Cartridge;
 use machine::Input;
 use script::Move;
 use session::MOST_UNSAVED;
+use std::alloc::Global;
 use std::io::Write;
 
 /// Saves, and writes the line of the save once it is made.
@@ -30,6 +34,22 @@ pub fn save_line<G: Playable, R: Report>(game: &mut G, report: &mut R) -> Result
     }
 }
 
+/// Saves if 3,200 inputs are unsaved, right after the input that makes them so many.
+fn save_due<G: Playable, R: Report>(game: &mut G, report: &mut R) -> Result<(), G::Fault>
+    requires whole { G.whole game.old }
+    requires few { G.unsaved game.old ≤ most_unsaved }
+    ensures made { (before : G) (input : GivenInput) → IsGiven ⟦<G as Playable>⟧ before game.old input → OnOk result
+        (GivesInputs ⟦<G as Playable>⟧ before game.new (R.contents report.old) (R.contents report.new) (input ∷ [])) }
+    ensures stopped { (before : G) (input : GivenInput) → IsGiven ⟦<G as Playable>⟧ before game.old input → IfErr result (λ why.
+        StopsAmongInputs ⟦<G as Playable>⟧ before game.new (R.contents report.old) (R.contents report.new) R.may_fail (input ∷ []) why) }
+    ensures whole { OnOk result (G.whole game.new × (G.unsaved game.new < most_unsaved)) }
+{
+    if game.counts().pending == MOST_UNSAVED {
+        return save_line(game, report);
+    }
+    Ok(())
+}
+
 /// Gives one input, and saves right after it if 3,200 are then unsaved.
 pub fn give<G: Playable, R: Report>(
     game: &mut G,
@@ -43,13 +63,69 @@ pub fn give<G: Playable, R: Report>(
         StopsAmongInputs ⟦<G as Playable>⟧ game.old game.new (R.contents report.old) (R.contents report.new) R.may_fail (as_input input ∷ []) why) }
     ensures whole { OnOk result (G.whole game.new × (G.unsaved game.new < most_unsaved)) }
 {
-    if let Err(why) = game.input(input) {
-        return Err(why);
+    match game.input(input) {
+        Ok(()) => save_due(game, report),
+        Err(why) => Err(why),
     }
-    if game.counts().pending == MOST_UNSAVED {
-        return save_line(game, report);
+}
+
+/// Switches the power off and on, one input, and saves right after it if 3,200 are then unsaved. The answer is whether there was memory
+/// for it: where there is none, nothing changes.
+pub fn give_power<G: Playable, R: Report>(
+    game: &mut G,
+    alloc: Global,
+    cartridge: &Cartridge,
+    report: &mut R,
+) -> Result<bool, G::Fault>
+    requires takes { G.takes_states ≡ true }
+    requires of { G.rom game.old ≡ cartridge.now }
+    requires whole { G.whole game.old }
+    requires few { G.unsaved game.old < most_unsaved }
+    ensures made { IfOk result (λ done. done ≡ true →
+        GivesInputs ⟦<G as Playable>⟧ game.old game.new (R.contents report.old) (R.contents report.new) (Power ∷ [])) }
+    ensures nothing { IfOk result (λ done. done ≡ false → (game.new ≡ game.old) × (report.new ≡ report.old)) }
+    ensures stopped { IfErr result (λ why.
+        StopsAmongInputs ⟦<G as Playable>⟧ game.old game.new (R.contents report.old) (R.contents report.new) R.may_fail (Power ∷ []) why) }
+    ensures whole { OnOk result (G.whole game.new × (G.unsaved game.new < most_unsaved)) }
+{
+    match game.power(alloc, cartridge) {
+        Ok(true) => match save_due(game, report) {
+            Ok(()) => Ok(true),
+            Err(why) => Err(why),
+        },
+        Ok(false) => Ok(false),
+        Err(why) => Err(why),
     }
-    Ok(())
+}
+
+/// Goes on with the machine of a snapshot, one input, and saves right after it if 3,200 are then unsaved. The answer is whether the bytes
+/// are a legal snapshot of the cartridge: where they are none, nothing changes.
+pub fn give_state<G: Playable, R: Report>(
+    game: &mut G,
+    bytes: &[u8],
+    cartridge: &Cartridge,
+    report: &mut R,
+) -> Result<bool, G::Fault>
+    requires takes { G.takes_states ≡ true }
+    requires of { G.rom game.old ≡ cartridge.now }
+    requires whole { G.whole game.old }
+    requires few { G.unsaved game.old < most_unsaved }
+    ensures made { IfOk result (λ done. done ≡ true → GivesInputs ⟦<G as Playable>⟧ game.old game.new (R.contents report.old) (R.contents report.new)
+        (State (machine_in cartridge.now bytes.now) ∷ [])) }
+    ensures legal { IfOk result (λ done. done ≡ true → IsLegalSnapshot cartridge.now bytes.now) }
+    ensures nothing { IfOk result (λ done. done ≡ false → (game.new ≡ game.old) × (report.new ≡ report.old) × (¬ IsLegalSnapshot cartridge.now bytes.now)) }
+    ensures stopped { IfErr result (λ why. StopsAmongInputs ⟦<G as Playable>⟧ game.old game.new (R.contents report.old) (R.contents report.new) R.may_fail
+        (State (machine_in cartridge.now bytes.now) ∷ []) why) }
+    ensures whole { OnOk result (G.whole game.new × (G.unsaved game.new < most_unsaved)) }
+{
+    match game.restore(bytes, cartridge) {
+        Ok(true) => match save_due(game, report) {
+            Ok(()) => Ok(true),
+            Err(why) => Err(why),
+        },
+        Ok(false) => Ok(false),
+        Err(why) => Err(why),
+    }
 }
 
 /// Gives `times` frames with these buttons.

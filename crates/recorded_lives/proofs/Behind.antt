@@ -1,6 +1,5 @@
 -- A cut of a round, and one round more behind a life.
 use Rattle.std.proofs.Common.{◌≡◌, inl, inr, ⊎_elim, ℕ, suc, ◌+◌, ◌<◌, List, [], ◌∷◌, ◌++◌, length, take, map, get_or, Bool, refl, sym, ap, ◌∙◌, subst, arith}
-use Rattle.std.specs.Prelude.{slice_get}
 use Rattle.std.proofs.Math.Seq.{take-suc}
 use Rattle.std.proofs.lemmas.List.{map-append}
 use Rattle.std.proofs.lemmas.Option.{slice_get-get_or}
@@ -10,7 +9,7 @@ use Rattle.sector_device.specs.Records.{replayed, IsCutOf}
 use Rattle.sector_device.specs.declared.recorded.Recorded.{Recorded}
 use Rattle.recorded_play.specs.declared.error.RecordError.{RecordError}
 use Rattle.recorded_lives.specs.Lives.{Files, Played, IsRound, IsRecordedLife}
-use Rattle.recorded_lives.specs.Devices.{StandTogether, AreLeft, LeavesLife, HasLived, LeavesSomeLife, IsLifeRefusal, texts_of, reports_of, wholes_of, CountsCut, CountsCuts}
+use Rattle.recorded_lives.specs.Devices.{StandTogether, AreLeft, LeavesLife, LeavesSomeLife, IsLifeRefusal, texts_of, reports_of, wholes_of, CountsCut, CountsCuts}
 use Rattle.recorded_lives.specs.Rounds.{LeavesRound, IsCut, IsCutRound, RefusesRound}
 use Rattle.recorded_lives.specs.declared.rounds.RecordedRound.{RecordedRound}
 use Rattle.recorded_lives.specs.declared.rounds.RecordedEnd.{RecordedEnd}

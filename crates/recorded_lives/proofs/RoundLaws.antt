@@ -1,13 +1,11 @@
 -- What a round leaves: not taken up, played to its end, and stopped.
-use Rattle.std.proofs.Common.{◌≡◌, ◌⊎◌, inl, inr, ⊎_elim, ℕ, ◌+◌, ◌-◌, ◌≤◌, List, [], ◌∷◌, ◌++◌, length, take, drop, Option, Some, Bool, true, false, refl, sym, ap, ◌∙◌, subst, arith, length-append, length-drop, append-nil, append_assoc}
+use Rattle.std.proofs.Common.{◌≡◌, inl, inr, ⊎_elim, ℕ, ◌+◌, ◌-◌, ◌≤◌, List, [], ◌++◌, length, take, drop, Some, Bool, true, false, refl, sym, ap, ◌∙◌, subst, arith, length-append, length-drop, append-nil, append_assoc}
 use Rattle.std.proofs.Math.Seq.{take-append-add}
 use Rattle.std.proofs.lemmas.List.{length-map, take_all, take-append-drop}
 use Rattle.std.proofs.lemmas.List.Elements.{All-nil}
-use Rattle.std.specs.Io.KnownBytes.{Keeps}
 use Rattle.sha2.specs.Sha256.{sha256}
 use Rattle.machine.specs.Machine.{MachineState, start, after}
 use Rattle.machine.specs.Machine.{Input}
-use Rattle.sector_device.specs.DiskState.{DiskState}
 use Rattle.sector_device.specs.Memory.{MemoryState, memory_disk}
 use Rattle.sector_device.specs.RecordLaws.{counts_last, reads_image}
 use Rattle.log_format.specs.Content.{content}
@@ -15,18 +13,20 @@ use Rattle.recording.specs.Recorded.{recorded}
 use Rattle.session.specs.Inputs.{input_of}
 use Rattle.session.specs.Stands.{Position, stands}
 use Rattle.session.proofs.Saving.{leading}
-use Rattle.session.proofs.StandsLaws.{after_append, after_none}
+use Rattle.session.proofs.StandsLaws.{after_append}
 use Rattle.session.specs.declared.error.SessionError.{SessionError}
 use Rattle.session.specs.declared.error.SessionError.TheVariants.{Device}
-use Rattle.playing.specs.Played.{Reaches}
 use Rattle.playing.specs.Report.{Line, texts, IsPart}
-use Rattle.input_lines.specs.Newlines.{joined}
-use Rattle.streaming.specs.Orders.{orders_of, IsRight}
-use Rattle.input_lines.specs.Reading.{ReadsLines}
-use Rattle.streaming.specs.Reading.{ReadsTo}
-use Rattle.streaming.specs.Answers.{inputs_of_orders, stream_lines}
+use Rattle.input_lines.specs.Given.{Given, texts_of, HasReadGiven, IsCutOff, IsWhole as IsWholeLine}
+use Rattle.machine_lines.specs.KeptStates.{KeptMachine}
+use Rattle.streaming.specs.Orders.{asked}
+use Rattle.streaming.specs.Reading.{AsksUpTo, ReadsTo}
+use Rattle.streaming.specs.Reading.Asks.{no_line}
+use Rattle.streaming.specs.Reading.AsksUpTo.{all_asked}
+use Rattle.streaming.specs.Answers.{inputs_of_deeds, stream_lines}
+use Rattle.streaming.proofs.Wholes.{reads_some}
 use Rattle.streaming.specs.declared.obeying.End.{End}
-use Rattle.streaming.specs.declared.obeying.End.TheVariants.{Whole, Wrong, Failed}
+use Rattle.streaming.specs.declared.obeying.End.TheVariants.{Whole, Wrong, Failed, Damaged, NoMemory}
 use Rattle.replaying.specs.Agreeing.{Agrees}
 use Rattle.recorded_play.specs.Agreeing.{AllAgree, recorded_inputs}
 use Rattle.recorded_play.specs.Steps.{told_as}
@@ -35,11 +35,11 @@ use Rattle.recorded_play.specs.declared.error.RecordError.{RecordError}
 use Rattle.recorded_play.specs.declared.error.RecordError.TheVariants.{Session, Recording, Behind, Line as WrongLine, Input as FailedInput}
 use Rattle.recorded_play.proofs.Stepping.{entries_of}
 use Rattle.recorded_play.proofs.TakenUp.{recorded_leads}
-use Rattle.recorded_lives.specs.Lives.{Files, Agree, Played, inputs_of_lines, kept_of, Begins, end_of, IsWhole, IsRound}
+use Rattle.recorded_lives.specs.Lives.{Files, Agree, Played, kept_of, Begins, end_of}
 use Rattle.recorded_lives.specs.Devices.{StandTogether, AreLeft}
 use Rattle.recorded_lives.specs.Rounds.{HasPlayedRound, LeavesRound}
 use Rattle.recorded_lives.proofs.LifeLaws.{agree_more, two_parts}
-use Rattle.recorded_lives.proofs.Telling.{AreAtMost, more_at_most, none_at_most, stream_at_most}
+use Rattle.recorded_lives.proofs.Telling.{more_at_most, none_at_most, stream_at_most}
 
 -- ---- lists of inputs
 
@@ -64,13 +64,13 @@ went_on rom first last more before now is later =
 
 -- ---- lines that were read
 
-begins : (lines : List (List ℕ)) (more text unread : List ℕ) → ReadsLines lines more (Some text) (Some unread) → Begins lines (more ++ unread) text
-begins lines more text unread (inl read) = inl (read ∙ append_assoc (joined lines) more unread)
-begins lines more text unread (inr (front, is, none, read, at_end)) =
+begins : (lines : List Given) (more text unread : List ℕ) → HasReadGiven (asked false) lines more (Some text) (Some unread) → Begins lines (more ++ unread) text
+begins lines more text unread (inl (whole, read)) = inl (whole, read ∙ append_assoc (texts_of lines) more unread)
+begins lines more text unread (inr (front, cut, none, read, at_end)) =
     let all : text ≡ front = read ∙ ap (λ (l : List ℕ). front ++ l) at_end ∙ append-nil front in
-    inr (ap (λ (l : List ℕ). l ++ 10 ∷ []) all ∙ is, ap (λ (l : List ℕ). l ++ unread) none ∙ at_end)
+    inr (subst (IsCutOff (asked false) lines) (sym all) cut, ap (λ (l : List ℕ). l ++ unread) none ∙ at_end)
 
-record Unread (lines : List (List ℕ)) (text : List ℕ) (whole : Bool) : Type 0 where
+record Unread (lines : List Given) (text : List ℕ) (whole : Bool) : Type 0 where
   rest : List ℕ
   begins_so : Begins lines rest text
   none : whole ≡ true → rest ≡ []
@@ -79,16 +79,21 @@ abbrev is_whole : End → Bool
 is_whole Whole = true
 is_whole (Wrong number) = false
 is_whole Failed = false
+is_whole Damaged = false
+is_whole NoMemory = false
 
-read_to : (end : End) (lines : List (List ℕ)) (text unread : List ℕ) → ReadsTo end lines (Some text) (Some unread) → Unread lines text (is_whole end)
-read_to Whole lines text unread read = record { rest = [] ++ unread; begins_so = begins lines [] text unread read.0; none = λ yes. read.1 }
-read_to (Wrong number) lines text unread (number_is, inl wrong) = record {
-  rest = (wrong.line ++ wrong.more) ++ unread;
-  begins_so = inl (wrong.read ∙ append_assoc (joined lines) (wrong.line ++ wrong.more) unread);
-  none = λ yes. absurd (cc);
-}
-read_to (Wrong number) lines text unread (number_is, inr (last, more, read)) = record { rest = more ++ unread; begins_so = begins lines more text unread read; none = λ yes. absurd (cc) }
-read_to Failed lines text unread (rest, one, read) = record { rest = rest ++ unread; begins_so = begins lines rest text unread read; none = λ yes. absurd (cc) }
+-- an end before the end of the input
+read_some : (rom : List ℕ) (kept : List KeptMachine) (end : End) (lines : List Given) (text unread : List ℕ) → ReadsTo false rom kept end lines (Some text) (Some unread) → Unread lines text false
+read_some rom kept end lines text unread read =
+    let some = reads_some false rom kept end lines (Some text) (Some unread) read in
+    record { rest = some.0 ++ unread; begins_so = begins lines some.0 text unread some.1; none = λ yes. absurd (cc) }
+
+read_to : (rom : List ℕ) (kept : List KeptMachine) (end : End) (lines : List Given) (text unread : List ℕ) → ReadsTo false rom kept end lines (Some text) (Some unread) → Unread lines text (is_whole end)
+read_to rom kept Whole lines text unread read = record { rest = [] ++ unread; begins_so = begins lines [] text unread read.0; none = λ yes. read.1 }
+read_to rom kept (Wrong number) lines text unread read = read_some rom kept (Wrong number) lines text unread read
+read_to rom kept Failed lines text unread read = read_some rom kept Failed lines text unread read
+read_to rom kept Damaged lines text unread read = read_some rom kept Damaged lines text unread read
+read_to rom kept NoMemory lines text unread read = read_some rom kept NoMemory lines text unread read
 
 -- ---- devices
 
@@ -114,7 +119,7 @@ module _ (rom : List ℕ) (save recording now_save now_recording : MemoryState) 
 
   -- no line was read, and none told
   abbrev nothing : Played
-  nothing = record { text = text; lines = []; report = []; told = []; kept = 0; whole = false }
+  nothing = record { text = text; lines = []; deeds = []; report = []; told = []; kept = 0; whole = false }
 
   nothing_played : (first last : Files) → AreLeft rom (memory_disk save) (memory_disk recording) first → AreLeft rom (memory_disk now_save) (memory_disk now_recording) last → last.recorded ≡ first.recorded → first.save.count ≤ last.save.count
       → HasPlayedRound rom (memory_disk save) (memory_disk recording) text [] false last
@@ -130,8 +135,8 @@ module _ (rom : List ℕ) (save recording now_save now_recording : MemoryState) 
         whole_is = refl;
         round = record {
           unread = text;
-          lines_are = inl refl;
-          right = All-nil IsRight;
+          lines_are = inl (All-nil (IsWholeLine (asked false)), refl);
+          asks = all_asked no_line;
           untold = stream_lines (end_of rom first.recorded) [];
           told_are = refl;
           report_is = refl;
@@ -216,15 +221,15 @@ module _ (rom : List ℕ) (save recording now_save now_recording : MemoryState) 
       → Leaves report (is_whole end)
   recorded_to end unread report by =
       let taken = by.taken_up tt tt in
-      let orders = orders_of by.lines in
-      let given = inputs_of_orders orders in
+      let deeds = by.deeds in
+      let given = inputs_of_deeds deeds in
       let whole = is_whole end in
-      let told = stream_lines (end_of rom taken.played) orders in
-      let read = read_to end by.lines text unread by.read in
+      let told = stream_lines (end_of rom taken.played) deeds in
+      let read = read_to rom by.kept end by.lines text unread by.read in
       let rests = by.rests tt in
       let holds = by.recorded tt tt in
       let lead = leading (stands rom (content (memory_disk now_save).sectors)) [] _ _ rests.leads in
-      let played : Played = record { text = text; lines = by.lines; report = report; told = told; kept = length given; whole = whole } in
+      let played : Played = record { text = text; lines = by.lines; deeds = by.deeds; report = report; told = told; kept = length given; whole = whole } in
       let kept_is : take (length given) given ≡ given = take_all (length given) given (omega arith) in
       record {
         together = record {
@@ -252,11 +257,11 @@ module _ (rom : List ℕ) (save recording now_save now_recording : MemoryState) 
               round = record {
                 unread = read.rest;
                 lines_are = read.begins_so;
-                right = by.right;
+                asks = subst (λ (m : MachineState). AsksUpTo false rom m by.lines by.deeds) (ap (λ (p : Position). p.machine) (behind_is by.at by.more taken)) (all_asked by.asks);
                 untold = [];
                 told_are = sym (append-nil told);
-                report_is = by.answered ∙ ap (λ (p : Position). texts (stream_lines p orders)) (behind_is by.at by.more taken);
-                are_saved = more_at_most (length taken.played + length given) last.save.count told (omega (arith, count_is)) (stream_at_most (end_of rom taken.played) orders);
+                report_is = by.answered ∙ ap (λ (p : Position). texts (stream_lines p deeds)) (behind_is by.at by.more taken);
+                are_saved = more_at_most (length taken.played + length given) last.save.count told (omega (arith, count_is)) (stream_at_most (end_of rom taken.played) deeds);
                 recorded_is = recorded_is;
                 later = later;
                 enough = now.enough;
@@ -288,8 +293,8 @@ module _ (rom : List ℕ) (save recording now_save now_recording : MemoryState) 
       → LeavesPart why report
   stopped_in why unread report by =
       let taken = by.taken_up tt tt in
-      let orders = orders_of by.lines in
-      let given = inputs_of_orders orders in
+      let deeds = by.deeds in
+      let given = inputs_of_deeds deeds in
       let told = by.told.whole in
       let untold = by.told.rest in
       let least : ℕ = by.at.count + length by.more + by.least in
@@ -305,7 +310,7 @@ module _ (rom : List ℕ) (save recording now_save now_recording : MemoryState) 
               let reached = by.left tt here.save_image here.save_stood in
               let held = by.recorded tt tt together.agree here.recording_image here.recording_stood in
               let kept : ℕ = held.count - length taken.played in
-              let played : Played = record { text = text; lines = by.lines; report = texts told; told = told; kept = kept; whole = false } in
+              let played : Played = record { text = text; lines = by.lines; deeds = by.deeds; report = texts told; told = told; kept = kept; whole = false } in
               let both : Some last.save ≡ Some (record { count = by.at.count + reached.count; machine = after by.at.machine (take reached.count (by.more ++ given)) }) = sym here.stands_is ∙ reached.is in
               let same : last.save ≡ record { count = by.at.count + reached.count; machine = after by.at.machine (take reached.count (by.more ++ given)) } = cc in
               let count_is : last.save.count ≡ by.at.count + reached.count = ap (λ (p : Position). p.count) same in
@@ -326,9 +331,9 @@ module _ (rom : List ℕ) (save recording now_save now_recording : MemoryState) 
                 round = record {
                   unread = by.unread ++ unread;
                   lines_are = begins by.lines by.unread text unread by.read;
-                  right = by.right;
+                  asks = subst (λ (m : MachineState). AsksUpTo false rom m by.lines by.deeds) (ap (λ (p : Position). p.machine) (behind_is by.at by.more taken)) by.asks;
                   untold = untold;
-                  told_are = ap (λ (p : Position). stream_lines p orders) (sym (behind_is by.at by.more taken)) ∙ by.told.lines_are;
+                  told_are = ap (λ (p : Position). stream_lines p deeds) (sym (behind_is by.at by.more taken)) ∙ by.told.lines_are;
                   report_is = refl;
                   are_saved = more_at_most least last.save.count told (omega (arith, count_is, reached.at_least)) by.told.are_saved;
                   recorded_is = recorded_is;

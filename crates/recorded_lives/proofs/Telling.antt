@@ -1,6 +1,6 @@
 -- What a stream tells is at most what it has at its end.
-use Rattle.std.proofs.Common.{◌≡◌, ℕ, ◌+◌, ◌≤◌, List, [], ◌∷◌, ◌++◌, length, inl, inr, sym, ap, subst, arith, length-append}
-use Rattle.std.specs.Prelude.{◌==◌, replicate, if◌then◌else◌, Bool}
+use Rattle.std.proofs.Common.{ℕ, ◌+◌, ◌≤◌, List, [], ◌∷◌, ◌++◌, length, inl, inr, sym, ap, subst, arith, length-append}
+use Rattle.std.specs.Prelude.{◌==◌, codes, replicate, if◌then◌else◌, Bool}
 use Rattle.std.specs.List.{All}
 use Rattle.std.proofs.lemmas.Bool.{cases_Bool}
 use Rattle.std.proofs.lemmas.List.Elements.{All-nil, All-cons, All-append, All-weaker}
@@ -10,10 +10,13 @@ use Rattle.machine.specs.Machine.{Frame}
 use Rattle.script.specs.declared.moves.Move.{Move}
 use Rattle.script.specs.declared.moves.Move.TheVariants.{Frames, Seconds, Save}
 use Rattle.session.specs.Stands.{Position}
-use Rattle.playing.specs.Report.{Line, resumed_line, saved_line, unsaved_after, line_due, lines_of_inputs, inputs_of_move, unsaved_behind_move, lines_of_move}
-use Rattle.streaming.specs.Answers.{inputs_of_order, inputs_of_orders, unsaved_behind_order, lines_of_order, lines_of_orders, picture_line, ended, stream_lines}
+use Rattle.playing.specs.Report.{Line, resumed_line, saved_line, unsaved_after, line_due, lines_of_inputs, inputs_of_move, lines_of_move}
+use Rattle.snapshot.specs.Encoding.{encoded}
+use Rattle.machine_lines.specs.Texts.{count_line, memory_text, state_text}
+use Rattle.streaming.specs.Orders.{Deed, Does, GoesOnWith}
+use Rattle.streaming.specs.Answers.{answer, other_text, inputs_of_order, inputs_of_deed, inputs_of_deeds, unsaved_behind_deed, lines_of_order, lines_of_deed, lines_of_deeds, picture_line, ended, stream_lines}
 use Rattle.streaming.specs.declared.order.Order.{Order}
-use Rattle.streaming.specs.declared.order.Order.TheVariants.{Make, Picture}
+use Rattle.streaming.specs.declared.order.Order.TheVariants.{Make, Picture, State, Memory, Power, Keep, Back, Restore}
 use Rattle.streaming.proofs.Wholes.{ended_gives}
 
 -- no line tells more than this
@@ -56,23 +59,34 @@ move_at_most count unsaved Save = one_at_most (count + 0) (saved_line count) (om
 order_at_most : (machine : MachineState) (count unsaved : ℕ) (order : Order) → AreAtMost (count + length (inputs_of_order order)) (lines_of_order machine count unsaved order)
 order_at_most machine count unsaved (Make move) = move_at_most count unsaved move
 order_at_most machine count unsaved Picture = one_at_most (count + 0) (picture_line machine) (omega arith)
+order_at_most machine count unsaved State = one_at_most (count + 0) (answer (state_text (encoded machine))) (omega arith)
+order_at_most machine count unsaved (Memory address n) = one_at_most (count + 0) (answer (memory_text machine address n)) (omega arith)
+order_at_most machine count unsaved Power = due_at_most unsaved (count + 1)
+order_at_most machine count unsaved (Keep k) = one_at_most (count + 0) (answer (count_line (codes "kept") k)) (omega arith)
+order_at_most machine count unsaved (Back k) = none_at_most (count + 0)
+order_at_most machine count unsaved (Restore n) = none_at_most (count + 0)
 
-orders_at_most : (machine : MachineState) (count unsaved : ℕ) (orders : List Order) → AreAtMost (count + length (inputs_of_orders orders)) (lines_of_orders machine count unsaved orders)
-orders_at_most machine count unsaved [] = none_at_most (count + 0)
-orders_at_most machine count unsaved (order ∷ orders) =
-    let all : ℕ = count + length (inputs_of_orders (order ∷ orders)) in
-    let size = length-append (inputs_of_order order) (inputs_of_orders orders) in
-    let here : ℕ = count + length (inputs_of_order order) in
-    let first = lines_of_order machine count unsaved order in
-    let others = lines_of_orders (after machine (inputs_of_order order)) here (unsaved_behind_order unsaved order) orders in
+deed_at_most : (machine : MachineState) (count unsaved : ℕ) (deed : Deed) → AreAtMost (count + length (inputs_of_deed deed)) (lines_of_deed machine count unsaved deed)
+deed_at_most machine count unsaved (Does order) = order_at_most machine count unsaved order
+deed_at_most machine count unsaved (GoesOnWith order other) =
+    two_at_most (count + 1) (line_due unsaved (count + 1)) (answer (other_text order) ∷ []) (due_at_most unsaved (count + 1)) (one_at_most (count + 1) (answer (other_text order)) (omega arith))
+
+deeds_at_most : (machine : MachineState) (count unsaved : ℕ) (deeds : List Deed) → AreAtMost (count + length (inputs_of_deeds deeds)) (lines_of_deeds machine count unsaved deeds)
+deeds_at_most machine count unsaved [] = none_at_most (count + 0)
+deeds_at_most machine count unsaved (deed ∷ deeds) =
+    let all : ℕ = count + length (inputs_of_deeds (deed ∷ deeds)) in
+    let size = length-append (inputs_of_deed deed) (inputs_of_deeds deeds) in
+    let here : ℕ = count + length (inputs_of_deed deed) in
+    let first = lines_of_deed machine count unsaved deed in
+    let others = lines_of_deeds (after machine (inputs_of_deed deed)) here (unsaved_behind_deed unsaved deed) deeds in
     two_at_most all first others
-    (more_at_most here all first (omega (arith, size)) (order_at_most machine count unsaved order))
-    (more_at_most (here + length (inputs_of_orders orders)) all others (omega (arith, size)) (orders_at_most (after machine (inputs_of_order order)) here (unsaved_behind_order unsaved order) orders))
+    (more_at_most here all first (omega (arith, size)) (deed_at_most machine count unsaved deed))
+    (more_at_most (here + length (inputs_of_deeds deeds)) all others (omega (arith, size)) (deeds_at_most (after machine (inputs_of_deed deed)) here (unsaved_behind_deed unsaved deed) deeds))
 
-pub stream_at_most : (from : Position) (orders : List Order) → AreAtMost (from.count + length (inputs_of_orders orders)) (stream_lines from orders)
-stream_at_most from orders =
-    let all : ℕ = from.count + length (inputs_of_orders orders) in
-    let whole = ended 0 orders in
-    let given = ap (λ (l : List Input). length l) (ended_gives 0 orders) in
-    All-cons (λ (line : Line). line.told ≤ all) (resumed_line from.count) (lines_of_orders from.machine from.count 0 whole) (omega arith)
-    (more_at_most (from.count + length (inputs_of_orders whole)) all (lines_of_orders from.machine from.count 0 whole) (omega (arith, given)) (orders_at_most from.machine from.count 0 whole))
+pub stream_at_most : (from : Position) (deeds : List Deed) → AreAtMost (from.count + length (inputs_of_deeds deeds)) (stream_lines from deeds)
+stream_at_most from deeds =
+    let all : ℕ = from.count + length (inputs_of_deeds deeds) in
+    let whole = ended 0 deeds in
+    let given = ap (λ (l : List Input). length l) (ended_gives 0 deeds) in
+    All-cons (λ (line : Line). line.told ≤ all) (resumed_line from.count) (lines_of_deeds from.machine from.count 0 whole) (omega arith)
+    (more_at_most (from.count + length (inputs_of_deeds whole)) all (lines_of_deeds from.machine from.count 0 whole) (omega (arith, given)) (deeds_at_most from.machine from.count 0 whole))

@@ -1,12 +1,13 @@
 -- What a life of a SAVE and its recording is, whatever was cut in it.
-use Rattle.std.specs.Prelude.{◌≡◌, ◌⊎◌, ◌≤◌, ◌-◌, ℕ, List, [], ◌∷◌, ◌++◌, length, take, drop, Bool, true, All}
+use Rattle.std.specs.Prelude.{◌≡◌, ◌⊎◌, ◌≤◌, ◌-◌, ℕ, List, [], ◌∷◌, ◌++◌, length, take, drop, Bool, true, false, All}
 use Rattle.machine.specs.Machine.{after, start}
 use Rattle.machine.specs.Machine.{Input}
 use Rattle.session.specs.Stands.{Position}
 use Rattle.playing.specs.Report.{Line, texts}
-use Rattle.input_lines.specs.Newlines.{joined}
-use Rattle.streaming.specs.Orders.{orders_of, IsRight}
-use Rattle.streaming.specs.Answers.{inputs_of_orders, stream_lines}
+use Rattle.input_lines.specs.Given.{Given, texts_of as texts_of_lines, IsWhole as IsWholeLine, IsCutOff}
+use Rattle.streaming.specs.Orders.{Deed, asked}
+use Rattle.streaming.specs.Reading.{AsksUpTo}
+use Rattle.streaming.specs.Answers.{inputs_of_deeds, stream_lines}
 
 -- what both files hold: the position that the SAVE stands for, and the inputs that are recorded
 pub record Files : Type 0 where
@@ -22,9 +23,10 @@ pub record Agree (rom : List ℕ) (files : Files) : Type 0 where
 
 -- what was played in a round
 pub record Played : Type 0 where
-  -- its input, and the lines of it that were read
+  -- its input, the lines of it that were read, and what was done for each
   pub text : List ℕ
-  pub lines : List (List ℕ)
+  pub lines : List Given
+  pub deeds : List Deed
   -- its report, and the lines of it
   pub report : List ℕ
   pub told : List Line
@@ -33,16 +35,13 @@ pub record Played : Type 0 where
   -- whether it came to its end before the cut
   pub whole : Bool
 
-abbrev pub inputs_of_lines : List (List ℕ) → List Input
-inputs_of_lines lines = inputs_of_orders (orders_of lines)
-
 -- those that are recorded
 abbrev pub kept_of : Played → List Input
-kept_of round = take round.kept (inputs_of_lines round.lines)
+kept_of round = take round.kept (inputs_of_deeds round.deeds)
 
 -- these lines, each with its newline, and then the rest; the last line of a text may lack its newline
-abbrev pub Begins : (lines : List (List ℕ)) → (rest text : List ℕ) → Type 0
-Begins lines rest text = (text ≡ joined lines ++ rest) ⊎ ((text ++ 10 ∷ [] ≡ joined lines) × (rest ≡ []))
+abbrev pub Begins : (lines : List Given) → (rest text : List ℕ) → Type 0
+Begins lines rest text = (All (IsWholeLine (asked false)) lines × (text ≡ texts_of_lines lines ++ rest)) ⊎ (IsCutOff (asked false) lines text × (rest ≡ []))
 
 -- the position after all inputs that are recorded
 abbrev pub end_of : (rom : List ℕ) → (recorded : List Input) → Position
@@ -52,18 +51,18 @@ end_of rom recorded = record { count = length recorded; machine = after (start r
 pub record IsWhole (round : Played) (unread : List ℕ) (untold : List Line) (last : Files) : Type 0 where
   pub read : unread ≡ []
   pub told : untold ≡ []
-  pub kept : kept_of round ≡ inputs_of_lines round.lines
+  pub kept : kept_of round ≡ inputs_of_deeds round.deeds
   pub saved : last.save.count ≡ length last.recorded
 
 -- A round that was played from what both files hold at first, and what its cut left of them.
 pub record IsRound (rom : List ℕ) (round : Played) (first last : Files) : Type 0 where
   pub unread : List ℕ
   pub lines_are : Begins round.lines unread round.text
-  -- none of them is wrong
-  pub right : All IsRight round.lines
+  -- none of them is wrong, and this is done for them
+  pub asks : AsksUpTo false rom (end_of rom first.recorded).machine round.lines round.deeds
   -- it told the first of what a stream of these lines tells that goes on after all that is recorded
   pub untold : List Line
-  pub told_are : stream_lines (end_of rom first.recorded) (orders_of round.lines) ≡ round.told ++ untold
+  pub told_are : stream_lines (end_of rom first.recorded) round.deeds ≡ round.told ++ untold
   pub report_is : round.report ≡ texts round.told
   -- the SAVE has all inputs up to each count that it told
   pub are_saved : All (λ line. line.told ≤ last.save.count) round.told

@@ -1,5 +1,5 @@
 -- One round on two devices: what its calls leave, and what its cut leaves.
-use Rattle.std.specs.Prelude.{◌≡◌, ◌⊎◌, ℕ, List, [], Bool, true, false, None}
+use Rattle.std.specs.Prelude.{◌≡◌, ◌⊎◌, ℕ, List, [], Bool, true, None}
 use Rattle.sector_device.specs.DiskState.{DiskState}
 use Rattle.sector_device.specs.Memory.{MemoryState, memory_disk, image_of}
 use Rattle.session.specs.declared.error.SessionError.TheVariants.{Memory, Device}

@@ -1,7 +1,6 @@
 -- A whole recorded play: from a game that is taken up to what is left.
-use Rattle.std.proofs.Common.{◌≡◌, inl, inr, ℕ, suc, ◌+◌, ◌-◌, List, [], ◌∷◌, ◌++◌, length, take, drop, Option, Some, sym, ap, ◌∙◌, subst, arith, length-append, length-drop}
+use Rattle.std.proofs.Common.{◌≡◌, inl, inr, true, false, true≢false, refl, ℕ, suc, ◌+◌, ◌-◌, List, [], ◌∷◌, ◌++◌, length, take, drop, Option, Some, sym, ap, ◌∙◌, subst, arith, length-append, length-drop}
 use Rattle.std.proofs.lemmas.List.{take_all, drop_all, take-append-drop}
-use Rattle.std.specs.List.{All}
 use Rattle.std.specs.Io.KnownBytes.{Appends}
 use Rattle.machine.specs.Machine.{MachineState, start, after}
 use Rattle.machine.specs.Machine.{Input}
@@ -19,10 +18,14 @@ use Rattle.playing.specs.Report.{Line, texts, resumed_line, HasTold}
 use Rattle.playing.proofs.Going.{IsNow, none_left}
 use Rattle.playing.proofs.PlayLaws.{begun_played, all_saved, reaches_more, reaches_none}
 use Rattle.playing.proofs.Telling.{told_by}
-use Rattle.input_lines.specs.Reading.{ReadsLines}
-use Rattle.streaming.specs.Orders.{orders_of, IsRight}
-use Rattle.streaming.specs.Reading.{ReadsTo}
-use Rattle.streaming.specs.Answers.{inputs_of_orders, lines_of_orders, ended, stream_lines}
+use Rattle.input_lines.specs.Given.{Given, HasReadGiven}
+use Rattle.machine_lines.specs.KeptStates.{KeptMachine}
+use Rattle.streaming.specs.Orders.{Deed, asked, order_of, needs_states}
+use Rattle.streaming.specs.Reading.{Asks, AsksUpTo, ReadsTo}
+use Rattle.streaming.specs.declared.order.Order.{Order}
+use Rattle.streaming.specs.declared.obeying.End.TheVariants.{Damaged, NoMemory}
+use Rattle.streaming.proofs.OrderLines.{needs_are}
+use Rattle.streaming.specs.Answers.{inputs_of_deeds, lines_of_deeds, ended, stream_lines}
 use Rattle.playing.specs.Going.{all_of, IsPlayedAt}
 use Rattle.streaming.specs.declared.obeying.End.{End}
 use Rattle.streaming.proofs.Wholes.{stream_at}
@@ -49,11 +52,11 @@ module _ (rom : List ℕ) (save recording : DiskState) (a b : Game) (before_in s
   all_from : all_of a.save ≡ from.count
   all_from = omega (arith, ap length none)
 
-  lines_from : (lines : List (List ℕ)) → stream_at a.save lines ≡ stream_lines (behind up.at up.more) (orders_of lines)
-  lines_from lines =
-      ap (λ (n : ℕ). resumed_line from.count ∷ lines_of_orders a.save.machine n (length a.save.pending) (ended (length a.save.pending) (orders_of lines))) all_from
-      ∙ ap (λ (n : ℕ). resumed_line from.count ∷ lines_of_orders a.save.machine from.count n (ended n (orders_of lines))) (ap length none)
-      ∙ ap (λ (p : Position). stream_lines p (orders_of lines)) from_is
+  lines_from : (deeds : List Deed) → stream_at a.save deeds ≡ stream_lines (behind up.at up.more) deeds
+  lines_from deeds =
+      ap (λ (n : ℕ). resumed_line from.count ∷ lines_of_deeds a.save.machine n (length a.save.pending) (ended (length a.save.pending) deeds)) all_from
+      ∙ ap (λ (n : ℕ). resumed_line from.count ∷ lines_of_deeds a.save.machine from.count n (ended n deeds)) (ap length none)
+      ∙ ap (λ (p : Position). stream_lines p deeds) from_is
 
   -- an image that stands for some inputs from there stands for some more from where the SAVE was
   further_back : (least : ℕ) (given : List Input) (image : List (List ℕ)) → Reaches rom from least given image → Reaches rom up.at (length up.more + least) (up.more ++ given) image
@@ -154,25 +157,27 @@ module _ (rom : List ℕ) (save recording : DiskState) (a b : Game) (before_in s
 
   -- ---- with the lines
 
-  module _ (lines : List (List ℕ)) (right : All IsRight lines) where
+  module _ (lines : List Given) (deeds : List Deed) where
     abbrev given : List Input
-    given = inputs_of_orders (orders_of lines)
+    given = inputs_of_deeds deeds
 
     -- to an end
-    pub recorded_to : (end : End) → ReadsTo end lines before_in since_in → Appends before since (texts (stream_at a.save lines)) → Comes a b given → length b.save.pending ≡ 0
+    pub recorded_to : (own : List ℕ) → own ≡ rom → (kept : List KeptMachine) → Asks false own a.save.machine lines deeds kept → (found end : End) → found ≡ end → ReadsTo false own kept found lines before_in since_in → Appends before since (texts (stream_at a.save deeds)) → Comes a b given → length b.save.pending ≡ 0
         → HasRecorded rom save b.save.disk recording b.recording end before_in since_in before since
-    recorded_to end read answered comes unsaved =
+    recorded_to own own_is kept asks found end end_is read answered comes unsaved =
         let saved = none_left b.save.pending unsaved in
         record {
           lines = lines;
-          right = right;
-          read = read;
+          deeds = deeds;
+          kept = kept;
+          asks = subst (λ (m : MachineState). Asks false rom m lines deeds kept) up.machine_is (subst (λ (r : List ℕ). Asks false r a.save.machine lines deeds kept) own_is asks);
+          read = subst (λ (e : End). ReadsTo false rom kept e lines before_in since_in) end_is (subst (λ (r : List ℕ). ReadsTo false r kept found lines before_in since_in) own_is read);
           at = up.at;
           of_rom = up.of_rom;
           stood = up.stood;
           more = up.more;
           taken_up = up.taken_up;
-          answered = subst (λ (l : List Line). Appends before since (texts l)) (lines_from lines) answered;
+          answered = subst (λ (l : List Line). Appends before since (texts l)) (lines_from deeds) answered;
           rests = λ honest.
               let rests = all_saved rom b.save.disk b.save.acknowledged b.save.pending b.save.machine from given (comes.going rom from [] (begun honest)).played saved in
               let count_is : from.count + length given ≡ up.at.count + length (up.more ++ given) = omega (arith, up.count_is, length-append up.more given) in
@@ -185,7 +190,7 @@ module _ (rom : List ℕ) (save recording : DiskState) (a b : Game) (before_in s
 
     -- stopped
     module _ (why : RecordError) (save_here : save.honest → save.image save.sectors) (recording_here : recording.honest → recording.image recording.sectors)
-        (unread : List ℕ) (read : ReadsLines lines unread before_in since_in) (told : HasTold (told_as why) b.save.acknowledged (stream_at a.save lines) before since) (halts : Halts a b given why) where
+        (own : List ℕ) (own_is : own ≡ rom) (asks : AsksUpTo false own a.save.machine lines deeds) (unread : List ℕ) (read : HasReadGiven (asked false) lines unread before_in since_in) (told : HasTold (told_as why) b.save.acknowledged (stream_at a.save deeds) before since) (halts : Halts a b given why) where
       pub stopped_record : HasStopped rom save b.save.disk recording b.recording why before_in since_in before since
       stopped_record =
           let least : ℕ = b.save.acknowledged - a.save.acknowledged in
@@ -193,7 +198,8 @@ module _ (rom : List ℕ) (save recording : DiskState) (a b : Game) (before_in s
           let all_is : all_of a.save + length given ≡ up.at.count + length up.more + length given = omega (arith, all_from, up.count_is) in
           record {
             lines = lines;
-            right = right;
+            deeds = deeds;
+            asks = subst (λ (m : MachineState). AsksUpTo false rom m lines deeds) up.machine_is (subst (λ (r : List ℕ). AsksUpTo false r a.save.machine lines deeds) own_is asks);
             unread = unread;
             read = read;
             at = up.at;
@@ -204,7 +210,7 @@ module _ (rom : List ℕ) (save recording : DiskState) (a b : Game) (before_in s
             cause = subst (λ (n : ℕ). IsRecordStop why n b.save.disk) all_is halts.cause;
             full = λ is honest recording_honest. stopped_full honest recording_honest given why halts is;
             least = least;
-            told = told_by (lines_from lines) (subst (λ (n : ℕ). HasTold (told_as why) n (stream_at a.save lines) before since) saved_is told);
+            told = told_by (lines_from deeds) (subst (λ (n : ℕ). HasTold (told_as why) n (stream_at a.save deeds) before since) saved_is told);
             images = λ honest. images_since given honest (halts.stopped rom from [] (begun honest)).moments;
             left = λ honest image here.
                 let stopped = halts.stopped rom from [] (begun honest) in
@@ -222,3 +228,17 @@ as_refusal (Recording why) rom save now recording now_recording before_in since_
 as_refusal (Behind count) rom save now recording now_recording before_in since_in before since all cause stopped = cause
 as_refusal (WrongLine number) rom save now recording now_recording before_in since_in before since all cause stopped = absurd cause
 as_refusal FailedInput rom save now recording now_recording before_in since_in before since all cause stopped = absurd cause
+
+-- ---- ends that are none of a recorded game
+
+none_needed : (line : List ℕ) (order : Order) → order_of false line ≡ Some order → needs_states order ≡ true → ⊥
+none_needed line order is needs = true≢false (sym (needs_are false line order is needs))
+
+pub none_damaged : (own : List ℕ) (kept : List KeptMachine) (lines : List Given) (a b : Option (List ℕ)) → ReadsTo false own kept Damaged lines a b → ⊥
+none_damaged own kept lines a b damaged = none_needed damaged.given.line _ damaged.is.1 refl
+
+pub none_lacked : (own : List ℕ) (kept : List KeptMachine) (lines : List Given) (a b : Option (List ℕ)) → ReadsTo false own kept NoMemory lines a b → ⊥
+none_lacked own kept lines a b lacked = elim lacked.is.1 [
+  | inl power ↦ none_needed lacked.given.line _ power refl
+  | inr keeps ↦ none_needed lacked.given.line _ keeps.1 refl
+]

@@ -1,5 +1,5 @@
 -- A whole recorded play: how it went, and where it is refused.
-use Rattle.std.specs.Prelude.{◌≡◌, ◌⊎◌, ◌≤◌, ◌<◌, ◌+◌, ℕ, List, [], ◌++◌, length, drop, Option, Some, All, Result, Ok, Err, ⊤}
+use Rattle.std.specs.Prelude.{◌≡◌, ◌⊎◌, ◌≤◌, ◌<◌, ◌+◌, ℕ, List, [], ◌++◌, length, drop, false, Option, Some, Result, Ok, Err, ⊤}
 use Rattle.std.specs.Io.KnownBytes.{Appends, Keeps}
 use Rattle.sha2.specs.Sha256.{sha256}
 use Rattle.machine.specs.Machine.{MachineState, after}
@@ -21,10 +21,11 @@ use Rattle.session.specs.declared.error.SessionError.{SessionError}
 use Rattle.session.specs.declared.error.SessionError.TheVariants.{Output}
 use Rattle.playing.specs.Played.{PlayImage, Reaches, IsStop}
 use Rattle.playing.specs.Report.{texts, HasTold}
-use Rattle.streaming.specs.Orders.{orders_of, IsRight}
-use Rattle.input_lines.specs.Reading.{ReadsLines}
-use Rattle.streaming.specs.Reading.{ReadsTo}
-use Rattle.streaming.specs.Answers.{inputs_of_orders, stream_lines}
+use Rattle.input_lines.specs.Given.{Given, HasReadGiven}
+use Rattle.machine_lines.specs.KeptStates.{KeptMachine}
+use Rattle.streaming.specs.Orders.{Deed, asked}
+use Rattle.streaming.specs.Reading.{Asks, AsksUpTo, ReadsTo}
+use Rattle.streaming.specs.Answers.{inputs_of_deeds, stream_lines}
 use Rattle.streaming.specs.declared.obeying.End.{End}
 use Rattle.streaming.specs.declared.obeying.End.TheVariants.{Wrong, Failed}
 use Rattle.recorded_play.specs.Agreeing.{AllAgree, recorded_inputs}
@@ -73,46 +74,50 @@ pub record HasTakenUp (rom : List ℕ) (old_save now_save old_recording now_reco
 -- The lines that were read up to this end, and all that they ask for: it was done, answered, recorded and saved, from where the game
 -- was taken up.
 pub record HasRecorded (rom : List ℕ) (old_save now_save old_recording now_recording : DiskState) (end : End) (before_in since_in before since : Option (List ℕ)) : Type 0 where
-  pub lines : List (List ℕ)
-  pub right : All IsRight lines
-  pub read : ReadsTo end lines before_in since_in
   pub at : Position
   pub of_rom : IsMachineOf rom at.machine
   pub stood : old_save.honest → stands rom (content old_save.sectors) ≡ Some at
   pub more : List Input
   pub taken_up : old_save.honest → old_recording.honest → IsTakenUp rom old_save.sectors old_recording.sectors at more
+  -- the power switch and states are no inputs of a recording
+  pub lines : List Given
+  pub deeds : List Deed
+  pub kept : List KeptMachine
+  pub asks : Asks false rom (behind at more).machine lines deeds kept
+  pub read : ReadsTo false rom kept end lines before_in since_in
   -- the report is that of a stream from there
-  pub answered : Appends before since (texts (stream_lines (behind at more) (orders_of lines)))
+  pub answered : Appends before since (texts (stream_lines (behind at more) deeds))
   -- the SAVE has all inputs
-  pub rests : old_save.honest → IsAtRest rom now_save (at.count + length (more ++ inputs_of_orders (orders_of lines))) [] (after at.machine (more ++ inputs_of_orders (orders_of lines)))
+  pub rests : old_save.honest → IsAtRest rom now_save (at.count + length (more ++ inputs_of_deeds deeds)) [] (after at.machine (more ++ inputs_of_deeds deeds))
   -- each image of it at each moment stands for what one stood for before, or for some of them
-  pub images : old_save.honest → HoldsSince old_save now_save (PlayImage rom old_save (more ++ inputs_of_orders (orders_of lines)))
+  pub images : old_save.honest → HoldsSince old_save now_save (PlayImage rom old_save (more ++ inputs_of_deeds deeds))
   -- and the recording holds what it held and those of the lines
-  pub recorded : (honest : old_save.honest) (recording_honest : old_recording.honest) → HoldsAll rom now_recording ((taken_up honest recording_honest).played ++ inputs_of_orders (orders_of lines))
+  pub recorded : (honest : old_save.honest) (recording_honest : old_recording.honest) → HoldsAll rom now_recording ((taken_up honest recording_honest).played ++ inputs_of_deeds deeds)
 
 -- ---- where it is refused
 
 -- It was taken up, and one of these lines was refused: of what a whole stream of them writes the front was written, and each image that
 -- is left of the SAVE has all inputs up to each count that this tells, and so has each that is left of the recording.
 pub record HasStopped (rom : List ℕ) (old_save now_save old_recording now_recording : DiskState) (why : RecordError) (before_in since_in before since : Option (List ℕ)) : Type 0 where
-  pub lines : List (List ℕ)
-  pub right : All IsRight lines
-  pub unread : List ℕ
-  pub read : ReadsLines lines unread before_in since_in
   pub at : Position
   pub of_rom : IsMachineOf rom at.machine
   pub stood : old_save.honest → stands rom (content old_save.sectors) ≡ Some at
   pub more : List Input
   pub taken_up : old_save.honest → old_recording.honest → IsTakenUp rom old_save.sectors old_recording.sectors at more
-  pub cause : IsRecordStop why (at.count + length more + length (inputs_of_orders (orders_of lines))) now_save
+  pub lines : List Given
+  pub deeds : List Deed
+  pub asks : AsksUpTo false rom (behind at more).machine lines deeds
+  pub unread : List ℕ
+  pub read : HasReadGiven (asked false) lines unread before_in since_in
+  pub cause : IsRecordStop why (at.count + length more + length (inputs_of_deeds deeds)) now_save
   -- a recording is full only where what is unsaved does not fit it
-  pub full : why ≡ Recording Full → (honest : old_save.honest) (recording_honest : old_recording.honest) → IsFull rom now_recording ((taken_up honest recording_honest).played ++ inputs_of_orders (orders_of lines))
+  pub full : why ≡ Recording Full → (honest : old_save.honest) (recording_honest : old_recording.honest) → IsFull rom now_recording ((taken_up honest recording_honest).played ++ inputs_of_deeds deeds)
   pub least : ℕ
-  pub told : HasTold (told_as why) (at.count + length more + least) (stream_lines (behind at more) (orders_of lines)) before since
-  pub images : old_save.honest → HoldsSince old_save now_save (PlayImage rom old_save (more ++ inputs_of_orders (orders_of lines)))
-  pub left : old_save.honest → (image : List (List ℕ)) → now_save.image image → Reaches rom at (length more + least) (more ++ inputs_of_orders (orders_of lines)) image
+  pub told : HasTold (told_as why) (at.count + length more + least) (stream_lines (behind at more) deeds) before since
+  pub images : old_save.honest → HoldsSince old_save now_save (PlayImage rom old_save (more ++ inputs_of_deeds deeds))
+  pub left : old_save.honest → (image : List (List ℕ)) → now_save.image image → Reaches rom at (length more + least) (more ++ inputs_of_deeds deeds) image
   pub recorded : (honest : old_save.honest) (recording_honest : old_recording.honest) → AllAgree rom old_save old_recording → (image : List (List ℕ)) → now_recording.image image
-      → HoldsFirst rom (at.count + length more + least) ((taken_up honest recording_honest).played ++ inputs_of_orders (orders_of lines)) image
+      → HoldsFirst rom (at.count + length more + least) ((taken_up honest recording_honest).played ++ inputs_of_deeds deeds) image
 
 -- the image stands for what the SAVE stood for, and some of what the recording has beyond it
 pub record IsCaughtUp (rom : List ℕ) (save recording : DiskState) (image : List (List ℕ)) : Type 0 where

@@ -13,9 +13,10 @@ use crate::recorded_game::RecordedGame;
 use crate::taking_up::take_up;
 use cartridge::Cartridge;
 use sector_device::SectorDevice;
+use session::SessionError;
 use std::alloc::Global;
 use std::io::{Read, Write};
-use streaming::{End, stream_on};
+use streaming::{End, StateRoom, stream_on};
 
 /// What is left of a game that stops.
 fn stopped<D: SectorDevice, E: SectorDevice>(
@@ -33,11 +34,11 @@ fn stopped<D: SectorDevice, E: SectorDevice>(
 }
 
 /// Takes up a game with its recording, writes `resumed N`, with N the count of all inputs, which
-/// both devices have, and obeys the lines of an input as `stream` does, but that each save writes
-/// the unsaved inputs to the recording first. Whatever is left of both devices agrees if it did
+/// both devices have, and obeys the lines of an input as `stream` does, but that `power`, `restore`, `keep` and `back` are wrong
+/// lines, and that each save writes the unsaved inputs to the recording first. Whatever is left of both devices agrees if it did
 /// before: a power cut at any moment is two devices whose calls all fail from then on.
 ///
-/// Refusals: those of `take_up`, with nothing read and nothing written to the report; then whichever
+/// Refusals: `Session` with `Memory` for the room for a snapshot, and those of `take_up`, with nothing read and nothing written to the report; then whichever
 /// comes first of `Recording` with `Full`, with nothing of that save written, or `Device`, and
 /// `Session` with `GenerationsUsedUp`, `Device`, `CountFull` or `Output`; `Line` with the number of the first
 /// wrong line, counted from 1, and `Input` if a read fails, both once what was given before is saved
@@ -66,14 +67,23 @@ pub fn record<D: SectorDevice, E: SectorDevice, R: Read, W: Write>(
     ensures save_answered { HasAnswered (λ refused. save_faults_after refused.why) (D.disk save) (D.disk (save_left result)) result }
     ensures recording_answered { HasAnswered (λ refused. recording_faults_after refused.why) (E.disk recording) (E.disk (recording_left result)) result }
 {
+    let Ok(mut room) = StateRoom::new(alloc, cartridge) else {
+        return Err(RecordRefused {
+            why: RecordError::Session(SessionError::Memory),
+            save,
+            recording,
+        });
+    };
     let mut game = match take_up(alloc, save, recording, cartridge) {
         Ok(game) => game,
         Err(refused) => return Err(refused),
     };
-    match stream_on(&mut game, input, out) {
+    match stream_on(&mut game, alloc, cartridge, &mut room, input, out) {
         Ok(End::Whole) => Ok(game),
         Ok(End::Wrong(number)) => Err(stopped(game, RecordError::Line(number))),
         Ok(End::Failed) => Err(stopped(game, RecordError::Input)),
+        Ok(End::Damaged) => unreachable!(),
+        Ok(End::NoMemory) => unreachable!(),
         Err(why) => Err(stopped(game, why)),
     }
 }

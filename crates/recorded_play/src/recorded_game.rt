@@ -2,18 +2,20 @@
 ghost use Rattle.std.specs.Prelude.{◌≡◌, ◌∷◌, [], length, false, true};
 ghost use Rattle.recording.specs.Accessors.{is_broken as is_broken_recording};
 ghost use Rattle.session.specs.Inputs.{can_be_logged};
-ghost use Rattle.session.specs.Accessors.{machine_of, pending_of, acknowledged_of, is_broken};
+ghost use Rattle.session.specs.Accessors.{machine_of, rom_of, pending_of, acknowledged_of, is_broken};
 ghost use Rattle.session.specs.declared.error.SessionError.TheVariants.{Output};
 ghost use Rattle.recorded_play.specs.declared.error.RecordError.TheVariants.{Session as OfSession};
 ghost use Rattle.recorded_play.specs.Steps.{game, Comes, Halts, told_as};
 
 use crate::error::RecordError;
 use crate::saving::save_both;
+use cartridge::Cartridge;
 use machine::{Input, Machine};
 use playing::Playable;
 use recording::Recording;
 use sector_device::SectorDevice;
 use session::{Counts, Session, SessionError};
+use std::alloc::Global;
 
 /// A game that is recorded: its session, and the recording of its inputs.
 #[derive(Drop)]
@@ -31,6 +33,10 @@ impl<D: SectorDevice, E: SectorDevice> Playable for RecordedGame<D, E> {
     ghost unsaved = { λ g. length (pending_of g.session) };
 
     ghost machine = { λ g. machine_of g.session };
+
+    ghost rom = { λ g. rom_of g.session };
+
+    ghost takes_states = { false };
 
     ghost whole = { λ g. (is_broken g.session ≡ false) × (is_broken_recording g.recording ≡ false) × (can_be_logged (pending_of g.session) ≡ true) };
 
@@ -50,6 +56,10 @@ impl<D: SectorDevice, E: SectorDevice> Playable for RecordedGame<D, E> {
         self.session.counts()
     }
 
+    fn takes_states() -> bool {
+        false
+    }
+
     fn machine(&self) -> &Machine {
         self.session.machine()
     }
@@ -63,6 +73,14 @@ impl<D: SectorDevice, E: SectorDevice> Playable for RecordedGame<D, E> {
             Ok(()) => Ok(()),
             Err(why) => Err(RecordError::Session(why)),
         }
+    }
+
+    fn power(&mut self, _alloc: Global, _cartridge: &Cartridge) -> Result<bool, RecordError> {
+        Ok(false)
+    }
+
+    fn restore(&mut self, _bytes: &[u8], _cartridge: &Cartridge) -> Result<bool, RecordError> {
+        Ok(false)
     }
 
     fn save(&mut self) -> Result<u64, RecordError> {

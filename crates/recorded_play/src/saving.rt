@@ -5,7 +5,7 @@ ghost use Rattle.sector_device.specs.Runs.{HoldsSince};
 ghost use Rattle.recording.specs.Accessors.{device_of as device_of_recording, is_broken as is_broken_recording};
 ghost use Rattle.recording.specs.declared.fault.RecordingFault.TheVariants.{Full};
 ghost use Rattle.session.specs.Inputs.{can_be_logged};
-ghost use Rattle.session.specs.Accessors.{device_of, pending_of, acknowledged_of, is_broken, IsUnchanged};
+ghost use Rattle.session.specs.Accessors.{device_of, rom_of, pending_of, acknowledged_of, is_broken, IsUnchanged};
 ghost use Rattle.replaying.specs.Agreeing.{Agrees};
 ghost use Rattle.recorded_play.specs.Agreeing.{AllAgree};
 ghost use Rattle.recorded_play.specs.Steps.{game, Comes, Halts, IsInStep};
@@ -37,6 +37,7 @@ pub fn save_both<D: SectorDevice, E: SectorDevice>(
     ensures full { IfErr result (λ why. why ≡ RecordError.Recording Full →
         (recording.new ≡ recording.old) × (session.new ≡ session.old)) }
     ensures kept { OnErr result (acknowledged_of session.new ≡ acknowledged_of session.old) }
+    ensures rom { rom_of session.new ≡ rom_of session.old }
     ensures no_output { IfErr result (λ why. ¬ (why ≡ RecordError.Session SessionError.Output)) }
 
     // At each moment: first the recording alone moves, then the SAVE alone.

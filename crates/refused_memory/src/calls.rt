@@ -23,13 +23,14 @@ const SCRIPT: &[u8] = b"frames 01 2\nseconds 3\nsave\nframe 02\n";
 
 const LINES: &[u8] = b"step 3\nframe 01\nhistory 3\nserial\ndigest\nregisters\n";
 
-/// Lines of a debugger, two of which take memory.
-const STATE_LINES: &[u8] = b"step 1\nkeep 3\nkeep 3\nback 3\npower\nregisters\n";
+/// Lines of a debugger, three of which take memory.
+const STATE_LINES: &[u8] = b"step 1\nkeep 3\nkeep 3\nback 3\npower\nprofile 3\nregisters\n";
 
-/// The answers to the lines before the first of the two, and before the second.
-const ANSWERED: [&[u8]; 2] = [
+/// The answers to the lines before each of the three.
+const ANSWERED: [&[u8]; 3] = [
     b"0100 18FE   JR -02\n",
     b"0100 18FE   JR -02\nkept 3\nkept 3\nback 3\n",
+    b"0100 18FE   JR -02\nkept 3\nkept 3\nback 3\ndone\n",
 ];
 
 fn set(bytes: &mut [u8], at: usize, value: u8) {

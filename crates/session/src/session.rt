@@ -3,7 +3,7 @@ ghost use Rattle.std.specs.Prelude.{◌≡◌, ◌↔◌, ◌≤◌, ◌<◌, �
 ghost use Rattle.sha2.specs.Sha256.{sha256};
 ghost use Rattle.machine.specs.Machine.{Power, State, as_input, applied};
 ghost use Rattle.snapshot.specs.Encoding.{encoded, snapshot_length};
-ghost use Rattle.snapshot.specs.Legal.{IsMachineOf};
+ghost use Rattle.snapshot.specs.Legal.{IsMachineOf, IsOfImage};
 ghost use Rattle.sector_device.specs.DiskState.{HasAnswered};
 ghost use Rattle.sector_device.specs.Runs.{HoldsSince};
 ghost use Rattle.log_format.specs.Content.{need, content, generation_in};
@@ -112,7 +112,8 @@ impl<D: SectorDevice> Session<D> {
 
     /// The machine after all inputs.
     pub fn machine(&self) -> &Machine
-        ensures { result.now ≡ machine_of self.now }
+        ensures machine { result.now ≡ machine_of self.now }
+        ensures of { IsOfImage (rom_of self.now) (machine_of self.now) }
     {
         &self.machine
     }
@@ -202,6 +203,7 @@ impl<D: SectorDevice> Session<D> {
         ensures machine { OnOk result (IsMachineOf cartridge.now (machine_of self.new) × (encoded (machine_of self.new) ≡ bytes.now)) }
         ensures pending { OnOk result (pending_of self.new ≡ pending_of self.old ++ entry_of (State (machine_of self.new)) ∷ []) }
         ensures refused { OnErr result (IsUnchanged self.old self.new) }
+        ensures same { OnErr result (self.new ≡ self.old) }
         ensures device { device_of self.new ≡ device_of self.old }
         ensures kept { (acknowledged_of self.new ≡ acknowledged_of self.old) × (is_broken self.new ≡ is_broken self.old) ×
             (rom_of self.new ≡ rom_of self.old) }
@@ -234,6 +236,7 @@ impl<D: SectorDevice> Session<D> {
         ensures machine { OnOk result (machine_of self.new ≡ applied Power (machine_of self.old)) }
         ensures pending { OnOk result (pending_of self.new ≡ pending_of self.old ++ entry_of Power ∷ []) }
         ensures refused { OnErr result (IsUnchanged self.old self.new) }
+        ensures same { OnErr result (self.new ≡ self.old) }
         ensures device { device_of self.new ≡ device_of self.old }
         ensures kept { (acknowledged_of self.new ≡ acknowledged_of self.old) × (is_broken self.new ≡ is_broken self.old) ×
             (rom_of self.new ≡ rom_of self.old) }

@@ -1,3 +1,7 @@
 pub mod OrderLines
+pub mod LinesRead
+pub mod KeptMachines
 pub mod Compositions
+pub mod GoingOn
+pub mod Lines
 pub mod Wholes

@@ -1,7 +1,6 @@
 -- A whole stream, from the line of the resume to the last save.
-use Rattle.std.proofs.Common.{◌≡◌, inl, inr, ℕ, ◌==◌, ◌+◌, ◌-◌, List, [], ◌∷◌, ◌++◌, length, Option, Some, refl, sym, ap, ◌∙◌, subst, arith, append-nil}
+use Rattle.std.proofs.Common.{◌≡◌, inl, inr, Bool, true, ℕ, ◌==◌, ◌+◌, ◌-◌, List, [], ◌∷◌, ◌++◌, length, Option, Some, refl, sym, ap, ◌∙◌, subst, arith, append-nil}
 use Rattle.std.specs.Prelude.{⊤}
-use Rattle.std.specs.List.{All}
 use Rattle.std.specs.Io.KnownBytes.{Appends}
 use Rattle.std.proofs.lemmas.Bool.{cases_Bool}
 use Rattle.machine.specs.Machine.{Input}
@@ -23,64 +22,68 @@ use Rattle.playing.proofs.Going.{none_left}
 use Rattle.playing.proofs.Telling.{told_by}
 use Rattle.playing.proofs.Making.{makes_by, makes_then, stops_by, stops_then as behind}
 use Rattle.playing.proofs.PlayLaws.{begun_played, all_saved}
-use Rattle.streaming.specs.Orders.{orders_of, IsRight}
-use Rattle.input_lines.specs.Reading.{ReadsLines}
-use Rattle.streaming.specs.Reading.{ReadsTo}
-use Rattle.streaming.specs.Answers.{inputs_of_orders, unsaved_behind_orders, lines_of_orders, last_orders, ended, stream_lines}
+use Rattle.input_lines.specs.Given.{Given, HasReadGiven}
+use Rattle.machine_lines.specs.KeptStates.{KeptMachine}
+use Rattle.streaming.specs.Orders.{Deed, asked}
+use Rattle.streaming.specs.Reading.{Asks, AsksUpTo, ReadsTo}
+use Rattle.streaming.specs.Answers.{inputs_of_deeds, unsaved_behind_deeds, lines_of_deeds, last_deeds, ended, stream_lines}
 use Rattle.streaming.specs.Obeying.{stream_from, Obeys, StopsAmong}
 use Rattle.streaming.specs.Streamed.{HasStreamed, HasStreamedAll, HasStopped}
-use Rattle.streaming.specs.declared.order.Order.{Order}
 use Rattle.streaming.specs.declared.obeying.End.{End}
-use Rattle.streaming.specs.declared.obeying.End.TheVariants.{Whole, Wrong, Failed}
+use Rattle.streaming.specs.declared.obeying.End.TheVariants.{Whole, Wrong, Failed, Damaged, NoMemory}
 use Rattle.streaming.proofs.Compositions.{inputs_append, obeys_then, stops_then}
+use Rattle.streaming.proofs.LinesRead.{read_before}
 
 -- ---- the save at the end
 
-last_gives_none : (unsaved : ℕ) → inputs_of_orders (last_orders unsaved) ≡ []
+last_gives_none : (unsaved : ℕ) → inputs_of_deeds (last_deeds unsaved) ≡ []
 last_gives_none unsaved = elim (cases_Bool (unsaved == 0)) [
   | inl none ↦ rw none refl
   | inr some ↦ rw some refl
 ]
 
-pub ended_gives : (unsaved : ℕ) (orders : List Order) → inputs_of_orders (ended unsaved orders) ≡ inputs_of_orders orders
-ended_gives unsaved orders =
-    inputs_append orders (last_orders (unsaved_behind_orders unsaved orders))
-    ∙ ap (λ (l : List Input). inputs_of_orders orders ++ l) (last_gives_none (unsaved_behind_orders unsaved orders)) ∙ append-nil (inputs_of_orders orders)
+pub ended_gives : (unsaved : ℕ) (deeds : List Deed) → inputs_of_deeds (ended unsaved deeds) ≡ inputs_of_deeds deeds
+ended_gives unsaved deeds =
+    inputs_append deeds (last_deeds (unsaved_behind_deeds unsaved deeds))
+    ∙ ap (λ (l : List Input). inputs_of_deeds deeds ++ l) (last_gives_none (unsaved_behind_deeds unsaved deeds)) ∙ append-nil (inputs_of_deeds deeds)
 
 module _ {G F : Type 0} (game : Ghosts G F) where
-  -- what comes behind orders at the end
-  abbrev pub last_behind : G → List Order → List Order
-  last_behind a orders = last_orders (unsaved_behind_orders (game.unsaved a) orders)
+  -- what comes behind these at the end
+  abbrev pub last_behind : G → List Deed → List Deed
+  last_behind a deeds = last_deeds (unsaved_behind_deeds (game.unsaved a) deeds)
 
-  pub ended_obeyed : (a m b : G) (x y z : Option (List ℕ)) (orders : List Order) → Obeys game a m x y orders → Obeys game m b y z (last_orders (game.unsaved m)) → Obeys game a b x z (ended (game.unsaved a) orders)
-  ended_obeyed a m b x y z orders one two =
-      subst (λ (n : ℕ). Obeys game a b x z (orders ++ last_orders n)) one.unsaved_is (obeys_then game a m b x y z orders (last_orders (game.unsaved m)) one two)
+  pub ended_obeyed : (a m b : G) (x y z : Option (List ℕ)) (deeds : List Deed) → Obeys game a m x y deeds → Obeys game m b y z (last_deeds (game.unsaved m)) → Obeys game a b x z (ended (game.unsaved a) deeds)
+  ended_obeyed a m b x y z deeds one two =
+      subst (λ (n : ℕ). Obeys game a b x z (deeds ++ last_deeds n)) one.unsaved_is (obeys_then game a m b x y z deeds (last_deeds (game.unsaved m)) one two)
 
-  pub ended_stopped : (a m b : G) (x y z : Option (List ℕ)) (orders : List Order) (why : F) → Obeys game a m x y orders → StopsAmong game m b y z (last_orders (game.unsaved m)) why → StopsAmong game a b x z (ended (game.unsaved a) orders) why
-  ended_stopped a m b x y z orders why one two =
-      subst (λ (n : ℕ). StopsAmong game a b x z (orders ++ last_orders n) why) one.unsaved_is (stops_then game a m b x y z orders (last_orders (game.unsaved m)) why one two)
+  pub ended_stopped : (a m b : G) (x y z : Option (List ℕ)) (deeds : List Deed) (why : F) → Obeys game a m x y deeds → StopsAmong game m b y z (last_deeds (game.unsaved m)) why → StopsAmong game a b x z (ended (game.unsaved a) deeds) why
+  ended_stopped a m b x y z deeds why one two =
+      subst (λ (n : ℕ). StopsAmong game a b x z (deeds ++ last_deeds n) why) one.unsaved_is (stops_then game a m b x y z deeds (last_deeds (game.unsaved m)) why one two)
 
   -- behind the line of the resume
-  module _ (a : G) (x y : Option (List ℕ)) (resumed : Makes game a a x y [] (game.unsaved a) (resumed_line (game.acknowledged a) ∷ [])) (b : G) (z : Option (List ℕ)) (lines : List (List ℕ)) where
-    abbrev all_orders : List Order
-    all_orders = ended (game.unsaved a) (orders_of lines)
+  module _ (a : G) (x y : Option (List ℕ)) (resumed : Makes game a a x y [] (game.unsaved a) (resumed_line (game.acknowledged a) ∷ [])) (b : G) (z : Option (List ℕ)) (deeds : List Deed) where
+    abbrev all_deeds : List Deed
+    all_deeds = ended (game.unsaved a) deeds
 
-    gives : inputs_of_orders all_orders ≡ inputs_of_orders (orders_of lines)
-    gives = ended_gives (game.unsaved a) (orders_of lines)
+    gives : inputs_of_deeds all_deeds ≡ inputs_of_deeds deeds
+    gives = ended_gives (game.unsaved a) deeds
 
-    pub streams_behind : game.unsaved b ≡ 0 → Obeys game a b y z all_orders → Makes game a b x z (inputs_of_orders (orders_of lines)) 0 (stream_from game a lines)
+    pub streams_behind : game.unsaved b ≡ 0 → Obeys game a b y z all_deeds → Makes game a b x z (inputs_of_deeds deeds) 0 (stream_from game a deeds)
     streams_behind saved obeyed = makes_by game gives (sym obeyed.unsaved_is ∙ saved) refl (makes_then game resumed obeyed)
 
     -- what was refused
-    pub stops_behind : (why : F) → StopsAmong game a b y z all_orders why → StopsMaking game a b x z ⊤ (inputs_of_orders (orders_of lines)) (stream_from game a lines) why
+    pub stops_behind : (why : F) → StopsAmong game a b y z all_deeds why → StopsMaking game a b x z ⊤ (inputs_of_deeds deeds) (stream_from game a deeds) why
     stops_behind why stop = stops_by game gives refl (behind game resumed stop)
 
 -- whatever the end, the lines before it were read
-pub reads_some : (end : End) (lines : List (List ℕ)) (a b : Option (List ℕ)) → ReadsTo end lines a b → (more : List ℕ) × ReadsLines lines more a b
-reads_some Whole lines a b (read, at_end) = ([], read)
-reads_some (Wrong number) lines a b (is, inl wrong) = (wrong.line ++ wrong.more, inl wrong.read)
-reads_some (Wrong number) lines a b (is, inr last) = (last.1, last.2)
-reads_some Failed lines a b failed = (failed.0, failed.2)
+pub reads_some : (states : Bool) (rom : List ℕ) (kept : List KeptMachine) (end : End) (lines : List Given) (a b : Option (List ℕ)) → ReadsTo states rom kept end lines a b → (more : List ℕ) × HasReadGiven (asked states) lines more a b
+reads_some states rom kept Whole lines a b (read, at_end) = ([], read)
+reads_some states rom kept (Wrong number) lines a b (is, inl wrong) = read_before states lines wrong.given wrong.more a b wrong.read
+reads_some states rom kept (Wrong number) lines a b (is, inr (inl long)) = (long.line ++ long.more, long.read)
+reads_some states rom kept (Wrong number) lines a b (is, inr (inr last)) = (last.1.0, last.1.1)
+reads_some states rom kept Failed lines a b failed = (failed.0, failed.2)
+reads_some states rom kept Damaged lines a b damaged = read_before states lines damaged.given damaged.more a b damaged.read
+reads_some states rom kept NoMemory lines a b lacked = read_before states lines lacked.given lacked.more a b lacked.read
 
 -- ---- from the resume
 
@@ -93,16 +96,16 @@ pub record TakenUp (rom : List ℕ) (old : DiskState) (a : Place) : Type 0 where
   pub stood : old.honest → stands rom (content old.sectors) ≡ Some (record { count = a.acknowledged; machine = a.machine })
   pub images : old.honest → HoldsSince old a.disk (StandsAsBefore rom old)
 
--- what is then written after these lines
-abbrev pub stream_at : Place → List (List ℕ) → List Line
-stream_at a lines = resumed_line a.acknowledged ∷ lines_of_orders a.machine (all_of a) (length a.pending) (ended (length a.pending) (orders_of lines))
+-- what is then written
+abbrev pub stream_at : Place → List Deed → List Line
+stream_at a deeds = resumed_line a.acknowledged ∷ lines_of_deeds a.machine (all_of a) (length a.pending) (ended (length a.pending) deeds)
 
-module _ (rom : List ℕ) (old : DiskState) (a b : Place) (before_in since_in before since : Option (List ℕ)) (up : TakenUp rom old a) (lines : List (List ℕ)) (right : All IsRight lines) where
+module _ (rom : List ℕ) (old : DiskState) (a b : Place) (before_in since_in before since : Option (List ℕ)) (up : TakenUp rom old a) (lines : List Given) (deeds : List Deed) where
   abbrev pub from : Position
   from = record { count = a.acknowledged; machine = a.machine }
 
   abbrev pub inputs : List Input
-  inputs = inputs_of_orders (orders_of lines)
+  inputs = inputs_of_deeds deeds
 
   pub begun : old.honest → IsPlayed rom a.disk a.acknowledged a.pending a.machine from []
   begun honest = begun_played rom a.disk a.acknowledged a.pending a.machine (up.honest honest) up.rom_is up.none (up.rests honest)
@@ -110,10 +113,10 @@ module _ (rom : List ℕ) (old : DiskState) (a b : Place) (before_in since_in be
   all_from : all_of a ≡ from.count
   all_from = omega (arith, ap length up.none)
 
-  pub lines_from : stream_at a lines ≡ stream_lines from (orders_of lines)
+  pub lines_from : stream_at a deeds ≡ stream_lines from deeds
   lines_from =
-      ap (λ (n : ℕ). resumed_line from.count ∷ lines_of_orders a.machine n (length a.pending) (ended (length a.pending) (orders_of lines))) all_from
-      ∙ ap (λ (n : ℕ). resumed_line from.count ∷ lines_of_orders a.machine from.count n (ended n (orders_of lines))) (ap length up.none)
+      ap (λ (n : ℕ). resumed_line from.count ∷ lines_of_deeds a.machine n (length a.pending) (ended (length a.pending) deeds)) all_from
+      ∙ ap (λ (n : ℕ). resumed_line from.count ∷ lines_of_deeds a.machine from.count n (ended n deeds)) (ap length up.none)
 
   pub images_since : old.honest → HoldsSince a.disk b.disk (Reaches rom from 0 inputs) → HoldsSince old b.disk (PlayImage rom old inputs)
   images_since honest held =
@@ -121,13 +124,15 @@ module _ (rom : List ℕ) (old : DiskState) (a b : Place) (before_in since_in be
       (since_weaker held (λ image reaches. inr (record { from = from; stood = up.stood honest; reaches = reaches })))
 
   -- to an end
-  module _ (answered : Appends before since (texts (stream_at a lines))) (goes : Goes a b inputs) (saved : length b.pending ≡ 0) where
-    abbrev pub streamed_to : (end : End) → ReadsTo end lines before_in since_in → HasStreamed rom old b.disk end before_in since_in before since
-    streamed_to end read = record {
-      lines = lines;
-      right = right;
-      read = read;
+  module _ (answered : Appends before since (texts (stream_at a deeds))) (goes : Goes a b inputs) (saved : length b.pending ≡ 0) where
+    abbrev streamed_with : (end : End) (kept : List KeptMachine) → Asks true rom a.machine lines deeds kept → ReadsTo true rom kept end lines before_in since_in → HasStreamed rom old b.disk end before_in since_in before since
+    streamed_with end kept asks read = record {
       from = from;
+      lines = lines;
+      deeds = deeds;
+      kept = kept;
+      asks = asks;
+      read = read;
       of_rom = up.of_rom;
       stood = up.stood;
       answered = subst (λ (l : List Line). Appends before since (texts l)) lines_from answered;
@@ -135,26 +140,41 @@ module _ (rom : List ℕ) (old : DiskState) (a b : Place) (before_in since_in be
       images = λ honest. images_since honest (goes.going rom from [] (begun honest)).moments;
     }
 
-    pub streamed_all : ReadsTo Whole lines before_in since_in → HasStreamedAll rom old b.disk b.acknowledged b.machine before_in since_in before since
-    streamed_all read = record { streamed = streamed_to Whole read; count_is = omega (arith, goes.all_is, saved, ap length up.none); machine_is = goes.machine_is }
+    -- by the ROM of the session that was taken up
+    module _ (own : List ℕ) (own_is : own ≡ rom) (kept : List KeptMachine) (asks : Asks true own a.machine lines deeds kept) (found : End) (read : ReadsTo true own kept found lines before_in since_in) (end : End) (end_is : found ≡ end) where
+      pub streamed_to : HasStreamed rom old b.disk end before_in since_in before since
+      streamed_to =
+          streamed_with end kept (subst (λ (r : List ℕ). Asks true r a.machine lines deeds kept) own_is asks)
+          (subst (λ (e : End). ReadsTo true rom kept e lines before_in since_in) end_is (subst (λ (r : List ℕ). ReadsTo true r kept found lines before_in since_in) own_is read))
+
+    pub streamed_all : (own : List ℕ) (own_is : own ≡ rom) (kept : List KeptMachine) (asks : Asks true own a.machine lines deeds kept) (found : End) (read : ReadsTo true own kept found lines before_in since_in) → found ≡ Whole
+        → HasStreamedAll rom old b.disk b.acknowledged b.machine before_in since_in before since
+    streamed_all own own_is kept asks found read end_is =
+        record {
+          streamed = streamed_with Whole kept (subst (λ (r : List ℕ). Asks true r a.machine lines deeds kept) own_is asks)
+              (subst (λ (e : End). ReadsTo true rom kept e lines before_in since_in) end_is (subst (λ (r : List ℕ). ReadsTo true r kept found lines before_in since_in) own_is read));
+          count_is = omega (arith, goes.all_is, saved, ap length up.none);
+          machine_is = goes.machine_is;
+        }
 
   -- stopped
-  pub stopped_stream : (why : SessionError) (more : List ℕ) → ReadsLines lines more before_in since_in → HasTold why b.acknowledged (stream_at a lines) before since → GoesNoFurther a b inputs why
+  pub stopped_stream : (why : SessionError) (more : List ℕ) (own : List ℕ) → own ≡ rom → AsksUpTo true own a.machine lines deeds → HasReadGiven (asked true) lines more before_in since_in → HasTold why b.acknowledged (stream_at a deeds) before since → GoesNoFurther a b inputs why
       → HasStopped rom old b.disk why before_in since_in before since
-  stopped_stream why more read told stop =
+  stopped_stream why more own own_is asks read told stop =
       let least : ℕ = b.acknowledged - a.acknowledged in
       let saved_is : b.acknowledged ≡ from.count + least = omega (arith, stop.later) in
       record {
+        from = from;
         lines = lines;
-        right = right;
+        deeds = deeds;
+        asks = subst (λ (r : List ℕ). AsksUpTo true r a.machine lines deeds) own_is asks;
         more = more;
         read = read;
-        from = from;
         of_rom = up.of_rom;
         stood = up.stood;
         cause = subst (λ (n : ℕ). IsStop why (n + length inputs) b.disk) all_from stop.cause;
         least = least;
-        told = told_by lines_from (subst (λ (n : ℕ). HasTold why n (stream_at a lines) before since) saved_is told);
+        told = told_by lines_from (subst (λ (n : ℕ). HasTold why n (stream_at a deeds) before since) saved_is told);
         images = λ honest. images_since honest (stop.stopped rom from [] (begun honest)).moments;
         left = λ honest.
             let stopped = stop.stopped rom from [] (begun honest) in

@@ -1,58 +1,64 @@
 -- What obeying orders leaves of a game.
-use Rattle.std.specs.Prelude.{ℕ, List, ◌∷◌, Option, All, ⊤}
-use Rattle.input_lines.specs.Reading.{ReadsLines}
+use Rattle.std.specs.Prelude.{ℕ, List, ◌∷◌, Option, ⊤}
+use Rattle.input_lines.specs.Given.{Given, HasReadGiven}
+use Rattle.machine_lines.specs.KeptStates.{KeptMachine}
 use Rattle.playing.specs.Making.{count_of, Makes, StopsMaking}
 use Rattle.playing.specs.Report.{Line, resumed_line}
 use Rattle.playing.specs.declared.playable.Playable.{Ghosts}
-use Rattle.streaming.specs.Orders.{orders_of, IsRight}
-use Rattle.streaming.specs.Reading.{ReadsTo}
-use Rattle.streaming.specs.Answers.{inputs_of_orders, unsaved_behind_orders, lines_of_orders, ended}
-use Rattle.streaming.specs.declared.order.Order.{Order}
+use Rattle.streaming.specs.Orders.{Deed, asked}
+use Rattle.streaming.specs.Reading.{Asks, AsksUpTo, ReadsTo}
+use Rattle.streaming.specs.Answers.{inputs_of_deeds, unsaved_behind_deeds, lines_of_deeds, ended}
 use Rattle.streaming.specs.declared.obeying.End.{End}
 
 module _ {G F : Type 0} (game : Ghosts G F) where
-  -- what is written for these orders from there
-  abbrev pub answers_from : G → List Order → List Line
-  answers_from a orders = lines_of_orders (game.machine a) (count_of game a) (game.unsaved a) orders
+  -- what is written for these from there
+  abbrev pub answers_from : G → List Deed → List Line
+  answers_from a deeds = lines_of_deeds (game.machine a) (count_of game a) (game.unsaved a) deeds
 
-  -- these orders were obeyed and answered
-  abbrev pub Obeys : (old new : G) → (before since : Option (List ℕ)) → List Order → Type 0
-  Obeys old new before since orders = Makes game old new before since (inputs_of_orders orders) (unsaved_behind_orders (game.unsaved old) orders) (answers_from old orders)
+  -- these were done and answered
+  abbrev pub Obeys : (old new : G) → (before since : Option (List ℕ)) → List Deed → Type 0
+  Obeys old new before since deeds = Makes game old new before since (inputs_of_deeds deeds) (unsaved_behind_deeds (game.unsaved old) deeds) (answers_from old deeds)
 
-  -- one of these orders was refused, and those before it were obeyed
-  abbrev pub StopsAmong : (old new : G) → (before since : Option (List ℕ)) → List Order → F → Type 0
-  StopsAmong old new before since orders why = StopsMaking game old new before since ⊤ (inputs_of_orders orders) (answers_from old orders) why
+  -- one of these was refused, and those before it were done
+  abbrev pub StopsAmong : (old new : G) → (before since : Option (List ℕ)) → List Deed → F → Type 0
+  StopsAmong old new before since deeds why = StopsMaking game old new before since ⊤ (inputs_of_deeds deeds) (answers_from old deeds) why
 
   -- ---- with the lines that were read
 
   pub record ObeysLines (old new : G) (before_in since_in before since : Option (List ℕ)) (end : End) : Type 0 where
-    pub lines : List (List ℕ)
-    pub right : All IsRight lines
-    pub read : ReadsTo end lines before_in since_in
-    pub obeys : Obeys old new before since (orders_of lines)
+    pub lines : List Given
+    pub deeds : List Deed
+    pub kept : List KeptMachine
+    pub asks : Asks game.takes_states (game.rom old) (game.machine old) lines deeds kept
+    pub read : ReadsTo game.takes_states (game.rom old) kept end lines before_in since_in
+    pub obeys : Obeys old new before since deeds
 
   pub record StopsAmongLines (old new : G) (before_in since_in before since : Option (List ℕ)) (why : F) : Type 0 where
-    pub lines : List (List ℕ)
-    pub right : All IsRight lines
+    pub lines : List Given
+    pub deeds : List Deed
+    pub asks : AsksUpTo game.takes_states (game.rom old) (game.machine old) lines deeds
     pub more : List ℕ
-    pub read : ReadsLines lines more before_in since_in
-    pub stops : StopsAmong old new before since (orders_of lines) why
+    pub read : HasReadGiven (asked game.takes_states) lines more before_in since_in
+    pub stops : StopsAmong old new before since deeds why
 
   -- ---- with the line of the resume, and the save at the end
 
-  -- what is then written after these lines
-  abbrev pub stream_from : G → List (List ℕ) → List Line
-  stream_from a lines = resumed_line (game.acknowledged a) ∷ answers_from a (ended (game.unsaved a) (orders_of lines))
+  -- what is then written
+  abbrev pub stream_from : G → List Deed → List Line
+  stream_from a deeds = resumed_line (game.acknowledged a) ∷ answers_from a (ended (game.unsaved a) deeds)
 
   pub record Streams (old new : G) (before_in since_in before since : Option (List ℕ)) (end : End) : Type 0 where
-    pub lines : List (List ℕ)
-    pub right : All IsRight lines
-    pub read : ReadsTo end lines before_in since_in
-    pub makes : Makes game old new before since (inputs_of_orders (orders_of lines)) 0 (stream_from old lines)
+    pub lines : List Given
+    pub deeds : List Deed
+    pub kept : List KeptMachine
+    pub asks : Asks game.takes_states (game.rom old) (game.machine old) lines deeds kept
+    pub read : ReadsTo game.takes_states (game.rom old) kept end lines before_in since_in
+    pub makes : Makes game old new before since (inputs_of_deeds deeds) 0 (stream_from old deeds)
 
   pub record StopsStream (old new : G) (before_in since_in before since : Option (List ℕ)) (why : F) : Type 0 where
-    pub lines : List (List ℕ)
-    pub right : All IsRight lines
+    pub lines : List Given
+    pub deeds : List Deed
+    pub asks : AsksUpTo game.takes_states (game.rom old) (game.machine old) lines deeds
     pub more : List ℕ
-    pub read : ReadsLines lines more before_in since_in
-    pub stops : StopsMaking game old new before since ⊤ (inputs_of_orders (orders_of lines)) (stream_from old lines) why
+    pub read : HasReadGiven (asked game.takes_states) lines more before_in since_in
+    pub stops : StopsMaking game old new before since ⊤ (inputs_of_deeds deeds) (stream_from old deeds) why

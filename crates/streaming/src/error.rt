@@ -16,6 +16,12 @@ pub enum StreamError {
     /// A read of the input failed.
     #[error("input failed")]
     Input,
+    /// The bytes behind a line are no snapshot of the cartridge.
+    #[error("damaged snapshot")]
+    Snapshot,
+    /// There was no memory for a line.
+    #[error("no memory")]
+    Memory,
 }
 
 /// A refusal that hands the device back.

@@ -5,9 +5,11 @@ pub mod error;
 pub mod next_order;
 mod obeying;
 pub mod order;
+mod state_room;
 mod streamed;
 
 pub use error::{StreamError, StreamRefused};
 pub use obeying::{End, stream_on};
 pub use order::{Order, read_order};
+pub use state_room::StateRoom;
 pub use streamed::stream;

@@ -11,7 +11,7 @@ use std::io::Read;
 /// What comes next.
 #[derive(Clone, Copy, Debug, PartialEq, Eq)]
 pub enum Next {
-    /// A line, and what it asks for: nothing if it is empty.
+    /// A line, and what it asks for: nothing if it is empty. The bytes that it asks for are not read yet.
     Line(Option<Order>),
     /// A wrong line.
     Wrong,
@@ -22,42 +22,42 @@ pub enum Next {
 }
 
 /// What a line asks for.
-fn next_of_line(line: &[u8]) -> Next
-    ensures { IsAsked result line.now }
+fn next_of_line(line: &[u8], states: bool) -> Next
+    ensures { IsAsked states result line.now }
 {
     if line.is_empty() {
         return Next::Line(None);
     }
-    match read_order(line) {
+    match read_order(line, states) {
         Some(order) => Next::Line(Some(order)),
         None => Next::Wrong,
     }
 }
 
 /// Takes the first line.
-fn take_line(unread: &mut Unread) -> Next
-    ensures asked { IsAsked result (first_line unread.old.items) }
+fn take_line(unread: &mut Unread, states: bool) -> Next
+    ensures asked { IsAsked states result (first_line unread.old.items) }
     ensures rest { unread.new.items ≡ behind_first_line unread.old.items }
 {
     let size = line_length(unread.as_slice());
-    let next = next_of_line(&unread.as_slice()[..size]);
+    let next = next_of_line(&unread.as_slice()[..size], states);
     drop_first(unread, size + 1);
     next
 }
 
 /// Reads the next line: first of what was read before, then of the input. A line of more than 64 bytes is
 /// wrong as soon as that many are read.
-pub fn read_next<R: Read>(unread: &mut Unread, input: &mut R) -> Next
-    ensures { IsNext result (left_of unread.old.items (R.remaining input.old)) (left_of unread.new.items (R.remaining input.new))
+pub fn read_next<R: Read>(unread: &mut Unread, input: &mut R, states: bool) -> Next
+    ensures { IsNext states result (left_of unread.old.items (R.remaining input.old)) (left_of unread.new.items (R.remaining input.new))
         (R.remaining input.new) }
 {
     match fill(unread, input, MOST_BYTES) {
-        Filled::Line => take_line(unread),
+        Filled::Line => take_line(unread, states),
         Filled::End => {
             if unread.is_empty() {
                 Next::End
             } else {
-                take_line(unread)
+                take_line(unread, states)
             }
         }
         Filled::Failed => Next::Failed,

@@ -1,20 +1,37 @@
 //! Obeying lines.
-ghost use Rattle.std.specs.Prelude.{◌≡◌, ◌<◌, [], ◌∷◌, IfOk, IfErr, OnOk, OnErr};
+ghost use Rattle.std.specs.Prelude.{◌≡◌, ◌<◌, List, ℕ, [], ◌∷◌, length, true, false, Option as Known, None as NotThere, IfOk, IfErr, OnOk, OnErr};
+ghost use Rattle.std.specs.List.{All};
 ghost use Rattle.std.specs.Io.KnownBytes.{Appends};
 ghost use Rattle.exact_text.specs.Written.{AppendsProperPrefix};
+ghost use Rattle.cartridge.specs.Header.{ram_length_of};
 ghost use Rattle.machine.specs.Machine.{picture_rows};
 ghost use Rattle.picture_unit.specs.Pgm.{picture_text};
+ghost use Rattle.snapshot.specs.Encoding.{snapshot_length};
+ghost use Rattle.snapshot.specs.Legal.{IsLegalSnapshot};
+ghost use Rattle.snapshot.specs.Reading.{machine_in};
+ghost use Rattle.input_lines.specs.Reading.{left_of};
 ghost use Rattle.session.specs.Calls.{most_unsaved};
-ghost use Rattle.streaming.specs.Orders.{order_list};
-ghost use Rattle.streaming.specs.Answers.{last_orders};
+ghost use Rattle.machine_lines.specs.KeptStates.{KeptMachine, kept_under, slots};
+ghost use Rattle.machine_lines.specs.Slots.{AreKept};
+ghost use Rattle.streaming.specs.Numbers.{IsNumbered};
+ghost use Rattle.streaming.specs.Orders.{Does, GoesOnWith, needs_states};
+ghost use Rattle.streaming.specs.Answers.{last_deeds, other_text};
 ghost use Rattle.streaming.specs.Obeying.{Obeys, StopsAmong, ObeysLines, StopsAmongLines, Streams, StopsStream};
+ghost use Rattle.streaming.specs.Steps.{IsStep, IsRefused};
 
 use crate::next_order::{Next, read_next};
 use crate::order::Order;
+use crate::state_room::StateRoom;
 use arrayvec::ArrayVec;
-use exact_text::OutputFailed;
-use playing::{Playable, make_move, save_line, write_resumed};
+use cartridge::Cartridge;
+use exact_text::{OutputFailed, write_whole};
+use input_lines::{Taken, Unread, skip_bytes, take_bytes};
+use machine::Region;
+use machine_lines::{KeptStates, write_count, write_memory, write_state};
+use playing::{Playable, give_power, give_state, make_move, save_line, write_resumed};
 use script::Move;
+use snapshot::length;
+use std::alloc::Global;
 use std::io::{Read, Write};
 
 /// How a stream ends.
@@ -26,6 +43,25 @@ pub enum End {
     Wrong(u64),
     /// At a read that failed.
     Failed,
+    /// At bytes that are no snapshot of the cartridge.
+    Damaged,
+    /// At a line for which there was no memory.
+    NoMemory,
+}
+
+/// How far a line went.
+#[derive(Clone, Copy, Debug, PartialEq, Eq)]
+pub(crate) enum Went {
+    /// It was obeyed.
+    On,
+    /// No state is kept under its number.
+    Wrong,
+    /// A read of its bytes failed.
+    Failed,
+    /// Its bytes are no snapshot of the cartridge, or fewer to the end of the input.
+    Damaged,
+    /// There was no memory for it.
+    NoMemory,
 }
 
 /// Writes the picture of the machine as it is.
@@ -40,9 +76,9 @@ fn draw<G: Playable, W: Write>(game: &G, out: &mut W) -> Result<(), OutputFailed
 fn obey_move<G: Playable, W: Write>(game: &mut G, a_move: Move, out: &mut W) -> Result<(), G::Fault>
     requires whole { G.whole game.old }
     requires few { G.unsaved game.old < most_unsaved }
-    ensures obeyed { OnOk result (Obeys ⟦<G as Playable>⟧ game.old game.new (W.contents out.old) (W.contents out.new) (Order.Make a_move ∷ [])) }
+    ensures obeyed { OnOk result (Obeys ⟦<G as Playable>⟧ game.old game.new (W.contents out.old) (W.contents out.new) (Does (Order.Make a_move) ∷ [])) }
     ensures stopped { IfErr result (λ why.
-        StopsAmong ⟦<G as Playable>⟧ game.old game.new (W.contents out.old) (W.contents out.new) (Order.Make a_move ∷ []) why) }
+        StopsAmong ⟦<G as Playable>⟧ game.old game.new (W.contents out.old) (W.contents out.new) (Does (Order.Make a_move) ∷ []) why) }
     ensures whole { OnOk result (G.whole game.new × (G.unsaved game.new < most_unsaved)) }
 {
     make_move(game, a_move, out)
@@ -50,9 +86,9 @@ fn obey_move<G: Playable, W: Write>(game: &mut G, a_move: Move, out: &mut W) -> 
 
 /// Writes a picture.
 fn obey_picture<G: Playable, W: Write>(game: &mut G, out: &mut W) -> Result<(), G::Fault>
-    ensures obeyed { OnOk result (Obeys ⟦<G as Playable>⟧ game.old game.new (W.contents out.old) (W.contents out.new) (Order.Picture ∷ [])) }
+    ensures obeyed { OnOk result (Obeys ⟦<G as Playable>⟧ game.old game.new (W.contents out.old) (W.contents out.new) (Does Order.Picture ∷ [])) }
     ensures stopped { IfErr result (λ why.
-        StopsAmong ⟦<G as Playable>⟧ game.old game.new (W.contents out.old) (W.contents out.new) (Order.Picture ∷ []) why) }
+        StopsAmong ⟦<G as Playable>⟧ game.old game.new (W.contents out.old) (W.contents out.new) (Does Order.Picture ∷ []) why) }
     ensures same { game.new ≡ game.old }
 {
     game.draw_late();
@@ -62,32 +98,272 @@ fn obey_picture<G: Playable, W: Write>(game: &mut G, out: &mut W) -> Result<(), 
     }
 }
 
-/// Does what a line asks for.
-fn obey<G: Playable, W: Write>(
+/// Writes the machine's snapshot, for which there is room.
+fn obey_state<G: Playable, W: Write>(
     game: &mut G,
-    order: Option<Order>,
+    snapshot: &mut [u8],
     out: &mut W,
 ) -> Result<(), G::Fault>
+    requires { length snapshot.old ≡ snapshot_length (ram_length_of (G.rom game.old)) }
+    ensures obeyed { OnOk result (Obeys ⟦<G as Playable>⟧ game.old game.new (W.contents out.old) (W.contents out.new) (Does Order.State ∷ [])) }
+    ensures stopped { IfErr result (λ why.
+        StopsAmong ⟦<G as Playable>⟧ game.old game.new (W.contents out.old) (W.contents out.new) (Does Order.State ∷ []) why) }
+    ensures same { game.new ≡ game.old }
+    ensures room { length snapshot.new ≡ length snapshot.old }
+{
+    game.draw_late();
+    match write_state(game.machine(), snapshot, out) {
+        Ok(()) => Ok(()),
+        Err(_) => Err(G::unwritten()),
+    }
+}
+
+/// Writes bytes as the machine sees them.
+fn obey_memory<G: Playable, W: Write>(
+    game: &mut G,
+    address: u16,
+    count: u32,
+    out: &mut W,
+) -> Result<(), G::Fault>
+    ensures obeyed { OnOk result (Obeys ⟦<G as Playable>⟧ game.old game.new (W.contents out.old) (W.contents out.new) (Does (Order.Memory address count) ∷ [])) }
+    ensures stopped { IfErr result (λ why.
+        StopsAmong ⟦<G as Playable>⟧ game.old game.new (W.contents out.old) (W.contents out.new) (Does (Order.Memory address count) ∷ []) why) }
+    ensures same { game.new ≡ game.old }
+{
+    match write_memory(game.machine(), address, count, out) {
+        Ok(()) => Ok(()),
+        Err(_) => Err(G::unwritten()),
+    }
+}
+
+/// Keeps the machine under a number, and answers it. The answer is whether there was memory for it: where there is none, nothing changes.
+fn obey_keep<G: Playable, W: Write>(
+    game: &mut G,
+    alloc: Global,
+    kept: &mut KeptStates,
+    slot: u32,
+    out: &mut W,
+) -> Result<bool, G::Fault>
+    requires { slot < slots }
+    ensures obeyed { IfOk result (λ done. done ≡ true →
+        Obeys ⟦<G as Playable>⟧ game.old game.new (W.contents out.old) (W.contents out.new) (Does (Order.Keep slot) ∷ [])) }
+    ensures kept { (machines : List KeptMachine) → AreKept (G.rom game.old) kept.old machines → IfOk result (λ done. done ≡ true →
+        AreKept (G.rom game.old) kept.new (record { number = slot; machine = G.machine game.old } ∷ machines)) }
+    ensures nothing { (machines : List KeptMachine) → AreKept (G.rom game.old) kept.old machines → IfOk result (λ done. done ≡ false →
+        (out.new ≡ out.old) × (kept_under slot machines ≡ NotThere)) }
+    ensures stopped { IfErr result (λ why.
+        StopsAmong ⟦<G as Playable>⟧ game.old game.new (W.contents out.old) (W.contents out.new) (Does (Order.Keep slot) ∷ []) why) }
+    ensures same { game.new ≡ game.old }
+{
+    game.draw_late();
+    let machine = game.machine();
+    let room = length(machine.region(Region::CartRam).len());
+    match kept.keep(alloc, slot as usize, room, machine) {
+        Ok(()) => match write_count("kept", slot as usize, out) {
+            Ok(()) => Ok(true),
+            Err(_) => Err(G::unwritten()),
+        },
+        Err(_) => Ok(false),
+    }
+}
+
+/// Goes on with the machine of a snapshot, one input, and answers it with a text. The answer is whether the bytes are a legal snapshot of the
+/// cartridge: where they are none, nothing changes.
+fn go_on_with<G: Playable, W: Write>(
+    game: &mut G,
+    bytes: &[u8],
+    cartridge: &Cartridge,
+    order: Order,
+    out: &mut W,
+) -> Result<bool, G::Fault>
+    requires takes { G.takes_states ≡ true }
+    requires of { G.rom game.old ≡ cartridge.now }
     requires whole { G.whole game.old }
     requires few { G.unsaved game.old < most_unsaved }
-    ensures obeyed { OnOk result (Obeys ⟦<G as Playable>⟧ game.old game.new (W.contents out.old) (W.contents out.new) (order_list order)) }
+    ensures obeyed { IfOk result (λ done. done ≡ true →
+        Obeys ⟦<G as Playable>⟧ game.old game.new (W.contents out.old) (W.contents out.new) (GoesOnWith order (machine_in cartridge.now bytes.now) ∷ [])) }
+    ensures legal { IfOk result (λ done. done ≡ true → IsLegalSnapshot cartridge.now bytes.now) }
+    ensures nothing { IfOk result (λ done. done ≡ false → (game.new ≡ game.old) × (out.new ≡ out.old) × (¬ IsLegalSnapshot cartridge.now bytes.now)) }
     ensures stopped { IfErr result (λ why.
-        StopsAmong ⟦<G as Playable>⟧ game.old game.new (W.contents out.old) (W.contents out.new) (order_list order) why) }
+        StopsAmong ⟦<G as Playable>⟧ game.old game.new (W.contents out.old) (W.contents out.new) (GoesOnWith order (machine_in cartridge.now bytes.now) ∷ []) why) }
     ensures whole { OnOk result (G.whole game.new × (G.unsaved game.new < most_unsaved)) }
 {
+    match give_state(game, bytes, cartridge, out) {
+        Ok(true) => match write_gone_on(order, out) {
+            Ok(()) => Ok(true),
+            Err(_) => Err(G::unwritten()),
+        },
+        Ok(false) => Ok(false),
+        Err(why) => Err(why),
+    }
+}
+
+/// The answer where the game went on with another machine.
+fn write_gone_on<W: Write>(order: Order, out: &mut W) -> Result<(), OutputFailed>
+    ensures ok { OnOk result (Appends (W.contents out.old) (W.contents out.new) (other_text order)) }
+    ensures err { OnErr result (AppendsProperPrefix (W.contents out.old) (W.contents out.new) (other_text order)) }
+{
+    if let Order::Back(slot) = order {
+        return write_count("back", slot as usize, out);
+    }
+    write_whole(out, b"restored\n")
+}
+
+/// Goes on with the machine that is kept under a number, and answers it.
+fn obey_back<G: Playable, W: Write>(
+    game: &mut G,
+    kept: &KeptStates,
+    slot: u32,
+    cartridge: &Cartridge,
+    out: &mut W,
+) -> Result<Went, G::Fault>
+    requires slot { slot < slots }
+    requires takes { G.takes_states ≡ true }
+    requires of { G.rom game.old ≡ cartridge.now }
+    requires whole { G.whole game.old }
+    requires few { G.unsaved game.old < most_unsaved }
+    ensures step { (machines : List KeptMachine) → AreKept cartridge.now kept.now machines → (left unread : Known (List ℕ)) → IfOk result
+        (IsStep ⟦<G as Playable>⟧ game.old game.new (W.contents out.old) (W.contents out.new) (record { before = left; since = left; unread = unread })
+        cartridge.now machines (Order.Back slot) kept.now) }
+    ensures refused { (machines : List KeptMachine) → AreKept cartridge.now kept.now machines → (left unread : Known (List ℕ)) → IfErr result
+        (IsRefused ⟦<G as Playable>⟧ game.old game.new (W.contents out.old) (W.contents out.new) (record { before = left; since = left; unread = unread })
+        cartridge.now machines (Order.Back slot)) }
+    ensures whole { OnOk result (G.whole game.new × (G.unsaved game.new < most_unsaved)) }
+{
+    let bytes = kept.state(slot as usize);
+    if bytes.is_empty() {
+        return Ok(Went::Wrong);
+    }
+    match go_on_with(game, bytes, cartridge, Order::Back(slot), out) {
+        Ok(true) => Ok(Went::On),
+        Ok(false) => Ok(Went::Wrong),
+        Err(why) => Err(why),
+    }
+}
+
+/// Takes the bytes of a snapshot, and goes on with its machine.
+fn obey_restore<G: Playable, R: Read, W: Write>(
+    game: &mut G,
+    unread: &mut Unread,
+    input: &mut R,
+    size: u32,
+    snapshot: &mut [u8],
+    cartridge: &Cartridge,
+    out: &mut W,
+) -> Result<Went, G::Fault>
+    requires room { length snapshot.old ≡ snapshot_length (ram_length_of cartridge.now) }
+    requires takes { G.takes_states ≡ true }
+    requires of { G.rom game.old ≡ cartridge.now }
+    requires whole { G.whole game.old }
+    requires few { G.unsaved game.old < most_unsaved }
+    ensures step { (machines : List KeptMachine) (states : List (List ℕ)) → AreKept cartridge.now states machines → IfOk result
+        (IsStep ⟦<G as Playable>⟧ game.old game.new (W.contents out.old) (W.contents out.new)
+        (record { before = left_of unread.old.items (R.remaining input.old); since = left_of unread.new.items (R.remaining input.new); unread = R.remaining input.new })
+        cartridge.now machines (Order.Restore size) states) }
+    ensures refused { (machines : List KeptMachine) → IfErr result
+        (IsRefused ⟦<G as Playable>⟧ game.old game.new (W.contents out.old) (W.contents out.new)
+        (record { before = left_of unread.old.items (R.remaining input.old); since = left_of unread.new.items (R.remaining input.new); unread = R.remaining input.new })
+        cartridge.now machines (Order.Restore size)) }
+    ensures whole { OnOk result (G.whole game.new × (G.unsaved game.new < most_unsaved)) }
+    ensures room { length snapshot.new ≡ length snapshot.old }
+{
+    if size as usize != snapshot.len() {
+        return match skip_bytes(unread, input, size as usize) {
+            Taken::All | Taken::End => Ok(Went::Damaged),
+            Taken::Failed => Ok(Went::Failed),
+        };
+    }
+    match take_bytes(unread, input, snapshot) {
+        Taken::All => match go_on_with(game, snapshot, cartridge, Order::Restore(size), out) {
+            Ok(true) => Ok(Went::On),
+            Ok(false) => Ok(Went::Damaged),
+            Err(why) => Err(why),
+        },
+        Taken::End => Ok(Went::Damaged),
+        Taken::Failed => Ok(Went::Failed),
+    }
+}
+
+/// Does what a line asks for.
+fn obey<G: Playable, R: Read, W: Write>(
+    game: &mut G,
+    alloc: Global,
+    cartridge: &Cartridge,
+    room: &mut StateRoom,
+    order: Order,
+    unread: &mut Unread,
+    input: &mut R,
+    out: &mut W,
+) -> Result<Went, G::Fault>
+    requires takes { needs_states order ≡ true → G.takes_states ≡ true }
+    requires numbered { IsNumbered order }
+    requires room { length room.old.snapshot.items ≡ snapshot_length (ram_length_of cartridge.now) }
+    requires of { G.rom game.old ≡ cartridge.now }
+    requires whole { G.whole game.old }
+    requires few { G.unsaved game.old < most_unsaved }
+    ensures step { (machines : List KeptMachine) → AreKept cartridge.now room.old.kept machines → IfOk result
+        (IsStep ⟦<G as Playable>⟧ game.old game.new (W.contents out.old) (W.contents out.new)
+        (record { before = left_of unread.old.items (R.remaining input.old); since = left_of unread.new.items (R.remaining input.new); unread = R.remaining input.new })
+        cartridge.now machines order room.new.kept) }
+    ensures refused { (machines : List KeptMachine) → AreKept cartridge.now room.old.kept machines → IfErr result
+        (IsRefused ⟦<G as Playable>⟧ game.old game.new (W.contents out.old) (W.contents out.new)
+        (record { before = left_of unread.old.items (R.remaining input.old); since = left_of unread.new.items (R.remaining input.new); unread = R.remaining input.new })
+        cartridge.now machines order) }
+    ensures whole { OnOk result (G.whole game.new × (G.unsaved game.new < most_unsaved)) }
+    ensures room { length room.new.snapshot.items ≡ length room.old.snapshot.items }
+{
     match order {
-        None => Ok(()),
-        Some(Order::Make(a_move)) => obey_move(game, a_move, out),
-        Some(Order::Picture) => obey_picture(game, out),
+        Order::Make(a_move) => match obey_move(game, a_move, out) {
+            Ok(()) => Ok(Went::On),
+            Err(why) => Err(why),
+        },
+        Order::Picture => match obey_picture(game, out) {
+            Ok(()) => Ok(Went::On),
+            Err(why) => Err(why),
+        },
+        Order::State => match obey_state(game, &mut room.snapshot, out) {
+            Ok(()) => Ok(Went::On),
+            Err(why) => Err(why),
+        },
+        Order::Memory { address, count } => match obey_memory(game, address, count, out) {
+            Ok(()) => Ok(Went::On),
+            Err(why) => Err(why),
+        },
+        Order::Power => match give_power(game, alloc, cartridge, out) {
+            Ok(true) => Ok(Went::On),
+            Ok(false) => Ok(Went::NoMemory),
+            Err(why) => Err(why),
+        },
+        Order::Keep(slot) => match obey_keep(game, alloc, &mut room.kept, slot, out) {
+            Ok(true) => Ok(Went::On),
+            Ok(false) => Ok(Went::NoMemory),
+            Err(why) => Err(why),
+        },
+        Order::Back(slot) => obey_back(game, &room.kept, slot, cartridge, out),
+        Order::Restore(size) => obey_restore(
+            game,
+            unread,
+            input,
+            size,
+            &mut room.snapshot,
+            cartridge,
+            out,
+        ),
     }
 }
 
 /// Obeys lines as they come, up to the end, a wrong one, or a read that fails.
 fn obey_lines<G: Playable, R: Read, W: Write>(
     game: &mut G,
+    alloc: Global,
+    cartridge: &Cartridge,
+    room: &mut StateRoom,
     input: &mut R,
     out: &mut W,
 ) -> Result<End, G::Fault>
+    requires room { length room.old.snapshot.items ≡ snapshot_length (ram_length_of cartridge.now) }
+    requires kept { All (λ bytes. bytes ≡ []) room.old.kept }
+    requires of { G.rom game.old ≡ cartridge.now }
     requires whole { G.whole game.old }
     requires few { G.unsaved game.old < most_unsaved }
     ensures obeyed { IfOk result (λ end. ObeysLines ⟦<G as Playable>⟧ game.old game.new
@@ -96,10 +372,21 @@ fn obey_lines<G: Playable, R: Read, W: Write>(
         (R.remaining input.old) (R.remaining input.new) (W.contents out.old) (W.contents out.new) why) }
     ensures whole { OnOk result (G.whole game.new × (G.unsaved game.new < most_unsaved)) }
 {
+    let states = G::takes_states();
     let mut unread = ArrayVec::new();
     for number in 1..u64::MAX {
-        match read_next(&mut unread, input) {
-            Next::Line(order) => obey(game, order, out)?,
+        match read_next(&mut unread, input, states) {
+            Next::Line(None) => continue,
+            Next::Line(Some(order)) => {
+                match obey(game, alloc, cartridge, room, order, &mut unread, input, out) {
+                    Ok(Went::On) => continue,
+                    Ok(Went::Wrong) => return Ok(End::Wrong(number)),
+                    Ok(Went::Failed) => return Ok(End::Failed),
+                    Ok(Went::Damaged) => return Ok(End::Damaged),
+                    Ok(Went::NoMemory) => return Ok(End::NoMemory),
+                    Err(why) => return Err(why),
+                }
+            }
             Next::Wrong => return Ok(End::Wrong(number)),
             Next::End => return Ok(End::Whole),
             Next::Failed => return Ok(End::Failed),
@@ -112,9 +399,9 @@ fn obey_lines<G: Playable, R: Read, W: Write>(
 fn save_rest<G: Playable, W: Write>(game: &mut G, out: &mut W) -> Result<(), G::Fault>
     requires whole { G.whole game.old }
     requires few { G.unsaved game.old < most_unsaved }
-    ensures obeyed { OnOk result (Obeys ⟦<G as Playable>⟧ game.old game.new (W.contents out.old) (W.contents out.new) (last_orders (G.unsaved game.old))) }
+    ensures obeyed { OnOk result (Obeys ⟦<G as Playable>⟧ game.old game.new (W.contents out.old) (W.contents out.new) (last_deeds (G.unsaved game.old))) }
     ensures stopped { IfErr result (λ why.
-        StopsAmong ⟦<G as Playable>⟧ game.old game.new (W.contents out.old) (W.contents out.new) (last_orders (G.unsaved game.old)) why) }
+        StopsAmong ⟦<G as Playable>⟧ game.old game.new (W.contents out.old) (W.contents out.new) (last_deeds (G.unsaved game.old)) why) }
     ensures saved { OnOk result (G.whole game.new × (G.unsaved game.new ≡ 0)) }
 {
     if game.counts().pending == 0 {
@@ -123,14 +410,21 @@ fn save_rest<G: Playable, W: Write>(game: &mut G, out: &mut W) -> Result<(), G::
     save_line(game, out)
 }
 
-/// Writes that the game was resumed, obeys the lines, and saves what is then unsaved.
+/// Writes that the game was resumed, obeys the lines, and saves what is then unsaved. Conditions: the cartridge is the game's own, and the
+/// room is that for its states, of which none is kept.
 ///
 /// Refusals: whichever comes first of those of an input, of a save and of a line of the report.
 pub fn stream_on<G: Playable, R: Read, W: Write>(
     game: &mut G,
+    alloc: Global,
+    cartridge: &Cartridge,
+    room: &mut StateRoom,
     input: &mut R,
     out: &mut W,
 ) -> Result<End, G::Fault>
+    requires room { length room.old.snapshot.items ≡ snapshot_length (ram_length_of cartridge.now) }
+    requires kept { All (λ bytes. bytes ≡ []) room.old.kept }
+    requires of { G.rom game.old ≡ cartridge.now }
     requires whole { G.whole game.old }
     requires none { G.unsaved game.old ≡ 0 }
     ensures streamed { IfOk result (λ end. Streams ⟦<G as Playable>⟧ game.old game.new
@@ -142,7 +436,7 @@ pub fn stream_on<G: Playable, R: Read, W: Write>(
     if let Err(_) = write_resumed(out, game.counts().all) {
         return Err(G::unwritten());
     }
-    let end = obey_lines(game, input, out)?;
+    let end = obey_lines(game, alloc, cartridge, room, input, out)?;
     save_rest(game, out)?;
     Ok(end)
 }

@@ -6,24 +6,37 @@ ghost use Rattle.streaming.specs.Streamed.{HasStreamedAll, IsStreamCause, faults
 
 use crate::error::{StreamError, StreamRefused};
 use crate::obeying::{End, stream_on};
+use crate::state_room::StateRoom;
 use cartridge::Cartridge;
 use sector_device::SectorDevice;
-use session::{Session, resume};
+use session::{Session, SessionError, resume};
 use std::alloc::Global;
 use std::io::{Read, Write};
 
 /// Resumes the game on a device, writes `resumed N`, and obeys the lines of an input as they come,
-/// each before more is read. A line is a line of a script, or `picture`, which writes the machine's
-/// picture as plain PGM; an empty one is counted and skipped, and the last may lack its newline. As
-/// in `play`, `saved N` is written after each save: one at each `save`, right after the input that
-/// makes 3,200 unsaved, and at the end if any is unsaved.
+/// each before more is read. A line is a line of a script, or one of these; an empty one is counted
+/// and skipped, and the last may lack its newline. As in `play`, `saved N` is written after each
+/// save: one at each `save`, right after the input that makes 3,200 unsaved, and at the end if any is
+/// unsaved.
 ///
-/// Refusals: those of `resume`, with nothing read and nothing written; then whichever comes first
-/// of `GenerationsUsedUp`, `Device`, `CountFull` and `Output`, as in `play`; `Line` with the number of the first
-/// wrong line, counted from 1, and `Input` if a read fails, both once what was given before is
+/// | Line | What is done | Answer |
+/// |---|---|---|
+/// | `picture` | nothing | the machine's picture as plain PGM |
+/// | `state` | nothing | `state K`, and the K bytes of the machine's snapshot |
+/// | `memory ADDR N` | nothing | the bytes, sixteen a line, as nothing closes them |
+/// | `power` | the power switch, off and on, one input | none |
+/// | `restore N`, and N bytes | the machine becomes the one of this snapshot, one input | `restored` |
+/// | `keep K` | nothing; the machine is kept under K, 0 to 999, in place of one that was | `kept K` |
+/// | `back K` | the machine becomes the one that was kept last under K, one input. The line is wrong where none was | `back K` |
+///
+/// A save that is due comes before the answer.
+///
+/// Refusals: `Memory` for the room for states, and those of `resume`, with nothing read and nothing written; then whichever comes
+/// first of `GenerationsUsedUp`, `Device`, `CountFull` and `Output`, as in `play`; `Line` with the number of the first
+/// wrong line, counted from 1, `Snapshot` where the bytes of `restore` are no snapshot of this cartridge, or fewer to the end of the
+/// input, `Memory` for a `power` or for the first `keep` of a number, and `Input` if a read fails, all once what was given before is
 /// saved and reported. A line of more than 64 bytes is wrong as soon as that many are read, and so
-/// is the line with the number `u64::MAX`, whatever it says. Memory is taken only to resume the
-/// game.
+/// is the line with the number `u64::MAX`, whatever it says.
 pub fn stream<D: SectorDevice, R: Read, W: Write>(
     alloc: Global,
     device: D,
@@ -40,6 +53,12 @@ pub fn stream<D: SectorDevice, R: Read, W: Write>(
         (W.contents out.old) (W.contents out.new)) }
     ensures answered { HasAnswered (λ refused. faults_after_stream refused.why) (D.disk device) (D.disk (left_by result)) result }
 {
+    let Ok(mut room) = StateRoom::new(alloc, cartridge) else {
+        return Err(StreamRefused {
+            why: StreamError::Session(SessionError::Memory),
+            device,
+        });
+    };
     let mut session = match resume(alloc, device, cartridge) {
         Ok(session) => session,
         Err(refused) => return Err(StreamRefused {
@@ -47,7 +66,7 @@ pub fn stream<D: SectorDevice, R: Read, W: Write>(
             device: refused.device,
         }),
     };
-    match stream_on(&mut session, input, out) {
+    match stream_on(&mut session, alloc, cartridge, &mut room, input, out) {
         Ok(End::Whole) => Ok(session),
         Ok(End::Wrong(number)) => Err(StreamRefused {
             why: StreamError::Line(number),
@@ -55,6 +74,14 @@ pub fn stream<D: SectorDevice, R: Read, W: Write>(
         }),
         Ok(End::Failed) => Err(StreamRefused {
             why: StreamError::Input,
+            device: session.into_device(),
+        }),
+        Ok(End::Damaged) => Err(StreamRefused {
+            why: StreamError::Snapshot,
+            device: session.into_device(),
+        }),
+        Ok(End::NoMemory) => Err(StreamRefused {
+            why: StreamError::Memory,
             device: session.into_device(),
         }),
         Err(why) => Err(StreamRefused {

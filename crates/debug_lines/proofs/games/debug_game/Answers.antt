@@ -23,9 +23,9 @@ returns-in-Ok-debugged-clause-debugged g c =
     (record {
       from = from;
       taken_up = taken_up c.args.rom.items c.in-Ok.cartridge (g.D.SectorDevice.disk c.args.device) (g.D.SectorDevice.disk (device_of s)) from c.in-Ok.ensures.image
-          (subst (λ (m : MachineState). IsMachineOf c.in-Ok.cartridge m) c.machine.ensures c.in-Ok-debugged.ensures.ok.0)
+          (subst (λ (m : MachineState). IsMachineOf c.in-Ok.cartridge m) c.machine.ensures.machine c.in-Ok-debugged.ensures.ok.0)
           c.in-Ok-resume.ensures.stands c.in-Ok-resume.ensures.rests;
-      debugged = debugged_as c.counts-inputs.result.all (acknowledged_of s) _ (machine_of s) io all_is c.machine.ensures c.in-Ok-debugged.ensures.ok.1;
+      debugged = debugged_as c.counts-inputs.result.all (acknowledged_of s) _ (machine_of s) io all_is c.machine.ensures.machine c.in-Ok-debugged.ensures.ok.1;
     })
 
 pub returns-clause-cause : goal.returns-clause-cause
@@ -39,7 +39,7 @@ returns-clause-cause g c =
     (game_cause c.args.rom.items c.in-Ok.cartridge (g.D.SectorDevice.disk c.args.device) (g.D.SectorDevice.disk (device_of s)) from io c.in-Err-debugged.why (c.in-Ok.ensures.accepted.0 refl)
     (λ of. taken_up c.args.rom.items c.in-Ok.cartridge (g.D.SectorDevice.disk c.args.device) (g.D.SectorDevice.disk (device_of s)) from c.in-Ok.ensures.image of
     c.in-Ok-resume.ensures.stands c.in-Ok-resume.ensures.rests)
-    (not_debugged_as c.in-Ok.cartridge c.counts-inputs.result.all (acknowledged_of s) _ (machine_of s) io c.in-Err-debugged.why all_is c.machine.ensures c.in-Err-debugged.ensures.err))
+    (not_debugged_as c.in-Ok.cartridge c.counts-inputs.result.all (acknowledged_of s) _ (machine_of s) io c.in-Err-debugged.why all_is c.machine.ensures.machine c.in-Err-debugged.ensures.err))
 
 pub returns-in-Err-resume-clause-cause : goal.returns-in-Err-resume-clause-cause
 returns-in-Err-resume-clause-cause g c =

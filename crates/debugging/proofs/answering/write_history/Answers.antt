@@ -3,7 +3,8 @@ use Rattle.exact_text.specs.Written.{AppendsProperPrefix}
 use Rattle.exact_text.proofs.Writes.{whole_then_prefix}
 use Rattle.debugger.specs.History.{DebuggerState}
 use Rattle.debugging.specs.Answers.{history_text}
-use Rattle.debugging.proofs.Parts.{last_of, on_err}
+use Rattle.debugging.proofs.Parts.{last_of}
+use Rattle.machine_lines.proofs.Calls.{on_err}
 use Rattle.debugging.proofs.answering.write_history.Goals as goal
 
 pub returns-clause-err : goal.returns-clause-err

@@ -1,5 +1,6 @@
 use Rattle.std.proofs.Common.{◌+◌, length, refl}
-use Rattle.debugging.proofs.Parts.{end_failed, first_failed, on_err, second_failed}
+use Rattle.debugging.proofs.Parts.{end_failed, first_failed, second_failed}
+use Rattle.machine_lines.proofs.Calls.{on_err}
 use Rattle.debugging.proofs.answering.write_sent.Goals as goal
 
 pub returns-in-Err-write_whole-clause-err : goal.returns-in-Err-write_whole-clause-err

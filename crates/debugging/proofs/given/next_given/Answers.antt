@@ -1,4 +1,4 @@
-use Rattle.std.proofs.Common.{◌≡◌, inl, [], sym, ap, subst, ◌∙◌, arith, Some}
+use Rattle.std.proofs.Common.{inl, [], ap, ◌∙◌}
 use Rattle.debugging.specs.Orders.{asked}
 use Rattle.debugging.proofs.Givens.{long_asks_none, next_asked, takes_plain, asks_some, nonzero}
 use Rattle.debugging.proofs.given.next_given.Goals as goal

@@ -4,8 +4,8 @@ use Rattle.machine.specs.Machine.{MachineState}
 use Rattle.snapshot.specs.Encoding.{snapshot_length}
 use Rattle.debugger.specs.History.{DebuggerState}
 use Rattle.debugging.specs.Run.{RunState}
-use Rattle.debugging.specs.Slots.{state_under}
 use Rattle.debugging.proofs.Parts.{on_err_of, on_ok_of}
+use Rattle.machine_lines.specs.Slots.{state_under}
 use Rattle.debugging.proofs.switching.keep.Goals as goal
 
 pub returns-then-is_err-clause-memory : goal.returns-then-is_err-clause-memory

@@ -1,11 +1,18 @@
-use Rattle.std.proofs.Common.{◌≡◌, ◌∙◌, ℕ, ◌<◌, List, refl, subst, sym, ap}
+use Rattle.std.proofs.Common.{◌≡◌, ◌∙◌, ℕ, ◌<◌, List, refl, subst, sym}
+use Rattle.std.specs.Prelude.{IfErr, IfOk, OnOk}
 use Rattle.std.specs.Io.KnownBytes.{Appends}
 use Rattle.exact_text.specs.Written.{AppendsProperPrefix}
-use Rattle.debugging.specs.declared.order.StateOrder.TheVariants.{Power, Keep, Back}
-use Rattle.debugging.specs.KeptStates.{DebugState, kept_under}
-use Rattle.debugging.specs.Numbers.{IsNumbered, slots}
-use Rattle.debugging.specs.Slots.{AreKept, IsKeptAs}
-use Rattle.debugging.proofs.StatesKept.{back_is, if_ok_of, machine_of, memory_always, memory_by, not_switched, not_written, on_err_with, on_ok_always, on_ok_both, on_ok_of_run, one_kept, switched, takes_room}
+use Rattle.debugging.specs.declared.order.StateOrder.TheVariants.{Power, Keep, Back, Profile}
+use Rattle.debugging.specs.declared.order.Place.{Place}
+use Rattle.debugging.specs.Answers.{profile_text, until_steps}
+use Rattle.debugging.specs.Run.{after_steps_of}
+use Rattle.debugging.specs.Switching.{IsRefusedAnswer}
+use Rattle.debugging.specs.KeptStates.{DebugState}
+use Rattle.debugging.specs.Numbers.{IsNumbered}
+use Rattle.debugging.proofs.StatesKept.{back_is, if_ok_of, memory_always, memory_by, not_switched, not_written, on_err_with, on_ok_always, on_ok_both, on_ok_of_run, switched, takes_room}
+use Rattle.machine_lines.proofs.SlotLaws.{one_kept, machine_of}
+use Rattle.machine_lines.specs.KeptStates.{slots, kept_under}
+use Rattle.machine_lines.specs.Slots.{IsKeptAs, AreKept}
 use Rattle.debugging.proofs.switching.switch.Goals as goal
 
 pub returns-in-Power-clause-done : goal.returns-in-Power-clause-done
@@ -18,6 +25,26 @@ pub returns-in-Power-clause-refused : goal.returns-in-Power-clause-refused
 returns-in-Power-clause-refused g c machines kept =
     let d : DebugState = record { run = c.args.run; kept = machines } in
     not_switched c.args.cartridge.now Power c.args.order c.in-Power.is c.args.number d c.args.kept.now _ _ c.power.result c.power.ensures.err (memory_always c.power.result refl)
+
+pub returns-in-Profile-clause-done : goal.returns-in-Profile-clause-done
+returns-in-Profile-clause-done g c machines kept =
+    let d : DebugState = record { run = c.args.run; kept = machines } in
+    let limit = c.in-Profile.steps in
+    switched c.args.cartridge.now (Profile limit c.in-Profile.places) c.args.order c.in-Profile.is c.args.number d c.args.kept.now _ _ c.profile.result
+    (subst (λ (places : List Place). IfOk c.profile.result (λ now. now ≡ after_steps_of (until_steps limit places c.args.run) c.args.run)) c.as_slice.ensures.value c.profile.ensures.run)
+    (on_ok_always c.profile.result kept)
+    (subst (λ (places : List Place). OnOk c.profile.result (Appends (g.W.Write.contents c.args.out.now) (g.W.Write.contents c.profile.new.out) (profile_text (until_steps limit places c.args.run) limit c.args.run)))
+    c.as_slice.ensures.value c.profile.ensures.ok)
+
+pub returns-in-Profile-clause-refused : goal.returns-in-Profile-clause-refused
+returns-in-Profile-clause-refused g c machines kept =
+    let d : DebugState = record { run = c.args.run; kept = machines } in
+    let limit = c.in-Profile.steps in
+    not_switched c.args.cartridge.now (Profile limit c.in-Profile.places) c.args.order c.in-Profile.is c.args.number d c.args.kept.now _ _ c.profile.result
+    (subst (λ (places : List Place).
+    IfErr c.profile.result (λ why. IsRefusedAnswer why (profile_text (until_steps limit places c.args.run) limit c.args.run) (g.W.Write.contents c.args.out.now) (g.W.Write.contents c.profile.new.out)))
+    c.as_slice.ensures.value c.profile.ensures.err)
+    (memory_always c.profile.result refl)
 
 pub returns-in-Keep-clause-done : goal.returns-in-Keep-clause-done
 returns-in-Keep-clause-done g c machines kept =

@@ -26,10 +26,10 @@ returns-in-Ok-written-clause-traced g c =
     (record {
       from = from;
       taken_up = taken_up c.args.rom.items c.in-Ok.cartridge (g.D.SectorDevice.disk c.args.device) (g.D.SectorDevice.disk (device_of s)) from c.in-Ok.ensures.image
-          (subst (λ (m : MachineState). IsMachineOf c.in-Ok.cartridge m) c.machine.ensures c.in-Ok-written.ensures.ok.0)
+          (subst (λ (m : MachineState). IsMachineOf c.in-Ok.cartridge m) c.machine.ensures.machine c.in-Ok-written.ensures.ok.0)
           c.in-Ok-resume.ensures.stands c.in-Ok-resume.ensures.rests;
       written = subst (λ (n : ℕ). Appends (g.W.Write.contents c.args.out.now) (g.W.Write.contents c.write_trace-written.new.out) (trace_text n (machine_of s) c.args.count)) all_is
-          (subst (λ (m : MachineState). Appends (g.W.Write.contents c.args.out.now) (g.W.Write.contents c.write_trace-written.new.out) (trace_text c.counts-inputs.result.all m c.args.count)) c.machine.ensures c.in-Ok-written.ensures.ok.1);
+          (subst (λ (m : MachineState). Appends (g.W.Write.contents c.args.out.now) (g.W.Write.contents c.write_trace-written.new.out) (trace_text c.counts-inputs.result.all m c.args.count)) c.machine.ensures.machine c.in-Ok-written.ensures.ok.1);
     })
 
 pub returns-clause-cause : goal.returns-clause-cause
@@ -44,7 +44,7 @@ returns-clause-cause g c =
     (λ of. taken_up c.args.rom.items c.in-Ok.cartridge (g.D.SectorDevice.disk c.args.device) (g.D.SectorDevice.disk (device_of s)) from c.in-Ok.ensures.image of
     c.in-Ok-resume.ensures.stands c.in-Ok-resume.ensures.rests)
     (subst (λ (n : ℕ). IsUntraced c.in-Ok.cartridge (machine_of s) (trace_text n (machine_of s) c.args.count) (g.W.Write.contents c.args.out.now) (g.W.Write.contents c.write_trace-written.new.out) c.in-Err-written.why) all_is
-    (subst (λ (m : MachineState). IsUntraced c.in-Ok.cartridge m (trace_text c.counts-inputs.result.all m c.args.count) (g.W.Write.contents c.args.out.now) (g.W.Write.contents c.write_trace-written.new.out) c.in-Err-written.why) c.machine.ensures c.in-Err-written.ensures.err)))
+    (subst (λ (m : MachineState). IsUntraced c.in-Ok.cartridge m (trace_text c.counts-inputs.result.all m c.args.count) (g.W.Write.contents c.args.out.now) (g.W.Write.contents c.write_trace-written.new.out) c.in-Err-written.why) c.machine.ensures.machine c.in-Err-written.ensures.err)))
 
 pub returns-in-Err-resume-clause-cause : goal.returns-in-Err-resume-clause-cause
 returns-in-Err-resume-clause-cause g c =

@@ -1,9 +1,9 @@
-use Rattle.std.proofs.Common.{◌≡◌, ℕ, List, [], ◌∷◌, ◌++◌, Bool, length, take, ◌+◌, refl, sym, ap, subst, arith}
+use Rattle.std.proofs.Common.{◌≡◌, List, [], length, take, ◌+◌, refl, sym, ap, subst, arith}
 use Rattle.std.proofs.lemmas.List.{take_all, length_push}
 use Rattle.sector_device.specs.Memory.{memory_disk}
 use Rattle.sector_device.specs.MemoryDevice.{memory}
-use Rattle.recorded_lives.specs.Devices.{StandTogether, LeavesLife, CountsCuts, texts_of, reports_of, wholes_of}
-use Rattle.recorded_lives.specs.Rounds.{LeavesRound, IsCutRound, RefusesRound}
+use Rattle.recorded_lives.specs.Devices.{LeavesLife, CountsCuts, texts_of, reports_of, wholes_of}
+use Rattle.recorded_lives.specs.Rounds.{IsCutRound, RefusesRound}
 use Rattle.recorded_lives.specs.declared.rounds.RecordedRound.{RecordedRound}
 use Rattle.recorded_lives.specs.declared.rounds.RecordedEnd.{RecordedEnd}
 use Rattle.recorded_lives.proofs.Behind.{round_leaves, lived_nothing, lived_next, lived_some, life_refused, counts_more, ends_more}

@@ -1,13 +1,12 @@
-use Rattle.std.proofs.Common.{◌∙◌, length, Err, inl, inr, refl, sym, ap, subst}
+use Rattle.std.proofs.Common.{◌∙◌, false, length, Err, inl, inr, refl, sym, ap, subst}
 use Rattle.sector_device.specs.DiskState.{HasAnswered}
 use Rattle.recording.specs.Accessors.{device_of as device_of_recording}
-use Rattle.session.specs.Accessors.{pending_of}
+use Rattle.session.specs.Accessors.{pending_of, rom_of}
 use Rattle.session.specs.Inputs.{can_be_logged}
 use Rattle.session.proofs.Answering.{answered_both, answered_otherwise, answered_refused}
 use Rattle.playing.proofs.Going.{none_left}
 use Rattle.playing.proofs.Telling.{keeps_same}
-use Rattle.streaming.specs.Orders.{orders_of}
-use Rattle.streaming.specs.Answers.{inputs_of_orders}
+use Rattle.streaming.specs.Answers.{inputs_of_deeds}
 use Rattle.streaming.specs.Reading.{ReadsTo}
 use Rattle.streaming.specs.declared.obeying.End.TheVariants.{Whole, Wrong, Failed}
 use Rattle.recorded_play.specs.Agreeing.{AllAgree}
@@ -15,24 +14,24 @@ use Rattle.recorded_play.specs.Steps.{game, save_faults_after, recording_faults_
 use Rattle.recorded_play.specs.Whole.{IsRecordCause}
 use Rattle.recorded_play.specs.declared.error.RecordRefused.{RecordRefused}
 use Rattle.recorded_play.proofs.Stepping.{comes_all, halts_all}
-use Rattle.recorded_play.proofs.WholePlays.{recorded_to, stopped_record, as_refusal, ended_agree, stopped_agree}
+use Rattle.recorded_play.proofs.WholePlays.{none_damaged, none_lacked, recorded_to, stopped_record, as_refusal, ended_agree, stopped_agree}
 use Rattle.recorded_play.proofs.recorded.record.Goals as goal
 
 pub returns-in-Err-clause-refused : goal.returns-in-Err-clause-refused
 returns-in-Err-clause-refused g c = inl (c.in-Err.ensures.refused, keeps_same (g.W.Write.contents c.args.out.now), refl)
 
 pub stream_on-requires-clause-whole : goal.stream_on-requires-clause-whole
-stream_on-requires-clause-whole g c = (c.in-Ok.ensures.whole.1, c.in-Ok.ensures.whole.2, ap can_be_logged c.in-Ok.ensures.whole.0)
+stream_on-requires-clause-whole g c = (c.in-Ok-take_up.ensures.whole.1, c.in-Ok-take_up.ensures.whole.2, ap can_be_logged c.in-Ok-take_up.ensures.whole.0)
 
 pub stream_on-requires-clause-none : goal.stream_on-requires-clause-none
-stream_on-requires-clause-none g c = ap length c.in-Ok.ensures.whole.0
+stream_on-requires-clause-none g c = ap length c.in-Ok-take_up.ensures.whole.0
 
 pub returns-in-Ok-Whole-clause-recorded : goal.returns-in-Ok-Whole-clause-recorded
 returns-in-Ok-Whole-clause-recorded g c =
     let rom = c.args.cartridge.now in
     let disk = g.D.SectorDevice.disk in
     let other = g.E.SectorDevice.disk in
-    let first = c.in-Ok.game in
+    let first = c.in-Ok-take_up.game in
     let now = c.stream_on.new.game in
     let a = game first.session first.recording in
     let b = game now.session now.recording in
@@ -40,17 +39,17 @@ returns-in-Ok-Whole-clause-recorded g c =
     let since_in = g.R.Read.remaining c.stream_on.new.input in
     let before = g.W.Write.contents c.args.out.now in
     let since = g.W.Write.contents c.stream_on.new.out in
-    let up = c.in-Ok.ensures in
+    let up = c.in-Ok-take_up.ensures in
     let streams = c.in-Ok-Whole.ensures.streamed in
-    let comes = comes_all g.met.D.SectorDevice.only_now g.met.E.SectorDevice.only_now (λ a b input one. one) (λ a b one. one) first now (inputs_of_orders (orders_of streams.lines)) streams.makes.advances in
-    recorded_to rom (disk c.args.save) (other c.args.recording) a b before_in since_in before since up.whole.0 up.whole.3 up.save_answered.honest.1 up.taken_up streams.lines streams.right Whole (subst (λ e. ReadsTo e streams.lines before_in since_in) c.in-Ok-Whole.field-0-is streams.read) streams.makes.answered comes streams.makes.unsaved_is
+    let comes = comes_all g.met.D.SectorDevice.only_now g.met.E.SectorDevice.only_now (λ a b input one. one) (λ a b one. one) first now (inputs_of_deeds streams.deeds) streams.makes.advances in
+    recorded_to rom (disk c.args.save) (other c.args.recording) a b before_in since_in before since up.whole.0 up.whole.3 up.save_answered.honest.1 up.taken_up streams.lines streams.deeds (rom_of first.session) up.whole.3 streams.kept streams.asks c.in-Ok-Whole.field-0 Whole c.in-Ok-Whole.field-0-is streams.read streams.makes.answered comes streams.makes.unsaved_is
 
 pub returns-in-Ok-Whole-clause-agree : goal.returns-in-Ok-Whole-clause-agree
 returns-in-Ok-Whole-clause-agree g c =
     let rom = c.args.cartridge.now in
     let disk = g.D.SectorDevice.disk in
     let other = g.E.SectorDevice.disk in
-    let first = c.in-Ok.game in
+    let first = c.in-Ok-take_up.game in
     let now = c.stream_on.new.game in
     let a = game first.session first.recording in
     let b = game now.session now.recording in
@@ -58,42 +57,42 @@ returns-in-Ok-Whole-clause-agree g c =
     let since_in = g.R.Read.remaining c.stream_on.new.input in
     let before = g.W.Write.contents c.args.out.now in
     let since = g.W.Write.contents c.stream_on.new.out in
-    let up = c.in-Ok.ensures in
+    let up = c.in-Ok-take_up.ensures in
     let streams = c.in-Ok-Whole.ensures.streamed in
-    let comes = comes_all g.met.D.SectorDevice.only_now g.met.E.SectorDevice.only_now (λ a b input one. one) (λ a b one. one) first now (inputs_of_orders (orders_of streams.lines)) streams.makes.advances in
+    let comes = comes_all g.met.D.SectorDevice.only_now g.met.E.SectorDevice.only_now (λ a b input one. one) (λ a b one. one) first now (inputs_of_deeds streams.deeds) streams.makes.advances in
     λ honest other_honest agree. ended_agree rom (disk c.args.save) (other c.args.recording) a b before_in since_in before since up.whole.0 up.whole.3 up.save_answered.honest.1 up.taken_up honest other_honest (g.met.D.SectorDevice.reads_are_an_image c.args.save honest) (g.met.E.SectorDevice.reads_are_an_image c.args.recording other_honest) agree _ comes (g.met.E.SectorDevice.only_now (device_of_recording now.recording))
 
 pub returns-in-Ok-Whole-clause-save_answered : goal.returns-in-Ok-Whole-clause-save_answered
 returns-in-Ok-Whole-clause-save_answered g c =
-    let first = c.in-Ok.game in
+    let first = c.in-Ok-take_up.game in
     let now = c.stream_on.new.game in
     let a = game first.session first.recording in
     let b = game now.session now.recording in
-    let up = c.in-Ok.ensures in
+    let up = c.in-Ok-take_up.ensures in
     let streams = c.in-Ok-Whole.ensures.streamed in
-    let comes = comes_all g.met.D.SectorDevice.only_now g.met.E.SectorDevice.only_now (λ a b input one. one) (λ a b one. one) first now (inputs_of_orders (orders_of streams.lines)) streams.makes.advances in
+    let comes = comes_all g.met.D.SectorDevice.only_now g.met.E.SectorDevice.only_now (λ a b input one. one) (λ a b one. one) first now (inputs_of_deeds streams.deeds) streams.makes.advances in
     answered_both up.save_answered comes.save_calls
 
 pub returns-in-Ok-Whole-clause-recording_answered : goal.returns-in-Ok-Whole-clause-recording_answered
 returns-in-Ok-Whole-clause-recording_answered g c =
-    let first = c.in-Ok.game in
+    let first = c.in-Ok-take_up.game in
     let now = c.stream_on.new.game in
     let a = game first.session first.recording in
     let b = game now.session now.recording in
-    let up = c.in-Ok.ensures in
+    let up = c.in-Ok-take_up.ensures in
     let streams = c.in-Ok-Whole.ensures.streamed in
-    let comes = comes_all g.met.D.SectorDevice.only_now g.met.E.SectorDevice.only_now (λ a b input one. one) (λ a b one. one) first now (inputs_of_orders (orders_of streams.lines)) streams.makes.advances in
+    let comes = comes_all g.met.D.SectorDevice.only_now g.met.E.SectorDevice.only_now (λ a b input one. one) (λ a b one. one) first now (inputs_of_deeds streams.deeds) streams.makes.advances in
     answered_both up.recording_answered comes.recording_calls
 
 pub returns-in-Ok-Whole-clause-whole : goal.returns-in-Ok-Whole-clause-whole
 returns-in-Ok-Whole-clause-whole g c =
-    let first = c.in-Ok.game in
+    let first = c.in-Ok-take_up.game in
     let now = c.stream_on.new.game in
     let a = game first.session first.recording in
     let b = game now.session now.recording in
-    let up = c.in-Ok.ensures in
+    let up = c.in-Ok-take_up.ensures in
     let streams = c.in-Ok-Whole.ensures.streamed in
-    let comes = comes_all g.met.D.SectorDevice.only_now g.met.E.SectorDevice.only_now (λ a b input one. one) (λ a b one. one) first now (inputs_of_orders (orders_of streams.lines)) streams.makes.advances in
+    let comes = comes_all g.met.D.SectorDevice.only_now g.met.E.SectorDevice.only_now (λ a b input one. one) (λ a b one. one) first now (inputs_of_deeds streams.deeds) streams.makes.advances in
     (none_left (pending_of now.session) streams.makes.unsaved_is, c.in-Ok-Whole.ensures.whole.0, c.in-Ok-Whole.ensures.whole.1, comes.rom ∙ up.whole.3)
 
 pub returns-in-Ok-Wrong-clause-refused : goal.returns-in-Ok-Wrong-clause-refused
@@ -101,7 +100,7 @@ returns-in-Ok-Wrong-clause-refused g c =
     let rom = c.args.cartridge.now in
     let disk = g.D.SectorDevice.disk in
     let other = g.E.SectorDevice.disk in
-    let first = c.in-Ok.game in
+    let first = c.in-Ok-take_up.game in
     let now = c.stream_on.new.game in
     let a = game first.session first.recording in
     let b = game now.session now.recording in
@@ -109,18 +108,18 @@ returns-in-Ok-Wrong-clause-refused g c =
     let since_in = g.R.Read.remaining c.stream_on.new.input in
     let before = g.W.Write.contents c.args.out.now in
     let since = g.W.Write.contents c.stream_on.new.out in
-    let up = c.in-Ok.ensures in
+    let up = c.in-Ok-take_up.ensures in
     let streams = c.in-Ok-Wrong.ensures.streamed in
-    let comes = comes_all g.met.D.SectorDevice.only_now g.met.E.SectorDevice.only_now (λ a b input one. one) (λ a b one. one) first now (inputs_of_orders (orders_of streams.lines)) streams.makes.advances in
+    let comes = comes_all g.met.D.SectorDevice.only_now g.met.E.SectorDevice.only_now (λ a b input one. one) (λ a b one. one) first now (inputs_of_deeds streams.deeds) streams.makes.advances in
     subst (λ (r : RecordRefused _ _). IsRecordCause r.why rom (disk c.args.save) (disk r.save) (other c.args.recording) (other r.recording) before_in since_in before since) (sym c.stopped.ensures)
-    (inr (recorded_to rom (disk c.args.save) (other c.args.recording) a b before_in since_in before since up.whole.0 up.whole.3 up.save_answered.honest.1 up.taken_up streams.lines streams.right (Wrong c.in-Ok-Wrong.number) (subst (λ e. ReadsTo e streams.lines before_in since_in) c.in-Ok-Wrong.field-0-is streams.read) streams.makes.answered comes streams.makes.unsaved_is))
+    (inr (recorded_to rom (disk c.args.save) (other c.args.recording) a b before_in since_in before since up.whole.0 up.whole.3 up.save_answered.honest.1 up.taken_up streams.lines streams.deeds (rom_of first.session) up.whole.3 streams.kept streams.asks c.in-Ok-Wrong.field-0 (Wrong c.in-Ok-Wrong.number) c.in-Ok-Wrong.field-0-is streams.read streams.makes.answered comes streams.makes.unsaved_is))
 
 pub returns-in-Ok-Wrong-clause-agree : goal.returns-in-Ok-Wrong-clause-agree
 returns-in-Ok-Wrong-clause-agree g c =
     let rom = c.args.cartridge.now in
     let disk = g.D.SectorDevice.disk in
     let other = g.E.SectorDevice.disk in
-    let first = c.in-Ok.game in
+    let first = c.in-Ok-take_up.game in
     let now = c.stream_on.new.game in
     let a = game first.session first.recording in
     let b = game now.session now.recording in
@@ -128,35 +127,35 @@ returns-in-Ok-Wrong-clause-agree g c =
     let since_in = g.R.Read.remaining c.stream_on.new.input in
     let before = g.W.Write.contents c.args.out.now in
     let since = g.W.Write.contents c.stream_on.new.out in
-    let up = c.in-Ok.ensures in
+    let up = c.in-Ok-take_up.ensures in
     let streams = c.in-Ok-Wrong.ensures.streamed in
-    let comes = comes_all g.met.D.SectorDevice.only_now g.met.E.SectorDevice.only_now (λ a b input one. one) (λ a b one. one) first now (inputs_of_orders (orders_of streams.lines)) streams.makes.advances in
+    let comes = comes_all g.met.D.SectorDevice.only_now g.met.E.SectorDevice.only_now (λ a b input one. one) (λ a b one. one) first now (inputs_of_deeds streams.deeds) streams.makes.advances in
     λ honest other_honest agree. subst (λ (r : RecordRefused _ _). AllAgree rom (disk r.save) (other r.recording)) (sym c.stopped.ensures)
     (ended_agree rom (disk c.args.save) (other c.args.recording) a b before_in since_in before since up.whole.0 up.whole.3 up.save_answered.honest.1 up.taken_up honest other_honest (g.met.D.SectorDevice.reads_are_an_image c.args.save honest) (g.met.E.SectorDevice.reads_are_an_image c.args.recording other_honest) agree _ comes (g.met.E.SectorDevice.only_now (device_of_recording now.recording)))
 
 pub returns-in-Ok-Wrong-clause-save_answered : goal.returns-in-Ok-Wrong-clause-save_answered
 returns-in-Ok-Wrong-clause-save_answered g c =
     let disk = g.D.SectorDevice.disk in
-    let first = c.in-Ok.game in
+    let first = c.in-Ok-take_up.game in
     let now = c.stream_on.new.game in
     let a = game first.session first.recording in
     let b = game now.session now.recording in
-    let up = c.in-Ok.ensures in
+    let up = c.in-Ok-take_up.ensures in
     let streams = c.in-Ok-Wrong.ensures.streamed in
-    let comes = comes_all g.met.D.SectorDevice.only_now g.met.E.SectorDevice.only_now (λ a b input one. one) (λ a b one. one) first now (inputs_of_orders (orders_of streams.lines)) streams.makes.advances in
+    let comes = comes_all g.met.D.SectorDevice.only_now g.met.E.SectorDevice.only_now (λ a b input one. one) (λ a b one. one) first now (inputs_of_deeds streams.deeds) streams.makes.advances in
     subst (λ (r : RecordRefused _ _). HasAnswered (λ refused. save_faults_after refused.why) (disk c.args.save) (disk r.save) (Err r)) (sym c.stopped.ensures)
     (answered_otherwise (answered_both {V = Unit {0}} {faults_after = save_faults_after} {value = tt} up.save_answered comes.save_calls) (λ n. refl))
 
 pub returns-in-Ok-Wrong-clause-recording_answered : goal.returns-in-Ok-Wrong-clause-recording_answered
 returns-in-Ok-Wrong-clause-recording_answered g c =
     let other = g.E.SectorDevice.disk in
-    let first = c.in-Ok.game in
+    let first = c.in-Ok-take_up.game in
     let now = c.stream_on.new.game in
     let a = game first.session first.recording in
     let b = game now.session now.recording in
-    let up = c.in-Ok.ensures in
+    let up = c.in-Ok-take_up.ensures in
     let streams = c.in-Ok-Wrong.ensures.streamed in
-    let comes = comes_all g.met.D.SectorDevice.only_now g.met.E.SectorDevice.only_now (λ a b input one. one) (λ a b one. one) first now (inputs_of_orders (orders_of streams.lines)) streams.makes.advances in
+    let comes = comes_all g.met.D.SectorDevice.only_now g.met.E.SectorDevice.only_now (λ a b input one. one) (λ a b one. one) first now (inputs_of_deeds streams.deeds) streams.makes.advances in
     subst (λ (r : RecordRefused _ _). HasAnswered (λ refused. recording_faults_after refused.why) (other c.args.recording) (other r.recording) (Err r)) (sym c.stopped.ensures)
     (answered_otherwise (answered_both {V = Unit {0}} {faults_after = recording_faults_after} {value = tt} up.recording_answered comes.recording_calls) (λ n. refl))
 
@@ -165,7 +164,7 @@ returns-in-Ok-Failed-clause-refused g c =
     let rom = c.args.cartridge.now in
     let disk = g.D.SectorDevice.disk in
     let other = g.E.SectorDevice.disk in
-    let first = c.in-Ok.game in
+    let first = c.in-Ok-take_up.game in
     let now = c.stream_on.new.game in
     let a = game first.session first.recording in
     let b = game now.session now.recording in
@@ -173,18 +172,18 @@ returns-in-Ok-Failed-clause-refused g c =
     let since_in = g.R.Read.remaining c.stream_on.new.input in
     let before = g.W.Write.contents c.args.out.now in
     let since = g.W.Write.contents c.stream_on.new.out in
-    let up = c.in-Ok.ensures in
+    let up = c.in-Ok-take_up.ensures in
     let streams = c.in-Ok-Failed.ensures.streamed in
-    let comes = comes_all g.met.D.SectorDevice.only_now g.met.E.SectorDevice.only_now (λ a b input one. one) (λ a b one. one) first now (inputs_of_orders (orders_of streams.lines)) streams.makes.advances in
+    let comes = comes_all g.met.D.SectorDevice.only_now g.met.E.SectorDevice.only_now (λ a b input one. one) (λ a b one. one) first now (inputs_of_deeds streams.deeds) streams.makes.advances in
     subst (λ (r : RecordRefused _ _). IsRecordCause r.why rom (disk c.args.save) (disk r.save) (other c.args.recording) (other r.recording) before_in since_in before since) (sym c.stopped-in-Ok-Failed.ensures)
-    (inr (recorded_to rom (disk c.args.save) (other c.args.recording) a b before_in since_in before since up.whole.0 up.whole.3 up.save_answered.honest.1 up.taken_up streams.lines streams.right Failed (subst (λ e. ReadsTo e streams.lines before_in since_in) c.in-Ok-Failed.field-0-is streams.read) streams.makes.answered comes streams.makes.unsaved_is))
+    (inr (recorded_to rom (disk c.args.save) (other c.args.recording) a b before_in since_in before since up.whole.0 up.whole.3 up.save_answered.honest.1 up.taken_up streams.lines streams.deeds (rom_of first.session) up.whole.3 streams.kept streams.asks c.in-Ok-Failed.field-0 Failed c.in-Ok-Failed.field-0-is streams.read streams.makes.answered comes streams.makes.unsaved_is))
 
 pub returns-in-Ok-Failed-clause-agree : goal.returns-in-Ok-Failed-clause-agree
 returns-in-Ok-Failed-clause-agree g c =
     let rom = c.args.cartridge.now in
     let disk = g.D.SectorDevice.disk in
     let other = g.E.SectorDevice.disk in
-    let first = c.in-Ok.game in
+    let first = c.in-Ok-take_up.game in
     let now = c.stream_on.new.game in
     let a = game first.session first.recording in
     let b = game now.session now.recording in
@@ -192,44 +191,44 @@ returns-in-Ok-Failed-clause-agree g c =
     let since_in = g.R.Read.remaining c.stream_on.new.input in
     let before = g.W.Write.contents c.args.out.now in
     let since = g.W.Write.contents c.stream_on.new.out in
-    let up = c.in-Ok.ensures in
+    let up = c.in-Ok-take_up.ensures in
     let streams = c.in-Ok-Failed.ensures.streamed in
-    let comes = comes_all g.met.D.SectorDevice.only_now g.met.E.SectorDevice.only_now (λ a b input one. one) (λ a b one. one) first now (inputs_of_orders (orders_of streams.lines)) streams.makes.advances in
+    let comes = comes_all g.met.D.SectorDevice.only_now g.met.E.SectorDevice.only_now (λ a b input one. one) (λ a b one. one) first now (inputs_of_deeds streams.deeds) streams.makes.advances in
     λ honest other_honest agree. subst (λ (r : RecordRefused _ _). AllAgree rom (disk r.save) (other r.recording)) (sym c.stopped-in-Ok-Failed.ensures)
     (ended_agree rom (disk c.args.save) (other c.args.recording) a b before_in since_in before since up.whole.0 up.whole.3 up.save_answered.honest.1 up.taken_up honest other_honest (g.met.D.SectorDevice.reads_are_an_image c.args.save honest) (g.met.E.SectorDevice.reads_are_an_image c.args.recording other_honest) agree _ comes (g.met.E.SectorDevice.only_now (device_of_recording now.recording)))
 
 pub returns-in-Ok-Failed-clause-save_answered : goal.returns-in-Ok-Failed-clause-save_answered
 returns-in-Ok-Failed-clause-save_answered g c =
     let disk = g.D.SectorDevice.disk in
-    let first = c.in-Ok.game in
+    let first = c.in-Ok-take_up.game in
     let now = c.stream_on.new.game in
     let a = game first.session first.recording in
     let b = game now.session now.recording in
-    let up = c.in-Ok.ensures in
+    let up = c.in-Ok-take_up.ensures in
     let streams = c.in-Ok-Failed.ensures.streamed in
-    let comes = comes_all g.met.D.SectorDevice.only_now g.met.E.SectorDevice.only_now (λ a b input one. one) (λ a b one. one) first now (inputs_of_orders (orders_of streams.lines)) streams.makes.advances in
+    let comes = comes_all g.met.D.SectorDevice.only_now g.met.E.SectorDevice.only_now (λ a b input one. one) (λ a b one. one) first now (inputs_of_deeds streams.deeds) streams.makes.advances in
     subst (λ (r : RecordRefused _ _). HasAnswered (λ refused. save_faults_after refused.why) (disk c.args.save) (disk r.save) (Err r)) (sym c.stopped-in-Ok-Failed.ensures)
     (answered_otherwise (answered_both {V = Unit {0}} {faults_after = save_faults_after} {value = tt} up.save_answered comes.save_calls) (λ n. refl))
 
 pub returns-in-Ok-Failed-clause-recording_answered : goal.returns-in-Ok-Failed-clause-recording_answered
 returns-in-Ok-Failed-clause-recording_answered g c =
     let other = g.E.SectorDevice.disk in
-    let first = c.in-Ok.game in
+    let first = c.in-Ok-take_up.game in
     let now = c.stream_on.new.game in
     let a = game first.session first.recording in
     let b = game now.session now.recording in
-    let up = c.in-Ok.ensures in
+    let up = c.in-Ok-take_up.ensures in
     let streams = c.in-Ok-Failed.ensures.streamed in
-    let comes = comes_all g.met.D.SectorDevice.only_now g.met.E.SectorDevice.only_now (λ a b input one. one) (λ a b one. one) first now (inputs_of_orders (orders_of streams.lines)) streams.makes.advances in
+    let comes = comes_all g.met.D.SectorDevice.only_now g.met.E.SectorDevice.only_now (λ a b input one. one) (λ a b one. one) first now (inputs_of_deeds streams.deeds) streams.makes.advances in
     subst (λ (r : RecordRefused _ _). HasAnswered (λ refused. recording_faults_after refused.why) (other c.args.recording) (other r.recording) (Err r)) (sym c.stopped-in-Ok-Failed.ensures)
     (answered_otherwise (answered_both {V = Unit {0}} {faults_after = recording_faults_after} {value = tt} up.recording_answered comes.recording_calls) (λ n. refl))
 
-pub returns-in-Err-stream_on-clause-refused : goal.returns-in-Err-stream_on-clause-refused
-returns-in-Err-stream_on-clause-refused g c =
+pub returns-clause-refused : goal.returns-clause-refused
+returns-clause-refused g c =
     let rom = c.args.cartridge.now in
     let disk = g.D.SectorDevice.disk in
     let other = g.E.SectorDevice.disk in
-    let first = c.in-Ok.game in
+    let first = c.in-Ok-take_up.game in
     let now = c.stream_on.new.game in
     let a = game first.session first.recording in
     let b = game now.session now.recording in
@@ -237,21 +236,21 @@ returns-in-Err-stream_on-clause-refused g c =
     let since_in = g.R.Read.remaining c.stream_on.new.input in
     let before = g.W.Write.contents c.args.out.now in
     let since = g.W.Write.contents c.stream_on.new.out in
-    let up = c.in-Ok.ensures in
+    let up = c.in-Ok-take_up.ensures in
     let why = c.in-Err-stream_on.why in
     let streams = c.in-Err-stream_on.ensures.stopped in
-    let halts = halts_all g.met.D.SectorDevice.only_now g.met.E.SectorDevice.only_now (λ a b input one. one) (λ a b one. one) (λ a b input why one. one) (λ a b why one. one) refl first now (inputs_of_orders (orders_of streams.lines)) why streams.stops.stops in
+    let halts = halts_all g.met.D.SectorDevice.only_now g.met.E.SectorDevice.only_now (λ a b input one. one) (λ a b one. one) (λ a b input why one. one) (λ a b why one. one) refl first now (inputs_of_deeds streams.deeds) why streams.stops.stops in
     let stopped =
-    stopped_record rom (disk c.args.save) (other c.args.recording) a b before_in since_in before since up.whole.0 up.whole.3 up.save_answered.honest.1 up.taken_up streams.lines streams.right why (g.met.D.SectorDevice.reads_are_an_image c.args.save) (g.met.E.SectorDevice.reads_are_an_image c.args.recording) streams.more streams.read streams.stops.told halts in
+    stopped_record rom (disk c.args.save) (other c.args.recording) a b before_in since_in before since up.whole.0 up.whole.3 up.save_answered.honest.1 up.taken_up streams.lines streams.deeds why (g.met.D.SectorDevice.reads_are_an_image c.args.save) (g.met.E.SectorDevice.reads_are_an_image c.args.recording) (rom_of first.session) up.whole.3 streams.asks streams.more streams.read streams.stops.told halts in
     subst (λ (r : RecordRefused _ _). IsRecordCause r.why rom (disk c.args.save) (disk r.save) (other c.args.recording) (other r.recording) before_in since_in before since) (sym c.stopped-in-Err-stream_on.ensures)
     (inr (as_refusal why rom (disk c.args.save) b.save.disk (other c.args.recording) b.recording before_in since_in before since _ halts.cause stopped))
 
-pub returns-in-Err-stream_on-clause-agree : goal.returns-in-Err-stream_on-clause-agree
-returns-in-Err-stream_on-clause-agree g c =
+pub returns-clause-agree : goal.returns-clause-agree
+returns-clause-agree g c =
     let rom = c.args.cartridge.now in
     let disk = g.D.SectorDevice.disk in
     let other = g.E.SectorDevice.disk in
-    let first = c.in-Ok.game in
+    let first = c.in-Ok-take_up.game in
     let now = c.stream_on.new.game in
     let a = game first.session first.recording in
     let b = game now.session now.recording in
@@ -259,35 +258,51 @@ returns-in-Err-stream_on-clause-agree g c =
     let since_in = g.R.Read.remaining c.stream_on.new.input in
     let before = g.W.Write.contents c.args.out.now in
     let since = g.W.Write.contents c.stream_on.new.out in
-    let up = c.in-Ok.ensures in
+    let up = c.in-Ok-take_up.ensures in
     let why = c.in-Err-stream_on.why in
     let streams = c.in-Err-stream_on.ensures.stopped in
-    let halts = halts_all g.met.D.SectorDevice.only_now g.met.E.SectorDevice.only_now (λ a b input one. one) (λ a b one. one) (λ a b input why one. one) (λ a b why one. one) refl first now (inputs_of_orders (orders_of streams.lines)) why streams.stops.stops in
+    let halts = halts_all g.met.D.SectorDevice.only_now g.met.E.SectorDevice.only_now (λ a b input one. one) (λ a b one. one) (λ a b input why one. one) (λ a b why one. one) refl first now (inputs_of_deeds streams.deeds) why streams.stops.stops in
     λ honest other_honest agree. subst (λ (r : RecordRefused _ _). AllAgree rom (disk r.save) (other r.recording)) (sym c.stopped-in-Err-stream_on.ensures)
-    (stopped_agree rom (disk c.args.save) (other c.args.recording) a b before_in since_in before since up.whole.0 up.whole.3 up.save_answered.honest.1 up.taken_up honest other_honest (g.met.D.SectorDevice.reads_are_an_image c.args.save honest) (g.met.E.SectorDevice.reads_are_an_image c.args.recording other_honest) agree (inputs_of_orders (orders_of streams.lines)) why halts)
+    (stopped_agree rom (disk c.args.save) (other c.args.recording) a b before_in since_in before since up.whole.0 up.whole.3 up.save_answered.honest.1 up.taken_up honest other_honest (g.met.D.SectorDevice.reads_are_an_image c.args.save honest) (g.met.E.SectorDevice.reads_are_an_image c.args.recording other_honest) agree (inputs_of_deeds streams.deeds) why halts)
 
-pub returns-in-Err-stream_on-clause-save_answered : goal.returns-in-Err-stream_on-clause-save_answered
-returns-in-Err-stream_on-clause-save_answered g c =
+pub returns-clause-save_answered : goal.returns-clause-save_answered
+returns-clause-save_answered g c =
     let disk = g.D.SectorDevice.disk in
-    let first = c.in-Ok.game in
+    let first = c.in-Ok-take_up.game in
     let now = c.stream_on.new.game in
     let a = game first.session first.recording in
     let b = game now.session now.recording in
-    let up = c.in-Ok.ensures in
+    let up = c.in-Ok-take_up.ensures in
     let why = c.in-Err-stream_on.why in
     let streams = c.in-Err-stream_on.ensures.stopped in
-    let halts = halts_all g.met.D.SectorDevice.only_now g.met.E.SectorDevice.only_now (λ a b input one. one) (λ a b one. one) (λ a b input why one. one) (λ a b why one. one) refl first now (inputs_of_orders (orders_of streams.lines)) why streams.stops.stops in
+    let halts = halts_all g.met.D.SectorDevice.only_now g.met.E.SectorDevice.only_now (λ a b input one. one) (λ a b one. one) (λ a b input why one. one) (λ a b why one. one) refl first now (inputs_of_deeds streams.deeds) why streams.stops.stops in
     subst (λ (r : RecordRefused _ _). HasAnswered (λ refused. save_faults_after refused.why) (disk c.args.save) (disk r.save) (Err r)) (sym c.stopped-in-Err-stream_on.ensures) (answered_refused up.save_answered halts.save_calls (λ n. refl))
 
-pub returns-in-Err-stream_on-clause-recording_answered : goal.returns-in-Err-stream_on-clause-recording_answered
-returns-in-Err-stream_on-clause-recording_answered g c =
+pub returns-clause-recording_answered : goal.returns-clause-recording_answered
+returns-clause-recording_answered g c =
     let other = g.E.SectorDevice.disk in
-    let first = c.in-Ok.game in
+    let first = c.in-Ok-take_up.game in
     let now = c.stream_on.new.game in
     let a = game first.session first.recording in
     let b = game now.session now.recording in
-    let up = c.in-Ok.ensures in
+    let up = c.in-Ok-take_up.ensures in
     let why = c.in-Err-stream_on.why in
     let streams = c.in-Err-stream_on.ensures.stopped in
-    let halts = halts_all g.met.D.SectorDevice.only_now g.met.E.SectorDevice.only_now (λ a b input one. one) (λ a b one. one) (λ a b input why one. one) (λ a b why one. one) refl first now (inputs_of_orders (orders_of streams.lines)) why streams.stops.stops in
+    let halts = halts_all g.met.D.SectorDevice.only_now g.met.E.SectorDevice.only_now (λ a b input one. one) (λ a b one. one) (λ a b input why one. one) (λ a b why one. one) refl first now (inputs_of_deeds streams.deeds) why streams.stops.stops in
     subst (λ (r : RecordRefused _ _). HasAnswered (λ refused. recording_faults_after refused.why) (other c.args.recording) (other r.recording) (Err r)) (sym c.stopped-in-Err-stream_on.ensures) (answered_refused up.recording_answered halts.recording_calls (λ n. refl))
+
+pub unreachable-requires : goal.unreachable-requires
+unreachable-requires g c =
+    let own = rom_of c.in-Ok-take_up.game.session in
+    let before_in = g.R.Read.remaining c.args.input.now in
+    let since_in = g.R.Read.remaining c.stream_on.new.input in
+    let streams = c.in-Ok-Damaged.ensures.streamed in
+    none_damaged own streams.kept streams.lines before_in since_in (subst (λ end. ReadsTo false own streams.kept end streams.lines before_in since_in) c.in-Ok-Damaged.field-0-is streams.read)
+
+pub unreachable-requires-in-Ok-NoMemory : goal.unreachable-requires-in-Ok-NoMemory
+unreachable-requires-in-Ok-NoMemory g c =
+    let own = rom_of c.in-Ok-take_up.game.session in
+    let before_in = g.R.Read.remaining c.args.input.now in
+    let since_in = g.R.Read.remaining c.stream_on.new.input in
+    let streams = c.in-Ok-NoMemory.ensures.streamed in
+    none_lacked own streams.kept streams.lines before_in since_in (subst (λ end. ReadsTo false own streams.kept end streams.lines before_in since_in) c.in-Ok-NoMemory.field-0-is streams.read)

@@ -8,12 +8,12 @@ use Rattle.streaming.proofs.next_order.read_next.Goals as goal
 
 pub returns-in-Line : goal.returns-in-Line
 returns-in-Line g c =
-    next_full c.take_line.result (left_of c.args.unread.now.items (g.R.Read.remaining c.args.input.now)) c.fill.new.unread.items c.take_line.new.unread.items (g.R.Read.remaining c.fill.new.input)
+    next_full c.args.states c.take_line.result (left_of c.args.unread.now.items (g.R.Read.remaining c.args.input.now)) c.fill.new.unread.items c.take_line.new.unread.items (g.R.Read.remaining c.fill.new.input)
     c.in-Line.ensures.left c.take_line.ensures.asked c.take_line.ensures.rest c.in-Line.ensures.filled
 
 pub returns-else-is_empty : goal.returns-else-is_empty
 returns-else-is_empty g c =
-    next_all c.take_line-else-is_empty.result (left_of c.args.unread.now.items (g.R.Read.remaining c.args.input.now)) c.fill.new.unread.items c.take_line-else-is_empty.new.unread.items (g.R.Read.remaining c.fill.new.input)
+    next_all c.args.states c.take_line-else-is_empty.result (left_of c.args.unread.now.items (g.R.Read.remaining c.args.input.now)) c.fill.new.unread.items c.take_line-else-is_empty.new.unread.items (g.R.Read.remaining c.fill.new.input)
     c.in-End.ensures.left c.take_line-else-is_empty.ensures.asked c.take_line-else-is_empty.ensures.rest c.in-End.ensures.filled.0
     (inr (some_bytes c.fill.new.unread.items (eqb-false _ _ (sym c.is_empty.ensures ∙ c.if-is_empty.false)), c.in-End.ensures.filled.1))
 

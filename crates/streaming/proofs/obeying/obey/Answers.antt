@@ -1,12 +1,153 @@
-use Rattle.std.proofs.Common.{sym, subst, Option}
-use Rattle.streaming.specs.Orders.{order_list}
-use Rattle.streaming.specs.Obeying.{Obeys}
-use Rattle.streaming.specs.declared.order.Order.{Order}
-use Rattle.playing.proofs.Making.{makes_nothing}
+use Rattle.std.proofs.Common.{◌∷◌, [], inl, inr, refl, sym, ap, subst}
+use Rattle.std.proofs.KnownBytes.{Consumes-nil}
+use Rattle.input_lines.specs.Reading.{left_of}
+use Rattle.machine_lines.specs.Slots.{AreKept}
+use Rattle.streaming.specs.Orders.{Does}
+use Rattle.streaming.specs.declared.order.Order.TheVariants.{Make, Picture, State, Memory, Power, Keep}
 use Rattle.streaming.proofs.obeying.obey.Goals as goal
 
-pub returns-in-None-clause-obeyed : goal.returns-in-None-clause-obeyed
-returns-in-None-clause-obeyed g c =
-    let here = c.args.game.now in
-    let out = g.W.Write.contents c.args.out.now in
-    subst (λ (o : Option Order). Obeys g.G.Playable here here out out (order_list o)) (sym c.in-None.is) (makes_nothing g.G.Playable here out)
+pub returns-in-Ok-clause-step : goal.returns-in-Ok-clause-step
+returns-in-Ok-clause-step g c machines kept = record {
+  bytes = [];
+  deed = Does (Make c.in-Make.a_move);
+  order_is = sym c.in-Make.is;
+  done = (refl, tt);
+  took = Consumes-nil (left_of c.args.unread.now.items (g.R.Read.remaining c.args.input.now));
+  obeys = c.in-Ok.ensures.obeyed;
+  kept_is = kept;
+}
+
+pub returns-in-Err-clause-refused : goal.returns-in-Err-clause-refused
+returns-in-Err-clause-refused g c machines kept = record {
+  bytes = [];
+  deed = Does (Make c.in-Make.a_move);
+  order_is = sym c.in-Make.is;
+  asked = inl (refl, tt);
+  took = Consumes-nil (left_of c.args.unread.now.items (g.R.Read.remaining c.args.input.now));
+  stops = c.in-Err.ensures.stopped;
+}
+
+pub returns-in-Ok-obey_picture-clause-step : goal.returns-in-Ok-obey_picture-clause-step
+returns-in-Ok-obey_picture-clause-step g c machines kept = record {
+  bytes = [];
+  deed = Does Picture;
+  order_is = sym c.in-Picture.is;
+  done = (refl, tt);
+  took = Consumes-nil (left_of c.args.unread.now.items (g.R.Read.remaining c.args.input.now));
+  obeys = c.in-Ok-obey_picture.ensures.obeyed;
+  kept_is = kept;
+}
+
+pub returns-in-Err-obey_picture-clause-refused : goal.returns-in-Err-obey_picture-clause-refused
+returns-in-Err-obey_picture-clause-refused g c machines kept = record {
+  bytes = [];
+  deed = Does Picture;
+  order_is = sym c.in-Picture.is;
+  asked = inl (refl, tt);
+  took = Consumes-nil (left_of c.args.unread.now.items (g.R.Read.remaining c.args.input.now));
+  stops = c.in-Err-obey_picture.ensures.stopped;
+}
+
+pub returns-in-Ok-obey_state-clause-step : goal.returns-in-Ok-obey_state-clause-step
+returns-in-Ok-obey_state-clause-step g c machines kept = record {
+  bytes = [];
+  deed = Does State;
+  order_is = sym c.in-State.is;
+  done = (refl, tt);
+  took = Consumes-nil (left_of c.args.unread.now.items (g.R.Read.remaining c.args.input.now));
+  obeys = c.in-Ok-obey_state.ensures.obeyed;
+  kept_is = kept;
+}
+
+pub returns-in-Err-obey_state-clause-refused : goal.returns-in-Err-obey_state-clause-refused
+returns-in-Err-obey_state-clause-refused g c machines kept = record {
+  bytes = [];
+  deed = Does State;
+  order_is = sym c.in-State.is;
+  asked = inl (refl, tt);
+  took = Consumes-nil (left_of c.args.unread.now.items (g.R.Read.remaining c.args.input.now));
+  stops = c.in-Err-obey_state.ensures.stopped;
+}
+
+pub returns-in-Ok-obey_memory-clause-step : goal.returns-in-Ok-obey_memory-clause-step
+returns-in-Ok-obey_memory-clause-step g c machines kept = record {
+  bytes = [];
+  deed = Does (Memory c.in-Memory.address c.in-Memory.count);
+  order_is = sym c.in-Memory.is;
+  done = (refl, tt);
+  took = Consumes-nil (left_of c.args.unread.now.items (g.R.Read.remaining c.args.input.now));
+  obeys = c.in-Ok-obey_memory.ensures.obeyed;
+  kept_is = kept;
+}
+
+pub returns-in-Err-obey_memory-clause-refused : goal.returns-in-Err-obey_memory-clause-refused
+returns-in-Err-obey_memory-clause-refused g c machines kept = record {
+  bytes = [];
+  deed = Does (Memory c.in-Memory.address c.in-Memory.count);
+  order_is = sym c.in-Memory.is;
+  asked = inl (refl, tt);
+  took = Consumes-nil (left_of c.args.unread.now.items (g.R.Read.remaining c.args.input.now));
+  stops = c.in-Err-obey_memory.ensures.stopped;
+}
+
+pub returns-in-Ok-true-clause-step : goal.returns-in-Ok-true-clause-step
+returns-in-Ok-true-clause-step g c machines kept = record {
+  bytes = [];
+  deed = Does Power;
+  order_is = sym c.in-Power.is;
+  done = (refl, tt);
+  took = Consumes-nil (left_of c.args.unread.now.items (g.R.Read.remaining c.args.input.now));
+  obeys = c.in-Ok-true.ensures.made c.in-Ok-true.field-0-test;
+  kept_is = kept;
+}
+
+pub returns-in-Err-give_power-clause-refused : goal.returns-in-Err-give_power-clause-refused
+returns-in-Err-give_power-clause-refused g c machines kept = record {
+  bytes = [];
+  deed = Does Power;
+  order_is = sym c.in-Power.is;
+  asked = inl (refl, tt);
+  took = Consumes-nil (left_of c.args.unread.now.items (g.R.Read.remaining c.args.input.now));
+  stops = c.in-Err-give_power.ensures.stopped;
+}
+
+pub returns-in-Ok-true-obey_keep-clause-step : goal.returns-in-Ok-true-obey_keep-clause-step
+returns-in-Ok-true-obey_keep-clause-step g c machines kept =
+    let of = c.requires.of in
+    record {
+      bytes = [];
+      deed = Does (Keep c.in-Keep.slot);
+      order_is = sym c.in-Keep.is;
+      done = (refl, tt);
+      took = Consumes-nil (left_of c.args.unread.now.items (g.R.Read.remaining c.args.input.now));
+      obeys = c.in-Ok-true-obey_keep.ensures.obeyed c.in-Ok-true-obey_keep.field-0-test;
+      kept_is =
+          subst (λ rom. AreKept rom c.obey_keep.new.kept (record { number = c.in-Keep.slot; machine = g.G.Playable.machine c.args.game.now } ∷ machines)) of
+          (c.in-Ok-true-obey_keep.ensures.kept machines (subst (λ rom. AreKept rom c.args.room.now.kept machines) (sym of) kept) c.in-Ok-true-obey_keep.field-0-test);
+    }
+
+pub returns-in-Ok-false-obey_keep-clause-step : goal.returns-in-Ok-false-obey_keep-clause-step
+returns-in-Ok-false-obey_keep-clause-step g c machines kept =
+    let nothing = c.in-Ok-false-obey_keep.ensures.nothing machines (subst (λ rom. AreKept rom c.args.room.now.kept machines) (sym c.requires.of) kept) c.in-Ok-false-obey_keep.field-0-test in
+    (record { same = c.obey_keep.ensures.same; quiet = ap g.W.Write.contents nothing.0 }, inr (c.in-Keep.slot, c.in-Keep.is, nothing.1), Consumes-nil (left_of c.args.unread.now.items (g.R.Read.remaining c.args.input.now)))
+
+pub returns-in-Err-obey_keep-clause-refused : goal.returns-in-Err-obey_keep-clause-refused
+returns-in-Err-obey_keep-clause-refused g c machines kept = record {
+  bytes = [];
+  deed = Does (Keep c.in-Keep.slot);
+  order_is = sym c.in-Keep.is;
+  asked = inl (refl, tt);
+  took = Consumes-nil (left_of c.args.unread.now.items (g.R.Read.remaining c.args.input.now));
+  stops = c.in-Err-obey_keep.ensures.stopped;
+}
+
+pub returns-in-Back-clause-step : goal.returns-in-Back-clause-step
+returns-in-Back-clause-step g c machines kept =
+    rw c.in-Back.is (c.obey_back.ensures.step machines kept (left_of c.args.unread.now.items (g.R.Read.remaining c.args.input.now)) (g.R.Read.remaining c.args.input.now))
+
+pub returns-in-Back-clause-refused : goal.returns-in-Back-clause-refused
+returns-in-Back-clause-refused g c machines kept =
+    rw c.in-Back.is (c.obey_back.ensures.refused machines kept (left_of c.args.unread.now.items (g.R.Read.remaining c.args.input.now)) (g.R.Read.remaining c.args.input.now))
+
+pub returns-in-Restore-clause-step : goal.returns-in-Restore-clause-step
+returns-in-Restore-clause-step g c machines kept = rw c.in-Restore.is (c.obey_restore.ensures.step machines c.args.room.now.kept kept)

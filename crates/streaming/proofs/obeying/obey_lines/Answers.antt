@@ -1,110 +1,268 @@
-use Rattle.std.proofs.Common.{◌≡◌, ◌∷◌, ◌++◌, ◌+◌, [], length, inl, inr, refl, arith, length-append}
-use Rattle.std.proofs.lemmas.List.Elements.{All-nil}
-use Rattle.streaming.specs.Orders.{IsRight, order_list}
+use Rattle.std.proofs.Common.{◌≡◌, ◌∙◌, refl, subst, arith}
 use Rattle.input_lines.specs.Reading.{left_of}
-use Rattle.input_lines.proofs.Takings.{takes_none, takes_more, reads_left, reads_rest}
-use Rattle.playing.proofs.Stops.{handed_on}
-use Rattle.streaming.proofs.OrderLines.{right_more, reads_wrong}
-use Rattle.playing.proofs.Making.{makes_nothing}
-use Rattle.streaming.proofs.Compositions.{line_obeyed, line_stopped}
+use Rattle.machine_lines.proofs.SlotLaws.{none_kept}
+use Rattle.streaming.specs.Reading.{IsNext}
+use Rattle.streaming.specs.Steps.{IsStep}
+use Rattle.streaming.specs.declared.next_order.Next.TheVariants.{Wrong}
+use Rattle.streaming.specs.declared.obeying.End.TheVariants.{Wrong as WrongLine}
+use Rattle.streaming.specs.Obeying.{ObeysLines}
+use Rattle.streaming.proofs.OrderLines.{needs_are}
+use Rattle.streaming.proofs.Lines.{ordered, unasked, none_yet, rom_is, empty_line, obeyed_line, refused_line, went_wrong, lacked_memory, was_damaged, bytes_failed, wrong_line, at_the_end, read_failed, last_number}
 use Rattle.streaming.proofs.obeying.obey_lines.Goals as goal
 
 pub loop-number-init : goal.loop-number-init
 loop-number-init g c = record {
-  lines = [];
-  right = All-nil IsRight;
-  number = refl;
-  taken = takes_none (g.R.Read.remaining c.args.input.now) c.new-unread.result.items c.new-unread.ensures;
-  obeys = makes_nothing g.G.Playable c.args.game.now (g.W.Write.contents c.args.out.now);
+  so_far = λ of.
+      none_yet g.G.Playable c.args.cartridge.now c.args.game.now of (g.R.Read.remaining c.args.input.now) (g.W.Write.contents c.args.out.now) c.new-unread.result.items (g.R.Read.remaining c.args.input.now) c.args.room.now.kept
+      refl c.new-unread.ensures (none_kept c.args.cartridge.now c.args.room.now.kept c.requires.kept);
+  room = c.requires.room;
   whole = c.requires.whole;
   few = c.requires.few;
 }
 
-pub loop-number-preserved : goal.loop-number-preserved
-loop-number-preserved g c =
-    let so_far = c.loop-number.invariant in
-    let next = c.in-Line.ensures in
-    record {
-      lines = so_far.lines ++ next.0 ∷ [];
-      right = right_more so_far.lines next.0 so_far.right next.1;
-      number = omega (arith, so_far.number, length-append so_far.lines (next.0 ∷ []));
-      taken =
-          takes_more so_far.lines next.0 (g.R.Read.remaining c.args.input.now) (left_of c.loop-number.unread.items (g.R.Read.remaining c.loop-number.input))
-          (left_of c.read_next.new.unread.items (g.R.Read.remaining c.read_next.new.input)) so_far.taken next.3;
-      obeys =
-          line_obeyed g.G.Playable c.args.game.now c.loop-number.game c.obey.new.game
-          (g.W.Write.contents c.args.out.now) (g.W.Write.contents c.loop-number.out) (g.W.Write.contents c.obey.new.out) so_far.lines next.0 (order_list c.in-Line.order) next.2 so_far.obeys c.in_ok-obey-in-Line.ensures.obeyed;
-      whole = c.in_ok-obey-in-Line.ensures.whole.0;
-      few = c.in_ok-obey-in-Line.ensures.whole.1;
-    }
+pub obey-requires-clause-takes : goal.obey-requires-clause-takes
+obey-requires-clause-takes g c =
+    let game = g.G.Playable in
+    let rom = c.args.cartridge.now in
+    let start = c.args.game.now in
+    let before_in = g.R.Read.remaining c.args.input.now in
+    let x = g.W.Write.contents c.args.out.now in
+    let now = c.loop-number.game in
+    let there = left_of c.loop-number.unread.items (g.R.Read.remaining c.loop-number.input) in
+    let y = g.W.Write.contents c.loop-number.out in
+    let states = c.loop-number.room.kept in
+    let so_far = c.loop-number.invariant.so_far c.requires.of in
+    let mid = left_of c.read_next.new.unread.items (g.R.Read.remaining c.read_next.new.input) in
+    let known = g.R.Read.remaining c.read_next.new.input in
+    let next = ordered c.takes_states-states.result game.takes_states c.in-Line-Some.field-0 c.in-Line-Some.order there mid known c.takes_states-states.ensures c.in-Line-Some.field-0-is c.in-Line-Some.ensures in
+    needs_are game.takes_states next.line c.in-Line-Some.order next.order_is
 
-pub returns-in_err-obey-in-Line-clause-stopped : goal.returns-in_err-obey-in-Line-clause-stopped
-returns-in_err-obey-in-Line-clause-stopped g c =
-    let so_far = c.loop-number.invariant in
-    let next = c.in-Line.ensures in
-    let unread = c.read_next.new.unread.items in
-    let since = g.R.Read.remaining c.read_next.new.input in
-    rw (handed_on c.from_residual.result c.from_residual.ensures.1)
-    (record {
-      lines = so_far.lines ++ next.0 ∷ [];
-      right = right_more so_far.lines next.0 so_far.right next.1;
-      more = unread;
-      read =
-          reads_left (so_far.lines ++ next.0 ∷ []) unread (g.R.Read.remaining c.args.input.now) since
-          (takes_more so_far.lines next.0 (g.R.Read.remaining c.args.input.now) (left_of c.loop-number.unread.items (g.R.Read.remaining c.loop-number.input)) (left_of unread since) so_far.taken next.3);
-      stops =
-          line_stopped g.G.Playable c.args.game.now c.loop-number.game c.obey.new.game
-          (g.W.Write.contents c.args.out.now) (g.W.Write.contents c.loop-number.out) (g.W.Write.contents c.obey.new.out) so_far.lines next.0 (order_list c.in-Line.order) c.in_err-obey-in-Line.field-0.0 next.2 so_far.obeys c.in_err-obey-in-Line.ensures.stopped;
-    })
+pub obey-requires-clause-numbered : goal.obey-requires-clause-numbered
+obey-requires-clause-numbered g c =
+    let game = g.G.Playable in
+    let rom = c.args.cartridge.now in
+    let start = c.args.game.now in
+    let before_in = g.R.Read.remaining c.args.input.now in
+    let x = g.W.Write.contents c.args.out.now in
+    let now = c.loop-number.game in
+    let there = left_of c.loop-number.unread.items (g.R.Read.remaining c.loop-number.input) in
+    let y = g.W.Write.contents c.loop-number.out in
+    let states = c.loop-number.room.kept in
+    let so_far = c.loop-number.invariant.so_far c.requires.of in
+    let mid = left_of c.read_next.new.unread.items (g.R.Read.remaining c.read_next.new.input) in
+    let known = g.R.Read.remaining c.read_next.new.input in
+    let next = ordered c.takes_states-states.result game.takes_states c.in-Line-Some.field-0 c.in-Line-Some.order there mid known c.takes_states-states.ensures c.in-Line-Some.field-0-is c.in-Line-Some.ensures in
+    next.numbered
+
+pub obey-requires-clause-of : goal.obey-requires-clause-of
+obey-requires-clause-of g c =
+    let game = g.G.Playable in
+    let rom = c.args.cartridge.now in
+    let start = c.args.game.now in
+    let before_in = g.R.Read.remaining c.args.input.now in
+    let x = g.W.Write.contents c.args.out.now in
+    let now = c.loop-number.game in
+    let there = left_of c.loop-number.unread.items (g.R.Read.remaining c.loop-number.input) in
+    let y = g.W.Write.contents c.loop-number.out in
+    let states = c.loop-number.room.kept in
+    let so_far = c.loop-number.invariant.so_far c.requires.of in
+    rom_is game rom start c.requires.of before_in x now c.loop-number.number there y states so_far
+
+pub loop-number-preserved-in-Line-None : goal.loop-number-preserved-in-Line-None
+loop-number-preserved-in-Line-None g c = record {
+  so_far = λ of.
+      let game = g.G.Playable in
+      let rom = c.args.cartridge.now in
+      let start = c.args.game.now in
+      let before_in = g.R.Read.remaining c.args.input.now in
+      let x = g.W.Write.contents c.args.out.now in
+      let now = c.loop-number.game in
+      let there = left_of c.loop-number.unread.items (g.R.Read.remaining c.loop-number.input) in
+      let y = g.W.Write.contents c.loop-number.out in
+      let states = c.loop-number.room.kept in
+      let so_far = c.loop-number.invariant.so_far of in
+      let mid = left_of c.read_next.new.unread.items (g.R.Read.remaining c.read_next.new.input) in
+      let known = g.R.Read.remaining c.read_next.new.input in
+      let next = unasked c.takes_states-states.result game.takes_states c.in-Line-None.field-0 there mid known c.takes_states-states.ensures c.in-Line-None.field-0-is c.in-Line-None.ensures in
+      empty_line game rom start of before_in x now c.loop-number.number there y states so_far next.0 mid next.1 next.2 next.3;
+  room = c.loop-number.invariant.room;
+  whole = c.loop-number.invariant.whole;
+  few = c.loop-number.invariant.few;
+}
+
+pub loop-number-preserved : goal.loop-number-preserved
+loop-number-preserved g c = record {
+  so_far = λ of.
+      let game = g.G.Playable in
+      let rom = c.args.cartridge.now in
+      let start = c.args.game.now in
+      let before_in = g.R.Read.remaining c.args.input.now in
+      let x = g.W.Write.contents c.args.out.now in
+      let now = c.loop-number.game in
+      let there = left_of c.loop-number.unread.items (g.R.Read.remaining c.loop-number.input) in
+      let y = g.W.Write.contents c.loop-number.out in
+      let states = c.loop-number.room.kept in
+      let so_far = c.loop-number.invariant.so_far of in
+      let mid = left_of c.read_next.new.unread.items (g.R.Read.remaining c.read_next.new.input) in
+      let known = g.R.Read.remaining c.read_next.new.input in
+      let next = ordered c.takes_states-states.result game.takes_states c.in-Line-Some.field-0 c.in-Line-Some.order there mid known c.takes_states-states.ensures c.in-Line-Some.field-0-is c.in-Line-Some.ensures in
+      let rest = left_of c.obey.new.unread.items (g.R.Read.remaining c.obey.new.input) in
+      obeyed_line game rom start of before_in x now c.loop-number.number there y states so_far next.line c.in-Line-Some.order mid next.one_line next.some next.order_is next.takes c.obey.new.game (g.W.Write.contents c.obey.new.out) rest (g.R.Read.remaining c.obey.new.input) c.obey.new.room.kept
+      (subst (λ w. IsStep game now c.obey.new.game y (g.W.Write.contents c.obey.new.out) (record { before = mid; since = rest; unread = g.R.Read.remaining c.obey.new.input }) rom so_far.kept c.in-Line-Some.order c.obey.new.room.kept w) c.in-Ok-On.field-0-is
+      (c.in-Ok-On.ensures.step so_far.kept so_far.kept_is));
+  room = c.in-Ok-On.ensures.room ∙ c.loop-number.invariant.room;
+  whole = c.in-Ok-On.ensures.whole.0;
+  few = c.in-Ok-On.ensures.whole.1;
+}
+
+pub returns-in-Ok-Wrong-clause-obeyed : goal.returns-in-Ok-Wrong-clause-obeyed
+returns-in-Ok-Wrong-clause-obeyed g c =
+    let game = g.G.Playable in
+    let rom = c.args.cartridge.now in
+    let start = c.args.game.now in
+    let before_in = g.R.Read.remaining c.args.input.now in
+    let x = g.W.Write.contents c.args.out.now in
+    let now = c.loop-number.game in
+    let there = left_of c.loop-number.unread.items (g.R.Read.remaining c.loop-number.input) in
+    let y = g.W.Write.contents c.loop-number.out in
+    let states = c.loop-number.room.kept in
+    let so_far = c.loop-number.invariant.so_far c.requires.of in
+    let mid = left_of c.read_next.new.unread.items (g.R.Read.remaining c.read_next.new.input) in
+    let known = g.R.Read.remaining c.read_next.new.input in
+    let next = ordered c.takes_states-states.result game.takes_states c.in-Line-Some.field-0 c.in-Line-Some.order there mid known c.takes_states-states.ensures c.in-Line-Some.field-0-is c.in-Line-Some.ensures in
+    went_wrong game rom start c.requires.of before_in x now c.loop-number.number there y states so_far next.line c.in-Line-Some.order mid next.one_line next.some next.order_is next.takes c.obey.new.game (g.W.Write.contents c.obey.new.out) (g.R.Read.remaining c.obey.new.input) c.obey.new.unread.items c.obey.new.room.kept
+    (subst (λ w. IsStep game now c.obey.new.game y (g.W.Write.contents c.obey.new.out) (record { before = mid; since = left_of c.obey.new.unread.items (g.R.Read.remaining c.obey.new.input); unread = g.R.Read.remaining c.obey.new.input })
+    rom so_far.kept c.in-Line-Some.order c.obey.new.room.kept w) c.in-Ok-Wrong.field-0-is (c.in-Ok-Wrong.ensures.step so_far.kept so_far.kept_is))
+
+pub returns-in-Ok-Failed-clause-obeyed : goal.returns-in-Ok-Failed-clause-obeyed
+returns-in-Ok-Failed-clause-obeyed g c =
+    let game = g.G.Playable in
+    let rom = c.args.cartridge.now in
+    let start = c.args.game.now in
+    let before_in = g.R.Read.remaining c.args.input.now in
+    let x = g.W.Write.contents c.args.out.now in
+    let now = c.loop-number.game in
+    let there = left_of c.loop-number.unread.items (g.R.Read.remaining c.loop-number.input) in
+    let y = g.W.Write.contents c.loop-number.out in
+    let states = c.loop-number.room.kept in
+    let so_far = c.loop-number.invariant.so_far c.requires.of in
+    let mid = left_of c.read_next.new.unread.items (g.R.Read.remaining c.read_next.new.input) in
+    let known = g.R.Read.remaining c.read_next.new.input in
+    let next = ordered c.takes_states-states.result game.takes_states c.in-Line-Some.field-0 c.in-Line-Some.order there mid known c.takes_states-states.ensures c.in-Line-Some.field-0-is c.in-Line-Some.ensures in
+    bytes_failed game rom start c.requires.of before_in x now c.loop-number.number there y states so_far next.line c.in-Line-Some.order mid next.one_line next.some next.order_is next.takes c.obey.new.game (g.W.Write.contents c.obey.new.out) (g.R.Read.remaining c.obey.new.input) c.obey.new.unread.items c.obey.new.room.kept
+    (subst (λ w. IsStep game now c.obey.new.game y (g.W.Write.contents c.obey.new.out) (record { before = mid; since = left_of c.obey.new.unread.items (g.R.Read.remaining c.obey.new.input); unread = g.R.Read.remaining c.obey.new.input })
+    rom so_far.kept c.in-Line-Some.order c.obey.new.room.kept w) c.in-Ok-Failed.field-0-is (c.in-Ok-Failed.ensures.step so_far.kept so_far.kept_is))
+
+pub returns-in-Ok-Damaged-clause-obeyed : goal.returns-in-Ok-Damaged-clause-obeyed
+returns-in-Ok-Damaged-clause-obeyed g c =
+    let game = g.G.Playable in
+    let rom = c.args.cartridge.now in
+    let start = c.args.game.now in
+    let before_in = g.R.Read.remaining c.args.input.now in
+    let x = g.W.Write.contents c.args.out.now in
+    let now = c.loop-number.game in
+    let there = left_of c.loop-number.unread.items (g.R.Read.remaining c.loop-number.input) in
+    let y = g.W.Write.contents c.loop-number.out in
+    let states = c.loop-number.room.kept in
+    let so_far = c.loop-number.invariant.so_far c.requires.of in
+    let mid = left_of c.read_next.new.unread.items (g.R.Read.remaining c.read_next.new.input) in
+    let known = g.R.Read.remaining c.read_next.new.input in
+    let next = ordered c.takes_states-states.result game.takes_states c.in-Line-Some.field-0 c.in-Line-Some.order there mid known c.takes_states-states.ensures c.in-Line-Some.field-0-is c.in-Line-Some.ensures in
+    was_damaged game rom start c.requires.of before_in x now c.loop-number.number there y states so_far next.line c.in-Line-Some.order mid next.one_line next.some next.order_is next.takes c.obey.new.game (g.W.Write.contents c.obey.new.out) (g.R.Read.remaining c.obey.new.input) c.obey.new.unread.items c.obey.new.room.kept
+    (subst (λ w. IsStep game now c.obey.new.game y (g.W.Write.contents c.obey.new.out) (record { before = mid; since = left_of c.obey.new.unread.items (g.R.Read.remaining c.obey.new.input); unread = g.R.Read.remaining c.obey.new.input })
+    rom so_far.kept c.in-Line-Some.order c.obey.new.room.kept w) c.in-Ok-Damaged.field-0-is (c.in-Ok-Damaged.ensures.step so_far.kept so_far.kept_is))
+
+pub returns-in-Ok-NoMemory-clause-obeyed : goal.returns-in-Ok-NoMemory-clause-obeyed
+returns-in-Ok-NoMemory-clause-obeyed g c =
+    let game = g.G.Playable in
+    let rom = c.args.cartridge.now in
+    let start = c.args.game.now in
+    let before_in = g.R.Read.remaining c.args.input.now in
+    let x = g.W.Write.contents c.args.out.now in
+    let now = c.loop-number.game in
+    let there = left_of c.loop-number.unread.items (g.R.Read.remaining c.loop-number.input) in
+    let y = g.W.Write.contents c.loop-number.out in
+    let states = c.loop-number.room.kept in
+    let so_far = c.loop-number.invariant.so_far c.requires.of in
+    let mid = left_of c.read_next.new.unread.items (g.R.Read.remaining c.read_next.new.input) in
+    let known = g.R.Read.remaining c.read_next.new.input in
+    let next = ordered c.takes_states-states.result game.takes_states c.in-Line-Some.field-0 c.in-Line-Some.order there mid known c.takes_states-states.ensures c.in-Line-Some.field-0-is c.in-Line-Some.ensures in
+    lacked_memory game rom start c.requires.of before_in x now c.loop-number.number there y states so_far next.line c.in-Line-Some.order mid next.one_line next.some next.order_is next.takes c.obey.new.game (g.W.Write.contents c.obey.new.out) (g.R.Read.remaining c.obey.new.input) c.obey.new.unread.items c.obey.new.room.kept
+    (subst (λ w. IsStep game now c.obey.new.game y (g.W.Write.contents c.obey.new.out) (record { before = mid; since = left_of c.obey.new.unread.items (g.R.Read.remaining c.obey.new.input); unread = g.R.Read.remaining c.obey.new.input })
+    rom so_far.kept c.in-Line-Some.order c.obey.new.room.kept w) c.in-Ok-NoMemory.field-0-is (c.in-Ok-NoMemory.ensures.step so_far.kept so_far.kept_is))
+
+pub returns-in-Err-clause-stopped : goal.returns-in-Err-clause-stopped
+returns-in-Err-clause-stopped g c =
+    let game = g.G.Playable in
+    let rom = c.args.cartridge.now in
+    let start = c.args.game.now in
+    let before_in = g.R.Read.remaining c.args.input.now in
+    let x = g.W.Write.contents c.args.out.now in
+    let now = c.loop-number.game in
+    let there = left_of c.loop-number.unread.items (g.R.Read.remaining c.loop-number.input) in
+    let y = g.W.Write.contents c.loop-number.out in
+    let states = c.loop-number.room.kept in
+    let so_far = c.loop-number.invariant.so_far c.requires.of in
+    let mid = left_of c.read_next.new.unread.items (g.R.Read.remaining c.read_next.new.input) in
+    let known = g.R.Read.remaining c.read_next.new.input in
+    let next = ordered c.takes_states-states.result game.takes_states c.in-Line-Some.field-0 c.in-Line-Some.order there mid known c.takes_states-states.ensures c.in-Line-Some.field-0-is c.in-Line-Some.ensures in
+    refused_line game rom start c.requires.of before_in x now c.loop-number.number there y states so_far next.line c.in-Line-Some.order mid next.one_line next.some next.order_is next.takes c.obey.new.game (g.W.Write.contents c.obey.new.out) (g.R.Read.remaining c.obey.new.input) c.obey.new.unread.items c.in-Err.why (c.in-Err.ensures.refused so_far.kept so_far.kept_is)
 
 pub returns-in-Wrong-clause-obeyed : goal.returns-in-Wrong-clause-obeyed
 returns-in-Wrong-clause-obeyed g c =
-    let so_far = c.loop-number.invariant in
-    let next = c.in-Wrong.ensures in
-    let before = g.R.Read.remaining c.args.input.now in
+    let game = g.G.Playable in
+    let rom = c.args.cartridge.now in
+    let start = c.args.game.now in
+    let before_in = g.R.Read.remaining c.args.input.now in
+    let x = g.W.Write.contents c.args.out.now in
+    let now = c.loop-number.game in
     let there = left_of c.loop-number.unread.items (g.R.Read.remaining c.loop-number.input) in
-    record {
-      lines = so_far.lines;
-      right = so_far.right;
-      read = (so_far.number, inl (reads_wrong so_far.lines next.0 c.read_next.new.unread.items before there (g.R.Read.remaining c.read_next.new.input) so_far.taken next.1 next.2));
-      obeys = so_far.obeys;
-    }
+    let y = g.W.Write.contents c.loop-number.out in
+    let states = c.loop-number.room.kept in
+    let so_far = c.loop-number.invariant.so_far c.requires.of in
+    let known = g.R.Read.remaining c.read_next.new.input in
+    wrong_line game rom start c.requires.of before_in x now c.loop-number.number there y states so_far c.read_next.new.unread.items known (subst (λ s. IsNext s Wrong there (left_of c.read_next.new.unread.items known) known) c.takes_states-states.ensures c.in-Wrong.ensures)
 
 pub returns-in-End-clause-obeyed : goal.returns-in-End-clause-obeyed
 returns-in-End-clause-obeyed g c =
-    let so_far = c.loop-number.invariant in
-    let next = c.in-End.ensures in
-    let before = g.R.Read.remaining c.args.input.now in
+    let game = g.G.Playable in
+    let rom = c.args.cartridge.now in
+    let start = c.args.game.now in
+    let before_in = g.R.Read.remaining c.args.input.now in
+    let x = g.W.Write.contents c.args.out.now in
+    let now = c.loop-number.game in
     let there = left_of c.loop-number.unread.items (g.R.Read.remaining c.loop-number.input) in
-    record {
-      lines = so_far.lines;
-      right = so_far.right;
-      read = (reads_rest so_far.lines [] before there (g.R.Read.remaining c.read_next.new.input) so_far.taken next.0, next.1);
-      obeys = so_far.obeys;
-    }
+    let y = g.W.Write.contents c.loop-number.out in
+    let states = c.loop-number.room.kept in
+    let so_far = c.loop-number.invariant.so_far c.requires.of in
+    at_the_end game rom start c.requires.of before_in x now c.loop-number.number there y states so_far (g.R.Read.remaining c.read_next.new.input) c.in-End.ensures
 
 pub returns-in-Failed-clause-obeyed : goal.returns-in-Failed-clause-obeyed
 returns-in-Failed-clause-obeyed g c =
-    let so_far = c.loop-number.invariant in
-    let next = c.in-Failed.ensures in
-    let before = g.R.Read.remaining c.args.input.now in
+    let game = g.G.Playable in
+    let rom = c.args.cartridge.now in
+    let start = c.args.game.now in
+    let before_in = g.R.Read.remaining c.args.input.now in
+    let x = g.W.Write.contents c.args.out.now in
+    let now = c.loop-number.game in
     let there = left_of c.loop-number.unread.items (g.R.Read.remaining c.loop-number.input) in
-    record {
-      lines = so_far.lines;
-      right = so_far.right;
-      read = (next.0, next.1, reads_rest so_far.lines next.0 before there (g.R.Read.remaining c.read_next.new.input) so_far.taken next.2);
-      obeys = so_far.obeys;
-    }
+    let y = g.W.Write.contents c.loop-number.out in
+    let states = c.loop-number.room.kept in
+    let so_far = c.loop-number.invariant.so_far c.requires.of in
+    read_failed game rom start c.requires.of before_in x now c.loop-number.number there y states so_far (g.R.Read.remaining c.read_next.new.input) c.in-Failed.ensures
 
 pub returns-clause-obeyed : goal.returns-clause-obeyed
 returns-clause-obeyed g c =
-    let so_far = c.loop-number.invariant in
-    let unread = c.loop-number.unread.items in
-    let since = g.R.Read.remaining c.loop-number.input in
-    let last : 18446744073709551615 ≡ length so_far.lines + 1 = omega (arith, c.loop-number-test.false, c.loop-number.auto.number-end, so_far.number) in
-    record {
-      lines = so_far.lines;
-      right = so_far.right;
-      read = (last, inr (refl, unread, reads_left so_far.lines unread (g.R.Read.remaining c.args.input.now) since so_far.taken));
-      obeys = so_far.obeys;
-    }
+    let game = g.G.Playable in
+    let rom = c.args.cartridge.now in
+    let start = c.args.game.now in
+    let before_in = g.R.Read.remaining c.args.input.now in
+    let x = g.W.Write.contents c.args.out.now in
+    let now = c.loop-number.game in
+    let there = left_of c.loop-number.unread.items (g.R.Read.remaining c.loop-number.input) in
+    let y = g.W.Write.contents c.loop-number.out in
+    let states = c.loop-number.room.kept in
+    let so_far = c.loop-number.invariant.so_far c.requires.of in
+    let last : c.loop-number.number ≡ 18446744073709551615 = omega (arith, c.loop-number-test.false, c.loop-number.auto.number-end) in
+    subst (λ n. ObeysLines game start now before_in (g.R.Read.remaining c.loop-number.input) x y (WrongLine n)) last
+    (last_number game rom start c.requires.of before_in x now c.loop-number.number there y states so_far c.loop-number.unread.items (g.R.Read.remaining c.loop-number.input) refl last)

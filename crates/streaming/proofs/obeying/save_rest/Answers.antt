@@ -1,6 +1,6 @@
 use Rattle.std.proofs.Common.{◌≡◌, ℕ, ◌∙◌, sym, subst}
 use Rattle.playing.proofs.Making.{makes_nothing}
-use Rattle.streaming.specs.Answers.{last_orders}
+use Rattle.streaming.specs.Answers.{last_deeds}
 use Rattle.streaming.specs.Obeying.{Obeys}
 use Rattle.streaming.proofs.obeying.save_rest.Goals as goal
 
@@ -9,4 +9,4 @@ returns-then-counts-eq0-clause-obeyed g c =
     let here = c.args.game.now in
     let out = g.W.Write.contents c.args.out.now in
     let none : g.G.Playable.unsaved here ≡ 0 = sym c.counts.ensures.pending ∙ c.if-counts-eq0.true in
-    subst (λ (n : ℕ). Obeys g.G.Playable here here out out (last_orders n)) (sym none) (makes_nothing g.G.Playable here out)
+    subst (λ (n : ℕ). Obeys g.G.Playable here here out out (last_deeds n)) (sym none) (makes_nothing g.G.Playable here out)

@@ -5,7 +5,10 @@ use Rattle.playing.proofs.Stops.{handed_on}
 use Rattle.playing.proofs.Wholes.{resumed_made, resumed_failed}
 use Rattle.streaming.specs.Answers.{ended}
 use Rattle.streaming.specs.Obeying.{answers_from}
-use Rattle.streaming.specs.Orders.{orders_of, IsRight}
+use Rattle.input_lines.specs.Given.{IsWhole}
+use Rattle.streaming.specs.Orders.{asked}
+use Rattle.streaming.specs.Reading.Asks.{no_line}
+use Rattle.streaming.specs.Reading.AsksUpTo.{all_asked}
 use Rattle.streaming.proofs.Compositions.{stops_before}
 use Rattle.streaming.proofs.Wholes.{ended_obeyed, ended_stopped, last_behind, reads_some, streams_behind, stops_behind}
 use Rattle.streaming.proofs.obeying.stream_on.Goals as goal
@@ -17,9 +20,10 @@ returns-in-Err-clause-stopped g c =
     rw c.unwritten.ensures.is
     (record {
       lines = [];
-      right = All-nil IsRight;
+      deeds = [];
+      asks = all_asked no_line;
       more = [];
-      read = inl (Consumes-nil (g.R.Read.remaining c.args.input.now));
+      read = inl (All-nil (IsWhole (asked game.takes_states)), Consumes-nil (g.R.Read.remaining c.args.input.now));
       stops =
           resumed_failed game a (g.W.Write.contents c.args.out.now) (g.W.Write.contents c.write_resumed.new.out) c.counts.result.all c.counts.ensures.all c.requires.none
           [] (answers_from game a (ended (game.unsaved a) [])) c.unwritten.ensures.told tt c.in-Err.ensures.err;
@@ -35,16 +39,16 @@ returns-in_err-end-clause-stopped g c =
     let z = g.W.Write.contents c.obey_lines.new.out in
     let stop = c.in_err-end.ensures.stopped in
     let why = c.in_err-end.field-0.0 in
-    let orders = orders_of stop.lines in
     rw (handed_on c.from_residual.result c.from_residual.ensures.1)
     (record {
       lines = stop.lines;
-      right = stop.right;
+      deeds = stop.deeds;
+      asks = stop.asks;
       more = stop.more;
       read = stop.read;
       stops =
           stops_behind game a x y (resumed_made game a x y c.counts.result.all c.counts.ensures.all c.requires.none c.in_default.ensures.ok)
-          b z stop.lines why (stops_before game a b y z orders (last_behind game a orders) why stop.stops);
+          b z stop.deeds why (stops_before game a b y z stop.deeds (last_behind game a stop.deeds) why stop.stops);
     })
 
 pub returns-clause-streamed : goal.returns-clause-streamed
@@ -58,12 +62,14 @@ returns-clause-streamed g c =
     let made = c.in_ok-end.ensures.obeyed in
     record {
       lines = made.lines;
-      right = made.right;
+      deeds = made.deeds;
+      kept = made.kept;
+      asks = made.asks;
       read = made.read;
       makes =
           streams_behind game a x y (resumed_made game a x y c.counts.result.all c.counts.ensures.all c.requires.none c.in_default.ensures.ok)
-          b w made.lines c.in_ok-save_rest.ensures.saved.1
-          (ended_obeyed game a c.obey_lines.new.game b y (g.W.Write.contents c.obey_lines.new.out) w (orders_of made.lines) made.obeys c.in_ok-save_rest.ensures.obeyed);
+          b w made.deeds c.in_ok-save_rest.ensures.saved.1
+          (ended_obeyed game a c.obey_lines.new.game b y (g.W.Write.contents c.obey_lines.new.out) w made.deeds made.obeys c.in_ok-save_rest.ensures.obeyed);
     }
 
 pub returns-in_err-save_rest-clause-stopped : goal.returns-in_err-save_rest-clause-stopped
@@ -75,16 +81,17 @@ returns-in_err-save_rest-clause-stopped g c =
     let y = g.W.Write.contents c.write_resumed.new.out in
     let w = g.W.Write.contents c.save_rest.new.out in
     let made = c.in_ok-end.ensures.obeyed in
-    let read = reads_some c.in_ok-end.end made.lines (g.R.Read.remaining c.args.input.now) (g.R.Read.remaining c.obey_lines.new.input) made.read in
+    let read = reads_some game.takes_states (game.rom a) made.kept c.in_ok-end.end made.lines (g.R.Read.remaining c.args.input.now) (g.R.Read.remaining c.obey_lines.new.input) made.read in
     let why = c.in_err-save_rest.field-0.0 in
     rw (handed_on c.from_residual-in_err-save_rest.result c.from_residual-in_err-save_rest.ensures.1)
     (record {
       lines = made.lines;
-      right = made.right;
+      deeds = made.deeds;
+      asks = all_asked made.asks;
       more = read.0;
       read = read.1;
       stops =
           stops_behind game a x y (resumed_made game a x y c.counts.result.all c.counts.ensures.all c.requires.none c.in_default.ensures.ok)
-          b w made.lines why
-          (ended_stopped game a c.obey_lines.new.game b y (g.W.Write.contents c.obey_lines.new.out) w (orders_of made.lines) why made.obeys c.in_err-save_rest.ensures.stopped);
+          b w made.deeds why
+          (ended_stopped game a c.obey_lines.new.game b y (g.W.Write.contents c.obey_lines.new.out) w made.deeds why made.obeys c.in_err-save_rest.ensures.stopped);
     })

@@ -1,17 +1,15 @@
 use Rattle.std.proofs.Common.{Err, inl, inr, refl, sym, subst, ◌∙◌}
 use Rattle.sector_device.specs.DiskState.{HasAnswered}
 use Rattle.session.specs.Calls.{faults_after}
-use Rattle.session.specs.Accessors.{pending_of}
+use Rattle.session.specs.Accessors.{pending_of, rom_of}
 use Rattle.playing.proofs.Going.{goes_all, no_further_at_all, none_left}
 use Rattle.playing.proofs.Telling.{keeps_same, memory_at}
 use Rattle.playing.specs.Going.{place}
-use Rattle.streaming.specs.Answers.{inputs_of_orders}
-use Rattle.streaming.specs.Orders.{orders_of}
-use Rattle.streaming.specs.Reading.{ReadsTo}
+use Rattle.streaming.specs.Answers.{inputs_of_deeds}
 use Rattle.streaming.specs.Streamed.{HasStreamed, HasStopped, faults_after_stream}
-use Rattle.streaming.specs.declared.error.StreamError.TheVariants.{Session, Line, Input}
+use Rattle.streaming.specs.declared.error.StreamError.TheVariants.{Session, Line, Input, Snapshot, Memory}
 use Rattle.session.proofs.Answering.{answered_both, answered_otherwise, answered_refused}
-use Rattle.streaming.specs.declared.obeying.End.TheVariants.{Wrong, Failed}
+use Rattle.streaming.specs.declared.obeying.End.TheVariants.{Wrong, Failed, Damaged, NoMemory}
 use Rattle.streaming.proofs.Wholes.{TakenUp, streamed_all, streamed_to, stopped_stream}
 use Rattle.streaming.proofs.streamed.stream.Goals as goal
 
@@ -21,7 +19,7 @@ returns-in-Err-clause-refused g c =
 
 pub returns-in-Ok-Whole-clause-streamed : goal.returns-in-Ok-Whole-clause-streamed
 returns-in-Ok-Whole-clause-streamed g c =
-    let s = c.in-Ok.session in
+    let s = c.in-Ok-resume.session in
     let now = c.stream_on.new.game in
     let old = g.D.SectorDevice.disk c.args.device in
     let rom = c.args.cartridge.now in
@@ -29,24 +27,23 @@ returns-in-Ok-Whole-clause-streamed g c =
     let since_in = g.R.Read.remaining c.stream_on.new.input in
     let before = g.W.Write.contents c.args.out.now in
     let since = g.W.Write.contents c.stream_on.new.out in
-    let taken = c.in-Ok.ensures in
+    let taken = c.in-Ok-resume.ensures in
     let up : TakenUp rom old (place s) = record { none = taken.begun.0; rom_is = taken.begun.2; of_rom = taken.of; honest = taken.answered.honest.1; rests = taken.rests; stood = taken.stands; images = taken.images } in
     let streams = c.in-Ok-Whole.ensures.streamed in
-    let goes = goes_all g.met.D.SectorDevice.only_now (λ a b input one. one) (λ a b one. one) s now (inputs_of_orders (orders_of streams.lines)) streams.makes.advances in
-    streamed_all rom old (place s) (place now) before_in since_in before since up streams.lines streams.right streams.makes.answered goes streams.makes.unsaved_is
-    (subst (λ end. ReadsTo end streams.lines before_in since_in) c.in-Ok-Whole.field-0-is streams.read)
+    let goes = goes_all g.met.D.SectorDevice.only_now (λ a b input one. one) (λ a b one. one) s now (inputs_of_deeds streams.deeds) streams.makes.advances in
+    streamed_all rom old (place s) (place now) before_in since_in before since up streams.lines streams.deeds streams.makes.answered goes streams.makes.unsaved_is (rom_of s) taken.begun.2 streams.kept streams.asks c.in-Ok-Whole.field-0 streams.read c.in-Ok-Whole.field-0-is
 
 pub returns-in-Ok-Whole-clause-whole : goal.returns-in-Ok-Whole-clause-whole
 returns-in-Ok-Whole-clause-whole g c =
-    let s = c.in-Ok.session in
+    let s = c.in-Ok-resume.session in
     let now = c.stream_on.new.game in
     let streams = c.in-Ok-Whole.ensures.streamed in
-    let goes = goes_all g.met.D.SectorDevice.only_now (λ a b input one. one) (λ a b one. one) s now (inputs_of_orders (orders_of streams.lines)) streams.makes.advances in
-    (none_left (pending_of now) streams.makes.unsaved_is, c.in-Ok-Whole.ensures.whole, goes.rom ∙ c.in-Ok.ensures.begun.2)
+    let goes = goes_all g.met.D.SectorDevice.only_now (λ a b input one. one) (λ a b one. one) s now (inputs_of_deeds streams.deeds) streams.makes.advances in
+    (none_left (pending_of now) streams.makes.unsaved_is, c.in-Ok-Whole.ensures.whole, goes.rom ∙ c.in-Ok-resume.ensures.begun.2)
 
 pub returns-in-Ok-Wrong-clause-refused : goal.returns-in-Ok-Wrong-clause-refused
 returns-in-Ok-Wrong-clause-refused g c =
-    let s = c.in-Ok.session in
+    let s = c.in-Ok-resume.session in
     let now = c.stream_on.new.game in
     let old = g.D.SectorDevice.disk c.args.device in
     let rom = c.args.cartridge.now in
@@ -54,82 +51,132 @@ returns-in-Ok-Wrong-clause-refused g c =
     let since_in = g.R.Read.remaining c.stream_on.new.input in
     let before = g.W.Write.contents c.args.out.now in
     let since = g.W.Write.contents c.stream_on.new.out in
-    let taken = c.in-Ok.ensures in
+    let taken = c.in-Ok-resume.ensures in
     let up : TakenUp rom old (place s) = record { none = taken.begun.0; rom_is = taken.begun.2; of_rom = taken.of; honest = taken.answered.honest.1; rests = taken.rests; stood = taken.stands; images = taken.images } in
     let streams = c.in-Ok-Wrong.ensures.streamed in
-    let goes = goes_all g.met.D.SectorDevice.only_now (λ a b input one. one) (λ a b one. one) s now (inputs_of_orders (orders_of streams.lines)) streams.makes.advances in
+    let goes = goes_all g.met.D.SectorDevice.only_now (λ a b input one. one) (λ a b one. one) s now (inputs_of_deeds streams.deeds) streams.makes.advances in
     subst (λ d. HasStreamed rom old (g.D.SectorDevice.disk d) (Wrong c.in-Ok-Wrong.number) before_in since_in before since) (sym c.into_device.ensures.device)
-    (streamed_to rom old (place s) (place now) before_in since_in before since up streams.lines streams.right streams.makes.answered goes streams.makes.unsaved_is (Wrong c.in-Ok-Wrong.number)
-    (subst (λ end. ReadsTo end streams.lines before_in since_in) c.in-Ok-Wrong.field-0-is streams.read))
-
-pub returns-in-Ok-Failed-clause-refused : goal.returns-in-Ok-Failed-clause-refused
-returns-in-Ok-Failed-clause-refused g c =
-    let s = c.in-Ok.session in
-    let now = c.stream_on.new.game in
-    let old = g.D.SectorDevice.disk c.args.device in
-    let rom = c.args.cartridge.now in
-    let before_in = g.R.Read.remaining c.args.input.now in
-    let since_in = g.R.Read.remaining c.stream_on.new.input in
-    let before = g.W.Write.contents c.args.out.now in
-    let since = g.W.Write.contents c.stream_on.new.out in
-    let taken = c.in-Ok.ensures in
-    let up : TakenUp rom old (place s) = record { none = taken.begun.0; rom_is = taken.begun.2; of_rom = taken.of; honest = taken.answered.honest.1; rests = taken.rests; stood = taken.stands; images = taken.images } in
-    let streams = c.in-Ok-Failed.ensures.streamed in
-    let goes = goes_all g.met.D.SectorDevice.only_now (λ a b input one. one) (λ a b one. one) s now (inputs_of_orders (orders_of streams.lines)) streams.makes.advances in
-    subst (λ d. HasStreamed rom old (g.D.SectorDevice.disk d) Failed before_in since_in before since) (sym c.into_device-in-Ok-Failed.ensures.device)
-    (streamed_to rom old (place s) (place now) before_in since_in before since up streams.lines streams.right streams.makes.answered goes streams.makes.unsaved_is Failed
-    (subst (λ end. ReadsTo end streams.lines before_in since_in) c.in-Ok-Failed.field-0-is streams.read))
-
-pub returns-in-Err-stream_on-clause-refused : goal.returns-in-Err-stream_on-clause-refused
-returns-in-Err-stream_on-clause-refused g c =
-    let s = c.in-Ok.session in
-    let now = c.stream_on.new.game in
-    let old = g.D.SectorDevice.disk c.args.device in
-    let rom = c.args.cartridge.now in
-    let before_in = g.R.Read.remaining c.args.input.now in
-    let since_in = g.R.Read.remaining c.stream_on.new.input in
-    let before = g.W.Write.contents c.args.out.now in
-    let since = g.W.Write.contents c.stream_on.new.out in
-    let taken = c.in-Ok.ensures in
-    let up : TakenUp rom old (place s) = record { none = taken.begun.0; rom_is = taken.begun.2; of_rom = taken.of; honest = taken.answered.honest.1; rests = taken.rests; stood = taken.stands; images = taken.images } in
-    let streams = c.in-Err-stream_on.ensures.stopped in
-    let why = c.in-Err-stream_on.why in
-    let stop = no_further_at_all g.met.D.SectorDevice.only_now (λ a b input one. one) (λ a b one. one) (λ a b input why one. one) (λ a b why one. one) refl s now (inputs_of_orders (orders_of streams.lines)) why streams.stops.stops in
-    inr (subst (λ d. HasStopped rom old (g.D.SectorDevice.disk d) why before_in since_in before since) (sym c.into_device-in-Err-stream_on.ensures.device)
-    (stopped_stream rom old (place s) (place now) before_in since_in before since up streams.lines streams.right why streams.more streams.read streams.stops.told stop))
-
-pub returns-in-Ok-Whole-clause-answered : goal.returns-in-Ok-Whole-clause-answered
-returns-in-Ok-Whole-clause-answered g c =
-    let s = c.in-Ok.session in
-    let now = c.stream_on.new.game in
-    let streams = c.in-Ok-Whole.ensures.streamed in
-    let goes = goes_all g.met.D.SectorDevice.only_now (λ a b input one. one) (λ a b one. one) s now (inputs_of_orders (orders_of streams.lines)) streams.makes.advances in
-    answered_both c.in-Ok.ensures.answered goes.calls
+    (streamed_to rom old (place s) (place now) before_in since_in before since up streams.lines streams.deeds streams.makes.answered goes streams.makes.unsaved_is (rom_of s) taken.begun.2 streams.kept streams.asks c.in-Ok-Wrong.field-0 streams.read (Wrong c.in-Ok-Wrong.number) c.in-Ok-Wrong.field-0-is)
 
 pub returns-in-Ok-Wrong-clause-answered : goal.returns-in-Ok-Wrong-clause-answered
 returns-in-Ok-Wrong-clause-answered g c =
-    let s = c.in-Ok.session in
+    let s = c.in-Ok-resume.session in
     let now = c.stream_on.new.game in
     let streams = c.in-Ok-Wrong.ensures.streamed in
-    let goes = goes_all g.met.D.SectorDevice.only_now (λ a b input one. one) (λ a b one. one) s now (inputs_of_orders (orders_of streams.lines)) streams.makes.advances in
+    let goes = goes_all g.met.D.SectorDevice.only_now (λ a b input one. one) (λ a b one. one) s now (inputs_of_deeds streams.deeds) streams.makes.advances in
     subst (λ d. HasAnswered (λ refused. faults_after_stream refused.why) (g.D.SectorDevice.disk c.args.device) (g.D.SectorDevice.disk d) (Err (record { why = Line c.in-Ok-Wrong.number; device = d }))) (sym c.into_device.ensures.device)
-    (answered_otherwise (answered_both {V = Unit {0}} {faults_after = faults_after} {value = tt} c.in-Ok.ensures.answered goes.calls) (λ n. refl))
+    (answered_otherwise (answered_both {V = Unit {0}} {faults_after = faults_after} {value = tt} c.in-Ok-resume.ensures.answered goes.calls) (λ n. refl))
+
+pub returns-in-Ok-Failed-clause-refused : goal.returns-in-Ok-Failed-clause-refused
+returns-in-Ok-Failed-clause-refused g c =
+    let s = c.in-Ok-resume.session in
+    let now = c.stream_on.new.game in
+    let old = g.D.SectorDevice.disk c.args.device in
+    let rom = c.args.cartridge.now in
+    let before_in = g.R.Read.remaining c.args.input.now in
+    let since_in = g.R.Read.remaining c.stream_on.new.input in
+    let before = g.W.Write.contents c.args.out.now in
+    let since = g.W.Write.contents c.stream_on.new.out in
+    let taken = c.in-Ok-resume.ensures in
+    let up : TakenUp rom old (place s) = record { none = taken.begun.0; rom_is = taken.begun.2; of_rom = taken.of; honest = taken.answered.honest.1; rests = taken.rests; stood = taken.stands; images = taken.images } in
+    let streams = c.in-Ok-Failed.ensures.streamed in
+    let goes = goes_all g.met.D.SectorDevice.only_now (λ a b input one. one) (λ a b one. one) s now (inputs_of_deeds streams.deeds) streams.makes.advances in
+    subst (λ d. HasStreamed rom old (g.D.SectorDevice.disk d) Failed before_in since_in before since) (sym c.into_device-in-Ok-Failed.ensures.device)
+    (streamed_to rom old (place s) (place now) before_in since_in before since up streams.lines streams.deeds streams.makes.answered goes streams.makes.unsaved_is (rom_of s) taken.begun.2 streams.kept streams.asks c.in-Ok-Failed.field-0 streams.read Failed c.in-Ok-Failed.field-0-is)
 
 pub returns-in-Ok-Failed-clause-answered : goal.returns-in-Ok-Failed-clause-answered
 returns-in-Ok-Failed-clause-answered g c =
-    let s = c.in-Ok.session in
+    let s = c.in-Ok-resume.session in
     let now = c.stream_on.new.game in
     let streams = c.in-Ok-Failed.ensures.streamed in
-    let goes = goes_all g.met.D.SectorDevice.only_now (λ a b input one. one) (λ a b one. one) s now (inputs_of_orders (orders_of streams.lines)) streams.makes.advances in
+    let goes = goes_all g.met.D.SectorDevice.only_now (λ a b input one. one) (λ a b one. one) s now (inputs_of_deeds streams.deeds) streams.makes.advances in
     subst (λ d. HasAnswered (λ refused. faults_after_stream refused.why) (g.D.SectorDevice.disk c.args.device) (g.D.SectorDevice.disk d) (Err (record { why = Input; device = d }))) (sym c.into_device-in-Ok-Failed.ensures.device)
-    (answered_otherwise (answered_both {V = Unit {0}} {faults_after = faults_after} {value = tt} c.in-Ok.ensures.answered goes.calls) (λ n. refl))
+    (answered_otherwise (answered_both {V = Unit {0}} {faults_after = faults_after} {value = tt} c.in-Ok-resume.ensures.answered goes.calls) (λ n. refl))
 
-pub returns-in-Err-stream_on-clause-answered : goal.returns-in-Err-stream_on-clause-answered
-returns-in-Err-stream_on-clause-answered g c =
-    let s = c.in-Ok.session in
+pub returns-in-Ok-Damaged-clause-refused : goal.returns-in-Ok-Damaged-clause-refused
+returns-in-Ok-Damaged-clause-refused g c =
+    let s = c.in-Ok-resume.session in
+    let now = c.stream_on.new.game in
+    let old = g.D.SectorDevice.disk c.args.device in
+    let rom = c.args.cartridge.now in
+    let before_in = g.R.Read.remaining c.args.input.now in
+    let since_in = g.R.Read.remaining c.stream_on.new.input in
+    let before = g.W.Write.contents c.args.out.now in
+    let since = g.W.Write.contents c.stream_on.new.out in
+    let taken = c.in-Ok-resume.ensures in
+    let up : TakenUp rom old (place s) = record { none = taken.begun.0; rom_is = taken.begun.2; of_rom = taken.of; honest = taken.answered.honest.1; rests = taken.rests; stood = taken.stands; images = taken.images } in
+    let streams = c.in-Ok-Damaged.ensures.streamed in
+    let goes = goes_all g.met.D.SectorDevice.only_now (λ a b input one. one) (λ a b one. one) s now (inputs_of_deeds streams.deeds) streams.makes.advances in
+    subst (λ d. HasStreamed rom old (g.D.SectorDevice.disk d) Damaged before_in since_in before since) (sym c.into_device-in-Ok-Damaged.ensures.device)
+    (streamed_to rom old (place s) (place now) before_in since_in before since up streams.lines streams.deeds streams.makes.answered goes streams.makes.unsaved_is (rom_of s) taken.begun.2 streams.kept streams.asks c.in-Ok-Damaged.field-0 streams.read Damaged c.in-Ok-Damaged.field-0-is)
+
+pub returns-in-Ok-Damaged-clause-answered : goal.returns-in-Ok-Damaged-clause-answered
+returns-in-Ok-Damaged-clause-answered g c =
+    let s = c.in-Ok-resume.session in
+    let now = c.stream_on.new.game in
+    let streams = c.in-Ok-Damaged.ensures.streamed in
+    let goes = goes_all g.met.D.SectorDevice.only_now (λ a b input one. one) (λ a b one. one) s now (inputs_of_deeds streams.deeds) streams.makes.advances in
+    subst (λ d. HasAnswered (λ refused. faults_after_stream refused.why) (g.D.SectorDevice.disk c.args.device) (g.D.SectorDevice.disk d) (Err (record { why = Snapshot; device = d }))) (sym c.into_device-in-Ok-Damaged.ensures.device)
+    (answered_otherwise (answered_both {V = Unit {0}} {faults_after = faults_after} {value = tt} c.in-Ok-resume.ensures.answered goes.calls) (λ n. refl))
+
+pub returns-in-Ok-NoMemory-clause-refused : goal.returns-in-Ok-NoMemory-clause-refused
+returns-in-Ok-NoMemory-clause-refused g c =
+    let s = c.in-Ok-resume.session in
+    let now = c.stream_on.new.game in
+    let old = g.D.SectorDevice.disk c.args.device in
+    let rom = c.args.cartridge.now in
+    let before_in = g.R.Read.remaining c.args.input.now in
+    let since_in = g.R.Read.remaining c.stream_on.new.input in
+    let before = g.W.Write.contents c.args.out.now in
+    let since = g.W.Write.contents c.stream_on.new.out in
+    let taken = c.in-Ok-resume.ensures in
+    let up : TakenUp rom old (place s) = record { none = taken.begun.0; rom_is = taken.begun.2; of_rom = taken.of; honest = taken.answered.honest.1; rests = taken.rests; stood = taken.stands; images = taken.images } in
+    let streams = c.in-Ok-NoMemory.ensures.streamed in
+    let goes = goes_all g.met.D.SectorDevice.only_now (λ a b input one. one) (λ a b one. one) s now (inputs_of_deeds streams.deeds) streams.makes.advances in
+    subst (λ d. HasStreamed rom old (g.D.SectorDevice.disk d) NoMemory before_in since_in before since) (sym c.into_device-in-Ok-NoMemory.ensures.device)
+    (streamed_to rom old (place s) (place now) before_in since_in before since up streams.lines streams.deeds streams.makes.answered goes streams.makes.unsaved_is (rom_of s) taken.begun.2 streams.kept streams.asks c.in-Ok-NoMemory.field-0 streams.read NoMemory c.in-Ok-NoMemory.field-0-is)
+
+pub returns-in-Ok-NoMemory-clause-answered : goal.returns-in-Ok-NoMemory-clause-answered
+returns-in-Ok-NoMemory-clause-answered g c =
+    let s = c.in-Ok-resume.session in
+    let now = c.stream_on.new.game in
+    let streams = c.in-Ok-NoMemory.ensures.streamed in
+    let goes = goes_all g.met.D.SectorDevice.only_now (λ a b input one. one) (λ a b one. one) s now (inputs_of_deeds streams.deeds) streams.makes.advances in
+    subst (λ d. HasAnswered (λ refused. faults_after_stream refused.why) (g.D.SectorDevice.disk c.args.device) (g.D.SectorDevice.disk d) (Err (record { why = Memory; device = d }))) (sym c.into_device-in-Ok-NoMemory.ensures.device)
+    (answered_otherwise (answered_both {V = Unit {0}} {faults_after = faults_after} {value = tt} c.in-Ok-resume.ensures.answered goes.calls) (λ n. refl))
+
+pub returns-clause-refused : goal.returns-clause-refused
+returns-clause-refused g c =
+    let s = c.in-Ok-resume.session in
+    let now = c.stream_on.new.game in
+    let old = g.D.SectorDevice.disk c.args.device in
+    let rom = c.args.cartridge.now in
+    let before_in = g.R.Read.remaining c.args.input.now in
+    let since_in = g.R.Read.remaining c.stream_on.new.input in
+    let before = g.W.Write.contents c.args.out.now in
+    let since = g.W.Write.contents c.stream_on.new.out in
+    let taken = c.in-Ok-resume.ensures in
+    let up : TakenUp rom old (place s) = record { none = taken.begun.0; rom_is = taken.begun.2; of_rom = taken.of; honest = taken.answered.honest.1; rests = taken.rests; stood = taken.stands; images = taken.images } in
+    let streams = c.in-Err-stream_on.ensures.stopped in
+    let why = c.in-Err-stream_on.why in
+    let stop = no_further_at_all g.met.D.SectorDevice.only_now (λ a b input one. one) (λ a b one. one) (λ a b input why one. one) (λ a b why one. one) refl s now (inputs_of_deeds streams.deeds) why streams.stops.stops in
+    inr (subst (λ d. HasStopped rom old (g.D.SectorDevice.disk d) why before_in since_in before since) (sym c.into_device-in-Err-stream_on.ensures.device)
+    (stopped_stream rom old (place s) (place now) before_in since_in before since up streams.lines streams.deeds why streams.more (rom_of s) taken.begun.2 streams.asks streams.read streams.stops.told stop))
+
+pub returns-in-Ok-Whole-clause-answered : goal.returns-in-Ok-Whole-clause-answered
+returns-in-Ok-Whole-clause-answered g c =
+    let s = c.in-Ok-resume.session in
+    let now = c.stream_on.new.game in
+    let streams = c.in-Ok-Whole.ensures.streamed in
+    let goes = goes_all g.met.D.SectorDevice.only_now (λ a b input one. one) (λ a b one. one) s now (inputs_of_deeds streams.deeds) streams.makes.advances in
+    answered_both c.in-Ok-resume.ensures.answered goes.calls
+
+pub returns-clause-answered : goal.returns-clause-answered
+returns-clause-answered g c =
+    let s = c.in-Ok-resume.session in
     let now = c.stream_on.new.game in
     let streams = c.in-Err-stream_on.ensures.stopped in
     let why = c.in-Err-stream_on.why in
-    let stop = no_further_at_all g.met.D.SectorDevice.only_now (λ a b input one. one) (λ a b one. one) (λ a b input why one. one) (λ a b why one. one) refl s now (inputs_of_orders (orders_of streams.lines)) why streams.stops.stops in
+    let stop = no_further_at_all g.met.D.SectorDevice.only_now (λ a b input one. one) (λ a b one. one) (λ a b input why one. one) (λ a b why one. one) refl s now (inputs_of_deeds streams.deeds) why streams.stops.stops in
     subst (λ d. HasAnswered (λ refused. faults_after_stream refused.why) (g.D.SectorDevice.disk c.args.device) (g.D.SectorDevice.disk d) (Err (record { why = Session why; device = d }))) (sym c.into_device-in-Err-stream_on.ensures.device)
-    (answered_refused c.in-Ok.ensures.answered stop.calls (λ n. refl))
+    (answered_refused c.in-Ok-resume.ensures.answered stop.calls (λ n. refl))

@@ -1,4 +1,4 @@
-use Rattle.std.proofs.Common.{◌≡◌, ◌∙◌, List, ℕ, [], Some, ap, length, subst, sym, arith}
+use Rattle.std.proofs.Common.{◌≡◌, ◌∙◌, List, ℕ, [], ap, length, subst, sym, arith}
 use Rattle.std.proofs.lemmas.List.{with_items_is}
 use Rattle.std.specs.Vec.{with_items}
 use Rattle.snapshot.specs.Encoding.{snapshot_length}
@@ -9,13 +9,13 @@ use Rattle.debugging.specs.Run.{RunState}
 use Rattle.debugging.specs.KeptStates.{with_none_kept}
 use Rattle.debugging.specs.Orders.{state_order_of}
 use Rattle.debugging.specs.Answers.{after_line, after_restore, answer_line, answer_restore}
-use Rattle.debugging.proofs.Exchanges.{IsObeying, HasObeyed, state_of, none_obeyed, switch_obeyed, switch_refused, line_obeyed, line_broken, state_obeyed, state_broken, wrong_obeyed, wrong_broken, last_obeyed, last_broken, ended, failed_to_read, all_obeyed}
+use Rattle.debugging.proofs.Exchanges.{IsObeying, state_of, none_obeyed, switch_obeyed, switch_refused, line_obeyed, line_broken, state_obeyed, state_broken, wrong_obeyed, wrong_broken, last_obeyed, last_broken, ended, failed_to_read, all_obeyed}
 use Rattle.snapshot.specs.Legal.{IsOfImage}
 use Rattle.debugging.proofs.Kept.{line_of, ram_length, rom_is, room_is, room_of}
-use Rattle.debugging.proofs.StatesKept.{none_kept}
 use Rattle.debugging.proofs.Parts.{on_err_of, on_ok_of}
 use Rattle.debugging.proofs.obeying.LineDebugger.obey.Goals as goal
 use Rattle.debugging.proofs.obeying.LineDebugger.obey.Goals.{in-Line+in_default+else-is_err, in-State+else-is_err-2, in-Wrong+else-is_err-3}
+use Rattle.machine_lines.proofs.SlotLaws.{none_kept}
 
 pub loop-number-init : goal.loop-number-init
 loop-number-init g c = record {

@@ -1,4 +1,4 @@
-use Rattle.std.proofs.Common.{rules, ◌≡◌, sym, ◌∙◌}
+use Rattle.std.proofs.Common.{rules, sym, ◌∙◌}
 use Rattle.debugging.proofs.Restoring.{given_run, machine_given, nothing_given, same_run}
 use Rattle.debugging.proofs.run.Run.restore.Goals as goal
 

@@ -10,6 +10,7 @@ use Rattle.session.specs.Calls.{IsRestoreAnswer}
 use Rattle.session.specs.declared.error.SessionError.{SessionError}
 use Rattle.session.proofs.Beginnings.{own_of_machine}
 use Rattle.session.proofs.Saving.{rests_otherwise}
+use Rattle.session.proofs.SameSession.{same_session}
 use Rattle.session.proofs.session.Session.restore.Goals as goal
 
 pub decode_into-requires : goal.decode_into-requires
@@ -44,3 +45,6 @@ returns-in-Ok-clause-answer g c =
     let bytes = c.args.bytes.now in
     subst (λ (taken : Result Unit SessionError). IsRestoreAnswer rom bytes taken (Ok tt)) c.in_default.ensures.answer
     (subst (λ encoded. IsLegalSnapshot rom encoded) c.in-Ok.ensures.ok.1 (encoded_legal rom c.decode_into.new.machine c.in-Ok.ensures.ok.0))
+
+pub returns-in-Err-decode_into-clause-same : goal.returns-in-Err-decode_into-clause-same
+returns-in-Err-decode_into-clause-same g c = same_session c.args.self.now c.decode_into.new.machine c.in-Err-decode_into.ensures.refused.0 _

@@ -1,0 +1,4 @@
+pub mod Digits
+pub mod Calls
+pub mod Bytes
+pub mod SlotLaws

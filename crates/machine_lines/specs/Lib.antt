@@ -1,0 +1,4 @@
+pub mod Words
+pub mod Texts
+pub mod KeptStates
+pub mod Slots
