@@ -100,6 +100,7 @@ bench:
 	cd crates/bench && $(RT) run -- snapshots
 	python3 -B scripts/session_cost.py bin/gbkeep
 	python3 -B scripts/program_cost.py bin/gbkeep
+	python3 -B scripts/state_cost.py bin/gbkeep
 
 SECONDS ?= 20
 

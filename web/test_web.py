@@ -937,7 +937,7 @@ class Clocks(WithBrowser):
             row = [other.notice is not None, other.asked]
             for passes, frames in steps:
                 other.date, other.ran, other.count, other.passed = other.date + passes, other.ran + passes, other.count + frames, 0
-                other.keep()
+                other.save_all()
                 row += [other.passed, Path(f'{path}.time').read_text().strip()]
             traces.append(trace)
             wanted.append(row)

@@ -8,12 +8,13 @@
         picture = game.picture()
         print(picture.shade(80, 72), game.save())
 
-What is given goes to the program at once and in order. `save` and `picture` wait for their answer; nothing else does. When the block ends,
-also by an exception, what is unsaved is saved. A refusal of the program is raised as `Refused`.
+What is given goes to the program at once and in order. `save`, `picture`, `state`, `restore` and `memory` wait for their answer; nothing else does. When
+the block ends, also by an exception, what is unsaved is saved. A refusal of the program is raised as `Refused`.
 
-`DebugMachine` is a machine that is tried out, by `gbkeep debug`: its states can be taken, given back and kept, and nothing of it is saved.
+`DebugMachine` is a machine that is tried out, by `gbkeep debug`, with the same calls: nothing of it is saved.
 
 examples/collect.py is a whole example, and examples/search.py one of a machine."""
+import collections
 import contextlib
 import os
 import select
@@ -45,6 +46,8 @@ MOST_UNREAD = 1 << 20
 MOST_STATE, STATE_HEAD = 1 << 20, b'GBSNAP01'
 # the numbers under which a machine keeps its states are below it
 SLOTS = 1000
+NO_STATE = 'no state of this cartridge'
+MOST_COUNT = (1 << 64) - 1
 # 2.3 MiB: ten hours of play with ten changes of buttons a second
 RECORDING_SECTORS = 4_800
 
@@ -165,6 +168,11 @@ def ended(process: subprocess.Popen) -> Iterator[None]:
         raise
 
 
+def ignore_signals() -> None:
+    for one in (signal.SIGINT, signal.SIGTERM, signal.SIGHUP):
+        signal.signal(one, signal.SIG_IGN)
+
+
 def line_of(err: str, status: int) -> str:
     """The line that a program refuses with."""
     lines = [line for line in err.splitlines() if line.strip() and not line.startswith('gbkeep: warning: ')]
@@ -204,9 +212,20 @@ def begin_recording(cart: PathLike, recording: PathLike, sectors: int = RECORDIN
 
 
 class Lines:
-    """A program that is given lines, and plays frames by them."""
+    """A program that is given lines, and plays frames by them. Its machine's states can be taken, given back and kept under numbers."""
     command: str
     process: subprocess.Popen
+    input: int
+    output: int
+    # what came and is not taken yet; the answers that are known and did not come yet are in `known`
+    unread: bytearray
+    kept: set[int]
+
+    def _start(self, words: list[str], **how: object) -> None:
+        self.command = words[1]
+        self.process = started(words, stdin=subprocess.PIPE, stdout=subprocess.PIPE, stderr=subprocess.PIPE, bufsize=0, **how)
+        self.input, self.output = self.process.stdin.fileno(), self.process.stdout.fileno()
+        self.unread, self.kept = bytearray(), set()
 
     def frame(self, buttons: int = 0) -> None:
         """One frame with these buttons, a sum of RIGHT, LEFT, UP, DOWN, A, B, SELECT and START."""
@@ -218,11 +237,132 @@ class Lines:
             raise ValueError(f'no frames: {buttons}, {count}')
         while count > 0:
             times = min(count, MOST_FRAMES)
-            self._give_frames(buttons, times)
+            self._play(b'frames %02x %d\n' % (buttons, times), times)
             count -= times
 
-    def _give_frames(self, buttons: int, count: int) -> None:
+    def seconds(self, count: int) -> None:
+        """So many seconds pass on the cartridge's clock: one input of a game."""
+        if not 0 <= count <= MOST_SECONDS:
+            raise ValueError(f'no seconds: {count}')
+        self._play(b'seconds %d\n' % count, 1)
+
+    def power(self) -> None:
+        """The power switch, off and on: one input of a game. With a battery the cartridge's RAM stays, and its clock goes on."""
+        self._play(b'power\n', 1)
+
+    def keep(self, number: int) -> None:
+        """Keeps the machine under a number, 0 to 999, for `back`: in this process, until it ends, and in place of the one that was."""
+        if not 0 <= number < SLOTS:
+            raise ValueError(f'no number of a state: {number}')
+        self._ask(b'keep %d\n' % number, b'kept %d\n' % number)
+        self.kept.add(number)
+
+    def back(self, number: int) -> None:
+        """From now on the machine that was kept last under a number: one input of a game."""
+        if number not in self.kept:
+            raise ValueError(f'no state is kept under {number}')
+        self._ask(b'back %d\n' % number, b'back %d\n' % number)
+
+    def state(self) -> bytes:
+        """The machine's snapshot, as bytes."""
+        self._ask(b'state\n')
+        return self._counted(b'state')
+
+    def restore(self, state: Buffer) -> None:
+        """From now on the machine of this state: one input of a game. One that is no state of the cartridge is refused with ValueError, with nothing done."""
+        state = bytes_of(state)
+        if not 1 <= len(state) <= MOST_STATE:
+            raise ValueError(NO_STATE)
+        self._ask(b'restore %d\n' % len(state) + state)
+        if self._line() != b'restored':
+            raise ValueError(NO_STATE)
+
+    def memory(self, address: int, count: int) -> bytes:
+        """So many bytes as the program sees them, but that no mode closes VRAM and OAM; after FFFF comes 0000."""
+        if not 0 <= address <= 0xffff or not 1 <= count <= 0x10000:
+            raise ValueError(f'no memory: {address}, {count}')
+        self._ask(b'memory %04X %d\n' % (address, count))
+        rows = [self._line()[5:] for _ in range((count + 15) // 16)]
+        try:
+            data = bytes.fromhex(b' '.join(rows).decode())
+        except ValueError:
+            data = b''
+        if len(data) != count:
+            self._answers_wrongly()
+        return data
+
+    def picture(self) -> Picture:
+        """The picture of the machine as it is now."""
+        self._ask(b'picture\n')
+        # a line is taken behind what comes before an answer
+        head = self._line() + b'\n'
+        pgm = head + self._bytes(max(PICTURE_BYTES - len(head), 0))
+        if not pgm.startswith(PICTURE_HEAD):
+            self._answers_wrongly()
+        return Picture(pgm)
+
+    def _play(self, line: bytes, inputs: int) -> None:
+        """Gives a line that is so many inputs."""
         raise NotImplementedError
+
+    def _ask(self, line: bytes, answer: bytes = b'') -> None:
+        """Gives a line, whose answer is known or is to be taken."""
+        raise NotImplementedError
+
+    def _give(self, left: Buffer) -> None:
+        """Gives lines, and takes the answers that come meanwhile: else each side might wait for the other to read."""
+        left = memoryview(left)
+        while left:
+            readable, writable, _ = select.select([self.output], [self.input], [])
+            if readable:
+                self._take()
+            if writable:
+                try:
+                    left = left[os.write(self.input, left[:self.piece]):]
+                except BlockingIOError:
+                    pass
+                except BrokenPipeError:
+                    self._end()
+
+    def _take(self) -> None:
+        """Waits for some of the answers, and takes those that are known."""
+        raise NotImplementedError
+
+    def _read(self) -> bool:
+        """Waits for some of the answers. False: the program has closed its output."""
+        some = os.read(self.output, 1 << 18)
+        self.unread += some
+        return bool(some)
+
+    def _line(self) -> bytes:
+        """The next line of an answer."""
+        while (end := self.unread.find(b'\n')) < 0:
+            if len(self.unread) > MOST_UNREAD:
+                self._answers_wrongly()
+            if not self._read():
+                self._end()
+        line = bytes(self.unread[:end])
+        del self.unread[:end + 1]
+        return line
+
+    def _bytes(self, count: int) -> bytes:
+        while len(self.unread) < count:
+            if not self._read():
+                self._end()
+        data = bytes(self.unread[:count])
+        del self.unread[:count]
+        return data
+
+    def _counted(self, word: bytes) -> bytes:
+        """The bytes of an answer that begins with how many they are."""
+        return self._bytes(self._number(self._line(), word, MOST_STATE))
+
+    def _number(self, line: bytes, word: bytes, most: int) -> int:
+        """The number behind the word that a line has to begin with."""
+        first, _, count = line.partition(b' ')
+        if first != word or not count.isdigit() or len(count) > 20 or int(count) > most:
+            self._answers_wrongly()
+        return int(count)
 
     def _answers_wrongly(self) -> NoReturn:
         self.process.kill()
@@ -244,11 +384,13 @@ class Lines:
 class Game(Lines):
     """The game in SAVE, which is begun where there is none. `count` is how many inputs it has been given, `saved` how many of them are saved.
 
-    With a RECORDING every input is recorded there before it is saved. It is made where neither it nor SAVE is there; a SAVE without its
-    recording is refused."""
+    `state` is a copy of the machine, which another `Game` or `DebugMachine` of the same cartridge takes; it is no SAVE. `keep` is for as long as this `Game` is
+    open. With a RECORDING every input is recorded there before it is saved. It is made where neither it nor SAVE is there; a SAVE without its
+    recording is refused, and `power`, `restore`, `keep` and `back` are, too: a recording has frames and seconds."""
     count: int
     saved: int
     resumed: int
+    piece = PIECE
 
     def __init__(self, cart: PathLike, save: PathLike, program: Optional[PathLike] = None, recording: Optional[PathLike] = None):
         program = str(program or find_program())
@@ -260,54 +402,75 @@ class Game(Lines):
                 begin_recording(cart, recording, program=program)
             begin(cart, save, program)
         words = ['record', '--', str(cart), str(save), str(recording)] if recording else ['stream', '--', str(cart), str(save)]
-        self._start(program, words)
-
-    def _start(self, program: str, words: list[str], **how: object) -> None:
-        """Starts the program, and waits until it has taken up the game."""
-        self.command = words[0]
         # a Ctrl-C or the end of a login is for the caller: the program goes on, and saves what is unsaved when it is closed
-        self.process = started([program, *words], stdin=subprocess.PIPE, stdout=subprocess.PIPE, stderr=subprocess.PIPE, bufsize=0,
-                               preexec_fn=lambda: [signal.signal(one, signal.SIG_IGN) for one in (signal.SIGINT, signal.SIGTERM, signal.SIGHUP)], **how)
-        self.input, self.output = self.process.stdin.fileno(), self.process.stdout.fileno()
-        self.unread, self.pictures, self.saved, self.resumed = b'', [], None, None
+        self._start([program, *words], preexec_fn=ignore_signals)
+        # the answers that are known, and the length of this cartridge's states
+        self.known, self.length = collections.deque(), None
         # nobody closes a game that is not yet there
         with ended(self.process):
-            while self.resumed is None:
-                self._take()
+            self.resumed = self._number(super()._line(), b'resumed', MOST_COUNT)
         self.count = self.saved = self.resumed
 
-    def _give_frames(self, buttons: int, count: int) -> None:
-        self._give(f'frames {buttons:02x} {count}\n')
-        self.count += count
+    def _play(self, line: bytes, inputs: int) -> None:
+        self._give(line)
+        self.count += inputs
 
-    def seconds(self, count: int) -> None:
-        """So many seconds pass on the cartridge's clock: one input."""
-        if not 0 <= count <= MOST_SECONDS:
-            raise ValueError(f'no seconds: {count}')
-        self._give(f'seconds {count}\n')
+    def _ask(self, line: bytes, answer: bytes = b'') -> None:
+        if answer:
+            self.known.append(answer)
+        self._give(line)
+
+    def power(self) -> None:
+        self._changes()
+        super().power()
+
+    def keep(self, number: int) -> None:
+        self._changes()
+        super().keep(number)
+
+    def back(self, number: int) -> None:
+        self._changes()
+        super().back(number)
         self.count += 1
+
+    def restore(self, state: Buffer) -> None:
+        """From now on the machine of this state: one input. Bytes of another length or kind are refused with ValueError, with nothing done; others that are no
+        state of this cartridge end the game, and what was given before is saved."""
+        self._changes()
+        state = bytes_of(state)
+        if self.length is None:
+            self.length = len(self.state())
+        if len(state) != self.length or not state.startswith(STATE_HEAD):
+            raise ValueError(NO_STATE)
+        try:
+            super().restore(state)
+        except Refused as refused:
+            if refused.line == 'gbkeep: damaged snapshot':
+                refused.means, refused.advice = NO_STATE, 'open the game again: what was given before is saved'
+            raise
+        self.count += 1
+
+    def _changes(self) -> None:
+        """Refuses what a recorded game can't do."""
+        if self.command == 'record':
+            raise Refused('a recorded game takes frames and seconds alone', self.command, 'its recording has nothing else',
+                          'play it on, or make a game of its own by `gbkeep-branch`')
 
     def save(self) -> int:
         """Saves what is unsaved, and answers the count of inputs: no power cut can lose them from then on."""
-        self._give('save\n')
+        self._give(b'save\n')
+        self._sort()
         while self.saved < self.count:
             self._take()
         return self.saved
-
-    def picture(self) -> Picture:
-        """The picture of the machine as it is now."""
-        self._give('picture\n')
-        while not self.pictures:
-            self._take()
-        return Picture(self.pictures.pop(0))
 
     def close(self) -> None:
         """Saves what is unsaved and ends the program; the count of inputs that are saved is in `saved`."""
         if self.process.stdin.closed:
             return
         self.process.stdin.close()
-        while self._takes_more():
-            pass
+        while self._read():
+            self._sort()
         self._end(of_itself=False)
 
     def __enter__(self) -> 'Game':
@@ -320,49 +483,38 @@ class Game(Lines):
             if kind is None:
                 raise
 
-    def _give(self, text: str) -> None:
-        """Gives lines, and takes the answers that come meanwhile: else each side might wait for the other to read."""
-        left = text.encode()
-        while left:
-            readable, writable, _ = select.select([self.output], [self.input], [])
-            if readable:
-                self._take()
-            if writable:
-                try:
-                    left = left[os.write(self.input, left[:PIECE]):]
-                except BrokenPipeError:
-                    self._end()
-
     def _take(self) -> None:
-        """Waits for some of the answers."""
-        if not self._takes_more():
+        if not self._read():
             self._end()
+        self._sort()
 
-    def _takes_more(self) -> bool:
-        """Takes some of the answers. False: the program has closed its output."""
-        some = os.read(self.output, 1 << 16)
-        self.unread += some
-        while True:
-            is_picture = self.unread.startswith(PICTURE_HEAD[:1])
-            length = PICTURE_BYTES if is_picture else self.unread.find(b'\n') + 1
-            if length == 0 and len(self.unread) > MOST_UNREAD:
+    def _sort(self) -> None:
+        """Takes the lines of saves, and the answers that are known, from what came."""
+        while (end := self.unread.find(b'\n') + 1) > 0:
+            line = bytes(self.unread[:end])
+            if not self._is_taken(line):
                 self._answers_wrongly()
-            if length == 0 or len(self.unread) < length:
-                return bool(some)
-            answer, self.unread = self.unread[:length], self.unread[length:]
-            if is_picture:
-                self.pictures.append(answer)
-            else:
-                self._take_line(answer[:-1])
-
-    def _take_line(self, line: bytes) -> None:
-        word, _, count = line.partition(b' ')
-        if word != (b'resumed' if self.resumed is None else b'saved') or not count.isdigit() or len(count) > 20:
+            del self.unread[:end]
+        if len(self.unread) > MOST_UNREAD:
             self._answers_wrongly()
-        if word == b'resumed':
-            self.resumed = int(count)
-        else:
-            self.saved = int(count)
+
+    def _is_taken(self, line: bytes) -> bool:
+        """Takes a line of a save, which may come before each answer, or the next answer that is known."""
+        if line.startswith(b'saved '):
+            self.saved = self._number(line[:-1], b'saved', MOST_COUNT)
+            return True
+        if self.known and line == self.known[0]:
+            self.known.popleft()
+            return True
+        return False
+
+    def _line(self) -> bytes:
+        """The next line of an answer, behind what comes before it."""
+        while self._is_taken((line := super()._line()) + b'\n'):
+            pass
+        if self.known:
+            self._answers_wrongly()
+        return line
 
 
 class DebugMachine(Lines):
@@ -370,79 +522,21 @@ class DebugMachine(Lines):
 
     What is given goes to the program in order, many lines at once, and what it answers is compared; so a refusal may be raised by a later call. `state`,
     `restore`, `memory`, `picture` and `settle` wait until all is done. `keep` and `back` are the fastest way to try much from one place. A state is bytes: it
-    can be given to another `DebugMachine` of the same cartridge, in another process or on another computer."""
-
-    command = 'debug'
+    can be given to another `DebugMachine` of the same cartridge, in another process or on another computer. `resumed` is how many inputs the game in SAVE has."""
+    resumed: Optional[int] = None
+    # a state goes in a few pieces
+    piece = 1 << 20
 
     def __init__(self, cart: PathLike, save: Optional[PathLike] = None, program: Optional[PathLike] = None):
         words = ['debug', '--', str(cart)] + ([str(save)] if save else [])
-        self.process = started([str(program or find_program()), *words], stdin=subprocess.PIPE, stdout=subprocess.PIPE, stderr=subprocess.PIPE, bufsize=0)
-        self.input, self.output = self.process.stdin.fileno(), self.process.stdout.fileno()
-        # a write takes what there is room for, so that a state goes in a few pieces and no write waits for a program that waits to be read
+        self._start([str(program or find_program()), *words])
+        # a write takes what there is room for, so that no write waits for a program that waits to be read
         os.set_blocking(self.input, False)
-        # the lines that are not given yet, the answers that are known and did not come yet, and those that came
-        self.lines, self.known, self.unread = bytearray(), bytearray(), bytearray()
-        self.kept = set()
+        # the lines that are not given yet, and the answers that are known
+        self.lines, self.known = bytearray(), bytearray()
         if save:
             with ended(self.process):
-                if not self._line().startswith(b'resumed '):
-                    self._answers_wrongly()
-
-    def _give_frames(self, buttons: int, count: int) -> None:
-        self._ask(b'frames %02x %d\n' % (buttons, count), b'done\n')
-
-    def seconds(self, count: int) -> None:
-        """So many seconds pass on the cartridge's clock."""
-        if not 0 <= count <= MOST_SECONDS:
-            raise ValueError(f'no seconds: {count}')
-        self._ask(b'seconds %d\n' % count, b'done\n')
-
-    def power(self) -> None:
-        """The power switch, off and on. With a battery the cartridge's RAM stays, and its clock goes on."""
-        self._ask(b'power\n', b'done\n')
-
-    def keep(self, number: int) -> None:
-        """Keeps the machine under a number, 0 to 999, for `back`: in this process, until it ends, and in place of the one that was."""
-        if not 0 <= number < SLOTS:
-            raise ValueError(f'no number of a state: {number}')
-        self._ask(b'keep %d\n' % number, b'kept %d\n' % number)
-        self.kept.add(number)
-
-    def back(self, number: int) -> None:
-        """From now on the machine that was kept last under a number."""
-        if number not in self.kept:
-            raise ValueError(f'no state is kept under {number}')
-        self._ask(b'back %d\n' % number, b'back %d\n' % number)
-
-    def state(self) -> bytes:
-        """The machine's snapshot, as bytes."""
-        self._ask(b'state\n')
-        return self._counted(b'state')
-
-    def restore(self, state: Buffer) -> None:
-        """From now on the machine of this state. One that is no state of the cartridge is refused with ValueError, with nothing done."""
-        state = bytes_of(state)
-        if not 1 <= len(state) <= MOST_STATE:
-            raise ValueError('no state of this cartridge')
-        self._ask(b'restore %d\n' % len(state) + state)
-        if self._line() != b'restored':
-            raise ValueError('no state of this cartridge')
-
-    def memory(self, address: int, count: int) -> bytes:
-        """So many bytes as the program sees them, but that no mode closes VRAM and OAM; after FFFF comes 0000."""
-        if not 0 <= address <= 0xffff or not 1 <= count <= 0x10000:
-            raise ValueError(f'no memory: {address}, {count}')
-        self._ask(b'memory %04X %d\n' % (address, count))
-        rows = [self._line()[5:] for _ in range((count + 15) // 16)]
-        try:
-            return bytes.fromhex(b' '.join(rows).decode())
-        except ValueError:
-            self._answers_wrongly()
-
-    def picture(self) -> Picture:
-        """The picture of the machine as it is now."""
-        self._ask(b'picture\n')
-        return Picture(self._bytes(PICTURE_BYTES))
+                self.resumed = self._number(self._line(), b'resumed', MOST_COUNT)
 
     def settle(self) -> None:
         """Waits until all that was given is done."""
@@ -469,8 +563,10 @@ class DebugMachine(Lines):
             self.process.kill()
             self.process.communicate()
 
+    def _play(self, line: bytes, inputs: int) -> None:
+        self._ask(line, b'done\n')
+
     def _ask(self, line: bytes, answer: bytes = b'') -> None:
-        """Gives a line, whose answer is known or is to be taken."""
         self.lines += line
         self.known += answer
         if not answer:
@@ -480,52 +576,11 @@ class DebugMachine(Lines):
             self._give(bytes(self.lines))
             self.lines.clear()
 
-    def _give(self, left: bytes) -> None:
-        """Gives lines, and takes the answers that come meanwhile: else each side might wait for the other to read."""
-        left = memoryview(left)
-        while left:
-            readable, writable, _ = select.select([self.output], [self.input], [])
-            if readable:
-                self._take()
-            if writable:
-                try:
-                    left = left[os.write(self.input, left):]
-                except BlockingIOError:
-                    pass
-                except BrokenPipeError:
-                    self._end()
-
     def _take(self) -> None:
         """Waits for some of the answers, and compares those that are known."""
-        some = os.read(self.output, 1 << 18)
-        if not some:
+        if not self._read():
             self._end()
-        self.unread += some
         size = min(len(self.unread), len(self.known))
         if self.unread[:size] != self.known[:size]:
             self._answers_wrongly()
         del self.unread[:size], self.known[:size]
-
-    def _line(self) -> bytes:
-        """The next line of an answer."""
-        while (end := self.unread.find(b'\n')) < 0:
-            if len(self.unread) > MOST_UNREAD:
-                self._answers_wrongly()
-            self._take()
-        line = bytes(self.unread[:end])
-        del self.unread[:end + 1]
-        return line
-
-    def _bytes(self, count: int) -> bytes:
-        while len(self.unread) < count:
-            self._take()
-        data = bytes(self.unread[:count])
-        del self.unread[:count]
-        return data
-
-    def _counted(self, word: bytes) -> bytes:
-        """The bytes of an answer that begins with how many they are."""
-        first, _, count = self._line().partition(b' ')
-        if first != word or not count.isdigit() or int(count) > MOST_STATE:
-            self._answers_wrongly()
-        return self._bytes(int(count))

@@ -11,7 +11,7 @@ import threading
 import time
 from typing import Optional, Union
 
-from .game import Game, Picture, Refused
+from .game import DebugMachine, Picture, Refused, ignore_signals
 from .input_files import PathLike
 from .timed_game import TimedGame
 
@@ -19,6 +19,8 @@ from .timed_game import TimedGame
 FEW_SECONDS = 5
 # a save that takes so long is told
 SLOW_SECONDS = 5
+# the calls that give a game an input
+INPUTS = ('frame', 'seconds', 'power', 'restore')
 # inputs that wait for a save: so many, and the game waits, too
 MOST_WAITING = 20_000
 
@@ -31,7 +33,7 @@ def memory_folder() -> Optional[str]:
     return None
 
 
-class Player(Game):
+class Player(DebugMachine):
     """The game of a SAVE, of which nothing is kept."""
 
     def __init__(self, cart: PathLike, save: PathLike, program: PathLike):
@@ -39,29 +41,23 @@ class Player(Game):
             with open(save, 'rb') as file:
                 shutil.copyfileobj(file, copy)
             copy.flush()
-            # it reads the copy now, and writes to none
-            self._start(str(program), ['debug', '--', str(cart), copy.name])
+            # it has read the copy once it has told its inputs, and writes to none
+            super().__init__(cart, copy.name, program)
 
-    def _take_line(self, line: bytes) -> None:
-        if self.resumed is None:
-            super()._take_line(line)
-        elif line != b'done':
-            self._answers_wrongly()
-
-    def save(self) -> int:
-        raise Refused('this game is not saved', self.command)
+    def _start(self, words: list[str], **how: object) -> None:
+        super()._start(words, preexec_fn=ignore_signals, **how)
 
 
 class ShownGame:
-    """A game of the window's. Its calls are those of TimedGame; `begin_keep` waits for nothing."""
+    """A game of the window's. Its calls are those of TimedGame; `begin_save` waits for nothing."""
 
     def __init__(self, game: TimedGame, player: Player):
-        self.game, self.player, self.count = game, player, game.count
+        self.game, self.player, self.count, self.given_until = game, player, game.count, game.given_until
         self.header, self.notice, self.command = game.header, game.notice, game.command
         # what the thread has to do; what became of the claim of seconds that it was last given
         self.work: queue.SimpleQueue = queue.SimpleQueue()
         self.passed, self.is_claimed = 0, None
-        self.is_keeping, self.since = False, 0.0
+        self.is_saving, self.since = False, 0.0
         self.failed: Optional[BaseException] = None
         self.thread = threading.Thread(target=self._work, daemon=True)
         self.thread.start()
@@ -72,7 +68,7 @@ class ShownGame:
 
     @property
     def trouble(self) -> Optional[str]:
-        if self.is_keeping and time.monotonic() > self.since + SLOW_SECONDS:
+        if self.is_saving and time.monotonic() > self.since + SLOW_SECONDS:
             return f'the disk is slow: nothing is saved for {SLOW_SECONDS} seconds'
         return self.game.trouble
 
@@ -82,8 +78,7 @@ class ShownGame:
             time.sleep(0.01)
             self._look()
         self.player.frame(buttons)
-        self.work.put(('frame', buttons))
-        self.count += 1
+        self._give('frame', buttons)
 
     def frames(self, buttons: int, count: int) -> None:
         for _ in range(count):
@@ -92,30 +87,53 @@ class ShownGame:
     def picture(self) -> Picture:
         return self.player.picture()
 
-    def begin_keep(self) -> None:
+    def state(self) -> bytes:
+        return self.player.state()
+
+    def power(self) -> None:
+        """The power switch, off and on: one input."""
+        self._look()
+        self.player.power()
+        self._give('power')
+
+    def go_on(self, state: bytes, given_until: int) -> None:
+        """Goes on with the machine of a state, one input; its clock was given the time until then, and is given the time since."""
+        has_clock = self.header.has_clock()
+        if has_clock:
+            # no claim of seconds is under way
+            self._settle()
+        self._look()
+        self.player.restore(state)
+        self._give('restore', state)
+        if has_clock:
+            # the thread claims nothing of itself, and both inputs are saved at once
+            self.game.given_until = self.given_until = given_until
+            self.save_all()
+
+    def begin_save(self) -> None:
         """Begins a save, where the last one is done."""
         self._look()
-        if self.is_keeping:
+        if self.is_saving:
             return
         passed = self.game.due()
         if passed > FEW_SECONDS:
-            self.keep()
+            self.save_all()
             return
-        self.is_keeping, self.since = True, time.monotonic()
+        self.is_saving, self.since = True, time.monotonic()
         if passed > 0:
             self.passed, self.is_claimed = passed, None
             self.work.put(('claim', self.count + 1, passed))
         else:
             self.work.put(('save', True))
 
-    def keep(self) -> int:
+    def save_all(self) -> int:
         """Gives the clock the seconds that have passed, saves, and answers the count of inputs."""
         self._settle()
         # the thread has nothing to do now
         passed = self.game.due()
         if passed > 0 and self.game.claim(self.count + 1, passed):
             self._seconds(passed)
-        self.is_keeping, self.since = True, time.monotonic()
+        self.is_saving, self.since = True, time.monotonic()
         self.work.put(('save', passed <= 0))
         self._settle()
         return self.saved
@@ -131,12 +149,17 @@ class ShownGame:
 
     def _seconds(self, passed: int) -> None:
         self.player.seconds(passed)
-        self.work.put(('seconds', passed))
+        self.given_until += passed
+        self._give('seconds', passed)
+
+    def _give(self, *order: object) -> None:
+        """Has the thread give the game an input, as a call."""
+        self.work.put(order)
         self.count += 1
 
     def _settle(self) -> None:
         """Waits until nothing is left to do."""
-        while self.is_keeping or not self.work.empty():
+        while self.is_saving or not self.work.empty():
             self._look()
             time.sleep(0.001)
         done = threading.Event()
@@ -159,17 +182,15 @@ class ShownGame:
         try:
             while True:
                 order, *words = self.work.get()
-                if order == 'frame':
-                    self.game.frame(*words)
-                elif order == 'seconds':
-                    self.game.seconds(*words)
+                if order in INPUTS:
+                    getattr(self.game, order)(*words)
                 elif order == 'claim':
                     self.is_claimed = self.game.claim(*words)
                 elif order == 'save':
                     self.game.save()
                     if words[0]:
                         self.game.note()
-                    self.is_keeping = False
+                    self.is_saving = False
                 elif order == 'tell':
                     words[0].set()
                 else:
@@ -183,7 +204,7 @@ Played = Union[ShownGame, TimedGame]
 
 def shown(game: TimedGame, cart: PathLike, save: PathLike, program: PathLike) -> Played:
     """The game with a second program for its pictures; the game itself, which waits for each save, where there can be none."""
-    game.keep()
+    game.save_all()
     try:
         player = Player(cart, save, program)
     except (OSError, Refused):

@@ -108,7 +108,7 @@ class SaveTime:
 
 
 class TimedGame(Game):
-    """A game that `keep` saves and gives the seconds that have passed. `notice`: what the player has to be told about the clock, or None; `trouble`:
+    """A game that `save_all` saves and gives the seconds that have passed. `notice`: what the player has to be told about the clock, or None; `trouble`:
     why the clock is given no time now, or None.
 
     `now` gives the seconds since 1970, `elapsed` those of a clock that nobody sets. `ask` is given the game and a question, and answers whether the
@@ -124,7 +124,7 @@ class TimedGame(Game):
         self.given_until = int(self.opened)
         if self.header.has_clock():
             self._begin_clock(is_new)
-            self.keep()
+            self.save_all()
 
     def _begin_clock(self, is_new: bool) -> None:
         """Looks up until when the clock was given, and how far the date is from there."""
@@ -196,7 +196,7 @@ class TimedGame(Game):
         if self.header.has_clock() and self.saved > self.written[0] and self._writes([(self.saved, self.given_until)]):
             self.written = self.saved, self.given_until
 
-    def keep(self) -> int:
+    def save_all(self) -> int:
         """Gives the clock the seconds that have passed, saves, and answers the count of inputs."""
         passed = self.due()
         if passed > 0 and self.claim(self.count + 1, passed):
@@ -206,6 +206,13 @@ class TimedGame(Game):
             self.note()
         return count
 
-    def begin_keep(self) -> None:
-        """Keeps the game where somebody else can wait for that; here nobody can."""
-        self.keep()
+    def go_on(self, state: bytes, given_until: int) -> None:
+        """Goes on with the machine of a state, one input; its clock was given the time until then, and is given the time since."""
+        self.restore(state)
+        if self.header.has_clock():
+            self.given_until = given_until
+            self.save_all()
+
+    def begin_save(self) -> None:
+        """Saves the game where somebody else can wait for that; here nobody can."""
+        self.save_all()

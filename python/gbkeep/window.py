@@ -9,11 +9,16 @@ emulators take NAME.sav and NAME.srm for their battery files, and write over the
     X, Z                   A, B
     Enter, Backspace       Start, Select
     Tab, while it is held  as fast as it goes
-    P                      pause, and on
+    P, N                   pause, and on; the next frame in a pause, or a pause
+    R, while it is held    goes back, up to a minute
     S                      a picture of the game beside SAVE, as PNG, in the greys of `gbkeep frame`
     F1                     shows the keys
     F2                     the next palette, of four, which is kept for the next time
+    F3                     the power switch, off and on; it asks first
     F5, F9                 keeps the game in its slot (SAVE.slot), and goes back to it; a game that this replaces is kept as SAVE.before, SAVE.before.2 ..
+    F6, F10                keeps the game in a quick slot, in memory, and goes back to it
+    F7                     the next of ten quick slots
+    F8                     undoes the last R, F3, F9, F10 or F8
     F11                    full screen, and back
 
 A gamepad's buttons are those that SDL knows it by. --keys FILE changes keys, by lines as `A = space`. The window can have any size.
@@ -34,6 +39,7 @@ from collections.abc import Callable, Iterable
 from typing import NoReturn, Optional
 
 from .game import HEIGHT, WIDTH, Refused, find_program, starting
+from .going_back import GoingBack
 from .input_files import MOST_LINE, WrongInput, printable, reason
 from .shown_game import Played, shown
 from .slots import Slots, short
@@ -62,6 +68,7 @@ PALETTES = [[(0x0f, 0x38, 0x0f), (0x30, 0x62, 0x30), (0x8b, 0xac, 0x0f), (0xe0, 
             [(0x1f, 0x1f, 0x1f), (0x4d, 0x53, 0x3c), (0x8b, 0x95, 0x6d), (0xc4, 0xcf, 0xa1)],
             [(0x08, 0x18, 0x20), (0x34, 0x68, 0x56), (0x88, 0xc0, 0x70), (0xf0, 0xe0, 0xc0)]]
 EDGE = 8
+PRESS = 'Press a key.'
 
 
 class Window:
@@ -157,7 +164,7 @@ class Window:
             keep_palette(self.palette)
         elif name == 'Full screen':
             self.fill()
-        elif name in ('Picture', 'Keys', 'Keep slot', 'Go back'):
+        elif name not in (None, 'Fast'):
             self.wanted.add(name)
 
     def wants(self, name: str) -> bool:
@@ -170,8 +177,8 @@ class Window:
         buttons, self.taken = self.pressed | self.taken | self.pads.buttons(), 0
         return buttons
 
-    def is_fast(self) -> bool:
-        return pygame.key.get_pressed()[self.keys['Fast']]
+    def is_held(self, name: str) -> bool:
+        return name in self.keys and pygame.key.get_pressed()[self.keys[name]]
 
     def say(self, line: str, seconds: float = LINE_SECONDS) -> None:
         """Shows a line below the picture for so long; one that does not fit is shown in parts."""
@@ -185,7 +192,8 @@ class Window:
         now = time.monotonic()
         self.said = [(part, end) for part, end in self.said if end > now]
         said = self.said[0][0] if self.said else ''
-        line = said or (f'paused: {pygame.key.name(self.keys["Pause"]).upper()} goes on' if self.is_paused else '')
+        goes_on = f': {pygame.key.name(self.keys["Pause"]).upper()} goes on' if 'Pause' in self.keys else ''
+        line = said or (f'paused{goes_on}' if self.is_paused else '')
         if (self.shades, line) == self.shown and not self.is_stale:
             return
         self.shown, self.is_stale = (self.shades, line), False
@@ -230,7 +238,18 @@ class Window:
 
     def tell(self, *texts: str) -> None:
         """Shows texts until a key is pressed or the window is closed."""
-        self.wait([*texts, 'Press a key.'], lambda: self.any_key)
+        self.wait([*texts, PRESS], lambda: self.any_key)
+
+    def tell_list(self, lines: list[str]) -> None:
+        """Shows lines, as many at once as fit into the window, until a key is pressed for each part of them."""
+        room = (self.strip.bottom - self.place.top) // self.font.get_linesize() - len(self.folded(PRESS))
+        part = []
+        for line in lines:
+            if part and sum(len(self.folded(one)) for one in [*part, line]) > room:
+                self.tell(*part)
+                part = []
+            part.append(line)
+        self.tell(*part)
 
     def ask(self, *texts: str) -> Optional[bool]:
         """Shows a question, and answers whether it was agreed to; None where the window was closed."""
@@ -259,10 +278,22 @@ class Speed:
 def play(window: Window, game: Played, save: str, slots: Slots, open_game: Callable[[], Played]) -> Played:
     """Plays until the window is closed, and returns the game that is open then."""
     name = printable(game.header.title) or short(save)
-    speed, frames, due, told = Speed(), 0, time.monotonic(), None
+    speed, frames, due, told, titled = Speed(), 0, time.monotonic(), None, None
+    going_back = GoingBack()
+    moves = {'Rewind': going_back.rewind, 'Reset': going_back.reset, 'Undo': going_back.undo, 'Quick keep': going_back.keep, 'Quick back': going_back.back,
+             'Quick slot': going_back.next_slot}
 
     def entitle():
-        pygame.display.set_caption(f'{name}: {"paused" if window.is_paused else speed.text()}, {game.saved} saved')
+        nonlocal titled
+        title = f'{name}: {"paused" if window.is_paused else speed.text()}, {game.saved} saved'
+        if title != titled:
+            titled = title
+            pygame.display.set_caption(title)
+
+    def play_frame():
+        game.frame(window.buttons())
+        window.show(game.picture().shades)
+        going_back.note(game, window.shades)
 
     entitle()
     was_paused = False
@@ -271,43 +302,57 @@ def play(window: Window, game: Played, save: str, slots: Slots, open_game: Calla
         if window.wants('Picture'):
             leave_picture(window, game, save)
         if window.wants('Keys'):
-            game.keep()
-            window.tell(*lines_of(window.keys))
+            game.save_all()
+            window.tell_list(lines_of(window.keys))
             speed, due = Speed(), time.monotonic()
         if window.wants('Keep slot'):
             keep_in_slot(window, game, slots)
         if window.wants('Go back'):
+            before = going_back.moment(game, window.shades)
             game = back_to_slot(window, game, slots, open_game)
+            going_back.came_back(game, before)
             speed, due = Speed(), time.monotonic()
             window.shades = game.picture().shades
             entitle()
+        for wanted, move in moves.items():
+            if window.wants(wanted):
+                move(window, game)
+                speed, due = Speed(), time.monotonic()
         if game.trouble != told:
             before, told = told, game.trouble
             window.say(told or ('the clock goes on' if 'clock' in before else 'the game is saved again'), WARNING_SECONDS)
+        is_next = window.wants('Next frame')
+        if window.is_closed:
+            break
+        if is_next and window.is_paused:
+            play_frame()
+        window.is_paused |= is_next
         if window.is_paused != was_paused:
             was_paused = window.is_paused
             if was_paused:
-                game.keep()
+                game.save_all()
             else:
                 speed = Speed()
             entitle()
         if window.is_paused:
+            if game.saved < game.count:
+                game.begin_save()
+            entitle()
             window.show()
             time.sleep(0.02)
             due = time.monotonic()
             continue
-        game.frame(window.buttons())
-        frames += 1
-        if window.is_fast():
+        if window.is_held('Fast'):
             window.say(f'fast: {speed.text()}', 0.25)
-        window.show(game.picture().shades)
+        play_frame()
+        frames += 1
         if frames % FRAMES_A_SAVE == 0:
-            game.begin_keep()
+            game.begin_save()
         if speed.count(1):
             entitle()
         due += 1 / FRAMES_A_SECOND
         now = time.monotonic()
-        if window.is_fast() or due < now - 0.25:
+        if window.is_held('Fast') or due < now - 0.25:
             due = now
         elif due > now:
             time.sleep(due - now)
@@ -358,7 +403,7 @@ def run_window(window: Window, asked: argparse.Namespace, save: str) -> None:
         window.say(warning_of(asked), WARNING_SECONDS)
     slots = Slots(asked.cart, save, asked.gbkeep, game.header.has_clock())
     game = play(window, game, save, slots, open_game)
-    game.keep()
+    game.save_all()
     game.close()
 
 

@@ -78,7 +78,7 @@ def leave_picture(window: Shown, game: Played, save: str) -> None:
 
 def keep_in_slot(window: Shown, game: Played, slots: Slots) -> None:
     try:
-        game.keep()
+        game.save_all()
         before = slots.keep()
     except NotReplaced as error:
         window.say(f'not kept: {error}', WARNING_SECONDS)
@@ -97,7 +97,7 @@ def back_to_slot(window: Shown, game: Played, slots: Slots, open_game: Callable[
     if not os.path.lexists(slots.slot):
         window.say('the slot is empty')
         return game
-    game.keep()
+    game.save_all()
     try:
         with slots.left() as left:
             game.close()

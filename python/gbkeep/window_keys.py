@@ -10,10 +10,14 @@ from .input_files import PathLike, WrongInput, printable, read_text
 
 # the buttons first, as bits 0 to 7; then what else a key does, and its key
 ACTIONS = [('Right', 'right'), ('Left', 'left'), ('Up', 'up'), ('Down', 'down'), ('A', 'x'), ('B', 'z'), ('Select', 'backspace'), ('Start', 'return'),
-           ('Fast', 'tab'), ('Pause', 'p'), ('Picture', 's'), ('Keys', 'f1'), ('Palette', 'f2'), ('Keep slot', 'f5'), ('Go back', 'f9'), ('Full screen', 'f11')]
+           ('Fast', 'tab'), ('Rewind', 'r'), ('Pause', 'p'), ('Next frame', 'n'), ('Picture', 's'), ('Keys', 'f1'), ('Palette', 'f2'), ('Reset', 'f3'),
+           ('Keep slot', 'f5'), ('Go back', 'f9'), ('Quick keep', 'f6'), ('Quick back', 'f10'), ('Quick slot', 'f7'), ('Undo', 'f8'), ('Full screen', 'f11')]
 BUTTONS = [name for name, _ in ACTIONS[:8]]
-MEANINGS = {'Fast': 'while it is held: as fast as it goes', 'Pause': 'pause, and on', 'Picture': 'a picture beside SAVE, as PNG', 'Keys': 'these keys',
-            'Palette': 'the next palette', 'Keep slot': 'keeps the game in its slot', 'Go back': 'goes back to the slot', 'Full screen': 'full screen, and back'}
+MEANINGS = {'Fast': 'while it is held: as fast as it goes', 'Rewind': 'while it is held: goes back, up to a minute', 'Pause': 'pause, and on',
+            'Next frame': 'the next frame in a pause, or a pause', 'Picture': 'a picture beside SAVE, as PNG', 'Keys': 'these keys', 'Palette': 'the next palette',
+            'Reset': 'the power switch, off and on; it asks first', 'Keep slot': 'keeps the game in its slot', 'Go back': 'goes back to the slot',
+            'Quick keep': 'keeps the game in a quick slot, in memory', 'Quick back': 'goes back to the quick slot', 'Quick slot': 'the next of ten quick slots',
+            'Undo': 'undoes the last going back, or reset', 'Full screen': 'full screen, and back'}
 # a gamepad's buttons, by SDL's mapping
 PAD = [pygame.CONTROLLER_BUTTON_DPAD_RIGHT, pygame.CONTROLLER_BUTTON_DPAD_LEFT, pygame.CONTROLLER_BUTTON_DPAD_UP, pygame.CONTROLLER_BUTTON_DPAD_DOWN,
        pygame.CONTROLLER_BUTTON_B, pygame.CONTROLLER_BUTTON_A, pygame.CONTROLLER_BUTTON_BACK, pygame.CONTROLLER_BUTTON_START]
@@ -34,8 +38,8 @@ def key_of(name: str) -> int:
 
 
 def keys_of(path: Optional[PathLike] = None) -> dict[str, int]:
-    """The key of each action, by its name."""
-    keys = {name: key_of(key) for name, key in ACTIONS}
+    """The key of each action, by its name. One that is no button has none where a file gives its key to another action."""
+    keys, given = {name: key_of(key) for name, key in ACTIONS}, {}
     names = {name.lower(): name for name in keys}
     if path is None:
         return keys
@@ -50,9 +54,10 @@ def keys_of(path: Optional[PathLike] = None) -> dict[str, int]:
         try:
             if left.strip().lower() not in names:
                 raise ValueError(f"'{printable(left.strip())}' is nothing that a key does")
-            keys[names[left.strip().lower()]] = key_of(right.strip().lower())
+            given[names[left.strip().lower()]] = key_of(right.strip().lower())
         except ValueError as error:
             raise WrongKeys(f'{printable(path)}, line {number}: {error}') from None
+    keys = {name: given.get(name, key) for name, key in keys.items() if name in given or name in BUTTONS or key not in given.values()}
     taken = {}
     for name, key in keys.items():
         if key in taken:
@@ -62,8 +67,9 @@ def keys_of(path: Optional[PathLike] = None) -> dict[str, int]:
 
 
 def lines_of(keys: dict[str, int]) -> list[str]:
-    """What each key does, a line each."""
-    return [f'{pygame.key.name(key)}: {MEANINGS.get(name, name)}' for name, key in keys.items()]
+    """What each key does: the pad and the buttons a line each, and a line for each of the others."""
+    each = [f'{pygame.key.name(key)}: {MEANINGS.get(name, name)}' for name, key in keys.items()]
+    return [', '.join(each[:4]), ', '.join(each[4:8]), *each[8:]]
 
 
 class Pads:

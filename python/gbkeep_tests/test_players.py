@@ -79,7 +79,7 @@ def test_game(room):
         expect('3,200 are saved of themselves', (game.count, game.saved), (3302, 3200))
         expect('a save', game.save(), 3302)
         for _ in range(30_000):
-            game._give('save\n')
+            game._give(b'save\n')
         game.frames(LEFT, 7)
     expect('closing saves', game.saved, 3309)
     with Game(CART, save, room.program) as game:
@@ -91,6 +91,87 @@ def test_game(room):
     expect('a shade', picture.shade(7, 3), int(pgm.split()[4 + 3 * 160 + 7]))
     shown = room.tool(TOP / 'examples/collect.py', room.path('collect.gbkeep'), room.path('collect.png'))
     expect('the example', (shown, room.path('collect.png').read_bytes()[:4]), ('saved 504\n', b'\x89PNG'))
+
+
+def test_states_of_a_game(room):
+    """A game's states are those of a machine that is given the same; each change is one input, and lines of saves come before any answer."""
+    save = room.path('states.gbkeep')
+    with Game(CART, save, room.program) as game, DebugMachine(CART, program=room.program) as machine:
+        for one in (game, machine):
+            one.frames(0, 60)
+            one.frames(START, 4)
+            one.keep(3)
+            one.frames(RIGHT, 3135)
+        first = game.state()
+        expect('a state', (first == machine.state(), game.count, game.saved), (True, 3199, 0))
+        for one in (game, machine):
+            one.power()
+        expect('a save before an answer', (game.memory(0xc000, 40) == machine.memory(0xc000, 40), game.count, game.saved), (True, 3200, 3200))
+        for one in (game, machine):
+            one.frames(A, 3199)
+            one.back(3)
+        expect('before one that is known', (game.picture().shades == machine.picture().shades, game.count, game.saved), (True, 6400, 6400))
+        for one in (game, machine):
+            one.frames(LEFT, 3199)
+            one.restore(first)
+        expect('before a state', (game.saved, game.count, game.state() == first), (9600, 9600, True))
+        expect('memory goes around', game.memory(0xffff, 0x10000) == machine.memory(0xffff, 0x10000), True)
+        for number in range(40):
+            for one in (game, machine):
+                one.keep(number % 7)
+                one.frame(number)
+                one.back(number % 5 if number > 5 else 3)
+        for bad in (b'', first[:-1], first + b'x', b'X' + first[1:], b'x' * (1 << 20), b'x' * (1 << 20) + b'x'):
+            expect('no state', refusal(lambda: game.restore(bad)), 'no state of this cartridge')
+        for call in (lambda: game.back(8), lambda: game.back(-1), lambda: game.keep(1000), lambda: game.keep(-1), lambda: game.memory(-1, 1),
+                     lambda: game.memory(0x10000, 1), lambda: game.memory(0, 0), lambda: game.memory(0, 65537), lambda: game.seconds(-1)):
+            expect('no such number', 'no ' in (refusal(call) or ''), True)
+        expect('nothing is done then', (game.count, game.save(), game.state() == machine.state()), (9680, 9680, True))
+        last = machine.state()
+    with Game(CART, save, room.program) as game:
+        expect('what is kept', (game.resumed, game.state() == last), (9680, True))
+        game.restore(memoryview(first))
+        game.frame(A)
+        try:
+            game.restore(first[:20] + b'\xff' + first[21:])
+            expect('bytes that are no state', True, False)
+        except Refused as refused:
+            expect('the refusal', (refused.line, refused.means), ('gbkeep: damaged snapshot', 'no state of this cartridge'))
+        expect('what was given before', (game.count, game.saved), (9682, 9682))
+    with Game(CART, room.path('other.gbkeep'), room.program) as game:
+        game.restore(last)
+        expect('in another game', (game.state() == last, game.save()), (True, 1))
+
+
+def test_wrong_answers(room):
+    """What no gbkeep answers is refused, and ends the program."""
+    save = room.save('wrong.gbkeep')
+    for number, (answer, call) in enumerate((
+            ('state x', Game.state), ('state', Game.state), ('state 1048577', Game.state), ('kept 3', Game.state), ('state ' + '9' * 30, Game.state),
+            ('0000 zz', lambda game: game.memory(0, 1)), ('0000 00 11', lambda game: game.memory(0, 1)), ('0000', lambda game: game.memory(0, 1)),
+            ('P2\n160 144\n4\n' + '0 ' * 23_040, Game.picture), ('P3', Game.picture), ('saved x', Game.save), ('saved ' + '9' * 20, Game.save), ('picture', Game.save),
+            ('kept 4', lambda game: [game.keep(3), game.memory(0, 1)]), ('back 3', lambda game: [game.keep(3), game.save()]), ('x' * 3_000_000, Game.state))):
+        room.write('answer', f'{answer}\n' + '0' * 50_000)
+        program = room.write(f'program-{number}', f'#!/bin/sh\necho resumed 0\nread line\ncat {room.path("answer")}\ncat > /dev/null\n', 0o755)
+
+        def ask():
+            game = Game(CART, save, program)
+            game.count = 1
+            call(game)
+        expect(f'{answer[:30]!r}', refusal(ask), 'the program answers what no gbkeep answers')
+
+
+def test_states_of_a_recorded_game(room):
+    save, recording = room.path('run.gbkeep'), room.path('run.rec')
+    with Game(CART, save, room.program, recording) as game, DebugMachine(CART, program=room.program) as machine:
+        for one in (game, machine):
+            one.frames(START, 70)
+        state = game.state()
+        expect('a state, and memory', (state == machine.state(), game.memory(0xc000, 20)), (True, machine.memory(0xc000, 20)))
+        for call in (game.power, lambda: game.keep(0), lambda: game.back(0), lambda: game.restore(state)):
+            expect('refused', refusal(call), 'a recorded game takes frames and seconds alone')
+        game.frame(A)
+    expect('it goes on', run(room.program, 'verify', str(CART), str(save), str(recording)), 'agree 71\n')
 
 
 def test_png(room):
@@ -200,7 +281,7 @@ def test_refusals(room):
             refused = held
         expect('held', (refused.line, 'another `gbkeep` has it open' in refused.means, refused.advice[:9]), ('gbkeep: device failed', True, 'end the o'))
         game.frames(A, 10)
-        refused = refusal(lambda: [game._give('frame zz\n'), game.picture()])
+        refused = refusal(lambda: [game._give(b'frame zz\n'), game.picture()])
         expect('a wrong line', refused, 'gbkeep: script line 2')
     with Game(CART, save, room.program) as game:
         expect('what came before a wrong line', game.resumed, 10)

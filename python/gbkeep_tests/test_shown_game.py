@@ -6,7 +6,7 @@ import random
 import signal
 import time
 
-from gbkeep import Game, Refused, shown_game
+from gbkeep import A, RIGHT, START, DebugMachine, Game, Refused, shown_game
 from gbkeep.shown_game import ShownGame, shown
 from gbkeep.timed_game import TimedGame
 from gbkeep_tests import support
@@ -37,9 +37,9 @@ def test_play(program, room):
                 if number % 10 == 0:
                     expect(f'picture {number}', game.picture().shades, other.picture().shades)
                 if number % 7 == 0:
-                    game.begin_keep()
+                    game.begin_save()
                 expect('no more is told than there is', game.saved <= game.count, True)
-            expect('a whole save', (game.keep(), game.count, game.saved), (other.count, other.count, other.count))
+            expect('a whole save', (game.save_all(), game.count, game.saved), (other.count, other.count, other.count))
             game.close()
         with Game(CART, save, program) as again:
             expect('what is kept', (again.resumed, again.picture().shades), (other.count, other.picture().shades))
@@ -56,13 +56,13 @@ def test_slow(program, room):
         game.frame(number & 255)
         game.picture()
         if number % 60 == 0:
-            game.begin_keep()
+            game.begin_save()
         longest = max(longest, time.monotonic() - began)
     expect('no frame waits', (longest < 1, game.saved, game.trouble), (True, 0, None))
     time.sleep(shown_game.SLOW_SECONDS)
     expect('it is told', game.trouble, f'the disk is slow: nothing is saved for {shown_game.SLOW_SECONDS} seconds')
     os.kill(keeper.pid, signal.SIGCONT)
-    expect('all is saved', (game.keep(), game.trouble), (300, None))
+    expect('all is saved', (game.save_all(), game.trouble), (300, None))
     game.close()
 
 
@@ -72,11 +72,11 @@ def test_clock(program, room):
     game = opened(program, save, cart, elapsed=lambda: now[0])
     for second in (1, 3, 4, 100, 101):
         now[0] = float(second)
-        game.begin_keep()
+        game.begin_save()
         for _ in range(20):
             game.frame()
-        until('a save', lambda: (game.frame(), not game.is_keeping)[1])
-    game.keep()
+        until('a save', lambda: (game.frame(), not game.is_saving)[1])
+    game.save_all()
     told, count = seconds_shown(game), game.count
     game.close()
     expect('the seconds', told, 101)
@@ -88,12 +88,81 @@ def test_clock(program, room):
     os.unlink(f'{save}.time')
     os.mkdir(f'{save}.time')
     now[0] += 2
-    game.begin_keep()
-    until('a save', lambda: (game.frame(), not game.is_keeping)[1])
+    game.begin_save()
+    until('a save', lambda: (game.frame(), not game.is_saving)[1])
     expect('it is told', 'the clock stands still' in (game.trouble or ''), True)
-    game.keep()
+    game.save_all()
     expect('no second', seconds_shown(game), 101)
     game.close()
+
+
+def one_program(program, room):
+    """A program that refuses to be the second one of a game."""
+    refuses = room / 'refuses'
+    refuses.write_text(f'#!/bin/sh\n[ "$1" = debug ] && exit 1\nexec {program} "$@"\n')
+    refuses.chmod(0o755)
+    return str(refuses)
+
+
+def test_going_on(program, room):
+    """A state that is gone on with, and the power switch, are an input each, of the pictures and of SAVE; by two programs and by one."""
+    for name, of in (('two', program), ('one', one_program(program, room))):
+        save = room / f'{name}.gbkeep'
+        game = shown(TimedGame(CART, save, of), CART, save, of)
+        expect('programs', type(game), ShownGame if name == 'two' else TimedGame)
+        with DebugMachine(CART, program=program) as other:
+            for machine in (game, other):
+                machine.frames(0, 60)
+                machine.frames(START, 4)
+            state, known = game.state(), other.state()
+            expect('a state', state == known, True)
+            for machine in (game, other):
+                machine.frames(RIGHT, 30)
+            game.begin_save()
+            game.go_on(state, game.given_until)
+            other.restore(known)
+            expect('its picture', game.picture().shades, other.picture().shades)
+            for machine in (game, other):
+                machine.frames(A, 9)
+            game.begin_save()
+            for machine in (game, other):
+                machine.power()
+                machine.frames(START, 7)
+            expect('inputs', (game.count, game.save_all(), game.saved), (112, 112, 112))
+            shades = game.picture().shades
+            game.close()
+            with Game(CART, save, program) as kept:
+                expect('what is kept', (kept.resumed, kept.state() == other.state(), kept.picture().shades == shades), (112, True, True))
+
+
+def test_going_on_with_a_clock(program, room):
+    """A state's clock is given the time since it was taken, in the same save; none of it twice."""
+    for name, of in (('two', program), ('one', one_program(program, room))):
+        cart, save, now = clock_cart(room), room / f'clock-{name}.gbkeep', [0.0]
+        game = shown(TimedGame(cart, save, of, elapsed=lambda: now[0]), cart, save, of)
+        began = game.given_until
+        now[0] = 10.0
+        game.save_all()
+        expect('at the state', (seconds_shown(game), game.given_until - began), (10, 10))
+        state, given_until = game.state(), game.given_until
+        for second in (100, 1_000):
+            now[0] = float(second)
+            game.save_all()
+            expect('later', seconds_shown(game), second)
+        game.go_on(state, given_until)
+        expect('both inputs are saved', (game.saved, game.given_until - began), (game.count, 1_000))
+        expect('the time since', seconds_shown(game), 1_000)
+        now[0] = 1_001.0
+        game.begin_save()
+        until('a second', lambda: seconds_shown(game) == 1_001)
+        game.go_on(state, given_until)
+        game.go_on(game.state(), game.given_until)
+        game.save_all()
+        expect('nothing twice', seconds_shown(game), 1_001)
+        told = game.saved
+        game.close()
+        with Game(cart, save, program) as kept:
+            expect('what is kept', (kept.resumed >= told, seconds_shown(kept)), (True, 1_001))
 
 
 def test_ends(program, room):
@@ -103,7 +172,7 @@ def test_ends(program, room):
         game = opened(program, save)
         for _ in range(30):
             game.frame()
-        game.keep()
+        game.save_all()
         for _ in range(30):
             game.frame(1)
         process = game.game.process if which == 'game' else game.player.process
@@ -115,7 +184,7 @@ def test_ends(program, room):
             for _ in range(2000):
                 game.frame()
                 game.picture()
-                game.begin_keep()
+                game.begin_save()
                 time.sleep(0.001)
         expect(f'{which} that ends', refusal(go_on) is not None, True)
         if which == 'player':
@@ -126,14 +195,12 @@ def test_ends(program, room):
 
 def test_refused(program, room):
     """Where no second program can be had, the game is played by one."""
-    refuses = room / 'refuses'
-    refuses.write_text(f'#!/bin/sh\n[ "$1" = debug ] && exit 1\nexec {program} "$@"\n')
-    refuses.chmod(0o755)
+    refuses = one_program(program, room)
     save = room / 'one.gbkeep'
-    game = shown(TimedGame(CART, save, str(refuses)), CART, save, str(refuses))
+    game = shown(TimedGame(CART, save, refuses), CART, save, refuses)
     expect('one program', type(game), TimedGame)
     game.frame(1)
-    game.begin_keep()
+    game.begin_save()
     expect('its save', game.saved, 1)
     game.close()
 

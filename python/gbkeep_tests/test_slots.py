@@ -366,14 +366,14 @@ def test_time_of_slots(room):
     slots = room.slots(save, has_clock=True)
     with times.open(room, save) as game:
         game.frames(A, 100)
-        game.keep()
+        game.save_all()
         slots.keep()
         shutil.copy(save, room.path('kept'))
         kept = room.state(room.path('kept'), room.clock_cart), SaveTime(save).read()
         game.frames(LEFT, 50)
     times.passes(1_000)
     with times.open(room, save) as game:
-        newer = game.keep()
+        newer = game.save_all()
         left = slots.left()
     expect('the slot', (room.state(f'{save}.slot', room.clock_cart), SaveTime(f'{save}.slot').read()), kept)
     replaced = room.state(save, room.clock_cart), SaveTime(save).read()
@@ -385,7 +385,7 @@ def test_time_of_slots(room):
     times.passes(1_000)
     with times.open(room, save) as game:
         expect('the game of the slot, and the time since', (game.resumed < newer, game.notice, seconds_shown(game)), (True, None, 2_000))
-        game.keep()
+        game.save_all()
     # cut between the game and its time: of either game the time says how far its clock was given
     point, is_killed, seen = 0, True, set()
     while is_killed:
@@ -413,12 +413,12 @@ def test_clock(room):
         return times.open(room, save)
 
     with opened() as game:
-        expect('a new game', (game.notice, game.keep()), (None, 0))
+        expect('a new game', (game.notice, game.save_all()), (None, 0))
         times.passes(5.2)
-        game.keep()
+        game.save_all()
         expect('five seconds', clock_shown(game), (5, 0, 0, 0))
         times.passes(0.9)
-        kept = game.keep()
+        kept = game.save_all()
     expect('SAVE.time', clock.read_text().split('\n')[0], f'{kept} 1000006')
     # what `trace` and `frame` do to the file changes nothing
     run(room.program, 'frame', str(cart), str(save), str(room.path('out.pgm')))
@@ -427,21 +427,21 @@ def test_clock(room):
     times.passes(3600)
     with opened() as game:
         expect('an hour away', (game.notice, clock_shown(game)), (None, (6, 0, 1, 0)))
-        game.keep()
+        game.save_all()
     # the power was cut after inputs that SAVE.time does not know
     with Game(cart, save, room.program) as game:
         game.frames(0, INPUTS_BETWEEN)
     times.passes(60)
     with opened() as game:
         expect('cut between', (game.notice, clock_shown(game)), (None, (6, 1, 1, 0)))
-        game.keep()
+        game.save_all()
     shutil.copy(save, room.path('older.gbkeep'))
     # played by something else
     run(room.program, 'play', str(cart), str(save), str(room.write('long.script', 'frames 00 500')))
     times.passes(60)
     with opened() as game:
         expect('played without it', ('played without the window' in game.notice, '60 seconds' in game.notice, clock_shown(game)), (True, True, (6, 2, 1, 0)))
-        game.keep()
+        game.save_all()
     with opened() as game:
         expect('told once', game.notice, None)
     shutil.copy(room.path('older.gbkeep'), save)
@@ -451,7 +451,7 @@ def test_clock(room):
     with opened() as game:
         expect('set back', ('16 minutes and 40 seconds before' in game.notice, clock_shown(game)), (True, (6, 1, 1, 0)))
         times.passes(2)
-        game.keep()
+        game.save_all()
         expect('on from there', clock_shown(game), (8, 1, 1, 0))
     clock.unlink()
     times.passes(50)
@@ -460,7 +460,7 @@ def test_clock(room):
     with TimedGame(CART, room.path('none.gbkeep'), room.program, lambda: times.date) as game:
         times.passes(100)
         game.frame()
-        expect('a cartridge without a clock', (game.keep(), room.path('none.gbkeep.time').exists()), (1, False))
+        expect('a cartridge without a clock', (game.save_all(), room.path('none.gbkeep.time').exists()), (1, False))
     size = lambda cart, path: (path.stat().st_size, header_of(cart, room.program).sectors * 512)
     expect('as many sectors as it needs', *size(cart, save))
     begin(CART, room.path('size.gbkeep'), room.program)
@@ -482,7 +482,7 @@ def test_date_is_set(room):
             times.date += step
             times.passes(1)
             game.frame()
-            game.keep()
+            game.save_all()
         expect('back and forth in a session', seconds_shown(game), 8)
     # between sessions: back, and then forth again
     for step in (3600, -3600, 3600, -3600):
@@ -497,12 +497,12 @@ def test_date_is_set(room):
     first, later = room.path('first.gbkeep'), Times(10.0)
     with later.open(room, first) as game:
         later.passes(5)
-        game.keep()
+        game.save_all()
     later.date = 1_780_000_000.0
     with later.open(room, first, ask=asks(False)) as game:
         expect('56 years are not given', (seconds_shown(game), '56 years' in asked[-1]), (5, True))
         later.passes(3)
-        game.keep()
+        game.save_all()
     later.passes(60)
     count = len(asked)
     with later.open(room, first, ask=asks(True)) as game:
@@ -513,7 +513,7 @@ def test_date_is_set(room):
     later.passes(2 * YEAR)
     with later.open(room, first, ask=asks(None)) as game:
         later.passes(4)
-        game.keep()
+        game.save_all()
         expect('a window that was closed over the question', seconds_shown(game) % DAY, 72 + 2 * YEAR % DAY)
     later.passes(-4)
     with later.open(room, first, ask=asks(False)) as game:
@@ -532,7 +532,7 @@ def test_time_that_is_not_written(room):
     """Where SAVE.time can't be written, no time is given, and none is lost."""
     save, times = room.path('full.gbkeep'), Times()
     with times.open(room, save) as game:
-        game.keep()
+        game.save_all()
     times.passes(DAY)
     real = os.replace
 
@@ -545,7 +545,7 @@ def test_time_that_is_not_written(room):
         try:
             with times.open(room, save) as game:
                 expect('the clock stands', (seconds_shown(game), 'No space left' in game.trouble), (0, True))
-                game.keep()
+                game.save_all()
         finally:
             os.replace = real
     with times.open(room, save) as game:
@@ -557,7 +557,7 @@ def test_clock_cut(room):
     save, times = room.path('killed.gbkeep'), Times()
     with times.open(room, save) as game:
         game.frames(A, 20)
-        game.keep()
+        game.save_all()
     begun = int(times.date)
     games, at = (save.read_bytes(), SaveTime(save).read()), times.date
     for kills_program in (False, True):
@@ -574,9 +574,9 @@ def test_clock_cut(room):
                     os.kill = lambda process, number: (real(game.process.pid, signal.SIGKILL), real(process, number))
                 game.frames(A, 3)
                 times.passes(3)
-                game.keep()
+                game.save_all()
                 times.passes(2)
-                game.keep()
+                game.save_all()
                 game.close()
             is_killed = killed_at(point, ('fsync', 'replace', 'write'), session)
             until_free(save)
@@ -601,14 +601,14 @@ def test_crafted_times(room):
         clock.write_bytes(content)
         with times.open(room, save) as game:
             times.passes(10)
-            game.keep()
+            game.save_all()
             expect(f'{content[:20]!r}', ('no time' in game.notice, seconds_shown(game), clock.read_bytes() == content, game.notice.isprintable()),
                    (True, 0, True, True))
     clock.unlink()
     for make in (lambda: os.mkfifo(clock), lambda: os.symlink('/dev/zero', clock), lambda: os.symlink('nowhere', clock), lambda: clock.mkdir()):
         make()
         with times.open(room, save) as game:
-            game.keep()
+            game.save_all()
             expect('no file', ('no time' in game.notice, seconds_shown(game)), (True, 0))
         clock.rmdir() if clock.is_dir() and not clock.is_symlink() else clock.unlink()
     # a link to a plain file stays one, and an empty file holds nothing
@@ -616,7 +616,7 @@ def test_crafted_times(room):
     room.write('far.time', '')
     times.passes(10)
     with times.open(room, save) as game:
-        game.keep()
+        game.save_all()
     expect('a link stays', (os.readlink(clock), bool(lines_of(room.path('far.time').read_text()))), ('far.time', True))
     # what holds the most and the least
     clock.unlink()
@@ -624,7 +624,7 @@ def test_crafted_times(room):
         clock.write_text(content)
         with times.open(room, save) as game:
             times.passes(2)
-            game.keep()
+            game.save_all()
             expect(content, seconds_shown(game) <= 100, True)
         clock.unlink()
     expect('lines', (given_until([(21, 90), (7, 50)], 20), given_until([(21, 90), (7, 50)], 21), given_until([(21, 90), (7, 50)], 3)), (50, 90, 90))

@@ -1,6 +1,6 @@
 """Plays the demo cartridge in the window with real key events, on a display of its own, and kills it in the middle of play. Then it looks at
-what the window shows: a pause, a saved picture, running fast, a fault, a notice about the clock, a slot, the keys, another palette, full screen; and
-ends it by Ctrl-C and by a SIGTERM. It gives it names and files that no window can use, a recorded game, and a battery file.
+what the window shows: a pause, a saved picture, running fast, a fault, a notice about the clock, a slot, the keys, another palette, full screen; goes
+back by each key that does; and ends it by Ctrl-C and by a SIGTERM. It gives it names and files that no window can use, a recorded game, and a battery file.
 
 usage: test_window.py [GBKEEP [TEST..] [PICTURE.png]]    PICTURE: where a picture of the whole window goes
 
@@ -367,6 +367,100 @@ def test_slot(open_window, screen, room, gbkeep):
     print('shown: a slot, going back, keys, a palette that is kept, full screen; a SIGTERM saves and ends')
 
 
+def test_going_back(open_window, screen, room, gbkeep):
+    """Rewind, the next frame, quick slots, the reset, and what undoes them: each is an input of the game, and is saved."""
+    save = room / 'back.gbkeep'
+    player = open_window(save)
+    player.until_saved(60)
+    screen.keys('keydown', 'Return')
+    time.sleep(0.2)
+    screen.keys('keyup', 'Return')
+    time.sleep(0.3)
+
+    def held(name, seconds):
+        screen.keys('keydown', name)
+        time.sleep(seconds)
+        screen.keys('keyup', name)
+        time.sleep(0.3)
+
+    def paused():
+        screen.keys('key', 'p')
+        player.until_titled('GBKEEP DEMO: paused, ')
+        time.sleep(0.2)
+        return player.shades()
+
+    def goes_on():
+        screen.keys('key', 'p')
+        player.wait(lambda: 'paused' not in player.title(), 'a pause does not end')
+
+    def shows(what, shades):
+        player.wait(lambda: player.shades() == shades, f'the picture is not the one {what}')
+    first = paused()
+    told = player.saved()
+    for _ in range(3):
+        screen.keys('key', 'n')
+        time.sleep(0.2)
+    player.wait(lambda: player.saved() == told + 3, f'{told} inputs and three frames of a pause are not saved')
+    first = player.shades()
+    screen.keys('key', 'F6')
+    player.until_words(True, 'after F6')
+    goes_on()
+    held('Right', 0.7)
+    second = paused()
+    if second == first:
+        wrong('the player does not move')
+    told = player.saved()
+    screen.keys('key', 'F10')
+    shows('of the quick slot', first)
+    player.wait(lambda: player.saved() == told + 1, 'going back to a quick slot is not saved')
+    screen.keys('key', 'F8')
+    shows('that was undone to', second)
+    player.wait(lambda: player.saved() == told + 2, 'an undoing is not saved')
+    screen.keys('keydown', 'r')
+    time.sleep(0.5)
+    if player.saved() != told + 2:
+        wrong('an input is saved while R is held')
+    screen.keys('keyup', 'r')
+    player.wait(lambda: player.saved() == told + 3, 'a rewind is not one input')
+    if player.shades() == second:
+        wrong('R does not go back')
+    third = player.shades()
+    goes_on()
+    held('Left', 0.5)
+    for key in ('n', 'y'):
+        screen.keys('key', 'F3')
+        player.until_words(True, 'a question')
+        if not player.covers():
+            wrong('the question does not wait')
+        screen.keys('key', key)
+        time.sleep(0.5)
+    title = paused()
+    screen.keys('key', 'F8')
+    player.wait(lambda: player.shades() not in (title, third), 'F8 does not undo the reset')
+    goes_on()
+    later = player.until_saved(player.saved() + 60)
+    player.kill()
+    player = open_window(save)
+    if player.until_saved(later) < later:
+        wrong('what was told is not kept')
+    # F9 can be undone, too
+    screen.keys('key', 'F5')
+    player.wait(Path(f'{save}.slot').exists, 'F5 left no slot')
+    held('Right', 0.5)
+    held('Down', 0.5)
+    before = paused()
+    screen.keys('key', 'F9')
+    player.wait(lambda: player.shades() != before, 'F9 does not go back')
+    player.wait(Path(f'{save}.before').exists, 'F9 did not keep what it replaced')
+    screen.keys('key', 'F8')
+    shows('before F9', before)
+    player.close()
+    with Game(DEMO / 'demo.gb', save, gbkeep) as game:
+        if list(game.picture().shades) != before:
+            wrong('what F8 showed is not what is kept')
+    print('shown: the next frame, quick slots, rewind, a reset, and what undoes them')
+
+
 def test_recorded(open_window, screen, room, gbkeep):
     """A recorded game, with --record and without."""
     cart, save, recording = DEMO / 'demo.gb', room / 'run.gbkeep', room / 'run.rec'
@@ -375,6 +469,12 @@ def test_recorded(open_window, screen, room, gbkeep):
     screen.keys('key', 'F5')
     player.wait(Path(f'{save}.slot').exists, 'F5 left no slot')
     player.until_words(True, 'after F5 in a recorded game')
+    player.until_words(False, 'after what F5 says')
+    for key in ('r', 'F3', 'F6', 'F7', 'F8', 'F9', 'F10'):
+        screen.keys('key', key)
+        player.until_words(True, f'{key} in a recorded game')
+        if player.covers():
+            wrong(f'{key} asks something of a recorded game')
     player.close()
     told = run(str(gbkeep), 'verify', str(cart), str(save), str(recording))
     # the mark, as `record` leaves it

@@ -8,7 +8,9 @@ import io
 import os
 import signal
 import sys
+import tempfile
 import types
+from pathlib import Path
 
 LETTER, LINE = 5, 14
 
@@ -61,8 +63,20 @@ class Font:
         return surface
 
 
-KEYS = {name: number for number, name in enumerate(('right', 'left', 'up', 'down', 'x', 'z', 'backspace', 'return', 'tab', 'p', 's', 'f1', 'f2', 'f5', 'f9',
-                                                    'f11', 'y', 'n', 'escape'), 100)}
+KEYS = {name: number for number, name in enumerate(('right', 'left', 'up', 'down', 'x', 'z', 'backspace', 'return', 'tab', 'p', 's', 'r', 'f1', 'f2', 'f3',
+                                                    'f5', 'f6', 'f7', 'f8', 'f9', 'f10', 'f11', 'y', 'n', 'escape'), 100)}
+
+
+# at how many more looks a key is down
+HELD = {}
+
+
+class Pressed:
+    """Which keys are down."""
+
+    def __getitem__(self, code):
+        HELD[code] = HELD.get(code, 0) - 1
+        return HELD[code] >= 0
 
 
 def pygame_of(events, flips):
@@ -92,7 +106,7 @@ def pygame_of(events, flips):
     pygame.image = types.SimpleNamespace(frombuffer=lambda data, size, form: Surface(size))
     pygame.transform = types.SimpleNamespace(scale=lambda surface, size: Surface(size))
     pygame.key = types.SimpleNamespace(key_code=lambda name: KEYS[name], name=lambda key: {number: name for name, number in KEYS.items()}[key],
-                                       get_pressed=lambda: dict.fromkeys(KEYS.values(), False))
+                                       get_pressed=Pressed)
 
     def get():
         # one at a time, so that each comes while something waits for it
@@ -105,8 +119,9 @@ EVENTS, FLIPS = [], []
 sys.modules['pygame'] = pygame = pygame_of(EVENTS, FLIPS)
 from gbkeep import window as module  # noqa: E402
 from gbkeep.window_files import kept_palette  # noqa: E402
+from gbkeep.window_keys import ACTIONS  # noqa: E402
 from gbkeep_tests import support  # noqa: E402
-from gbkeep_tests.support import expect  # noqa: E402
+from gbkeep_tests.support import expect, refusal  # noqa: E402
 
 
 def key(name, kind='KEYDOWN'):
@@ -114,7 +129,7 @@ def key(name, kind='KEYDOWN'):
 
 
 def opened(scale=3, palette=0):
-    EVENTS.clear(), FLIPS.clear()
+    EVENTS.clear(), FLIPS.clear(), HELD.clear()
     return module.Window(scale, module.keys_of(), palette)
 
 
@@ -178,21 +193,170 @@ class Header:
 
 
 class Game:
-    """A game that notes what is asked of it."""
-    header, saved, trouble = Header(), 0, None
+    """A game that notes what is asked of it. Its state is the count of its frames."""
+    header, trouble = Header(), None
 
-    def __init__(self, at_frame):
-        self.done, self.at_frame = [], at_frame
+    def __init__(self, at_frame=lambda frames: None, command='stream'):
+        self.done, self.at_frame, self.command = [], at_frame, command
+        self.frames = self.count = self.saved = 0
+        self.given_until = 7
 
     def frame(self, buttons):
         self.done.append('frame')
+        self.frames, self.count = self.frames + 1, self.count + 1
         self.at_frame(self.done.count('frame'))
 
-    def keep(self):
-        self.done.append('keep')
+    def save_all(self):
+        self.saved = self.count
+
+    def begin_save(self):
+        self.saved = self.count
+
+    def state(self):
+        if self.command == 'record':
+            raise AssertionError('no state of a recorded game is wanted')
+        return self.frames.to_bytes(4, 'little')
+
+    def go_on(self, state, given_until):
+        self.frames, self.count = int.from_bytes(state, 'little'), self.count + 1
+        self.done.append(('go on', self.frames, given_until))
+
+    def power(self):
+        self.frames, self.count = 0, self.count + 1
+        self.done.append('power')
 
     def picture(self):
-        return types.SimpleNamespace(shades=bytes(160 * 144))
+        return types.SimpleNamespace(shades=bytes([self.frames % 4]) * (160 * 144))
+
+
+def played(orders, command='stream', last=60):
+    """A game that is played for so many frames in a window; before the frame behind each of these the keys go down, and stay so for so many looks.
+
+    Answers what was done to the game other than frames, with the number of the frame before, and what was said."""
+    window, said = opened(), []
+
+    def at_frame(frames):
+        for name, looks in orders.get(frames, ()):
+            EVENTS.append(key(name))
+            HELD[KEYS[name]] = looks
+        if frames == last:
+            window.is_closed = True
+    game = Game(at_frame, command)
+    say = window.say
+    window.say = lambda line, *seconds: (said.append(line), say(line, *seconds))
+    module.play(window, game, 'game.gbkeep', None, None)
+    done = [(game.done[:at].count('frame'), *(one if isinstance(one, tuple) else (one,))) for at, one in enumerate(game.done) if one != 'frame']
+    return done, said, game
+
+
+def test_rewind():
+    """A key that is held goes back four frames at a time, and one input of the game follows when it is let go; it can be undone."""
+    done, said, game = played({40: [('r', 3)], 50: [('f8', 0)]})
+    expect('gone on with', done, [(40, 'go on', 24, 7), (50, 'go on', 40, 7)])
+    expect('said', (said[:4], said[4:]), (['back: 0.1 seconds', 'back: 0.1 seconds', 'back: 0.2 seconds', 'back: 0.3 seconds'], ['undone: the game is as it was before']))
+    expect('an input each', (game.count, game.saved), (62, 62))
+    done, said, game = played({2: [('r', 9)], 9: [('r', 9)], 20: [('r', 0)]})
+    expect('a beginning', (done, said[0], said[9]), ([(9, 'go on', 4, 7), (20, 'go on', 11, 7)], 'there is nothing to go back to', 'back: 0.1 seconds, and no further'))
+
+
+def test_a_window_that_is_closed_goes_back_nowhere():
+    window, game, going = opened(), Game(), module.GoingBack()
+    for _ in range(20):
+        game.frame(0)
+        going.note(game, bytes(160 * 144))
+    HELD[KEYS['r']] = 99
+    EVENTS.extend([key('x')] * 2 + [types.SimpleNamespace(type=pygame.QUIT)])
+    going.rewind(window, game)
+    expect('nothing is done', (game.done, window.is_closed), (['frame'] * 20, True))
+
+
+def test_a_minute_is_kept():
+    game, going = Game(), module.GoingBack()
+    for _ in range(5_000):
+        game.frame(0)
+        going.note(game, bytes(160 * 144))
+    states = [int.from_bytes(one.parts()[0], 'little') for one in going.past]
+    expect('the moments of a minute', states, list(range(1_404, 5_001, 4)))
+
+
+def test_quick_slots():
+    done, said, _ = played({4: [('f10', 0)], 10: [('f6', 0)], 20: [('f7', 0)], 21: [('f6', 0)], 30: [('f10', 0)], **{31 + at: [('f7', 0)] for at in range(9)}, 41: [('f10', 0)]})
+    expect('gone back to', done, [(30, 'go on', 21, 7), (41, 'go on', 10, 7)])
+    expect('said', said[:5], ['quick slot 1 is empty', 'kept in quick slot 1, until the window is closed', 'quick slot 2, which is empty',
+                              'kept in quick slot 2, until the window is closed', 'back to quick slot 2'])
+    expect('ten of them', said[5:], [*(f'quick slot {number}, which is empty' for number in range(3, 11)), 'quick slot 1', 'back to quick slot 1'])
+
+
+def test_a_slot_is_undone():
+    """What F9 has replaced is undone to; where F9 has replaced nothing, what was there stays."""
+    window, game, going = opened(), Game(), module.GoingBack()
+    game.frame(0)
+    going.came_back(game, going.moment(game, bytes(160 * 144)))
+    going.undo(window, game)
+    before = going.moment(game, bytes(160 * 144))
+    game.frame(0)
+    going.came_back(game, before)
+    going.undo(window, game)
+    expect('undone', game.done, ['frame', 'frame', ('go on', 1, 7)])
+
+
+def test_reset():
+    """The power switch is asked for, and can be undone."""
+    done, said, _ = played({10: [('f3', 0), ('n', 0)], 20: [('f3', 0), ('y', 0)], 30: [('f8', 0)]})
+    expect('once', (done, said), ([(20, 'power'), (30, 'go on', 20, 7)], ['reset', 'undone: the game is as it was before']))
+
+
+def test_next_frame():
+    """In a pause each press plays one frame, which is saved; the first press pauses."""
+    window, looks = opened(), []
+
+    def at_frame(frames):
+        if frames == 5:
+            EVENTS.append(key('n'))
+        if frames == 20:
+            window.is_closed = True
+    game, listen = Game(at_frame), window.listen
+
+    def listens():
+        if window.is_paused:
+            looks.append((game.frames, game.saved))
+            if looks.count(looks[-1]) == 3:
+                EVENTS.append(key('n' if game.frames < 8 else 'p'))
+        listen()
+    window.listen = listens
+    module.play(window, game, 'game.gbkeep', None, None)
+    expect('the frames of a pause', sorted(set(looks)), [(frames, frames) for frames in (5, 6, 7, 8)])
+    expect('and on', game.done, ['frame'] * 20)
+
+
+def test_a_recorded_game_goes_on():
+    keys = {10: [('r', 5)], 20: [('f6', 0)], 22: [('f10', 0)], 24: [('f3', 0)], 26: [('f8', 0)], 28: [('f7', 0)]}
+    done, said, _ = played(keys, command='record')
+    expect('nothing but frames', (done, said), ([], ['a recorded game does not go back: its recording goes on'] * 6))
+
+
+def test_the_keys_fit():
+    """The list of keys is shown in parts where the window is small, each line of it in the window."""
+    for scale in (1, 2, 3, 8):
+        window = opened(scale)
+        EVENTS.extend([key('x') for _ in range(40)])
+        lines = module.lines_of(window.keys)
+        window.tell_list(lines)
+        shown = [(text, place) for drawn in FLIPS for text, place in texts_and_places(drawn)]
+        expect(f'{scale}: all lines', ' '.join(text for text, _ in shown if text != module.PRESS), ' '.join(' '.join(window.folded(line)) for line in lines))
+        expect(f'{scale}: in the window', all(place.top >= 0 and place.bottom <= window.screen.get_size()[1] for _, place in shown), True)
+
+
+def test_a_file_of_keys_takes_its_keys():
+    """What another action had a key for, it has none for then; buttons are never without one, and no two lines have one key."""
+    with tempfile.TemporaryDirectory(prefix='keys-') as folder:
+        path = os.path.join(folder, 'keys.txt')
+        for text, changed, gone in (('B = r\nstart = F3  # as there\n', {'B': 'r', 'Start': 'f3'}, {'Rewind', 'Reset'}), ('Pause = s\nPicture = p\n', {'Pause': 's', 'Picture': 'p'}, set())):
+            Path(path).write_text(text)
+            expect(text, module.keys_of(path), {name: KEYS[changed.get(name, usual)] for name, usual in ACTIONS if name not in gone})
+        for text, why in (('A = left', 'A and Left have one key, left'), ('Pause = n\nUndo = n', 'Undo and Pause have one key, n')):
+            Path(path).write_text(text)
+            expect(text, refusal(lambda: module.keys_of(path), module.WrongKeys), f'{path}: {why}')
 
 
 def test_a_signal_ends_it_quietly():
