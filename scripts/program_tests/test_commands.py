@@ -224,6 +224,27 @@ def test_states_go_through_a_stream(room):
     room.refused('record states.gb recorded.gbkeep states.rec', 'gbkeep: script line 2\n', given='frame 00\npower\n', out='resumed 0\nsaved 1\n')
 
 
+def test_the_greatest_count_takes_no_state(room):
+    """At the greatest count the power switch and a state are refused as a frame is: not as if memory were short, and not as if the bytes were wrong."""
+    room.rom('full.gb', LOOP)
+    room.done('new full.gb full.gbkeep 156', 'begun 0\n')
+    image, most = bytearray((room.folder / 'full.gbkeep').read_bytes()), 2 ** 64 - 1
+    slots = [at for at in (0, 512) if image[at:at + 8] == b'GBKPROOT']
+    for at in slots:
+        # how many inputs the snapshot stands for
+        image[at + 52:at + 60] = most.to_bytes(8, 'little')
+    told = room.printed('debug full.gb', 'state\n')
+    state = told[told.index(b'\n') + 1:]
+    for given, answers in ((b'frame 00\n', ''), (b'power\n', ''), (b'restore %d\n' % len(state) + state, ''), (b'keep 7\nback 7\n', 'kept 7\n')):
+        room.write('full.gbkeep', image)
+        room.refused('stream full.gb full.gbkeep', 'gbkeep: count full\n', given=given, out=f'resumed {most}\n{answers}')
+    # one below it there is room for one
+    for at in slots:
+        image[at + 52:at + 60] = (most - 1).to_bytes(8, 'little')
+    room.write('full.gbkeep', image)
+    room.done('stream full.gb full.gbkeep', f'resumed {most - 1}\nsaved {most}\n', 'power\n')
+
+
 # ---- recordings
 
 def test_a_recording_is_begun_read_and_compared(room):
