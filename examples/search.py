@@ -2,9 +2,13 @@
 """Searches: which buttons bring the demo's player the furthest to the lower right? A beam search over states: from each of the best
 states so far each way is tried, and the best of what comes out are kept for the next round. The best way is played again from power-on.
 
-usage: search.py [--workers N] [--rounds N] [--beam N]"""
+usage: search.py [--workers N] [--dask ADDRESS] [--rounds N] [--beam N]
+
+N processes of this computer search, or N workers of the Dask cluster whose scheduler is at ADDRESS (Debian's package python3-distributed). A worker has one
+thread, and finds this file as `examples.search` and the package on its PYTHONPATH."""
 import argparse
 import concurrent.futures
+import contextlib
 import sys
 import time
 from pathlib import Path
@@ -78,10 +82,22 @@ def best_of(found, count):
     return beam[:count]
 
 
-def searched(rounds, count, workers):
+@contextlib.contextmanager
+def pool_of(workers, address):
+    """What searches parts at once."""
+    if address is None:
+        with concurrent.futures.ProcessPoolExecutor(workers) as pool:
+            yield pool
+        return
+    from distributed import Client
+    with Client(address) as client:
+        yield client.get_executor()
+
+
+def searched(rounds, count, workers, address=None):
     """The best ways, how good they are, and how many were tried."""
     beam, tried, best = [()], 0, 0
-    with concurrent.futures.ProcessPoolExecutor(workers) as pool:
+    with pool_of(workers, address) as pool:
         for _ in range(rounds):
             parts = [beam[at::workers] for at in range(workers)]
             found = [one for part in pool.map(tries, [part for part in parts if part]) for one in part]
@@ -99,15 +115,25 @@ def played(ways):
         return value_of(again.memory(VARIABLES, VARIABLE_BYTES))
 
 
-if __name__ == '__main__':
+def main():
     words = argparse.ArgumentParser()
     words.add_argument('--workers', type=int, default=1)
+    words.add_argument('--dask', metavar='ADDRESS')
     words.add_argument('--rounds', type=int, default=8)
     words.add_argument('--beam', type=int, default=16)
     given = words.parse_args()
     began = time.monotonic()
-    ways, value, tried = searched(given.rounds, given.beam, max(given.workers, 1))
+    ways, value, tried = searched(given.rounds, given.beam, max(given.workers, 1), given.dask)
     seconds = time.monotonic() - began
     print('ways', ' '.join({RIGHT: 'right', LEFT: 'left', UP: 'up', DOWN: 'down'}[way] for way in ways))
     print('value', value, 'again', played(ways))
     print(f'{tried} tries, {tried / seconds:.0f} a second', file=sys.stderr)
+
+
+if __name__ == '__main__':
+    if any(word.partition('=')[0] == '--dask' for word in sys.argv[1:]):
+        # workers find what they run by its module's name
+        from examples import search
+        search.main()
+    else:
+        main()

@@ -142,6 +142,7 @@ class Call:
         own = name.rpartition('::')[2]
         self.order = [one for one in answered(bodies, own) if one in (self.can or self.variants)]
         self.calls = calls_of(bodies, own)
+        self.stops_without_memory = 'HasFoundNoMemory' in contract
 
 
 class Sources:
@@ -196,7 +197,9 @@ def wanted_of(key, known):
         return None
     wanted = (call.can if call.can is not None else set(call.order) or call.variants) - HOLDS_OTHERS
     # a play and a stream make moves on a session, which stop for reasons of their own
-    return wanted | known.stops if key[1] in ('play', 'stream') and 'make_move' in call.calls else wanted
+    if key[1] in ('play', 'stream') and 'make_move' in call.calls:
+        wanted = wanted | known.stops
+    return wanted | {'Memory'} if call.stops_without_memory else wanted
 
 
 def differences(table, known):

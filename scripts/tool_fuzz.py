@@ -33,7 +33,7 @@ SECONDS, MEMORY = 60, 1 << 30
 PICTURE = b'P2\n160 144\n3\n' + b' '.join([b'3'] * 160 * 144) + b'\n'
 # what a file begins with that may be replaced by one of its kind
 KINDS_OF_FILES = [(b'YUV4MPEG2',), (b'\x89PNG', b'P2'), (b'<testsuite',)]
-WORDS = [b'', b'A', b'A+right', b'wait', b'frame', b'frames', b'seconds', b'save', b'mark', b'include', b'00', b'1f', b'FF', b'0', b'1', b'60', b'1000000', b'4294967295', b'-1', b'+1', b'9' * 30,
+WORDS = [b'', b'A', b'A+right', b'wait', b'frame', b'frames', b'seconds', b'save', b'power', b'mark', b'include', b'00', b'1f', b'FF', b'0', b'1', b'60', b'1000000', b'4294967295', b'-1', b'+1', b'9' * 30,
          b'9' * 5000, b'#', b'\t', b'\r', b'\xff', b'\x1b[31m', b'\0', b'x', b'../demo.gb', b'moves.txt', b'fifo', b'/dev/zero', b'wants=pass', b'wants=fail', b'wants=memory:C000=00', b'wants=memory:', b'wants=memory:C000=00,FFFF=1', b'frames=3', b'frames=', b'picture=picture.pgm',
          b'picture=small.png', b'script=moves.txt', b'demo.gb', b'LogKey:#A|B|', b'|..|', b'|A.|', b'00:0150', b'Main', b'\xd9\xa3', b'\xe2\x80\xae']
 NUMBERS = [0, 1, 2, 0x7f, 0x80, 0xff, 0xffff, 0x7fff_ffff, 0x8000_0000, 0xffff_ffff]

@@ -2,7 +2,7 @@
  *
  * usage: play ROM SAVE SCRIPT [CALLS]
  *
- * SAVE is begun if it is not there. SCRIPT has the lines of `gbkeep play`: "frame BB", "frames BB TIMES", "seconds N", "save". It may be "-", for
+ * SAVE is begun if it is not there. SCRIPT has the lines of `gbkeep play`: "frame BB", "frames BB TIMES", "seconds N", "power", "save". It may be "-", for
  * standard input. With CALLS the process ends, as by a power cut, right before it makes call CALLS + 1 of its file. It prints the lines of
  * `gbkeep play`: "resumed N" and "saved N". */
 #define _DEFAULT_SOURCE
@@ -159,6 +159,8 @@ int main(int words, char **word) {
             given(session, gbkeep_session_frames(session, (uint8_t)buttons, 1));
         } else if (sscanf(line, "seconds %" SCNu32, &number) == 1) {
             given(session, gbkeep_session_seconds(session, number));
+        } else if (strcmp(line, "power\n") == 0) {
+            given(session, gbkeep_session_power(session));
         } else if (strcmp(line, "save\n") == 0) {
             save(session);
         } else if (line[0] != '\n') {

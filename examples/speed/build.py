@@ -9,9 +9,12 @@ from pathlib import Path
 from examples.demo.assemble import Assembler
 
 NAMES = '''
+joypad equ $ff00
+div equ $ff04
 tima equ $ff05
 tma equ $ff06
 tac equ $ff07
+request equ $ff0f
 lcdc equ $ff40
 stat equ $ff41
 scy equ $ff42
@@ -24,6 +27,7 @@ obp0 equ $ff48
 obp1 equ $ff49
 wy equ $ff4a
 wx equ $ff4b
+flag equ $fff0
 enable equ $ffff
 table equ $2000
 '''
@@ -278,11 +282,51 @@ same:   ldh a, [ly]
 
 LY_WAIT = low('again: ldh a, [ly]\n cp a, 100\n jr nz, again\n inc b\nsame: ldh a, [ly]\n cp a, 100\n jr z, same\n jr again\n')
 
+# waits until VBlank's interrupt sets the byte at HL and that of HRAM
+BY_VBLANK = 'org $40\n jp vblank\n'
+
+VBLANK = 'vblank: ld [hl], 1\n ld a, 1\n ldh [$fff0], a\n reti\n'
+
+BEGIN = set_to('enable', 1) + 'ld hl, $c100\n ei\n'
+
+POLL = 'again: xor a\n ldh [$fff0], a\nwait: ldh a, [$fff0]\n and a\n jr z, wait\n inc b\n jr again\n'
+
+POLL_WRAM = 'again: xor a\n ld [$c100], a\nwait: ld a, [$c100]\n and a\n jr z, wait\n inc b\n jr again\n'
+
+POLL_HL = 'again: ld [hl], 0\nwait: nop\n ld a, [hl]\n ld c, a\n cp a, 0\n ld d, a\n or a, c\n bit 0, c\n jr z, wait\n inc b\n jr again\n'
+
 RASTER = 'org $48\n push af\n ldh a, [ly]\n ldh [scx], a\n pop af\n reti\n' + low(set_to('stat', 8) + set_to('enable', 2) + 'ei\n' + WAIT)
 
 TIMER = 'org $50\n inc d\n reti\n' + low(set_to('tma', 240) + set_to('tac', 5) + set_to('enable', 4) + 'ei\n' + SUMS)
 
 LYC_SUMS = 'org $48\n inc d\n reti\n' + low(set_to('lyc', 72) + set_to('stat', 0x40) + set_to('enable', 2) + 'ei\n' + SUMS)
+
+ASK_LY = 'again: ldh a, [ly]\n cp a, 144\n jr nz, again\nsame: ldh a, [ly]\n cp a, 144\n jr z, same\n inc b\n jr again\n'
+ASK_STAT = 'again: ldh a, [stat]\n and a, 3\n cp a, 1\n jr nz, again\nsame: ldh a, [stat]\n and a, 3\n cp a, 1\n jr z, same\n inc b\n jr again\n'
+ASK_DIV = 'again: ldh a, [div]\n and a, 128\n jr z, again\nsame: ldh a, [div]\n and a, 128\n jr nz, same\n inc b\n jr again\n'
+ASK_JOYPAD = set_to('joypad', 16) + 'again: ldh a, [joypad]\n and a, 15\n cp a, 15\n jr z, again\n inc b\n jr again\n'
+ASK_REQUEST = set_to('request', 0) + 'again: ldh a, [request]\n and a, 1\n jr z, again\n' + set_to('request', 0) + 'inc b\n jr again\n'
+COUNT_BYTE = 'again: ld b, 0\ndown: dec b\n jr nz, down\n inc c\n jr again\n'
+COUNT_WORD = 'again: ld bc, 1000\ndown: dec bc\n ld a, b\n or a, c\n jr nz, down\n inc e\n jr again\n'
+
+# work for some 7,200 M-cycles, and then a wait
+WORK = '''
+again:  ld b, 0
+        ld c, 4
+work:   add a, b
+        xor a, c
+        rlca
+        dec b
+        jr nz, work
+        dec c
+        jr nz, work
+        xor a
+        ldh [flag], a
+wait:   ldh a, [flag]
+        and a, a
+        jr z, wait
+        jr again
+'''
 
 ROMS = {
     'busy': ('a busy loop of sums, in the lower half of ROM', low('ld b, 3\n' + SUMS)),
@@ -316,10 +360,23 @@ ROMS = {
     'tac': ('the busy loop, TAC 05', low(set_to('tac', 5) + SUMS)),
     'timer': ('the busy loop, a timer interrupt every 64 M-cycles', TIMER),
     'one_line': ('the busy loop, a STAT interrupt at one line', LYC_SUMS),
+    'poll': ('waits for VBlank by a byte of HRAM', BY_VBLANK + low(BEGIN + POLL + VBLANK)),
+    'poll_4100': ('by one of WRAM, at 4100', BY_VBLANK + at('$4100', POLL_WRAM + VBLANK, BEGIN)),
+    'poll_wram': ('by one of HRAM, in WRAM', BY_VBLANK + copied('$c000', BEGIN + POLL + VBLANK)),
+    'poll_hram': ('by one of HRAM, in HRAM', BY_VBLANK + copied('$ff80', BEGIN + POLL + VBLANK)),
+    'poll_long': ('by the byte at HL, in a loop of eight instructions', BY_VBLANK + low(BEGIN + POLL_HL + VBLANK)),
     'ly_wait': ('waits for a line by reading LY', LY_WAIT),
     'dark': ('the busy loop, LCD off', low(DARK + SUMS)),
     'dark_tac': ('the same with TAC 05', low(DARK + set_to('tac', 5) + SUMS)),
     'dark_4100': ('the same at 4100', at('$4100', SUMS, DARK)),
+    'work': ('sums for two fifths of a frame, then waits for the flag', BY_VBLANK + low(BEGIN + WORK + VBLANK)),
+    'ask_ly': ('waits for VBlank by reading LY', low(ASK_LY)),
+    'ask_stat': ('by reading the mode in STAT', low(ASK_STAT)),
+    'ask_div': ('waits for DIV', low(ASK_DIV)),
+    'ask_joypad': ('waits for a button by reading P1', low(ASK_JOYPAD)),
+    'ask_request': ('waits for VBlank by reading IF', low(ASK_REQUEST)),
+    'count_byte': ('counts B down', low(COUNT_BYTE)),
+    'count_word': ('counts BC down', low(COUNT_WORD)),
 }
 
 

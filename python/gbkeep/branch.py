@@ -4,13 +4,14 @@ usage: gbkeep-branch CART RECORDING COUNT NEW_SAVE NEW_RECORDING
 
 NEW_SAVE and NEW_RECORDING are made; neither may be there. NEW_RECORDING has as many sectors as RECORDING, which is only read. The new game
 is played by `gbkeep record`, and goes on by it."""
+import contextlib
 import os
 from collections.abc import Iterable, Iterator
-from typing import NoReturn
+from typing import NoReturn, Optional
 
 from .game import Game, begin, begin_recording
-from .input_files import MOST_SECTORS, SECTOR, WrongInput, number, printable
-from .script import Wrong, inputs_of, is_recording, play, recorded_moves
+from .input_files import MOST_SECTORS, SECTOR, PathLike, WrongInput, number, printable
+from .script import Wrong, inputs_of, is_recording, recorded_moves
 from .tools import WrongWords, operands, run_tool
 
 MOST_INPUTS = 2 ** 64 - 1
@@ -29,6 +30,29 @@ def first_of(moves: Iterable[tuple], count: int) -> Iterator[tuple]:
         raise Wrong(f'RECORDING has {count} inputs fewer')
 
 
+def branch(cart: PathLike, recording: PathLike, count: int, new_save: PathLike, new_recording: PathLike, program: Optional[PathLike] = None) -> int:
+    """Begins a game in two new files that has the first `count` inputs of a recording, and answers how many are saved. Where it fails, neither file is left."""
+    # whether there are so many, before anything is made
+    for _ in first_of(recorded_moves(cart, recording, program), count):
+        pass
+    made = []
+    try:
+        begin_recording(cart, new_recording, min(os.path.getsize(recording) // SECTOR, MOST_SECTORS), program)
+        made.append(new_recording)
+        begin(cart, new_save, program)
+        made += [new_save, f'{os.path.realpath(os.fsdecode(new_save))}.recorded']
+        with Game(cart, new_save, program, recording=new_recording) as game:
+            for move in first_of(recorded_moves(cart, recording, program), count):
+                getattr(game, move[0])(*move[1:])
+            return game.save()
+    except BaseException:
+        # they were made for this game alone
+        for path in made:
+            with contextlib.suppress(OSError):
+                os.unlink(path)
+        raise
+
+
 def main(words: list[str]) -> None:
     words = operands(words)
     if len(words) != 5:
@@ -43,18 +67,7 @@ def main(words: list[str]) -> None:
     for path in (new_save, new_recording):
         if os.path.lexists(path):
             raise Wrong(f'{printable(path)} exists already: take a name that is free')
-    # whether there are so many, before anything is made
-    for _ in first_of(recorded_moves(cart, recording), count):
-        pass
-    begin_recording(cart, new_recording, min(os.path.getsize(recording) // SECTOR, MOST_SECTORS))
-    try:
-        begin(cart, new_save)
-    except BaseException:
-        # it was made for this game alone
-        os.unlink(new_recording)
-        raise
-    with Game(cart, new_save, recording=new_recording) as game:
-        play(game, first_of(recorded_moves(cart, recording), count))
+    print(f'saved {branch(cart, recording, count, new_save, new_recording)}')
 
 
 def start() -> NoReturn:

@@ -15,13 +15,13 @@ import re
 import signal
 import subprocess
 import sys
-from collections.abc import Iterable, Iterator
+from collections.abc import Iterable, Iterator, Mapping, Sequence
 from pathlib import Path
 from typing import NoReturn
 
 from . import memory_pictures
 from .game import MOST_FRAMES, MOST_SECONDS, MOST_STATE, PICTURE_BYTES, SLOTS, STATE_HEAD, Picture, Refused, find_program, line_of, started
-from .input_files import WrongInput, number, printable, read_bytes
+from .input_files import PathLike, WrongInput, number, printable, read_bytes
 from .memory_pictures import MAP_BYTES, MAPS, OAM, OAM_BYTES, REGISTER_BYTES, REGISTERS, VRAM, VRAM_BYTES, Canvas
 from .new_files import Unsafe, new_file
 from .pictures import PNG_HEAD, png_of
@@ -64,6 +64,8 @@ OWN_HELP = '''\
   over [N]            a step; a call is run to its return, in N steps (1,000,000)
   out [N]             up to N steps, to behind the call that it is in
   where               registers, flags as letters, and the next three instructions
+  coverage FILE       writes the M-cycles of each profile so far as a tracefile of lcov: by
+                      line of C, and by label; a FILE that is there has to be one
   tiles FILE          writes the 384 tiles of VRAM as PNG
   map ADDR FILE       writes the map at 9800 or 9C00 as PNG
   objects FILE        writes the 40 objects as PNG
@@ -218,6 +220,33 @@ def letters(flags: int) -> str:
     return ''.join(letter if flags >> bit & 1 else '-' for bit, letter in zip((7, 6, 5, 4), 'ZNHC'))
 
 
+def rom_place(bank: int, address: int) -> tuple[int, int]:
+    """Bank and address of a byte of ROM: a label without a bank in the switched half is of bank 1."""
+    return max(bank, 1) if address in SWITCHED else 0, address
+
+
+def spread(cycles: Mapping[tuple[int, int], int], places: Sequence[tuple]) -> Iterator[tuple[tuple[int, int], object, int]]:
+    """M-cycles by bank and address, each with the place of the same bank that stands last before it; None where there is none. `places` are in order."""
+    starts = [place[:2] for place in places]
+    for at, many in sorted(cycles.items()):
+        before = bisect.bisect_right(starts, at)
+        yield at, places[before - 1][2] if before and starts[before - 1][0] == at[0] else None, many
+
+
+def record_of(path: PathLike, lines: Mapping[int, int], functions: Mapping[str, tuple[int, int]]) -> Iterator[str]:
+    """One file of a tracefile: the counts of its lines, and of functions by their names."""
+    yield f'SF:{printable(os.path.abspath(path), MOST_LINE)}\n'
+    for name, (line, _) in functions.items():
+        yield f'FN:{line},{name}\n'
+    for name, (_, many) in functions.items():
+        yield f'FNDA:{many},{name}\n'
+    if functions:
+        yield f'FNF:{len(functions)}\nFNH:{sum(many > 0 for _, many in functions.values())}\n'
+    for line, many in sorted(lines.items()):
+        yield f'DA:{line},{many}\n'
+    yield f'LF:{len(lines)}\nLH:{sum(many > 0 for many in lines.values())}\nend_of_record\n'
+
+
 class Session:
     """What the lines of a prompt do: each answers the lines that are shown."""
 
@@ -227,6 +256,8 @@ class Session:
         # whether Ctrl-C was pressed while a line is done
         self.interrupted = False
         self.kept = set()
+        # the M-cycles of each profile so far, by bank and address
+        self.profiled = collections.Counter()
         # whether the cartridge is taken, is known once a line is answered
         self.registers = program.ask('registers')
 
@@ -397,21 +428,51 @@ class Session:
             raise Wrong(f'there are {len(words)} addresses, and it takes {MOST_ADDRESSES}')
         answer = self.program.ask(' '.join([f'profile {count}', *map(self.place, words)]))
         elsewhere = self.program.line()
-        lines = [self.program.line() for _ in range(self.program.number(self.program.line(), MOST_ROM))]
-        return [*self.shown_place(answer), elsewhere, *self.by_label(lines)]
+        cycles = dict(self.profiled_line(self.program.line()) for _ in range(self.program.number(self.program.line(), MOST_ROM)))
+        self.profiled.update(cycles)
+        return [*self.shown_place(answer), elsewhere, *self.by_label(cycles)]
 
-    def by_label(self, lines):
+    def profiled_line(self, line):
+        """Bank and address of a byte of ROM, and the M-cycles of the instructions that began with it."""
+        found = re.fullmatch('([0-9A-F]{4}):([0-9A-F]{4}) ([0-9]+)', line)
+        if not found:
+            raise Refused(f'the program answers {quoted(line)}', 'debug')
+        return (int(found[1], 16), int(found[2], 16)), int(found[3])
+
+    def by_label(self, cycles):
         """The M-cycles of each label of ROM, the most first. What no label stands before is told by its address."""
-        places = sorted((max(bank, 1) if address in SWITCHED else 0, address, name) for name, (bank, address) in self.labels.named.items() if address < 0x8000)
-        cycles = collections.Counter()
-        for line in lines:
-            found = re.fullmatch('(([0-9A-F]{4}):([0-9A-F]{4})) ([0-9]+)', line)
-            if not found:
-                raise Refused(f'the program answers {quoted(line)}', 'debug')
-            bank, address = int(found[2], 16), int(found[3], 16)
-            before = bisect.bisect_right(places, (bank, address, chr(0x10ffff)))
-            cycles[places[before - 1][2] if before and places[before - 1][0] == bank else found[1]] += int(found[4])
-        return [f'{many:10} {name}' for name, many in cycles.most_common(PROFILE)]
+        shown = collections.Counter()
+        for (bank, address), name, many in spread(cycles, self.rom_labels()):
+            shown[name or f'{bank:04X}:{address:04X}'] += many
+        return [f'{many:10} {name}' for name, many in shown.most_common(PROFILE)]
+
+    def rom_labels(self):
+        return sorted((*rom_place(bank, address), name) for name, (bank, address) in self.labels.named.items() if address < 0x8000)
+
+    def do_coverage(self, words):
+        return self.written(Path(few(words, 1, 1)[0]), ''.join(self.tracefile()).encode(), (b'TN:',))
+
+    def tracefile(self):
+        """What the profiles ran, in the format that `man geninfo` of lcov defines: a file for each source of C, and one for the labels."""
+        yield 'TN:gbkeep\n'
+        lines = collections.defaultdict(collections.Counter)
+        places = sorted((*rom_place(bank, address), (name, line)) for address, found in self.source.at.items() for bank, name, line in found if address < 0x8000)
+        for _, _, (name, line) in places:
+            lines[name][line] = 0
+        for _, place, many in spread(self.profiled, places):
+            if place:
+                lines[place[0]][place[1]] += many
+        for name, counts in sorted(lines.items()):
+            path = next((one for one in self.source.paths_of(name) if one.exists()), self.source.paths_of(name)[0])
+            yield from record_of(path, counts, {})
+        labels = self.rom_labels()
+        counts = collections.Counter({name: 0 for _, _, name in labels})
+        for _, name, many in spread(self.profiled, labels):
+            if name:
+                counts[name] += many
+        if counts:
+            numbers = self.labels.numbers
+            yield from record_of(self.labels.path, {numbers[name]: many for name, many in counts.items()}, {name: (numbers[name], many) for name, many in counts.items()})
 
     def do_frame(self, words):
         return [self.program.ask(f'frame {byte_of((few(words, 0, 1) or ["00"])[0])}')]

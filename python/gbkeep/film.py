@@ -34,12 +34,12 @@ MOST_FRAME = 10 ** 12
 
 
 def steps_of(moves: Iterable[tuple]) -> Iterator[tuple]:
-    """The moves with frames one by one: ('frames', BUTTONS, 1), ('seconds', COUNT)."""
+    """The moves with frames one by one: ('frames', BUTTONS, 1), ('seconds', COUNT), ('power',)."""
     for move in moves:
         if move[0] == 'frames':
             for _ in range(move[2]):
                 yield 'frames', move[1], 1
-        elif move[0] == 'seconds':
+        elif move[0] in ('seconds', 'power'):
             yield move
 
 
@@ -50,6 +50,9 @@ def write_film(game: Game, moves: Iterable[tuple], out: IO[bytes], first: int, l
     for step in steps_of(moves):
         if step[0] == 'seconds':
             game.seconds(step[1])
+            continue
+        if step[0] == 'power':
+            game.power()
             continue
         if last is not None and count >= last:
             break

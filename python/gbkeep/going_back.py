@@ -1,7 +1,8 @@
 """What a player can go back to while the window is open: the last minute, ten quick slots, and what was there before the last going back.
 
 All of it is in memory. A moment is a machine's state with its picture and the time until which its clock was given. Going on with one is one more input
-of the game, which is saved like any other, so that no file takes the place of another one. Nothing here needs pygame."""
+of the game, which is saved like any other, so that no file takes the place of another one. A recorded game does not go back: from a moment of it a branch
+is begun, if the player agrees, a new game with a recording of its own. Nothing here needs pygame."""
 import time
 import zlib
 from collections import deque
@@ -15,6 +16,8 @@ from .window_files import LINE_SECONDS, WARNING_SECONDS
 FRAMES_A_MOMENT, MOST_MOMENTS, MOMENTS_A_SECOND = 4, 900, 30
 FRAMES_A_SECOND = 60
 QUICK_SLOTS = 10
+BRANCH = ('Go on from here? A recording only goes forward: this begins a branch, a new game that has a recording of its own.',
+          'What was played, and its recording, stay as they are.')
 
 
 class Held(Protocol):
@@ -34,10 +37,11 @@ class Held(Protocol):
 
 
 class Moment:
-    """A machine as it was."""
+    """A machine as it was; of a recorded game the count of inputs that lead to it stands for the state."""
 
     def __init__(self, game: Played, shades: bytes):
-        self.packed, self.given_until = zlib.compress(game.state() + shades, 1), game.given_until
+        state = b'%d' % game.count if game.command == 'record' else game.state()
+        self.packed, self.given_until, self.count = zlib.compress(state + shades, 1), game.given_until, game.count
 
     def parts(self) -> tuple[bytes, bytes]:
         """The state and the picture."""
@@ -57,37 +61,45 @@ class GoingBack:
     def note(self, game: Played, shades: bytes) -> None:
         """Keeps a moment of each few frames."""
         self.frames += 1
-        if self.frames % FRAMES_A_MOMENT == 0 and game.command != 'record':
+        if self.frames % FRAMES_A_MOMENT == 0:
             self.past.append(Moment(game, shades))
 
     def moment(self, game: Played, shades: bytes) -> Optional[Moment]:
         """The game as it is now; None where it is recorded, and so does not go back."""
         return None if game.command == 'record' else Moment(game, shades)
 
-    def rewind(self, window: Held, game: Played) -> None:
-        """Goes back as long as the key is held, and goes on from what is shown when it is let go. A window that is closed meanwhile goes back nowhere."""
-        if stays(window, game):
-            return
-        now, shown, frames = Moment(game, window.shades), None, 0
+    def rewind(self, window: Held, game: Played) -> Optional[Moment]:
+        """Goes back as long as the key is held, and goes on from what is shown when it is let go. Of a recorded game it answers that moment where the player
+        agrees to a branch from it. A window that is closed meanwhile goes back nowhere."""
+        now, passed, frames = Moment(game, window.shades), [], 0
         while self.past and self.past[-1].packed == now.packed:
             self.past.pop()
         if not self.past:
             window.say('there is nothing to go back to')
-            return
+            return None
         while True:
             if self.past:
-                shown, frames = self.past.pop(), frames + FRAMES_A_MOMENT
+                passed.append(self.past.pop())
+                frames += FRAMES_A_MOMENT
                 window.say(f'back: {frames / FRAMES_A_SECOND:.1f} seconds')
             else:
                 window.say(f'back: {frames / FRAMES_A_SECOND:.1f} seconds, and no further')
-            window.show(shown.parts()[1])
+            window.show(passed[-1].parts()[1])
             time.sleep(1 / MOMENTS_A_SECOND)
             window.listen()
             if window.is_closed:
-                return
+                return None
             if not window.is_held('Rewind'):
                 break
-        self.go_on(window, game, shown, now)
+        if game.command != 'record':
+            self.go_on(window, game, passed[-1], now)
+            return None
+        if window.ask(*BRANCH):
+            self.past.append(passed[-1])
+            return passed[-1]
+        self.past.extend(reversed(passed))
+        window.show(now.parts()[1])
+        return None
 
     def go_on(self, window: Held, game: Played, moment: Moment, before: Moment) -> None:
         """Goes on with a moment; `before` is the game as it is, to which this can be undone."""
@@ -150,5 +162,5 @@ class GoingBack:
 def stays(window: Held, game: Played) -> bool:
     """Whether a game is recorded, and so does not go back; the window says so."""
     if game.command == 'record':
-        window.say('a recorded game does not go back: its recording goes on', WARNING_SECONDS)
+        window.say('a recorded game does not go back; the key that rewinds begins a branch of it', WARNING_SECONDS)
     return game.command == 'record'

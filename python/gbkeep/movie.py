@@ -269,6 +269,8 @@ def frames_of(moves: Iterable[tuple]) -> Iterator[int]:
     for move in moves:
         if move[0] == 'seconds':
             raise Wrong('the script has `seconds`, and a movie has no clock')
+        if move[0] == 'power':
+            raise Wrong('the script has `power`, and a movie has no power switch')
         if move[0] == 'frames':
             yield from (move[1] for _ in range(move[2]))
 

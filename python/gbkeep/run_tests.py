@@ -274,8 +274,8 @@ def moves_of(case: Case) -> Iterator[tuple]:
             done += times
             if times:
                 yield 'frames', move[1], times
-        elif move[0] == 'seconds':
-            yield 'seconds', move[1]
+        elif move[0] in ('seconds', 'power'):
+            yield move
     if case.frames > done:
         yield 'frames', 0, case.frames - done
 
@@ -286,6 +286,8 @@ def played(case: Case, program: str) -> bytes:
         for move in moves_of(case):
             if move[0] == 'frames':
                 game.frames(*move[1:])
+            elif move[0] == 'power':
+                game.power()
             else:
                 game.seconds(move[1])
         return game.picture().shades
@@ -295,7 +297,7 @@ def looked_inside(case: Case, program: str, *more: str) -> 'tuple[Tail, Tail, in
     """What `gbkeep debug` answers to the moves and to these lines."""
     with tempfile.TemporaryFile('w+') as lines:
         for move in moves_of(case):
-            lines.write(f'frames {move[1]:02x} {move[2]}\n' if move[0] == 'frames' else f'seconds {move[1]}\n')
+            lines.write(f'frames {move[1]:02x} {move[2]}\n' if move[0] == 'frames' else ' '.join(str(word) for word in move) + '\n')
         lines.write(''.join(f'{one}\n' for one in more))
         lines.seek(0)
         return ran([program, 'debug', '--', str(case.rom)], lines, MOST_PRINTED_BY_GAME)

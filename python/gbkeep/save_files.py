@@ -194,7 +194,7 @@ def looked_at(image: bytes, cart: Cartridge, is_resumed: bool = True) -> tuple[i
 # ---- scripts
 
 def moves_of(script: bytes) -> list[tuple]:
-    """('frames', buttons, times), ('seconds', n) and ('save',); else the number of the first wrong line."""
+    """('frames', buttons, times), ('seconds', n), ('save',) and ('power',); else the number of the first wrong line."""
     if len(script) > 1048576:
         raise Refused('script line 0')
     moves = []
@@ -215,8 +215,8 @@ def moves_of(script: bytes) -> list[tuple]:
             continue
         words = line.split(b' ')
         try:
-            if words == [b'save']:
-                moves.append(('save',))
+            if words in ([b'save'], [b'power']):
+                moves.append((words[0].decode(),))
             elif words[0] == b'frame' and len(words) == 2:
                 moves.append(('frames', buttons(words[1]), 1))
             elif words[0] == b'frames' and len(words) == 3:
@@ -236,7 +236,7 @@ def inputs_of(move: tuple) -> list[Optional[bytes]]:
     if move[0] == 'seconds':
         return [b'\1' + move[1].to_bytes(4, 'little') + b'\0']
     # the power switch and another machine are inputs that no log holds
-    return [None] if move[0] == 'other' else []
+    return [None] if move[0] in ('power', 'other') else []
 
 
 # ---- a play

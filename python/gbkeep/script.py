@@ -13,6 +13,7 @@ A friendly script has one move a line. `#` begins a comment; words are separated
     wait 30         30 frames with no button
     seconds 3600    3,600 seconds pass on the cartridge's clock
     save
+    power           the power switch, off and on
     mark boss       gives this place a name
     include FILE    the moves of another file; its name is looked for beside this one
 
@@ -71,14 +72,14 @@ def buttons_of(word: str) -> int:
 
 
 def own_move(words: list[str]) -> tuple:
-    """The move of the words of a line: ('frames', BUTTONS, COUNT), ('seconds', COUNT) or ('save',)."""
-    name, wanted = words[0], {'frame': 2, 'frames': 3, 'seconds': 2, 'save': 1}
+    """The move of the words of a line: ('frames', BUTTONS, COUNT), ('seconds', COUNT), ('save',) or ('power',)."""
+    name, wanted = words[0], {'frame': 2, 'frames': 3, 'seconds': 2, 'save': 1, 'power': 1}
     if name not in wanted:
         raise ValueError(f'{quoted(name)} is no move')
     if len(words) != wanted[name]:
         raise ValueError(f'{quoted(name)} has {len(words) - 1} words after it, and takes {wanted[name] - 1}')
-    if name == 'save':
-        return ('save',)
+    if name in ('save', 'power'):
+        return (name,)
     if name == 'seconds':
         return ('seconds', number_of(words[1], 0, MOST_SECONDS))
     return ('frames', buttons_of(words[1]), number_of(words[2], 1, MOST_FRAMES) if name == 'frames' else 1)
@@ -141,12 +142,12 @@ def head_of(path: PathLike) -> bytes:
         os.close(descriptor)
 
 
-def recorded_moves(cart: PathLike, recording: PathLike) -> Iterator[tuple]:
+def recorded_moves(cart: PathLike, recording: PathLike, program: Optional[PathLike] = None) -> Iterator[tuple]:
     """The moves that a recording holds, since power-on.
 
     The program has ended before the first of them is given, so that nobody who plays them holds the recording."""
     printed = tempfile.TemporaryFile(prefix='recorded-')
-    process = started([find_program(), 'recorded', '--', str(cart), str(recording)], stdin=subprocess.DEVNULL, stdout=printed, stderr=subprocess.PIPE)
+    process = started([str(program or find_program()), 'recorded', '--', str(cart), str(recording)], stdin=subprocess.DEVNULL, stdout=printed, stderr=subprocess.PIPE)
     with ended(process):
         _, err = process.communicate()
     if process.returncode != 0:
@@ -241,7 +242,7 @@ def friendly_move(words: list[str]) -> tuple:
         if len(words) != 2:
             raise ValueError('a mark has one name')
         return ('mark', words[1])
-    if name in ('frame', 'frames', 'seconds', 'save'):
+    if name in ('frame', 'frames', 'seconds', 'save', 'power'):
         return own_move(words)
     if len(words) > 2:
         raise ValueError(f'{quoted(words[2])} is one word too many')
@@ -265,7 +266,7 @@ def friendly_line(move: tuple) -> str:
 
 def inputs_of(move: tuple) -> int:
     """How many inputs a move is."""
-    return {'frames': move[-1], 'seconds': 1}.get(move[0], 0)
+    return {'frames': move[-1], 'seconds': 1, 'power': 1}.get(move[0], 0)
 
 
 # ---- what is done with them
@@ -277,6 +278,8 @@ def play(game: Game, moves: Iterable[tuple]) -> None:
             game.frames(move[1], move[2])
         elif move[0] == 'seconds':
             game.seconds(move[1])
+        elif move[0] == 'power':
+            game.power()
         elif move[0] == 'save':
             print(f'saved {game.save()}', flush=True)
     if game.saved < game.count:

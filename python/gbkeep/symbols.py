@@ -88,14 +88,21 @@ class Labels:
     path: Optional[PathLike] = None
     named: dict[str, tuple[int, int]] = field(default_factory=dict)
     at: dict[int, list[tuple[int, str]]] = field(default_factory=dict)
+    # the number of the line of the file that each stands on
+    numbers: dict[str, int] = field(default_factory=dict)
 
     @classmethod
     def read(cls, path: PathLike) -> 'Labels':
         """Raises WrongInput where the file can't be read, or is none of the formats."""
         labels = cls(path)
-        for bank, address, name in labels_of(read_bytes(path, MOST_SYMBOLS).decode(errors='replace')):
+        text = read_bytes(path, MOST_SYMBOLS).decode(errors='replace')
+        for bank, address, name in labels_of(text):
             labels.named[name] = bank, address
             labels.at.setdefault(address, []).append((bank, name))
+        for number, line in enumerate(text.splitlines(), 1):
+            for word in re.split(r'[\s;]+', line):
+                if word in labels.named:
+                    labels.numbers.setdefault(word, number)
         if not labels.named:
             raise WrongInput(f'{printable(path)} has no labels: it is no .sym of RGBDS or wla-dx, and no .noi or .map of sdcc')
         return labels
@@ -130,10 +137,13 @@ class Source:
         lines = self.texts[name]
         return printable(lines[number - 1].strip()) if 1 <= number <= len(lines) else ''
 
-    def lines_of(self, name: str) -> list[str]:
+    def paths_of(self, name: str) -> list[Path]:
+        """Where a source is looked for. Its name comes from the file, so it leads to no other folder."""
         folder = Path(self.path).parent
-        # the name comes from the file, so it leads to no other folder
-        for path in (folder / Path(name).name, folder / 'src' / Path(name).name):
+        return [folder / Path(name).name, folder / 'src' / Path(name).name]
+
+    def lines_of(self, name: str) -> list[str]:
+        for path in self.paths_of(name):
             try:
                 return read_bytes(path, MOST_SOURCE).decode(errors='replace').splitlines()
             except WrongInput:

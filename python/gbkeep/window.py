@@ -23,7 +23,8 @@ emulators take NAME.sav and NAME.srm for their battery files, and write over the
 
 A gamepad's buttons are those that SDL knows it by. --keys FILE changes keys, by lines as `A = space`. The window can have any size.
 
-With --record every input is kept in RECORDING, too, which is made along with SAVE; a recorded game does not go back, since its recording goes on.
+With --record every input is kept in RECORDING, too, which is made along with SAVE. A recorded game does not go back, since its recording goes on; where R is
+let go the window asks, and begins a branch: a new game beside it, SAVE-2, with a recording of its own.
 With --import a game is begun in a new SAVE with the battery file of another emulator.
 
 A cartridge with a clock is given the seconds that have passed since the window last saved the game (SAVE.time); of more than a year the window asks
@@ -41,11 +42,11 @@ from typing import NoReturn, Optional
 from .game import HEIGHT, WIDTH, Refused, find_program, starting
 from .going_back import GoingBack
 from .input_files import MOST_LINE, WrongInput, printable, reason
-from .shown_game import Played, shown
-from .slots import Slots, short
-from .timed_game import TimedGame, WrongTime
+from .shown_game import Played
+from .slots import short
+from .timed_game import WrongTime
 from .tools import Words, count_word, name_of_tool, say
-from .window_files import (LINE_SECONDS, WARNING_SECONDS, back_to_slot, battery_name, keep_in_slot, keep_palette, kept_palette, leave_picture, own_save,
+from .window_files import (LINE_SECONDS, WARNING_SECONDS, Files, back_to_slot, battery_name, keep_in_slot, keep_palette, kept_palette, leave_picture, own_save,
                           take_battery, with_recording)
 
 os.environ.setdefault('PYGAME_HIDE_SUPPORT_PROMPT', '1')
@@ -275,9 +276,9 @@ class Speed:
         return f'{self.rate / FRAMES_A_SECOND:.0%}'
 
 
-def play(window: Window, game: Played, save: str, slots: Slots, open_game: Callable[[], Played]) -> Played:
+def play(window: Window, game: Played, files: Files) -> Played:
     """Plays until the window is closed, and returns the game that is open then."""
-    name = printable(game.header.title) or short(save)
+    name = printable(game.header.title) or short(files.save)
     speed, frames, due, told, titled = Speed(), 0, time.monotonic(), None, None
     going_back = GoingBack()
     moves = {'Rewind': going_back.rewind, 'Reset': going_back.reset, 'Undo': going_back.undo, 'Quick keep': going_back.keep, 'Quick back': going_back.back,
@@ -300,23 +301,26 @@ def play(window: Window, game: Played, save: str, slots: Slots, open_game: Calla
     while not window.is_closed:
         window.listen()
         if window.wants('Picture'):
-            leave_picture(window, game, save)
+            leave_picture(window, game, files.save)
         if window.wants('Keys'):
             game.save_all()
             window.tell_list(lines_of(window.keys))
             speed, due = Speed(), time.monotonic()
         if window.wants('Keep slot'):
-            keep_in_slot(window, game, slots)
+            keep_in_slot(window, game, files.slots)
         if window.wants('Go back'):
             before = going_back.moment(game, window.shades)
-            game = back_to_slot(window, game, slots, open_game)
+            game = back_to_slot(window, game, files)
             going_back.came_back(game, before)
             speed, due = Speed(), time.monotonic()
             window.shades = game.picture().shades
             entitle()
         for wanted, move in moves.items():
             if window.wants(wanted):
-                move(window, game)
+                branched = move(window, game)
+                if branched is not None:
+                    game = files.branch(window, game, branched.count, branched.given_until)
+                    window.show(game.picture().shades)
                 speed, due = Speed(), time.monotonic()
         if game.trouble != told:
             before, told = told, game.trouble
@@ -388,21 +392,11 @@ def run_window(window: Window, asked: argparse.Namespace, save: str) -> None:
         if not is_played:
             return
 
-    def ask(game: TimedGame, question: str) -> Optional[bool]:
-        window.shades = game.picture().shades
-        return is_agreed or window.ask(question)
-
-    def open_game() -> Played:
-        game = TimedGame(asked.cart, save, asked.gbkeep, recording=recording, ask=ask)
-        if game.notice:
-            window.shades = game.picture().shades
-            window.tell(game.notice)
-        return shown(game, asked.cart, save, asked.gbkeep)
-    game = open_game()
+    files = Files(asked.cart, save, recording, asked.gbkeep)
+    game = files.open(window, is_agreed)
     if warning_of(asked):
         window.say(warning_of(asked), WARNING_SECONDS)
-    slots = Slots(asked.cart, save, asked.gbkeep, game.header.has_clock())
-    game = play(window, game, save, slots, open_game)
+    game = play(window, game, files)
     game.save_all()
     game.close()
 

@@ -5,14 +5,16 @@ import hashlib
 import os
 import time
 from pathlib import Path
-from typing import Callable, Optional, Protocol
+from typing import Optional, Protocol
 
-from .game import free_name, header_of, run
+from .branch import branch
+from .game import Refused, free_name, header_of, run
 from .input_files import MOST_CART, WrongInput, number, printable, read_bytes, read_text, reason
 from .new_files import Unsafe, new_file
-from .shown_game import Played
+from .shown_game import Played, shown
 from .slots import NotReplaced, Slots, short
-from .timed_game import SaveTime, span
+from .timed_game import SaveTime, TimedGame, WrongTime, span
+from .tools import Failed
 
 # those of the window
 PALETTE_COUNT = 4
@@ -28,6 +30,69 @@ class Shown(Protocol):
     def say(self, line: str, seconds: float = LINE_SECONDS) -> None: ...
 
     def ask(self, *texts: str) -> Optional[bool]: ...
+
+    def tell(self, *texts: str) -> None: ...
+
+    def show(self, shades: Optional[bytes] = None) -> None: ...
+
+
+class Files:
+    """The files of the game that is played: SAVE, its slots, and the recording of a recorded game."""
+
+    def __init__(self, cart: str, save: str, recording: Optional[str], program: str):
+        self.cart, self.program, self.has_clock = cart, program, header_of(cart, program).has_clock()
+        self.name(save, recording)
+
+    def name(self, save: str, recording: Optional[str]) -> None:
+        self.save, self.recording = save, recording
+        self.slots = Slots(self.cart, save, self.program, self.has_clock)
+
+    def open(self, window: Shown, is_agreed: bool = False) -> Played:
+        """Opens the game; what the clock asks is agreed to, or the player is asked."""
+        def ask(game: TimedGame, question: str) -> Optional[bool]:
+            window.show(game.picture().shades)
+            return is_agreed or window.ask(question)
+
+        game = TimedGame(self.cart, self.save, self.program, recording=self.recording, ask=ask)
+        if game.notice:
+            window.show(game.picture().shades)
+            window.tell(game.notice)
+        return shown(game, self.cart, self.save, self.program)
+
+    def branch(self, window: Shown, game: Played, count: int, given_until: int) -> Played:
+        """Goes on with a branch: a new game with the first `count` inputs of the recording, whose clock was given the time until then. Where there can be none, the
+        game goes on."""
+        game.save_all()
+        game.close()
+        save, recording = free_names(self.save, self.recording)
+        window.say('a branch is begun')
+        window.show()
+        try:
+            branch(self.cart, self.recording, count, save, recording, self.program)
+            line = f'a branch: {short(save)}, recorded in {short(recording)}'
+            if self.has_clock:
+                SaveTime(save).write([(count, given_until)], must_be_new=True)
+        except (Failed, WrongInput, WrongTime) as error:
+            line = f'no branch: {error}'
+        except Refused as refused:
+            line = f'no branch: {printable(refused.line.removeprefix("gbkeep: "))}'
+        except OSError as error:
+            line = f'no branch: {reason(error)}'
+        else:
+            self.name(save, recording)
+        game = self.open(window)
+        window.say(line, WARNING_SECONDS)
+        return game
+
+
+def free_names(*paths: str) -> list[str]:
+    """These names with the first number, from 2 on, with which neither they nor the files beside them are there."""
+    number = 2
+    while True:
+        names = [str(path.with_name(f'{path.stem}-{number}{path.suffix}')) for path in map(Path, paths)]
+        if not any(os.path.lexists(name + end) for name in names for end in ('', '.time', '.slot', '.recorded')):
+            return names
+        number += 1
 
 
 def config_file(name: str) -> Optional[Path]:
@@ -84,13 +149,14 @@ def keep_in_slot(window: Shown, game: Played, slots: Slots) -> None:
         window.say(f'not kept: {error}', WARNING_SECONDS)
         return
     if game.command == 'record':
-        window.say(f'kept as {short(slots.slot)}: a game of its own, since a recorded game does not go back', WARNING_SECONDS)
+        window.say(f'copied to {short(slots.slot)}, a game of its own: a recorded game does not go back', WARNING_SECONDS)
     else:
         window.say(f'kept in the slot: {game.saved} inputs' + (f'; the slot before is {short(before)}' if before else ''))
 
 
-def back_to_slot(window: Shown, game: Played, slots: Slots, open_game: Callable[[], Played]) -> Played:
+def back_to_slot(window: Shown, game: Played, files: Files) -> Played:
     """The game of the slot, or the one that goes on where there is none to go back to."""
+    slots = files.slots
     if game.command == 'record':
         window.say('a recorded game does not go back')
         return game
@@ -105,7 +171,7 @@ def back_to_slot(window: Shown, game: Played, slots: Slots, open_game: Callable[
     except NotReplaced as error:
         game.close()
         before, said, seconds = None, f'not back: {error}', WARNING_SECONDS
-    game = open_game()
+    game = files.open(window)
     window.say(f'{said}: {game.count} inputs' + (f'; the game before is {short(before)}' if before else ''), seconds)
     return game
 

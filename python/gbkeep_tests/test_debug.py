@@ -288,6 +288,21 @@ def test_profiles(room):
                 'limit 0154 ; Main.loop ; Elsewhere, bank 03', 'elsewhere 0', '         8 Main.loop'], ''))
 
 
+def test_coverage(room):
+    """What two profiles ran, as lcov reads it: lines of C, and labels by the lines of their file."""
+    sym, path = room.write('own.sym', SYM), room.folder / 'run.info'
+    status, out, err = room.tool(CART, sym, *do('profile 10', 'profile 3 Main.loop', f'coverage {path}', f'coverage {path}'))
+    numbers = {words[1]: number for number, line in enumerate(SYM.splitlines(), 1) if len(words := line.split()) > 1}
+    lines = path.read_text().splitlines()
+    expect('it is written', (status, err, lines[:2], lines[-1]), (0, '', ['TN:gbkeep', f'SF:{sym}'], 'end_of_record'))
+    expect('what was run', sorted(line for line in lines if line.startswith('FNDA:') and not line.startswith('FNDA:0')), ['FNDA:24,Main.loop', 'FNDA:4,Main'])
+    expect('where it stands', (f'FN:{numbers["Main.loop"]},Main.loop' in lines, f'DA:{numbers["Main.loop"]},24' in lines, f'DA:{numbers["Main"]},4' in lines), (True, True, True))
+    expect('how much of it', [line for line in lines if line[:3] in ('FNH', 'LH:')], ['FNH:2', 'LH:2'])
+    other = room.write('other.info', 'mine')
+    status, out, err = room.tool(CART, sym, *do('profile 10', f'coverage {other}'))
+    expect('nothing else is replaced', (status, other.read_text()), (1, 'mine'))
+
+
 def test_saves(room):
     save = room.folder / 'game.gbkeep'
     subprocess.run([room.program, 'new', CART, save], check=True, capture_output=True)

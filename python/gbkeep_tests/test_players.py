@@ -11,10 +11,13 @@ import random
 import struct
 import subprocess
 import sys
+import time
+import types
 import zipfile
 
 from gbkeep_tests import support
-from gbkeep_tests.support import CART, TOP, expect
+from gbkeep_tests.support import CART, TOP, clock_cart, expect
+from gbkeep.branch import branch
 from gbkeep.film import HEAD as FILM_HEAD
 from gbkeep.game import A, LEFT, RIGHT, START, Game, DebugMachine, Refused, begin, run
 from gbkeep.movie import bk2_frames, bk2_of, frames_of, log_frames, moves_of, vbm_frames
@@ -22,6 +25,7 @@ from gbkeep.pictures import png_of
 from gbkeep.rest import rest_of
 from gbkeep.script import Wrong, friendly_line, friendly_move, friendly_moves, inputs_of, own_lines, own_moves
 from gbkeep.verify import pieces_of, tell
+from gbkeep.window_files import Files
 
 
 def refusal(call):
@@ -336,9 +340,9 @@ def test_check(room):
         got = refusal(lambda: own_moves(text))
         expect(f'why {text[:20]!r} is wrong', why in got, True)
     rnd, save, seen = random.Random(1), room.save('check.gbkeep'), set()
-    words = ['frame', 'frames', 'seconds', 'save', '00', '1f', 'FF', '0', '3', '7', '00000000003', '1000001', '4294967296', '-1', '+1', '\r', '\t', '#', '', 'é', 'x']
+    words = ['frame', 'frames', 'seconds', 'save', 'power', '00', '1f', 'FF', '0', '3', '7', '00000000003', '1000001', '4294967296', '-1', '+1', '\r', '\t', '#', '', 'é', 'x']
     for _ in range(150):
-        lines = [rnd.choice(['save', 'frame 00', 'frames 01 3', 'seconds 7', '']) for _ in range(rnd.randrange(4))]
+        lines = [rnd.choice(['save', 'power', 'frame 00', 'frames 01 3', 'seconds 7', '']) for _ in range(rnd.randrange(4))]
         if rnd.random() < 0.8:
             lines.insert(rnd.randrange(len(lines) + 1), ' '.join(rnd.choice(words) for _ in range(rnd.randrange(1, 5))))
         script = room.write('random.script', '\n'.join(lines))
@@ -353,7 +357,7 @@ def test_check(room):
 def test_rest(room):
     rnd, moves = random.Random(2), []
     for _ in range(60):
-        moves.append(rnd.choice([('frames', rnd.randrange(256), rnd.randrange(1, 90)), ('seconds', rnd.randrange(9)), ('save',)]))
+        moves.append(rnd.choice([('frames', rnd.randrange(256), rnd.randrange(1, 90)), ('seconds', rnd.randrange(9)), ('power',), ('save',)]))
     whole = sum(map(inputs_of, moves))
     for count in [0, whole] + [rnd.randrange(whole) for _ in range(40)]:
         first = []
@@ -473,6 +477,41 @@ def test_recordings(room):
         game.frame(A)
     expect('played by another command', refusal(lambda: Game(CART, save, room.program, recording)), 'gbkeep: recording behind, 104 inputs')
     expect('verify then', room.tool('verify', CART, save, recording)[:36], 'gbkeep: recording behind, 104 inputs')
+
+
+def test_a_branch_of_the_window(room):
+    """A recorded game that is rewound in the window: a new game with a recording of its own goes on, and the game before stays; its clock goes on from there."""
+    said, asked = [], []
+    window = types.SimpleNamespace(say=lambda line, seconds=0: said.append(line), show=lambda shades=None: None, ask=asked.append, tell=lambda line: None)
+    cart = clock_cart(room.folder)
+    files = Files(str(cart), str(room.path('run.gbkeep')), str(room.path('run.rec')), room.program)
+    with contextlib.closing(Game(cart, files.save, room.program, files.recording)) as game:
+        game.frames(RIGHT, 3300)
+    room.write('run-2.rec.time', '')
+    game = files.open(window)
+    count, given_until = game.count, int(time.time()) - 600
+    game = files.branch(window, game, 3201, given_until)
+    expect('what is played', (os.path.basename(files.save), os.path.basename(files.recording)), ('run-3.gbkeep', 'run-3.rec'))
+    expect('what is said', said, ['a branch is begun', 'a branch: run-3.gbkeep, recorded in run-3.rec'])
+    game.frame(A)
+    game.save_all()
+    game = files.branch(window, game, 9_999, given_until)
+    expect('no branch beyond the inputs', said[-1].startswith('no branch: RECORDING has '), True)
+    expect('and nothing is made', list(room.folder.glob('run-3-*')), [])
+    game.save_all()
+    game.close()
+    moves = list(own_moves(run(room.program, 'recorded', str(cart), files.recording).encode()))
+    expect('the first inputs', moves[0], ('frames', RIGHT, 3201))
+    expect('the time since', (moves[1][0], 600 <= sum(move[1] for move in moves if move[0] == 'seconds') <= 660), ('seconds', True))
+    expect('and what was played', ('frames', A, 1) in moves, True)
+    expect('it agrees', run(room.program, 'verify', str(cart), files.save, files.recording), f'agree {sum(map(inputs_of, moves))}\n')
+    before = run(room.program, 'verify', str(cart), str(room.path('run.gbkeep')), str(room.path('run.rec')))
+    # a second may have passed until it was saved
+    expect('the game before', before in (f'agree {count}\n', f'agree {count + 1}\n'), True)
+    # what fails leaves nothing
+    expect('no room', refusal(lambda: branch(cart, files.recording, 3201, room.path('none/a.gbkeep'), room.path('a.rec'), room.program)), 'gbkeep: device failed')
+    expect('and no file', room.path('a.rec').exists(), False)
+    expect('nothing was asked', asked, [])
 
 
 if __name__ == '__main__':

@@ -12,6 +12,7 @@ import signal
 import stat
 import subprocess
 import time
+import types
 from pathlib import Path
 
 from gbkeep_tests import support
@@ -709,16 +710,15 @@ def test_said_of_slots(room):
     save, window = room.path('said.gbkeep'), Window()
     slots = room.slots(save)
 
-    def opened():
-        return TimedGame(CART, save, room.program)
-    game = opened()
+    files = types.SimpleNamespace(slots=slots, open=lambda window: TimedGame(CART, save, room.program))
+    game = files.open(window)
     keep_in_slot(window, game, slots)
     game.frames(A, 7)
-    game = back_to_slot(window, game, slots, opened)
+    game = back_to_slot(window, game, files)
     expect('said', (window.said, game.count), (['kept in the slot: 0 inputs', 'back to the slot: 0 inputs; the game before is said.gbkeep.before'], 0))
     game.frames(A, 9)
     Path(slots.slot).write_bytes(bytes(1000))
-    game = back_to_slot(window, game, slots, opened)
+    game = back_to_slot(window, game, files)
     keep_in_slot(window, game, slots)
     expect('not', (window.said[2:], game.count), (['not back: said.gbkeep.slot: device size 1000: 9 inputs',
                                                    'not kept: said.gbkeep.slot exists already and is another kind of file: take it away'], 9))
@@ -729,8 +729,8 @@ def test_said_of_slots(room):
     with TimedGame(CART, save, room.program, recording=recording) as game:
         game.frames(A, 7)
         keep_in_slot(window, game, slots)
-        expect('the same game', back_to_slot(window, game, slots, opened) is game, True)
-    expect('said', window.said, ['kept as run.gbkeep.slot: a game of its own, since a recorded game does not go back', 'a recorded game does not go back'])
+        expect('the same game', back_to_slot(window, game, files) is game, True)
+    expect('said', window.said, ['copied to run.gbkeep.slot, a game of its own: a recorded game does not go back', 'a recorded game does not go back'])
     plain, none = room.game('plain.gbkeep', 1), room.path('none.rec')
     expect('no recording', 'is not there' in refusal(lambda: TimedGame(CART, plain, room.program, recording=none)), True)
 

@@ -470,12 +470,27 @@ def test_recorded(open_window, screen, room, gbkeep):
     player.wait(Path(f'{save}.slot').exists, 'F5 left no slot')
     player.until_words(True, 'after F5 in a recorded game')
     player.until_words(False, 'after what F5 says')
-    for key in ('r', 'F3', 'F6', 'F7', 'F8', 'F9', 'F10'):
+    for key in ('F3', 'F6', 'F7', 'F8', 'F9', 'F10'):
         screen.keys('key', key)
         player.until_words(True, f'{key} in a recorded game')
         if player.covers():
             wrong(f'{key} asks something of a recorded game')
+    player.until_saved(player.saved() + 180)
+    for answer in ('n', 'y'):
+        screen.keys('keydown', 'r')
+        time.sleep(0.7)
+        screen.keys('keyup', 'r')
+        player.wait(player.covers, 'R asks nothing of a recorded game')
+        screen.keys('key', answer)
+        player.wait(lambda: not player.covers(), f'{answer} is no answer')
+    branch, recorded = room / 'run-2.gbkeep', room / 'run-2.rec'
+    player.wait(branch.exists, 'there is no branch')
+    player.until_words(True, 'after a branch')
+    player.until_saved(player.saved() + 60)
     player.close()
+    for one, other in ((branch, recorded), (save, recording)):
+        if not run(str(gbkeep), 'verify', str(cart), str(one), str(other)).startswith('agree '):
+            wrong(f'{one.name} does not agree with its recording')
     told = run(str(gbkeep), 'verify', str(cart), str(save), str(recording))
     # the mark, as `record` leaves it
     if not Path(f'{save}.recorded').exists():

@@ -229,7 +229,17 @@ class Game:
         return types.SimpleNamespace(shades=bytes([self.frames % 4]) * (160 * 144))
 
 
-def played(orders, command='stream', last=60):
+class Files:
+    """The files of a game of which a branch is begun: the game with as many inputs."""
+    save, slots = 'game.gbkeep', None
+
+    def branch(self, window, game, count, given_until):
+        game.frames = game.count = count
+        game.done.append(('branch', count, given_until))
+        return game
+
+
+def played(orders, command='stream', last=60, answers=()):
     """A game that is played for so many frames in a window; before the frame behind each of these the keys go down, and stay so for so many looks.
 
     Answers what was done to the game other than frames, with the number of the frame before, and what was said."""
@@ -242,9 +252,11 @@ def played(orders, command='stream', last=60):
         if frames == last:
             window.is_closed = True
     game = Game(at_frame, command)
-    say = window.say
+    say, answers = window.say, iter(answers)
     window.say = lambda line, *seconds: (said.append(line), say(line, *seconds))
-    module.play(window, game, 'game.gbkeep', None, None)
+    if command == 'record':
+        window.ask = lambda *texts: next(answers)
+    module.play(window, game, Files())
     done = [(game.done[:at].count('frame'), *(one if isinstance(one, tuple) else (one,))) for at, one in enumerate(game.done) if one != 'frame']
     return done, said, game
 
@@ -324,15 +336,23 @@ def test_next_frame():
                 EVENTS.append(key('n' if game.frames < 8 else 'p'))
         listen()
     window.listen = listens
-    module.play(window, game, 'game.gbkeep', None, None)
+    module.play(window, game, Files())
     expect('the frames of a pause', sorted(set(looks)), [(frames, frames) for frames in (5, 6, 7, 8)])
     expect('and on', game.done, ['frame'] * 20)
 
 
 def test_a_recorded_game_goes_on():
-    keys = {10: [('r', 5)], 20: [('f6', 0)], 22: [('f10', 0)], 24: [('f3', 0)], 26: [('f8', 0)], 28: [('f7', 0)]}
+    keys = {20: [('f6', 0)], 22: [('f10', 0)], 24: [('f3', 0)], 26: [('f8', 0)], 28: [('f7', 0)]}
     done, said, _ = played(keys, command='record')
-    expect('nothing but frames', (done, said), ([], ['a recorded game does not go back: its recording goes on'] * 6))
+    expect('nothing but frames', (done, said), ([], ['a recorded game does not go back; the key that rewinds begins a branch of it'] * 5))
+
+
+def test_a_recorded_game_branches():
+    """A recorded game that is rewound asks: it goes on as it is, and can be rewound as far again, or as a branch with the inputs up to there."""
+    done, said, game = played({40: [('r', 3)], 41: [('r', 3)]}, command='record', answers=[False, True])
+    back = ['back: 0.1 seconds', 'back: 0.1 seconds', 'back: 0.2 seconds', 'back: 0.3 seconds']
+    expect('a branch once', (done, said), ([(41, 'branch', 24, 7)], back + back))
+    expect('and on', game.count, 24 + 60 - 41)
 
 
 def test_the_keys_fit():
@@ -366,7 +386,7 @@ def test_a_signal_ends_it_quietly():
         game = Game(lambda frames: os.kill(os.getpid(), number) if frames == 3 else None)
         told = io.StringIO()
         with contextlib.redirect_stderr(told), contextlib.redirect_stdout(told):
-            left = module.play(window, game, 'game.gbkeep', None, None)
+            left = module.play(window, game, Files())
         expect(f'signal {number}', (left is game, game.done, told.getvalue()), (True, ['frame'] * 3, ''))
 
 

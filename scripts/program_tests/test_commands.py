@@ -245,6 +245,34 @@ def test_the_greatest_count_takes_no_state(room):
     room.done('stream full.gb full.gbkeep', f'resumed {most - 1}\nsaved {most}\n', 'power\n')
 
 
+def test_a_script_has_the_power_switch(room):
+    """It is one input, which a save of 3,200 counts. RAM stays where there is a battery; a test makes it, and a recording has no such line."""
+    # opens RAM, counts up at A001 and in B, and counts in A for good
+    code, lines = '3e0a ea0000 fa01a0 3c ea01a0 47 3c 18fd', 'frame 00\npower\nframe 00\n'
+    for kind, counted in ((0x03, '02'), (0x02, '01')):
+        cart, save = f'switch{kind}.gb', f'switch{kind}.gbkeep'
+        room.rom(cart, code, {0x147: kind, 0x149: 2})
+        room.done(f'new {cart} {save}', 'begun 0\n')
+        room.write('switch.script', lines)
+        room.done(f'play {cart} {save} switch.script', 'resumed 0\nsaved 3\n')
+        debugged = room.printed(f'debug {cart}', lines + 'digest\n').decode().splitlines()[-1]
+        shown = room.printed(f'show {cart} {save}').decode().splitlines()[-1]
+        room.expect(f'the machine of type {kind:02X}', shown, debugged.replace('digest', 'state'))
+        room.done(f'stream {cart} {save}', f'resumed 3\nA001 {counted}\n', 'memory A001 1\n')
+        room.write('switch.script', 'frame 00\npower\n')
+        status, out, _ = room.run(f'test {cart} 2 switch.script')
+        *_, registers, frames, end = out.decode().splitlines()
+        room.expect(f'the test of type {kind:02X}', (status, registers.split()[2], frames, end), (1, f'B={counted}', 'frames 2', 'ended frames'))
+    room.write('switch.script', 'frames 00 3198\npower\npower\npower\n')
+    room.done('play switch3.gb switch3.gbkeep switch.script', 'resumed 3\nsaved 3203\nsaved 3204\n')
+    for line in ('power ', 'power 1', 'Power', ' power', 'powers'):
+        room.write('switch.script', f'power\n{line}\n')
+        room.refused('play switch3.gb switch3.gbkeep switch.script', 'gbkeep: script line 2\n')
+    room.done('new switch3.gb taken.gbkeep', 'begun 0\n')
+    room.done('new-recording switch3.gb switch.rec 20', 'begun 0\n')
+    room.refused('record switch3.gb taken.gbkeep switch.rec', 'gbkeep: script line 1\n', given='power\n', out='resumed 0\n')
+
+
 # ---- recordings
 
 def test_a_recording_is_begun_read_and_compared(room):

@@ -9,11 +9,12 @@ Kinds: raw (random bytes with a valid header), prog (random programs), proglong 
 script of frames and seconds, trace of 1,024 steps, line by line; 200 of them at most), frames (programs that draw, by registers,
 tiles and objects that change within frames, by buttons and the clock; after each of some scripts of frames, buttons and seconds the whole
 picture of `frame`), features (the same over longer scripts, then `trace`, on programs of feature_roms.py, which use every unusual feature of the
-machine again and again), debug (lines of `debug` on random programs, on programs that draw and on those of feature_roms.py: steps, places, opcodes, frames,
-seconds, registers, histories, listings, memory, what is sent, pictures and digests of the whole machine), tests (`test` of programs that send words and
-come to an end in many ways and places, with scripts and without). The status is 1 where anything differs."""
+machine again and again), waits (the same on programs of waiting_roms.py, which wait in loops), debug (lines of `debug` on random programs, on programs
+that draw and on those of feature_roms.py: steps, places, opcodes, frames, seconds, registers, histories, listings, memory, what is sent, pictures and
+digests of the whole machine), tests (`test` of programs that send words and come to an end in many ways and places, with scripts and without). The status
+is 1 where anything differs."""
 import os, random, shutil, subprocess, sys, tempfile, time
-from scripts.second_machine import debug_lines, feature_roms, reference as ref, test_lines
+from scripts.second_machine import debug_lines, feature_roms, reference as ref, test_lines, waiting_roms
 
 GB = os.path.abspath(sys.argv[1]) if len(sys.argv) > 1 else ''
 ROOM = tempfile.mkdtemp(prefix='compare-')
@@ -892,13 +893,18 @@ def list_rom(rnd):
 
 
 def moves_for(rnd):
-    """A few frames and seconds: pairs of a button byte or a number of seconds and how often."""
+    """A few frames, seconds and power switches."""
     buttons = [0, 0, 0, 0x01, 0x10, 0x80, 0xFF, rnd.randrange(256)]
     moves = []
     for _ in range(rnd.choice([0, 1, 1, 2, 3])):
         if rnd.random() < 0.3: moves.append(('seconds', rnd.choice([0, 1, 59, 60, 3600, 86400, rnd.randrange(200000)])))
+        elif rnd.random() < 0.2: moves.append(('power',))
         else: moves.append(('frames', rnd.choice(buttons), rnd.randrange(1, 3)))
     return moves
+
+
+def line_of(move):
+    return '%s %s' % move if move[0] == 'seconds' else 'power' if move[0] == 'power' else 'frames %02X %d' % move[1:]
 
 
 def compare_trace(kind, seed, rom, rnd):
@@ -915,12 +921,12 @@ def compare_trace(kind, seed, rom, rnd):
     for move in moves:
         if move[0] == 'seconds':
             for _ in range(move[1]): m.second()
-            inputs += 1
-            lines.append('seconds %d' % move[1])
+        elif move[0] == 'power':
+            debug_lines.powered(m)
         else:
             for _ in range(move[2]): m.frame(move[1])
-            inputs += move[2]
-            lines.append('frames %02X %d' % move[1:])
+        inputs += move[2] if move[0] == 'frames' else 1
+        lines.append(line_of(move))
     with open(script, 'w') as f: f.write('\n'.join(lines))
     want = [(('new', TMP, save, str(sectors)), 'begun 0\n'),
             (('play', TMP, save, script), 'resumed 0\n' + ('saved %d\n' % inputs if inputs else '')),
@@ -1043,7 +1049,7 @@ def compare_tests(kind, seed, rom, rnd):
     with open(TMP, 'wb') as f: f.write(rom)
     stats['roms'] += 1
     script, moves = ROOM + '/script', moves_for(rnd)
-    lines = ['%s %s' % (move[0], move[1] if move[0] == 'seconds' else '%02X %d' % move[1:]) for move in moves]
+    lines = [line_of(move) for move in moves]
     with open(script, 'w') as f: f.write('\n'.join(lines + ['save'] * (rnd.random() < 0.3)))
     frames = rnd.choice([1, 2, 3, 5, 8])
     with_script = rnd.random() < 0.5
@@ -1082,6 +1088,9 @@ def run(kind, first, seconds, most):
         elif kind == 'features':
             rom = feature_roms.Rom(seed % len(feature_roms.CARTRIDGES), '-%d' % seed).build()
             if compare_frames(kind, seed, rom, rnd, 30): compare_trace(kind, seed, rom, rnd)
+        elif kind == 'waits':
+            rom = waiting_roms.Program(seed).build()
+            if compare_frames(kind, seed, rom, rnd, 30): compare_trace(kind, seed, rom, rnd)
         elif kind == 'debug':
             compare_debug(kind, seed, debug_rom(rnd), rnd)
         elif kind == 'tests':
@@ -1107,7 +1116,7 @@ def run(kind, first, seconds, most):
 def main(words):
     if len(words) == 1:
         first = int(time.time())
-        for kind in ('raw', 'prog', 'proglong', 'refuse', 'list', 'trace', 'frames', 'features', 'debug', 'tests'):
+        for kind in ('raw', 'prog', 'proglong', 'refuse', 'list', 'trace', 'frames', 'features', 'waits', 'debug', 'tests'):
             run(kind, first, float(words[0]), 10**9)
     elif len(words) == 3 and words[2] == 'show':
         run(words[0], int(words[1]), 1e9, 1)

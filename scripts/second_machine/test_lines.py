@@ -35,6 +35,9 @@ class Test:
             if move[0] == 'seconds':
                 debug_lines.pass_seconds(self.m, move[1])
                 continue
+            if move[0] == 'power':
+                debug_lines.powered(self.m)
+                continue
             for _ in range(move[2]):
                 self.why = 'frames' if self.frames == most else self.frame(move[1])
                 if self.why:

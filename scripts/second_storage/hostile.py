@@ -54,7 +54,7 @@ def random_rom(rnd):
     return bytes(rom)
 
 
-def random_script(rnd, most=4000):
+def random_script(rnd, most=4000, switches=True):
     lines, left = [], rnd.choice([0, 3, 30, 300, most])
     while left > 0:
         choice = rnd.random()
@@ -71,6 +71,9 @@ def random_script(rnd, most=4000):
                 left -= 1
         elif choice < 0.95:
             lines.append('save')
+        elif choice < 0.97 and switches:
+            lines.append('power')
+            left -= 1
         else:
             lines.append('')
     text = '\n'.join(lines)
@@ -79,13 +82,14 @@ def random_script(rnd, most=4000):
 
 WRONG = [b'frame', b'frame 1G', b'frame 001', b' frame 00', b'frame 00 ', b'frame  00', b'frames 00 0', b'frames 00 1000001', b'frames 00',
          b'frames 00 +1', b'frames 00 00000000001', b'seconds -1', b'seconds 4294967296', b'seconds', b'seconds 1 1', b'save ', b'Save', b'wait',
-         b'\r', b'save\r', b'\0', b'frame\t00', b'\xff\xfe', b'frame 0x', b'seconds 0x10', b'frames 00 1 1', b' ', b'seconds 12345678901']
+         b'\r', b'save\r', b'power ', b'power 1', b'Power', b'powers', b'\0', b'frame\t00', b'\xff\xfe', b'frame 0x', b'seconds 0x10', b'frames 00 1 1', b' ', b'seconds 12345678901']
 
 
-def wrong_script(rnd):
-    lines = random_script(rnd, 30).split(b'\n')
+def wrong_script(rnd, switches=True):
+    """Where no power switch is taken, one is as wrong as the others."""
+    lines = random_script(rnd, 30, switches).split(b'\n')
     for _ in range(rnd.choice([1, 1, 2])):
-        lines.insert(rnd.randrange(len(lines) + 1), rnd.choice(WRONG))
+        lines.insert(rnd.randrange(len(lines) + 1), rnd.choice(WRONG if switches else WRONG + [b'power'] * 5))
     return b'\n'.join(lines)
 
 
@@ -794,19 +798,17 @@ def bare(rnd, seed):
 # ---- lines as they come
 
 def state_moves(line, kept):
-    """The moves of a line of the power switch or of a kept state, which no script has; None of any other one, and of a number under which none is kept."""
-    found = re.fullmatch(rb'(power)|(keep|back) ([0-9]{1,10})', line)
-    if not found or found[3] and int(found[3]) > 999:
+    """The moves of a line of a kept state, which no script has; None of any other one, and of a number under which none is kept."""
+    found = re.fullmatch(rb'(keep|back) ([0-9]{1,10})', line)
+    if not found or int(found[2]) > 999:
         return None
-    if found[1]:
-        return [('other',)]
-    if found[2] == b'keep':
-        kept.add(int(found[3]))
-        return [('told', b'kept %d\n' % int(found[3]))]
-    return [('other',), ('told', b'back %d\n' % int(found[3]))] if int(found[3]) in kept else None
+    if found[1] == b'keep':
+        kept.add(int(found[2]))
+        return [('told', b'kept %d\n' % int(found[2]))]
+    return [('other',), ('told', b'back %d\n' % int(found[2]))] if int(found[2]) in kept else None
 
 
-def moves_before(lines):
+def moves_before(lines, switches=True):
     """The moves of the lines before the first wrong one, and its number; None where no line is wrong. A `picture` is no move."""
     moves, kept = [], set()
     for number, line in enumerate(lines, 1):
@@ -817,8 +819,8 @@ def moves_before(lines):
             moves += others
             continue
         try:
-            if len(line) > 64:
-                raise ref.Refused('too long')
+            if len(line) > 64 or line == b'power' and not switches:
+                raise ref.Refused('no line of this')
             moves += ref.moves_of(line)
         except ref.Refused:
             return moves, number

@@ -74,8 +74,8 @@ def counts_told(out):
 
 def inputs_in(lines):
     """How many inputs the lines of a script or a stream are."""
-    moves = b'\n'.join(line for line in lines.split(b'\n') if not re.fullmatch(rb'power|keep \d+|back \d+', line))
-    return sum(len(ref.inputs_of(move)) for move in ref.moves_of(moves)) + len(re.findall(rb'^(?:power|back \d+)$', lines, re.M))
+    moves = b'\n'.join(line for line in lines.split(b'\n') if not re.fullmatch(rb'keep \d+|back \d+', line))
+    return sum(len(ref.inputs_of(move)) for move in ref.moves_of(moves)) + len(re.findall(rb'^back \d+$', lines, re.M))
 
 
 def is_as_it_should_be(seed, what, got, image, cart, rom, script):

@@ -28,7 +28,7 @@ def recorded(image, recording, cart, lines, agree):
     """Status, output without its pictures, errors, and the game with both files that `record` leaves. `agree`: the machine of the game is the one
     after the recorded inputs, which this reader can't see."""
     game = ref.RecordedGame(image, recording, cart, agree)
-    moves, wrong = moves_before(lines)
+    moves, wrong = moves_before(lines, switches=False)
     try:
         game.take_up()
         game.play(moves)
@@ -89,7 +89,7 @@ def compare_looks(seed, cart, note):
 
 
 def random_lines(rnd, most):
-    text = hostile.wrong_script(rnd) if rnd.random() < 0.15 else random_script(rnd, most)
+    text = hostile.wrong_script(rnd, switches=False) if rnd.random() < 0.15 else random_script(rnd, most, switches=False)
     lines = text.split(b'\n')
     for _ in range(rnd.choice([0, 0, 1])):
         lines.insert(rnd.randrange(len(lines) + 1), rnd.choice([b'picture', b'', b'p' * 64]))

@@ -97,7 +97,7 @@ def count_of(image, cart):
 def commands(gbkeep, loaded):
     cart = ref.Cartridge(rom())
     put(CART, rom())
-    put(SCRIPT, b'frames 01 2\nsave\nseconds 3\nsave\nframe 02\n')
+    put(SCRIPT, b'frames 01 2\nsave\nseconds 3\nsave\npower\nframe 02\n')
     put(BATTERY, bytes(8192 + 48))
     subprocess.run([gbkeep, 'new', CART, SAVE, '188'], check=True, capture_output=True)
     subprocess.run([gbkeep, 'play', CART, SAVE, SCRIPT], check=True, capture_output=True)
@@ -123,7 +123,7 @@ def commands(gbkeep, loaded):
             count = count_of(get(save), cart)
             if len(recordings.Recording(get(RECORDING), cart).inputs) < count_of(get(PAIR), cart):
                 differs('%s, allocation %d: the recording is behind' % (words[0], number))
-            if not max([before] + told) <= count <= before + 4:
+            if not max([before] + told) <= count <= before + 5:
                 differs('%s, allocation %d: %d inputs, %d told' % (words[0], number, count, max([before] + told)))
             if number and not is_refused:
                 break

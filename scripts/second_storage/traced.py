@@ -251,7 +251,7 @@ def recorded_game(rnd, cart):
     hostile.gbkeep('new', hostile.CART, hostile.SAVE)
     for turn in range(3):
         before = get(hostile.SAVE)
-        script = hostile.random_script(rnd, rnd.choice([0, 30, 300]))
+        script = hostile.random_script(rnd, rnd.choice([0, 30, 300]), switches=False)
         want = Pair(before, get(recorded.RECORDING), cart)
         try:
             want.take_up()

@@ -19,6 +19,7 @@ const SCRIPT_LINES: &str = "Lines of SCRIPT:
                02 left, 04 up, 08 down, 10 A, 20 B, 40 select, 80 start
   frames BB N  N such frames, 1 to 1,000,000
   seconds N    N seconds pass on the cartridge's clock, 0 to 4,294,967,295
+  power        the power switch, off and on
   save         saves what is unsaved";
 
 const STREAM_LINES: &str = "Lines of the standard input:

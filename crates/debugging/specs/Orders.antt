@@ -4,7 +4,7 @@ use Rattle.std.specs.List.{slice_split}
 use Rattle.std.specs.Option.{option_map}
 use Rattle.std.specs.Str.{bytes_eq}
 use Rattle.script.specs.declared.moves.Move.{Move}
-use Rattle.script.specs.declared.moves.Move.TheVariants.{Frames as FramesMove, Seconds as SecondsMove, Save}
+use Rattle.script.specs.declared.moves.Move.TheVariants.{Frames as FramesMove, Seconds as SecondsMove, Save, Power as PowerMove}
 use Rattle.script.specs.Line.{byte_of, count_of, move_of_line, words_of}
 use Rattle.debugging.specs.declared.order.Place.{Place}
 use Rattle.debugging.specs.declared.order.Span.{Span}
@@ -67,11 +67,12 @@ until_of (Some places) (Some steps) = Some (Until steps (record { items = places
 until_of (Some places) None = None
 until_of None steps = None
 
--- a move but a save
+-- frames or seconds: a save is no order, and the power switch one of the orders below
 abbrev pub order_of_move : Move → Option Order
 order_of_move (FramesMove buttons times) = Some (Frames buttons times)
 order_of_move (SecondsMove count) = Some (Seconds count)
 order_of_move Save = None
+order_of_move PowerMove = None
 
 -- `registers`, `serial`, `picture`, `state`, `digest`
 abbrev pub order_of_one : List ℕ → Option Order

@@ -235,7 +235,7 @@ fn order_of_move(a_move: Move) -> Option<Order>
     match a_move {
         Move::Frames { buttons, times } => Some(Order::Frames { buttons, times }),
         Move::Seconds(count) => Some(Order::Seconds(count)),
-        Move::Save => None,
+        Move::Save | Move::Power => None,
     }
 }
 

@@ -1,5 +1,5 @@
 -- What a test did, of the program.
-use Rattle.std.proofs.Common.{Bor, List, ℕ, Option, Result, Ok, Err}
+use Rattle.std.proofs.Common.{Bor, List, ℕ, Option, Result, Ok, Err, inl, inr}
 use Rattle.command_line.specs.declared.Request.TheVariants.{Test}
 use Rattle.gbkeep.specs.Program.{IsServed, IsTestServed}
 use Rattle.gbkeep.specs.Request.{IsGiven}
@@ -10,7 +10,8 @@ pub test_served : (cart : Bor (List ℕ)) (frames : ℕ) (script : Option (Bor (
     → IsTestServed rom text frames r old new → IsServed (Test cart frames script) r old new
 test_served cart frames script rom text old new given (Ok u) it = (rom, (text, given, it))
 test_served cart frames script rom text old new given (Err (Cart fault)) it = (tt, it.0, (rom, it.1))
-test_served cart frames script rom text old new given (Err Memory) it = (tt, it.0)
+test_served cart frames script rom text old new given (Err Memory) (inl it) = (tt, inl it.0)
+test_served cart frames script rom text old new given (Err Memory) (inr it) = (tt, inr (rom, text, given, it))
 test_served cart frames script rom text old new given (Err File) it = absurd it
 test_served cart frames script rom text old new given (Err Output) it = (tt, (rom, text, given, it))
 test_served cart frames script rom text old new given (Err Address) it = absurd it

@@ -16,7 +16,7 @@ use Rattle.session.specs.Stands.{Position, stands}
 use Rattle.session.specs.Accessors.{device_of}
 use Rattle.session.specs.declared.error.SessionError.{SessionError}
 use Rattle.session.specs.declared.session.Session.{Session as PlaySession}
-use Rattle.playing.specs.Played.{IsNotTakenUp, HasPlayed, HasStopped}
+use Rattle.playing.specs.Played.{IsNotTakenUp, HasPlayed, HasStopped, HasFoundNoMemory}
 use Rattle.playing.specs.Report.{inputs_of_moves, report_of}
 use Rattle.gbkeep.specs.declared.error.PlayError.{PlayError}
 use Rattle.gbkeep.specs.declared.error.PlayError.TheVariants.{Cart, Script, Session, Picture}
@@ -68,9 +68,11 @@ HasDrawnPart rom script old before since (Session fault) = Keeps before since
 HasDrawnPart rom script old before since Picture =
     (machine : MachineState) × IsLastMachine rom script old machine × AppendsProperPrefix before since (picture_text (picture_rows machine))
 
--- it was not taken up, with nothing written; or it stopped on the way, with its report cut short
+-- it was not taken up, with nothing written; or it stopped on the way, with its report cut short, or at a power switch for which there was no
+-- memory
 abbrev pub IsPlayEnd : (rom script : List ℕ) → (old now : DiskState) → SessionError → (before since : Option (List ℕ)) → Type 0
-IsPlayEnd rom script old now why before since = IsNotTakenUp rom old now why before since ⊎ HasStopped rom old now (moves_in script) why before since
+IsPlayEnd rom script old now why before since =
+    IsNotTakenUp rom old now why before since ⊎ HasStopped rom old now (moves_in script) why before since ⊎ HasFoundNoMemory rom old now (moves_in script) why before since
 
 -- Both are accepted and all was played: the whole report went out, and, if the device is honest, it is at rest with all inputs.
 abbrev pub IsPlayedWhole : (rom script : List ℕ) → Call → Type 0

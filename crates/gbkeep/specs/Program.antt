@@ -56,7 +56,7 @@ use Rattle.streaming.specs.declared.error.StreamError.TheVariants.{Session as St
 use Rattle.gbkeep.specs.declared.fault.Fault.TheVariants.{Cart, Memory, File, Output, Address, Word, Device, Script, Session, Line, Input, Snapshot, Recording, Behind, Ahead, Differ, RecordedGame, TestFailed, TestUndecided, NoBattery, BatteryLength}
 use Rattle.script.specs.Script.{IsRefused as IsScriptRefused}
 use Rattle.gbkeep.specs.Text.{Exchange, Text, IsUnread, IsUnwritten}
-use Rattle.gbkeep.specs.Request.{HasAddress, HasDevice, HasScript, IsDone, IsCompared, GivesInputs, IsGameRefused, IsOutputRefused, IsRecordingRefused, IsTestDecided, IsWithoutBattery, IsOtherLength, IsScriptOf, makes_battery_name, IsStreamStopped, IsStreamedTo, IsNotBelonging, IsRecordStopped, IsRecordedTo, record_limits, IsDebugged, IsDebugStopped, IsDebugUnbegun, IsDebugNotTakenUp}
+use Rattle.gbkeep.specs.Request.{HasAddress, HasDevice, HasScript, IsDone, IsCompared, GivesInputs, IsGameRefused, IsMemoryRefused, IsOutputRefused, IsRecordingRefused, IsTestDecided, IsWithoutBattery, IsOtherLength, IsScriptOf, makes_battery_name, IsStreamStopped, IsStreamedTo, IsNotBelonging, IsRecordStopped, IsRecordedTo, record_limits, IsDebugged, IsDebugStopped, IsDebugUnbegun, IsDebugNotTakenUp}
 
 abbrev pub status_of : Fault → ℕ
 status_of (Cart fault) = 1
@@ -272,7 +272,7 @@ KeepsAtMisuse old new status = status ≡ 2 → Keeps old new
 -- why a request was refused, and what went out then
 abbrev pub IsRefused : Request → Fault → Option (List ℕ) → Option (List ℕ) → Type 0
 IsRefused request (Cart fault) old new = HasAddress request × Keeps old new × ((rom : List ℕ) × (refusal_of rom ≡ Some fault))
-IsRefused request Memory old new = HasAddress request × Keeps old new
+IsRefused request Memory old new = HasAddress request × IsMemoryRefused request old new
 IsRefused request File old new = HasAddress request × Keeps old new
 IsRefused request Output old new = HasAddress request × IsOutputRefused request old new
 IsRefused request Address old new = (¬ (HasAddress request)) × Keeps old new

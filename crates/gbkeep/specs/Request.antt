@@ -1,5 +1,5 @@
 -- What a request wants of a ROM, and when the program has done it.
-use Rattle.std.specs.Prelude.{◌≡◌, ◌≤◌, ◌<◌, ◌++◌, ℕ, List, [], length, codes, decimal, Bool, true, false, ◌==◌, ◌||◌, Option, None, Some, unwrap_or, ⊤}
+use Rattle.std.specs.Prelude.{◌≡◌, ◌⊎◌, ◌≤◌, ◌<◌, ◌++◌, ℕ, List, [], length, codes, decimal, Bool, true, false, ◌==◌, ◌||◌, Option, None, Some, unwrap_or, ⊤}
 use Rattle.std.specs.List.{ends_with}
 use Rattle.std.specs.Str.Parse.{IsNumeral, digits_value}
 use Rattle.std.specs.Borrow.{Bor}
@@ -35,7 +35,7 @@ use Rattle.streaming.specs.Streamed.{HasStreamed}
 use Rattle.streaming.specs.declared.error.StreamError.TheVariants.{Session as StreamSession}
 use Rattle.streaming.specs.declared.obeying.End.{End}
 use Rattle.debugger.specs.Listing.{lines_from}
-use Rattle.test_run.specs.Refusals.{IsTested, IsCutOff}
+use Rattle.test_run.specs.Refusals.{IsTested, IsCutOff, IsSwitchedOff}
 use Rattle.test_run.specs.declared.verdict.Verdict.{Verdict}
 use Rattle.test_run.specs.declared.verdict.Verdict.TheVariants.{Passed}
 use Rattle.save_lines.specs.Shown.{HasShown, IsShowCause}
@@ -321,6 +321,11 @@ IsOutputRefused (Export cart save out) old new =
 IsOutputRefused (Import cart battery save sectors) old new =
     (rom : List ℕ) × IsAccepted rom × HasBegun (Import cart battery save sectors) rom × AppendsProperPrefix old new begun_line
 IsOutputRefused request old new = ⊥
+
+-- there was no memory, and nothing was written; or none for a power switch of a test's script
+abbrev pub IsMemoryRefused : Request → Option (List ℕ) → Option (List ℕ) → Type 0
+IsMemoryRefused (Test cart frames script) old new = Keeps old new ⊎ ((rom text : List ℕ) × IsGiven script text × IsSwitchedOff rom text frames old new)
+IsMemoryRefused request old new = Keeps old new
 
 -- ---- a stream, a recorded play and a debugger, the only requests that read the input
 

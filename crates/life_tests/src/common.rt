@@ -5,11 +5,11 @@ use machine::{Input, Machine, Region};
 use script::Move;
 use sector_device::{MemoryDevice, SectorDevice};
 use session::{Refused, new_game};
-use snapshot::{encode, length};
+use snapshot::{decode, encode, length};
 use std::alloc::Global;
 use std::process::Abort;
 use std::test::Fail;
-use whole_lives::{Lived, Round, RoundEnd, live};
+use whole_lives::{Lived, Play, Round, RoundEnd, live};
 
 /// The display is turned off. Then what the buttons select is added to C in a loop, so that each frame leaves another machine.
 const PROGRAM: [u8; 45] = [
@@ -93,6 +93,32 @@ pub(crate) fn apply(machine: &mut Machine, input: Input) {
     machine.apply(input);
 }
 
+/// Where the clocks stand in a snapshot, and its RAM.
+const CLOCKS: usize = 57;
+
+const RAM: usize = 22_607;
+
+/// The machine at power-on with the clocks and the RAM of another one, as a battery keeps them.
+pub(crate) fn switched(
+    rt: &impl Abort,
+    alloc: Global,
+    cartridge: &Cartridge,
+    machine: &Machine,
+) -> Machine {
+    let old = snapshot_of(alloc, machine).or_stop(rt);
+    let start = Machine::power_on(alloc, cartridge).or_stop(rt);
+    let mut bytes = snapshot_of(alloc, &start).or_stop(rt);
+    for (at, (byte, kept)) in bytes.iter_mut().zip(old.iter()).enumerate() {
+        if at >= RAM || (CLOCKS..CLOCKS + 10).contains(&at) {
+            *byte = *kept;
+        }
+    }
+    let Ok(machine) = decode(alloc, &bytes, cartridge) else {
+        panic!(rt; "no snapshot");
+    };
+    machine
+}
+
 /// Frames with no button and with button 0 pressed, in turn, a move each.
 pub(crate) fn add_alternating(moves: &mut Vec<Move>, count: u8) -> Result<(), Fail> {
     for i in 0..count {
@@ -110,8 +136,12 @@ pub(crate) fn round(
     calls: u64,
     kept: &[bool],
 ) -> Result<Round, Fail> {
+    let mut plays = Vec::new(alloc);
+    for one in moves {
+        plays.push(Play::Make(*one))?;
+    }
     Ok(Round {
-        moves: Vec::from_slice(alloc, moves)?,
+        plays,
         calls,
         kept: Vec::from_slice(alloc, kept)?,
     })

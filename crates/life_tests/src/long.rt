@@ -1,13 +1,14 @@
 //! A long life.
 use crate::asserting::{OrStop, holds, same};
-use crate::common::{add_alternating, apply, cartridge, lived, snapshot_of, version_one};
+use crate::common::{apply, cartridge, lived, snapshot_of, switched, version_one};
 use cartridge::Cartridge;
 use machine::{Input, Machine};
 use script::Move;
+use snapshot::decode;
 use std::alloc::Global;
 use std::process::Abort;
 use std::test::Fail;
-use whole_lives::{Round, RoundEnd};
+use whole_lives::{Play, Round, RoundEnd};
 
 /// Marsaglia's xorshift with the shifts 13, 7 and 17.
 fn next(state: &mut u64) -> u64 {
@@ -25,47 +26,82 @@ fn below(state: &mut u64, end: u32) -> u32 {
 }
 
 /// So many inputs that are an entry each and take no time.
-fn add_seconds(moves: &mut Vec<Move>, state: &mut u64, count: u32) -> Result<(), Fail> {
+fn add_seconds(plays: &mut Vec<Play>, state: &mut u64, count: u32) -> Result<(), Fail> {
     for _i in 0..count {
-        moves.push(Move::Seconds(below(state, 4000)))?;
+        plays.push(Play::Make(Move::Seconds(below(state, 4000))))?;
     }
     Ok(())
 }
 
-fn add_frames(moves: &mut Vec<Move>, state: &mut u64) -> Result<(), Fail> {
-    let buttons = u8::try_from(below(state, 256)).unwrap_or(0);
-    let times = below(state, 4);
-    moves.push(Move::Frames { buttons, times })?;
+fn add_frames(plays: &mut Vec<Play>, buttons: u8, times: u32) -> Result<(), Fail> {
+    plays.push(Play::Make(Move::Frames { buttons, times }))?;
     Ok(())
 }
 
-/// One move, or some seconds.
-fn add_moves(moves: &mut Vec<Move>, state: &mut u64) -> Result<(), Fail> {
-    match below(state, 4) {
-        0 => add_frames(moves, state),
+/// A state that is one, or bytes that are none.
+fn add_state(
+    alloc: Global,
+    plays: &mut Vec<Play>,
+    state: &mut u64,
+    states: &[Vec<u8>],
+) -> Result<(), Fail> {
+    for (i, one) in states.iter().enumerate() {
+        if below(state, 2) == 0 || i.saturating_add(1) == states.len() {
+            plays.push(Play::Restore(Vec::from_slice(alloc, one)?))?;
+            return Ok(());
+        }
+    }
+    Ok(())
+}
+
+/// One play, or some seconds.
+fn add_plays(
+    alloc: Global,
+    plays: &mut Vec<Play>,
+    state: &mut u64,
+    states: &[Vec<u8>],
+) -> Result<(), Fail> {
+    match below(state, 7) {
+        0 => {
+            let buttons = u8::try_from(below(state, 256)).unwrap_or(0);
+            add_frames(plays, buttons, below(state, 4))
+        }
         1 => {
             let count = below(state, 200);
-            add_seconds(moves, state, count)
+            add_seconds(plays, state, count)
         }
         2 => {
-            moves.push(Move::Save)?;
+            plays.push(Play::Make(Move::Save))?;
             Ok(())
         }
-        _ => add_alternating(moves, 2),
+        3 => {
+            plays.push(Play::Make(Move::Power))?;
+            Ok(())
+        }
+        4 => add_state(alloc, plays, state, states),
+        _ => {
+            add_frames(plays, 0, 1)?;
+            add_frames(plays, 1, 1)
+        }
     }
 }
 
-/// One round: some frames and seconds, with saves among them. In a large one there are first so many seconds that a save begins a new
-/// generation.
-fn random_round(alloc: Global, state: &mut u64, large: bool) -> Result<Round, Fail> {
-    let mut moves = Vec::new(alloc);
+/// One round: some frames, seconds, power switches and states, with saves among them. In a large one there are first so many seconds that a save
+/// begins a new generation.
+fn random_round(
+    alloc: Global,
+    state: &mut u64,
+    large: bool,
+    states: &[Vec<u8>],
+) -> Result<Round, Fail> {
+    let mut plays = Vec::new(alloc);
     if large {
         let count = below(state, 1_000).saturating_add(2_680);
-        add_seconds(&mut moves, state, count)?;
-        moves.push(Move::Save)?;
+        add_seconds(&mut plays, state, count)?;
+        plays.push(Play::Make(Move::Save))?;
     }
     for _i in 0..below(state, 6) {
-        add_moves(&mut moves, state)?;
+        add_plays(alloc, &mut plays, state, states)?;
     }
     let mut kept = Vec::new(alloc);
     for _i in 0..below(state, 120) {
@@ -77,35 +113,83 @@ fn random_round(alloc: Global, state: &mut u64, large: bool) -> Result<Round, Fa
     } else if below(state, 4) == 0 {
         below(state, 165)
     } else {
-        below(state, 60).saturating_add(155)
+        below(state, 200).saturating_add(155)
     };
     Ok(Round {
-        moves,
+        plays,
         calls: u64::from(calls),
         kept,
     })
 }
 
-/// Gives a machine the first so many inputs of some moves. Answers how many it was given and how many were left.
-fn give(machine: &mut Machine, moves: &[Move], count: u64) -> (u64, u64) {
-    let mut given = 0u64;
-    let mut left = 0u64;
-    for one in moves {
-        let (input, times) = match *one {
-            Move::Frames { buttons, times } => (Input::Frame(buttons), times),
-            Move::Seconds(seconds) => (Input::Seconds(seconds), 1),
-            Move::Save => (Input::Seconds(0), 0),
-        };
-        for _i in 0..times {
-            if given < count {
-                apply(machine, input);
-                given = given.saturating_add(1);
-            } else {
-                left = left.saturating_add(1);
+/// What a life gave so far, played by other calls.
+#[derive(Drop)]
+struct Past {
+    machine: Machine,
+    /// How many inputs it was given, and how many were left, of a round.
+    given: u64,
+    left: u64,
+}
+
+/// Whether one more input is given.
+fn takes(past: &mut Past, count: u64) -> bool {
+    if past.given < count {
+        past.given = past.given.saturating_add(1);
+        return true;
+    }
+    past.left = past.left.saturating_add(1);
+    false
+}
+
+fn give_move(
+    rt: &impl Abort,
+    alloc: Global,
+    cartridge: &Cartridge,
+    past: &mut Past,
+    one: Move,
+    count: u64,
+) {
+    let (input, times) = match one {
+        Move::Frames { buttons, times } => (Input::Frame(buttons), times),
+        Move::Seconds(seconds) => (Input::Seconds(seconds), 1),
+        Move::Save => (Input::Seconds(0), 0),
+        Move::Power => {
+            if takes(past, count) {
+                past.machine = switched(rt, alloc, cartridge, &past.machine);
+            }
+            return;
+        }
+    };
+    for _i in 0..times {
+        if takes(past, count) {
+            apply(&mut past.machine, input);
+        }
+    }
+}
+
+/// Gives a machine the first so many inputs of some plays.
+fn give(
+    rt: &impl Abort,
+    alloc: Global,
+    cartridge: &Cartridge,
+    past: &mut Past,
+    plays: &[Play],
+    count: u64,
+) {
+    past.given = 0;
+    past.left = 0;
+    for one in plays {
+        match one {
+            Play::Make(one) => give_move(rt, alloc, cartridge, past, *one, count),
+            Play::Restore(bytes) => {
+                if let Ok(machine) = decode(alloc, bytes, cartridge) {
+                    if takes(past, count) {
+                        past.machine = machine;
+                    }
+                }
             }
         }
     }
-    (given, left)
 }
 
 /// The count at which the game was taken up next, behind the first so many rounds.
@@ -132,7 +216,9 @@ struct Had {
 /// Each round begins where the one before it ended, and none loses what was saved. The machine is given what survived.
 fn give_survivors(
     rt: &impl Abort,
-    machine: &mut Machine,
+    alloc: Global,
+    cartridge: &Cartridge,
+    past: &mut Past,
     first: u64,
     rounds: &[Round],
     ends: &[RoundEnd],
@@ -154,9 +240,10 @@ fn give_survivors(
         same!(rt; resumed, count);
         let behind = count_behind(ends, i.saturating_add(1), last);
         holds!(rt; resumed <= end.saved && end.saved <= behind);
-        let (given, left) = give(machine, &round.moves, behind.saturating_sub(resumed));
-        same!(rt; given, behind.saturating_sub(resumed));
-        if left > 0 {
+        let survived = behind.saturating_sub(resumed);
+        give(rt, alloc, cartridge, past, &round.plays, survived);
+        same!(rt; past.given, survived);
+        if past.left > 0 {
             had.lost = had.lost.saturating_add(1);
         }
         if end.saved.saturating_sub(resumed) > 2_688 {
@@ -169,11 +256,40 @@ fn give_survivors(
     had
 }
 
-fn three_hundred(alloc: Global) -> Result<Vec<Round>, Fail> {
+/// Three states of the cartridge, and bytes that are none: the first half of a state, and one whose first byte is wrong.
+fn some_states(
+    rt: &impl Abort,
+    alloc: Global,
+    cartridge: &Cartridge,
+) -> Result<Vec<Vec<u8>>, Fail> {
+    let mut states = Vec::new(alloc);
+    let mut machine = Machine::power_on(alloc, cartridge)?;
+    for i in 0..3u8 {
+        apply(&mut machine, Input::Frame(i));
+        apply(
+            &mut machine,
+            Input::Seconds(u32::from(i).saturating_mul(5_000)),
+        );
+        states.push(snapshot_of(alloc, &machine)?)?;
+    }
+    let mut short = snapshot_of(alloc, &machine)?;
+    short.truncate(15_000);
+    states.push(short)?;
+    let mut wrong = snapshot_of(alloc, &machine)?;
+    // the kind of the controller is another
+    if let Some(kind) = wrong.get_mut(51) {
+        *kind = 5;
+    }
+    holds!(rt; decode(alloc, &wrong, cartridge).is_err());
+    states.push(wrong)?;
+    Ok(states)
+}
+
+fn three_hundred(alloc: Global, states: &[Vec<u8>]) -> Result<Vec<Round>, Fail> {
     let mut state = 88_172_645_463_325_252;
     let mut rounds = Vec::new(alloc);
     for i in 0..300 {
-        rounds.push(random_round(alloc, &mut state, i % 25 == 24)?)?;
+        rounds.push(random_round(alloc, &mut state, i % 25 == 24, states)?)?;
     }
     Ok(rounds)
 }
@@ -196,13 +312,27 @@ fn are_same(rt: &impl Abort, alloc: Global, one: &Machine, other: &Machine) {
 fn three_hundred_rounds(rt: HostRuntime) {
     let alloc = rt.alloc();
     let cartridge = cartridge(alloc).or_stop(&rt);
-    let rounds = three_hundred(alloc).or_stop(&rt);
+    let states = some_states(&rt, alloc, &cartridge).or_stop(&rt);
+    let rounds = three_hundred(alloc, &states).or_stop(&rt);
     let device = version_one(&rt, alloc, &cartridge);
     let lived = lived(&rt, alloc, device, &cartridge, &rounds);
     same!(rt; lived.rounds.len(), 300);
-    let mut machine = first_machine(&rt, alloc, &cartridge);
+    let mut past = Past {
+        machine: first_machine(&rt, alloc, &cartridge),
+        given: 0,
+        left: 0,
+    };
     let last = lived.session.counts().all;
-    let had = give_survivors(&rt, &mut machine, 7, &rounds, &lived.rounds, last);
-    are_same(&rt, alloc, lived.session.machine(), &machine);
+    let had = give_survivors(
+        &rt,
+        alloc,
+        &cartridge,
+        &mut past,
+        7,
+        &rounds,
+        &lived.rounds,
+        last,
+    );
+    are_same(&rt, alloc, lived.session.machine(), &past.machine);
     holds!(rt; had.missed > 20 && had.lost > 50 && had.replaced > 3, "{had:?}");
 }

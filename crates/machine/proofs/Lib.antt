@@ -8,3 +8,5 @@ pub mod Watching
 pub mod WatchedLaws
 pub mod StepsLeft
 pub mod FastRuns
+pub mod WaitingLoop
+pub mod SameRegisters

@@ -8,4 +8,5 @@ pub mod WatchedLaws
 pub mod FastRuns
 -- what only the code needs
 pub mod Waiting
+pub mod WaitingLoop
 pub mod Watching

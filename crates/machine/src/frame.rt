@@ -11,11 +11,21 @@ ghost use Rattle.memory_map.specs.Quiet.{IsCalm};
 ghost use Rattle.sm83_processor.specs.FastStep.{IsFast, IsUsual};
 ghost use Rattle.sm83_processor.specs.Steps.{passing, step_of};
 
+use crate::waiting_loop::{may_wait, pass_laps};
 use memory_map::Bus;
 use sm83_processor::{FIRST_OWN_LOOP, Processor, StepKind};
 
 /// The M-cycles of a frame.
 pub(crate) const FRAME: u32 = 17_556;
+
+/// The M-cycles of the first two pieces of a run of fast steps.
+const FIRST_PIECE: u32 = 128;
+
+/// The M-cycles of a piece.
+const PIECE: u32 = 1_024;
+
+/// How many times as long the next piece is if it was searched for laps, and none were found.
+const LONGER: u32 = 16;
 
 /// The loop of fast steps in the lower half of ROM.
 pub(crate) const IN_LOWER_ROM: u8 = FIRST_OWN_LOOP;
@@ -83,7 +93,8 @@ fn run_some_steps(processor: &mut Processor<Bus>, passed: u32) -> u32
     step_and_wait(processor, passed)
 }
 
-/// Makes steps as `run_some_steps` does, as long as the next one is fast.
+/// Makes steps as `run_some_steps` does, as long as the next one is fast. Most such runs are short, and
+/// not searched for loops that wait.
 #[inline(always)]
 fn run_fast_steps(processor: &mut Processor<Bus>, passed: u32) -> u32
     requires below { passed < cycles_per_frame }
@@ -92,23 +103,89 @@ fn run_fast_steps(processor: &mut Processor<Bus>, passed: u32) -> u32
     ensures more { passed < result }
     ensures few { result < cycles_per_frame + 6 }
 {
-    let mut passed = passed;
-    while passed < FRAME {
-        let (now, is_fast) = run_fast_steps_here(processor, passed);
-        passed = now;
-        if !is_fast {
-            return passed;
-        }
+    let until = (passed + FIRST_PIECE).min(FRAME);
+    let (now, is_fast) = run_piece(processor, passed, until);
+    if !is_fast || now >= FRAME {
+        return now;
     }
-    passed
+    run_pieces(processor, now)
 }
 
-/// Makes fast steps while PC stays in the lower half of ROM, in the upper half, in WRAM or in HRAM, or
-/// above ROM if it begins in none of them. Returns how many M-cycles of the frame have passed after
-/// them, and whether the next step is known to be fast.
-#[inline(always)]
-fn run_fast_steps_here(processor: &mut Processor<Bus>, passed: u32) -> (u32, bool)
+/// Makes steps as `run_fast_steps` does, in pieces. Passes the laps of a loop that waits, if the
+/// registers before and after a piece may be of one.
+#[inline(never)]
+fn run_pieces(processor: &mut Processor<Bus>, passed: u32) -> u32
     requires below { passed < cycles_per_frame }
+    requires fast { IsFast bus_rules processor.old }
+    ensures run { frame_of bus_rules result processor.new ≡ frame_of bus_rules passed processor.old }
+    ensures more { passed < result }
+    ensures few { result < cycles_per_frame + 6 }
+{
+    let mut passed = passed;
+    let mut most = FIRST_PIECE;
+    loop {
+        let before = processor.registers;
+        let until = passed.saturating_add(most).min(FRAME);
+        let (now, is_fast) = run_piece(processor, passed, until);
+        if !is_fast || now >= FRAME {
+            return now;
+        }
+        if !may_wait(&before, &processor.registers) {
+            passed = now;
+            most = PIECE;
+        } else {
+            passed = pass_laps(processor, now);
+            most = after_search(passed - now, most);
+            if !processor.is_fast() {
+                return passed;
+            }
+        }
+    }
+}
+
+/// The M-cycles of the piece that comes after a search for laps, by those that the search passed and
+/// those of the piece before it: many if it found no laps.
+fn after_search(found: u32, most: u32) -> u32
+    requires { 0 < most }
+    ensures { 0 < result }
+{
+    if found < FIRST_PIECE {
+        most.saturating_mul(LONGER)
+    } else {
+        FIRST_PIECE
+    }
+}
+
+/// Makes fast steps until M-cycle `until` of the frame, or as long as the next one is fast. Returns how
+/// many M-cycles have passed after them, and whether the next step is known to be fast.
+#[inline(always)]
+fn run_piece(processor: &mut Processor<Bus>, passed: u32, until: u32) -> (u32, bool)
+    requires below { passed < until }
+    requires until { until ≤ cycles_per_frame }
+    requires fast { IsFast bus_rules processor.old }
+    ensures run { frame_of bus_rules result.0 processor.new ≡ frame_of bus_rules passed processor.old }
+    ensures more { passed < result.0 }
+    ensures few { result.0 < cycles_per_frame + 6 }
+    ensures fast { result.1 ≡ true → IsFast bus_rules processor.new }
+{
+    let mut passed = passed;
+    while passed < until {
+        let (now, is_fast) = run_fast_steps_here(processor, passed, until);
+        passed = now;
+        if !is_fast {
+            return (passed, false);
+        }
+    }
+    (passed, true)
+}
+
+/// Makes fast steps until M-cycle `until` of the frame, while PC stays in the lower half of ROM, in the
+/// upper half, in WRAM or in HRAM, or above ROM if it begins in none of them. Returns how many M-cycles
+/// of the frame have passed after them, and whether the next step is known to be fast.
+#[inline(always)]
+fn run_fast_steps_here(processor: &mut Processor<Bus>, passed: u32, until: u32) -> (u32, bool)
+    requires below { passed < until }
+    requires until { until ≤ cycles_per_frame }
     requires fast { IsFast bus_rules processor.old }
     ensures run { frame_of bus_rules result.0 processor.new ≡ frame_of bus_rules passed processor.old }
     ensures more { passed < result.0 }
@@ -116,15 +193,15 @@ fn run_fast_steps_here(processor: &mut Processor<Bus>, passed: u32) -> (u32, boo
     ensures fast { result.1 ≡ true → IsFast bus_rules processor.new }
 {
     if is_there::<IN_LOWER_ROM>(processor.registers.pc) {
-        run_fast_steps_by::<IN_LOWER_ROM>(processor, passed)
+        run_fast_steps_by::<IN_LOWER_ROM>(processor, passed, until)
     } else if is_there::<IN_UPPER_ROM>(processor.registers.pc) {
-        run_fast_steps_by::<IN_UPPER_ROM>(processor, passed)
+        run_fast_steps_by::<IN_UPPER_ROM>(processor, passed, until)
     } else if is_there::<IN_WRAM>(processor.registers.pc) {
-        run_fast_steps_by::<IN_WRAM>(processor, passed)
+        run_fast_steps_by::<IN_WRAM>(processor, passed, until)
     } else if is_there::<IN_HRAM>(processor.registers.pc) {
-        run_fast_steps_by::<IN_HRAM>(processor, passed)
+        run_fast_steps_by::<IN_HRAM>(processor, passed, until)
     } else {
-        run_fast_steps_by::<ABOVE_ROM>(processor, passed)
+        run_fast_steps_by::<ABOVE_ROM>(processor, passed, until)
     }
 }
 
@@ -149,12 +226,17 @@ pub(crate) fn is_there<const LOOP: u8>(pc: u16) -> bool {
     }
 }
 
-/// Makes fast steps while PC is where this loop runs, and one step if it is elsewhere. Each loop has a
-/// function of its own: in one with all loops the compiler would keep addresses in registers that each
-/// loop needs.
+/// Makes fast steps until M-cycle `until` of the frame, while PC is where this loop runs, and one step if
+/// it is elsewhere. Each loop has a function of its own: in one with all loops the compiler would keep
+/// addresses in registers that each loop needs.
 #[inline(never)]
-fn run_fast_steps_by<const LOOP: u8>(processor: &mut Processor<Bus>, passed: u32) -> (u32, bool)
-    requires below { passed < cycles_per_frame }
+fn run_fast_steps_by<const LOOP: u8>(
+    processor: &mut Processor<Bus>,
+    passed: u32,
+    until: u32,
+) -> (u32, bool)
+    requires below { passed < until }
+    requires until { until ≤ cycles_per_frame }
     requires fast { IsFast bus_rules processor.old }
     ensures run { frame_of bus_rules result.0 processor.new ≡ frame_of bus_rules passed processor.old }
     ensures more { passed < result.0 }
@@ -166,11 +248,11 @@ fn run_fast_steps_by<const LOOP: u8>(processor: &mut Processor<Bus>, passed: u32
     }
     let mut passed = passed;
     loop {
-        let (now, is_fast) = run_calm_steps::<LOOP>(processor, passed);
+        let (now, is_fast) = run_calm_steps::<LOOP>(processor, passed, until);
         if !is_fast {
             return (now, false);
         }
-        if now >= FRAME || !is_there::<LOOP>(processor.registers.pc) {
+        if now >= until || !is_there::<LOOP>(processor.registers.pc) {
             return (now, true);
         }
         passed = now;
@@ -178,18 +260,23 @@ fn run_fast_steps_by<const LOOP: u8>(processor: &mut Processor<Bus>, passed: u32
 }
 
 /// Makes fast steps up to and including the first that is not known to be calm, or after which PC is
-/// elsewhere. Returns how many M-cycles of the frame have passed after it, and whether the next step is
-/// fast.
+/// elsewhere, or which reaches M-cycle `until` of the frame. Returns how many M-cycles of the frame have
+/// passed after it, and whether the next step is fast.
 #[inline(always)]
-fn run_calm_steps<const LOOP: u8>(processor: &mut Processor<Bus>, passed: u32) -> (u32, bool)
-    requires below { passed < cycles_per_frame }
+fn run_calm_steps<const LOOP: u8>(
+    processor: &mut Processor<Bus>,
+    passed: u32,
+    until: u32,
+) -> (u32, bool)
+    requires below { passed < until }
+    requires until { until ≤ cycles_per_frame }
     requires fast { IsFast bus_rules processor.old }
     ensures run { frame_of bus_rules result.0 processor.new ≡ frame_of bus_rules passed processor.old }
     ensures more { passed < result.0 }
     ensures few { result.0 < cycles_per_frame + 6 }
     ensures fast { result.1 ≡ true → IsFast bus_rules processor.new }
 {
-    let calm = u32::from(processor.memory.calm()).min(FRAME - passed);
+    let calm = u32::from(processor.memory.calm()).min(until - passed);
     let end = passed + calm;
     let mut left = calm;
     loop {

@@ -12,6 +12,7 @@ pub mod machine_without_memory;
 mod reported;
 mod steps;
 mod untimed;
+mod waiting_loop;
 pub mod watched;
 
 pub use input::Input;

@@ -25,7 +25,7 @@ moved n clock l b p e le f =
     ap (λ (q : PictureUnit). with_timer_and_picture (up_to (clock + n) l) q b) f
     ∙ ap (λ (t : timer.TimerAndRequest). with_timer_and_picture t (further n b.picture.picture) b) (later clock n l le ∙ ap (iterate timer.tick n) (sym e))
 
-requested_after : (n : ℕ) (b : BusState) → AreQuietOn n b → (gone_on n b).timer.requested ≡ b.timer.requested
+pub requested_after : (n : ℕ) (b : BusState) → AreQuietOn n b → (gone_on n b).timer.requested ≡ b.timer.requested
 requested_after zero b quiet = refl
 requested_after (suc n) b quiet = still_requested (suc n) b.timer (quiet.timer (omega arith))
 

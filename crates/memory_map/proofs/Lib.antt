@@ -9,3 +9,4 @@ pub mod SameCartridge
 pub mod CopyLaws
 pub mod LateTimers
 pub mod LateBus
+pub mod LastingBytes

@@ -8,6 +8,7 @@ pub mod Stores
 pub mod Laws
 pub mod CopyLaws
 pub mod Quiet
+pub mod Lasting
 -- what only the code needs
 pub mod LateTimer
 pub mod Invariant

@@ -10,6 +10,7 @@ mod bus;
 mod bus_memory;
 mod bus_without_memory;
 mod control;
+mod lasting;
 mod late_timer;
 mod laws;
 mod place;

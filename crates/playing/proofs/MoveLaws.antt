@@ -1,10 +1,11 @@
 -- Inputs and moves, one after another.
-use Rattle.std.proofs.Common.{◌≡◌, ℕ, zero, suc, ◌+◌, ◌-◌, ◌<◌, List, [], ◌∷◌, ◌++◌, length, take, drop, replicate, get_or, Option, refl, sym, ap, ◌∙◌, subst, arith, append-nil}
+use Rattle.std.proofs.Common.{◌≡◌, ℕ, zero, suc, ◌+◌, ◌-◌, ◌<◌, List, [], ◌∷◌, ◌++◌, length, take, drop, replicate, get_or, Option, refl, sym, ap, ◌∙◌, subst, arith, append-nil, append_assoc}
 use Rattle.std.proofs.Math.Seq.{take-suc}
 use Rattle.std.proofs.lemmas.List.{replicate-append-replicate}
 use Rattle.machine.specs.Machine.{Input}
 use Rattle.script.specs.declared.moves.Move.{Move}
-use Rattle.playing.specs.Making.{count_of, Makes, StopsMaking, GivesInputs, StopsAmongInputs, MakesMoves, StopsAmongMoves}
+use Rattle.script.specs.declared.moves.Move.TheVariants.{Power}
+use Rattle.playing.specs.Making.{count_of, Makes, StopsMaking, GivesInputs, StopsAmongInputs, MakesMoves, StopsAmongMoves, HasRoom, FindsNoMemory}
 use Rattle.playing.specs.Report.{unsaved_behind, lines_of_inputs, inputs_of_move, inputs_of_moves, unsaved_behind_move, unsaved_behind_moves, lines_of_move, lines_of_moves}
 use Rattle.playing.specs.declared.playable.Playable.{Ghosts}
 use Rattle.playing.proofs.ReportLaws.{inputs_append, unsaved_append, lines_append, unsaved_moves, lines_moves}
@@ -78,3 +79,15 @@ module _ {G F : Type 0} (game : Ghosts G F) (a b c : G) (x y z : Option (List �
   next_stopped may_fail why stop =
       subst (λ (l : List Move). StopsAmongMoves game a c x z may_fail l why) (all_moves moves i d less)
       (stops_before_more game moves_asked a c x z may_fail (take i moves ++ get_or moves i d ∷ []) (drop (i + 1) moves) why (stops_among_more game moves_asked a b c x y z may_fail (take i moves) (get_or moves i d ∷ []) why so_far stop))
+
+  -- there was no memory for it
+  pub next_without_memory : get_or moves i d ≡ Power → c ≡ b → z ≡ y → HasRoom game b → FindsNoMemory game a c x z moves
+  next_without_memory is same quiet room = record {
+    done = take i moves;
+    left = drop (i + 1) moves;
+    moves_are =
+        sym (all_moves moves i d less) ∙ append_assoc (take i moves) (get_or moves i d ∷ []) (drop (i + 1) moves)
+        ∙ ap (λ (m : Move). take i moves ++ m ∷ drop (i + 1) moves) is;
+    made = subst (λ (there : G). MakesMoves game a there x z (take i moves)) (sym same) (subst (λ (o : Option (List ℕ)). MakesMoves game a b x o (take i moves)) (sym quiet) so_far);
+    room = subst (λ (there : G). HasRoom game there) (sym same) room;
+  }

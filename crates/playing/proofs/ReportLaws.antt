@@ -5,6 +5,7 @@ use Rattle.std.proofs.lemmas.Bool.{cases_Bool, eqb-true, ne_eqb}
 use Rattle.exact_text.proofs.Writes.{appends_twice}
 use Rattle.machine.specs.Machine.{Input}
 use Rattle.script.specs.declared.moves.Move.{Move}
+use Rattle.script.specs.declared.moves.Move.TheVariants.{Power}
 use Rattle.playing.specs.Report.{inputs_of_move, inputs_of_moves, Line, texts, unsaved_after, unsaved_behind, line_due, lines_of_inputs, unsaved_behind_move, unsaved_behind_moves, lines_of_move, lines_of_moves, saved_line, last_line}
 
 -- ---- texts
@@ -66,6 +67,10 @@ lines_moves count unsaved (m ∷ first) second =
     ap (λ (l : List Line). here ++ l) (lines_moves (count + length (inputs_of_move m)) (unsaved_behind_move unsaved m) first second)
     ∙ sym (append_assoc here next (lines_of_moves (count + length (inputs_of_move m) + length (inputs_of_moves first)) (unsaved_behind_moves (unsaved_behind_move unsaved m) first) second))
     ∙ ap (λ (n : ℕ). (here ++ next) ++ lines_of_moves n (unsaved_behind_moves (unsaved_behind_move unsaved m) first) second) e
+
+-- those before a power switch
+pub front_of_moves : (moves done left : List Move) → moves ≡ done ++ Power ∷ left → inputs_of_moves done ++ inputs_of_moves (Power ∷ left) ≡ inputs_of_moves moves
+front_of_moves moves done left are = sym (inputs_append done (Power ∷ left)) ∙ ap inputs_of_moves (sym are)
 
 -- ---- the save at the end
 

@@ -1,6 +1,6 @@
 -- Why a play stops.
-use Rattle.std.proofs.Common.{◌≡◌, ◌==◌, ℕ, ◌≤◌, ◌<◌, ◌-◌, ◌^◌, List, Bool, false, true, inl, inr, ◌⊎◌, ⊎_elim, if◌then◌else◌, Result, Ok, Err, refl, sym, ap, subst, arith}
-use Rattle.std.specs.Prelude.{IfErr, IsErrAnd}
+use Rattle.std.proofs.Common.{◌≡◌, ◌==◌, ◌∙◌, true≢false, eq-eqb, ℕ, ◌≤◌, ◌<◌, ◌-◌, ◌^◌, List, Bool, false, true, inl, inr, ◌⊎◌, ⊎_elim, if◌then◌else◌, Result, Ok, Err, refl, sym, ap, subst, arith}
+use Rattle.std.specs.Prelude.{IfOk, IfErr, IsErrAnd}
 use Rattle.std.proofs.lemmas.Bool.{eqb-true}
 use Rattle.sector_device.specs.DiskState.{DiskState}
 use Rattle.log_format.specs.Content.{generation_in}
@@ -9,6 +9,10 @@ use Rattle.session.specs.declared.error.Damage.{Damage}
 use Rattle.session.specs.declared.error.SessionError.{SessionError}
 use Rattle.session.specs.declared.error.SessionError.TheVariants.{Memory, Device, NoSession, TooSmall, OtherCartridge, Damaged, GenerationsUsedUp, Broken, SaveFirst, CountFull, Output}
 use Rattle.playing.specs.Played.{IsStop}
+
+pub if_ok : {T E : Type 0} (r : Result T E) {P Q : T → Type 0} → IfOk r P → ((x : T) → P x → Q x) → IfOk r Q
+if_ok (Ok x) p to = to x p
+if_ok (Err e) p to = tt
 
 pub if_err : {T E : Type 0} (r : Result T E) {P Q : E → Type 0} → IfErr r P → ((e : E) → P e → Q e) → IfErr r Q
 if_err (Ok x) p to = tt
@@ -54,6 +58,26 @@ input_refused why broken pending all whole few answer =
     (λ (most : (pending == 3200) ≡ true). let e = eqb-true pending 3200 most in absurd (omega (arith, e, few)))
     (λ (full : (why ≡ CountFull) × ((all == 2 ^ 64 - 1) ≡ true)). (full.0, eqb-true all (2 ^ 64 - 1) full.1))
     (refused_by why (pending == 3200) (all == 2 ^ 64 - 1) (subst (λ (b : Bool). Err why ≡ input_answer b pending all) whole answer))
+
+ok_full : (most full : Bool) → answer_of most full ≡ Ok tt → full ≡ false
+ok_full true full is = absurd (cc)
+ok_full false true is = absurd (cc)
+ok_full false false is = refl
+
+-- where one is taken, the count is not the greatest
+pub taken_room : (broken : Bool) (pending all : ℕ) → broken ≡ false → input_answer broken pending all ≡ Ok tt → all ≡ 2 ^ 64 - 1 → ⊥
+taken_room broken pending all whole answer full =
+    let room = ok_full (pending == 3200) (all == 2 ^ 64 - 1) (subst (λ (b : Bool). input_answer b pending all ≡ Ok tt) whole answer) in
+    true≢false (sym (eq-eqb all (2 ^ 64 - 1) full) ∙ room)
+
+-- nor is it where there is no memory for the power switch
+pub power_room : (why : SessionError) (broken : Bool) (pending all : ℕ) → broken ≡ false → pending < 3200
+    → (Err why ≡ input_answer broken pending all) ⊎ (Path (Result (Unit {0}) SessionError) (Err why) (Err Memory) × (input_answer broken pending all ≡ Ok tt)) → why ≡ Memory → all ≡ 2 ^ 64 - 1 → ⊥
+power_room why broken pending all whole few (inl is) memory full =
+    let refused = input_refused why broken pending all whole few is in
+    let other : Memory ≡ CountFull = sym memory ∙ refused.0 in
+    cc
+power_room why broken pending all whole few (inr is) memory full = taken_room broken pending all whole is.1 full
 
 -- so is the power switch, where there is memory for it
 pub power_refused : (why : SessionError) (taken : Result (Unit {0}) SessionError) → (Err why ≡ taken) ⊎ (Path (Result (Unit {0}) SessionError) (Err why) (Err Memory) × (taken ≡ Ok tt)) → (why ≡ Memory → ⊥) → Err why ≡ taken

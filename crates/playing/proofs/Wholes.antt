@@ -5,7 +5,7 @@ use Rattle.exact_text.specs.Written.{AppendsProperPrefix}
 use Rattle.machine.specs.Machine.{Input}
 use Rattle.script.specs.declared.moves.Move.{Move}
 use Rattle.session.specs.declared.error.SessionError.TheVariants.{Output}
-use Rattle.playing.specs.Making.{count_of, Makes, StopsMaking, MakesMoves, StopsAmongMoves}
+use Rattle.playing.specs.Making.{count_of, Makes, StopsMaking, MakesMoves, StopsAmongMoves, FindsNoMemory, PlaysToMemory}
 use Rattle.playing.specs.Report.{Line, resumed_line, inputs_of_moves, unsaved_behind_moves, lines_of_moves, last_line, report_lines}
 use Rattle.playing.specs.declared.playable.Playable.{Ghosts}
 use Rattle.playing.proofs.Making.{advances_count, makes_by, makes_then, makes_line, stops_at_line, stops_before, stops_by, stops_then}
@@ -57,3 +57,17 @@ module _ {G F : Type 0} (game : Ghosts G F) (a b : G) (x y z : Option (List ℕ)
     -- and the save behind them was refused
     pub play_not_saved : (c : G) (w : Option (List ℕ)) (may_fail : Type 0) (why : F) → StopsMaking game b c z w may_fail [] last_there why → StopsMaking game a c x w may_fail (inputs_of_moves moves) (report_lines first moves) why
     play_not_saved c w may_fail why stop = stops_by game (append-nil (inputs_of_moves moves)) report_is (stops_then game resumed (stops_then game made stop))
+
+  -- they were made up to a power switch for which there was no memory
+  pub play_without_memory : FindsNoMemory game a b y z moves → PlaysToMemory game a b x z moves
+  play_without_memory stop =
+      let all : count_of game a ≡ first = omega (arith, none) in
+      let lines_are : lines_of_moves (count_of game a) (game.unsaved a) stop.done ≡ lines_of_moves first 0 stop.done =
+      ap (λ (n : ℕ). lines_of_moves n (game.unsaved a) stop.done) all ∙ ap (λ (n : ℕ). lines_of_moves first n stop.done) none in
+      record {
+        done = stop.done;
+        left = stop.left;
+        moves_are = stop.moves_are;
+        made = makes_by game refl (ap (λ (n : ℕ). unsaved_behind_moves n stop.done) none) (ap (λ (l : List Line). resumed_line first ∷ l) lines_are) (makes_then game resumed stop.made);
+        room = stop.room;
+      }

@@ -1,10 +1,11 @@
 -- What moves that are made leave of a game and of its report.
-use Rattle.std.specs.Prelude.{◌≡◌, ◌≤◌, ◌+◌, ℕ, List, [], ◌∷◌, Option, All}
+use Rattle.std.specs.Prelude.{◌≡◌, ◌≢◌, ◌≤◌, ◌+◌, ◌-◌, ◌^◌, ℕ, List, [], ◌∷◌, ◌++◌, Option, All}
 use Rattle.std.specs.Io.KnownBytes.{Appends}
 use Rattle.machine.specs.Machine.{Input, applied}
 use Rattle.script.specs.declared.moves.Move.{Move}
+use Rattle.script.specs.declared.moves.Move.TheVariants.{Power}
 use Rattle.session.specs.declared.error.SessionError.TheVariants.{Output}
-use Rattle.playing.specs.Report.{Line, texts, unsaved_behind, lines_of_inputs, inputs_of_moves, unsaved_behind_moves, lines_of_moves, HasTold}
+use Rattle.playing.specs.Report.{Line, resumed_line, texts, unsaved_behind, lines_of_inputs, inputs_of_moves, unsaved_behind_moves, lines_of_moves, HasTold}
 use Rattle.playing.specs.declared.playable.Playable.{Ghosts}
 
 module _ {G F : Type 0} (game : Ghosts G F) where
@@ -78,3 +79,23 @@ module _ {G F : Type 0} (game : Ghosts G F) where
 
   abbrev pub StopsAmongMoves : (old new : G) → (before since : Option (List ℕ)) → (may_fail : Type 0) → List Move → F → Type 0
   StopsAmongMoves old new before since may_fail moves why = StopsMaking old new before since may_fail (inputs_of_moves moves) (lines_of_moves (count_of old) (game.unsaved old) moves) why
+
+  -- the count of all inputs is not the greatest: one more can be counted
+  abbrev pub HasRoom : G → Type 0
+  HasRoom a = count_of a ≢ 2 ^ 64 - 1
+
+  -- Of these moves those before a power switch were made, and for it there was no memory: nothing else was done or written.
+  pub record FindsNoMemory (old new : G) (before since : Option (List ℕ)) (moves : List Move) : Type 0 where
+    pub done : List Move
+    pub left : List Move
+    pub moves_are : moves ≡ done ++ Power ∷ left
+    pub made : MakesMoves old new before since done
+    pub room : HasRoom new
+
+  -- of a play that was taken up, those before a power switch were made and told, and for it there was no memory
+  pub record PlaysToMemory (old new : G) (before since : Option (List ℕ)) (moves : List Move) : Type 0 where
+    pub done : List Move
+    pub left : List Move
+    pub moves_are : moves ≡ done ++ Power ∷ left
+    pub made : Makes old new before since (inputs_of_moves done) (unsaved_behind_moves 0 done) (resumed_line (game.acknowledged old) ∷ lines_of_moves (game.acknowledged old) 0 done)
+    pub room : HasRoom new

@@ -1,6 +1,6 @@
 -- How far a play has come from where it was taken up.
-use Rattle.std.specs.Prelude.{◌≡◌, ◌⊎◌, ◌≤◌, ◌+◌, ◌-◌, ◌^◌, ℕ, List, [], length, take, drop, true, Option, Some, ⊤}
-use Rattle.std.specs.Io.KnownBytes.{Keeps}
+use Rattle.std.specs.Prelude.{◌≡◌, ◌≢◌, ◌⊎◌, ◌≤◌, ◌+◌, ◌-◌, ◌^◌, ℕ, List, [], ◌∷◌, ◌++◌, length, take, drop, true, Option, Some, ⊤}
+use Rattle.std.specs.Io.KnownBytes.{Appends, Keeps}
 use Rattle.machine.specs.Machine.{MachineState, after}
 use Rattle.machine.specs.Machine.{Input}
 use Rattle.sector_device.specs.DiskState.{DiskState, Settled}
@@ -9,13 +9,14 @@ use Rattle.sector_device.specs.Runs.{HoldsSince}
 use Rattle.log_format.specs.Content.{content, generation_in}
 use Rattle.input_entries.specs.declared.Entry.{Entry}
 use Rattle.script.specs.declared.moves.Move.{Move}
+use Rattle.script.specs.declared.moves.Move.TheVariants.{Power}
 use Rattle.session.specs.Calls.{CanBeTakenUp, IsAtRest, StandsAsBefore}
 use Rattle.session.specs.Found.{IsResumeCause}
 use Rattle.session.specs.Inputs.{can_be_logged, inputs_of}
 use Rattle.session.specs.declared.error.SessionError.{SessionError}
 use Rattle.session.specs.declared.error.SessionError.TheVariants.{Memory, Device, GenerationsUsedUp, CountFull, Output}
 use Rattle.session.specs.Stands.{Position, stands}
-use Rattle.playing.specs.Report.{inputs_of_moves, report_lines, HasTold}
+use Rattle.playing.specs.Report.{inputs_of_moves, lines_of_moves, report_lines, resumed_line, texts, unsaved_behind_moves, HasTold}
 
 -- the image stands for the first so many of these inputs from there, at least for `least` of them
 pub record Reaches (rom : List ℕ) (from : Position) (least : ℕ) (given : List Input) (image : List (List ℕ)) : Type 0 where
@@ -120,3 +121,26 @@ pub record HasStopped (rom : List ℕ) (old now : DiskState) (moves : List Move)
   pub cause : IsStop why (count + length (inputs_of_moves moves)) now
   pub report : HasTold why saved (report_lines count moves) before since
   pub images : old.honest → KeepsSaved rom old now count saved (inputs_of_moves moves)
+
+-- It was taken up at this count, and is at rest with all of these inputs from there but the last, of which so many are unsaved.
+pub record RestsBehind (rom : List ℕ) (old now : DiskState) (count unsaved : ℕ) (given : List Input) : Type 0 where
+  pub from : Position
+  pub stood : stands rom (content old.sectors) ≡ Some from
+  pub count_is : count ≡ from.count
+  pub saved : ℕ
+  pub saved_is : saved + unsaved ≡ length given
+  pub settled : Settled now
+  pub stands_is : stands rom (content now.sectors) ≡ Some (record { count = from.count + saved; machine = after from.machine (take saved given) })
+
+-- It was taken up, and came to a power switch for which there was no memory: the moves before it were made, each save that was due among them
+-- was made and told, and then nothing was done or written. The device is at rest with what was saved.
+pub record HasFoundNoMemory (rom : List ℕ) (old now : DiskState) (moves : List Move) (why : SessionError) (before since : Option (List ℕ)) : Type 0 where
+  pub why_is : why ≡ Memory
+  pub count : ℕ
+  pub done : List Move
+  pub left : List Move
+  pub moves_are : moves ≡ done ++ Power ∷ left
+  -- the switch could have been counted
+  pub room : count + length (inputs_of_moves done) ≢ 2 ^ 64 - 1
+  pub report : Appends before since (texts (resumed_line count ∷ lines_of_moves count 0 done))
+  pub images : old.honest → RestsBehind rom old now count (unsaved_behind_moves 0 done) (inputs_of_moves done)

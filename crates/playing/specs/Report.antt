@@ -2,9 +2,9 @@
 use Rattle.std.specs.Prelude.{◌≡◌, ◌==◌, ◌<◌, ◌≤◌, ◌+◌, ℕ, List, [], ◌∷◌, ◌++◌, length, take, replicate, codes, decimal, if◌then◌else◌, Option, All}
 use Rattle.std.specs.Io.KnownBytes.{Appends}
 use Rattle.machine.specs.Machine.{Input}
-use Rattle.machine.specs.Machine.{Frame, Seconds as PassSeconds}
+use Rattle.machine.specs.Machine.{Frame, Seconds as PassSeconds, Power as SwitchPower}
 use Rattle.script.specs.declared.moves.Move.{Move}
-use Rattle.script.specs.declared.moves.Move.TheVariants.{Frames, Seconds, Save}
+use Rattle.script.specs.declared.moves.Move.TheVariants.{Frames, Seconds, Save, Power}
 use Rattle.session.specs.Calls.{most_unsaved}
 use Rattle.session.specs.declared.error.SessionError.{SessionError}
 use Rattle.session.specs.declared.error.SessionError.TheVariants.{Output}
@@ -13,6 +13,7 @@ abbrev pub inputs_of_move : Move → List Input
 inputs_of_move (Frames buttons times) = replicate times (Frame buttons)
 inputs_of_move (Seconds n) = PassSeconds n ∷ []
 inputs_of_move Save = []
+inputs_of_move Power = SwitchPower ∷ []
 
 abbrev pub inputs_of_moves : List Move → List Input
 inputs_of_moves [] = []
@@ -61,12 +62,14 @@ abbrev pub unsaved_behind_move : ℕ → Move → ℕ
 unsaved_behind_move unsaved (Frames buttons times) = unsaved_behind unsaved (replicate times (Frame buttons))
 unsaved_behind_move unsaved (Seconds n) = unsaved_after unsaved
 unsaved_behind_move unsaved Save = 0
+unsaved_behind_move unsaved Power = unsaved_after unsaved
 
 -- a save is due at each `Save`
 abbrev pub lines_of_move : (count unsaved : ℕ) → Move → List Line
 lines_of_move count unsaved (Frames buttons times) = lines_of_inputs count unsaved (replicate times (Frame buttons))
 lines_of_move count unsaved (Seconds n) = line_due unsaved (count + 1)
 lines_of_move count unsaved Save = saved_line count ∷ []
+lines_of_move count unsaved Power = line_due unsaved (count + 1)
 
 abbrev pub unsaved_behind_moves : ℕ → List Move → ℕ
 unsaved_behind_moves unsaved [] = unsaved

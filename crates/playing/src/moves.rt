@@ -4,7 +4,8 @@ ghost use Rattle.machine.specs.Machine.{Frame, Power, State, Input as GivenInput
 ghost use Rattle.snapshot.specs.Legal.{IsLegalSnapshot};
 ghost use Rattle.snapshot.specs.Reading.{machine_in};
 ghost use Rattle.session.specs.Calls.{most_unsaved};
-ghost use Rattle.playing.specs.Making.{count_of, IsGiven, Makes, StopsMaking, GivesInputs, StopsAmongInputs, MakesMoves, StopsAmongMoves};
+ghost use Rattle.script.specs.declared.moves.Move.TheVariants.{Power as SwitchMove};
+ghost use Rattle.playing.specs.Making.{count_of, IsGiven, Makes, StopsMaking, GivesInputs, StopsAmongInputs, MakesMoves, StopsAmongMoves, HasRoom, FindsNoMemory, PlaysToMemory};
 ghost use Rattle.playing.specs.Report.{saved_line, report_lines, inputs_of_moves};
 
 use crate::playable::Playable;
@@ -83,7 +84,8 @@ pub fn give_power<G: Playable, R: Report>(
     requires few { G.unsaved game.old < most_unsaved }
     ensures made { IfOk result (λ done. done ≡ true →
         GivesInputs ⟦<G as Playable>⟧ game.old game.new (R.contents report.old) (R.contents report.new) (Power ∷ [])) }
-    ensures nothing { IfOk result (λ done. done ≡ false → (game.new ≡ game.old) × (report.new ≡ report.old)) }
+    ensures nothing { IfOk result (λ done. done ≡ false → (game.new ≡ game.old) × (report.new ≡ report.old) ×
+        HasRoom ⟦<G as Playable>⟧ game.old) }
     ensures stopped { IfErr result (λ why.
         StopsAmongInputs ⟦<G as Playable>⟧ game.old game.new (R.contents report.old) (R.contents report.new) R.may_fail (Power ∷ []) why) }
     ensures whole { OnOk result (G.whole game.new × (G.unsaved game.new < most_unsaved)) }
@@ -150,62 +152,98 @@ fn give_frames<G: Playable, R: Report>(
 
 /// Makes one move: gives its inputs, saves when a save is due, and reports `saved N` after each
 /// save, with N the count of all inputs. A save is due at a `Save`, and right after the input that
-/// makes 3,200 unsaved.
+/// makes 3,200 unsaved. The answer is whether there was memory for it, which only a power switch
+/// takes: where there is none, nothing changes.
 ///
 /// Refusals: whichever comes first of those of an input, of a save and, of a report that may fail, of a line. What was saved
 /// stays saved: the report then has the first of the move's lines, followed, only where a line could not be written, by a part of
 /// the next.
 pub fn make_move<G: Playable, R: Report>(
     game: &mut G,
+    alloc: Global,
+    cartridge: &Cartridge,
     a_move: Move,
     report: &mut R,
-) -> Result<(), G::Fault>
+) -> Result<bool, G::Fault>
+    requires takes { a_move ≡ SwitchMove → G.takes_states ≡ true }
+    requires of { G.rom game.old ≡ cartridge.now }
     requires whole { G.whole game.old }
     requires few { G.unsaved game.old < most_unsaved }
-    ensures made { OnOk result (MakesMoves ⟦<G as Playable>⟧ game.old game.new (R.contents report.old) (R.contents report.new) (a_move ∷ [])) }
+    ensures made { IfOk result (λ done. done ≡ true →
+        MakesMoves ⟦<G as Playable>⟧ game.old game.new (R.contents report.old) (R.contents report.new) (a_move ∷ [])) }
+    ensures nothing { IfOk result (λ done. done ≡ false → (a_move ≡ SwitchMove) × (game.new ≡ game.old) × (report.new ≡ report.old) ×
+        HasRoom ⟦<G as Playable>⟧ game.old) }
     ensures stopped { IfErr result (λ why.
         StopsAmongMoves ⟦<G as Playable>⟧ game.old game.new (R.contents report.old) (R.contents report.new) R.may_fail (a_move ∷ []) why) }
     ensures whole { OnOk result (G.whole game.new × (G.unsaved game.new < most_unsaved)) }
 {
     match a_move {
-        Move::Frames { buttons, times } => give_frames(game, buttons, times, report),
-        Move::Seconds(seconds) => give(game, Input::Seconds(seconds), report),
-        Move::Save => save_line(game, report),
+        Move::Frames { buttons, times } => match give_frames(game, buttons, times, report) {
+            Ok(()) => Ok(true),
+            Err(why) => Err(why),
+        },
+        Move::Seconds(seconds) => match give(game, Input::Seconds(seconds), report) {
+            Ok(()) => Ok(true),
+            Err(why) => Err(why),
+        },
+        Move::Save => match save_line(game, report) {
+            Ok(()) => Ok(true),
+            Err(why) => Err(why),
+        },
+        Move::Power => give_power(game, alloc, cartridge, report),
     }
 }
 
 /// Makes moves one after another, each as `make_move` does. What is unsaved after the last stays
-/// unsaved.
+/// unsaved. The answer is whether there was memory for all: where there is none for a power switch,
+/// the moves before it are made, and no other.
 ///
 /// Refusals: those of the first move that is refused, and no later move is begun.
 pub fn make_moves<G: Playable, R: Report>(
     game: &mut G,
+    alloc: Global,
+    cartridge: &Cartridge,
     moves: &[Move],
     report: &mut R,
-) -> Result<(), G::Fault>
+) -> Result<bool, G::Fault>
+    requires takes { G.takes_states ≡ true }
+    requires of { G.rom game.old ≡ cartridge.now }
     requires whole { G.whole game.old }
     requires few { G.unsaved game.old < most_unsaved }
-    ensures made { OnOk result (MakesMoves ⟦<G as Playable>⟧ game.old game.new (R.contents report.old) (R.contents report.new) moves.now) }
+    ensures made { IfOk result (λ done. done ≡ true →
+        MakesMoves ⟦<G as Playable>⟧ game.old game.new (R.contents report.old) (R.contents report.new) moves.now) }
+    ensures memory { IfOk result (λ done. done ≡ false →
+        FindsNoMemory ⟦<G as Playable>⟧ game.old game.new (R.contents report.old) (R.contents report.new) moves.now) }
     ensures stopped { IfErr result (λ why.
         StopsAmongMoves ⟦<G as Playable>⟧ game.old game.new (R.contents report.old) (R.contents report.new) R.may_fail moves.now why) }
     ensures whole { OnOk result (G.whole game.new × (G.unsaved game.new < most_unsaved)) }
 {
     for next in moves {
-        make_move(game, *next, report)?;
+        match make_move(game, alloc, cartridge, *next, report) {
+            Ok(true) => continue,
+            Ok(false) => return Ok(false),
+            Err(why) => return Err(why),
+        }
     }
-    Ok(())
+    Ok(true)
 }
 
-/// Writes that the game was resumed, makes the moves, and saves what is then unsaved.
+/// Writes that the game was resumed, makes the moves, and saves what is then unsaved. The answer is whether there was memory for all.
 pub(crate) fn play_on<G: Playable, W: Write>(
     game: &mut G,
+    alloc: Global,
+    cartridge: &Cartridge,
     moves: &[Move],
     report: &mut W,
-) -> Result<(), G::Fault>
+) -> Result<bool, G::Fault>
+    requires takes { G.takes_states ≡ true }
+    requires of { G.rom game.old ≡ cartridge.now }
     requires whole { G.whole game.old }
     requires none { G.unsaved game.old ≡ 0 }
-    ensures made { OnOk result (Makes ⟦<G as Playable>⟧ game.old game.new (W.contents report.old) (W.contents report.new) (inputs_of_moves moves.now)
-        0 (report_lines (G.acknowledged game.old) moves.now)) }
+    ensures made { IfOk result (λ done. done ≡ true → Makes ⟦<G as Playable>⟧ game.old game.new (W.contents report.old) (W.contents report.new)
+        (inputs_of_moves moves.now) 0 (report_lines (G.acknowledged game.old) moves.now)) }
+    ensures memory { IfOk result (λ done. done ≡ false →
+        PlaysToMemory ⟦<G as Playable>⟧ game.old game.new (W.contents report.old) (W.contents report.new) moves.now) }
     ensures stopped { IfErr result (λ why. StopsMaking ⟦<G as Playable>⟧ game.old game.new (W.contents report.old) (W.contents report.new) ⊤
         (inputs_of_moves moves.now) (report_lines (G.acknowledged game.old) moves.now) why) }
     ensures whole { OnOk result (G.whole game.new) }
@@ -213,9 +251,16 @@ pub(crate) fn play_on<G: Playable, W: Write>(
     if let Err(_) = write_resumed(report, game.counts().all) {
         return Err(G::unwritten());
     }
-    make_moves(game, moves, report)?;
-    if game.counts().pending == 0 {
-        return Ok(());
+    match make_moves(game, alloc, cartridge, moves, report) {
+        Ok(true) => {}
+        Ok(false) => return Ok(false),
+        Err(why) => return Err(why),
     }
-    save_line(game, report)
+    if game.counts().pending == 0 {
+        return Ok(true);
+    }
+    match save_line(game, report) {
+        Ok(()) => Ok(true),
+        Err(why) => Err(why),
+    }
 }

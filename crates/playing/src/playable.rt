@@ -1,5 +1,5 @@
 //! What moves are made on: a game that inputs are given to, and that is saved.
-ghost use Rattle.std.specs.Prelude.{◌≡◌, ◌<◌, ◌+◌, ◌∷◌, [], ℕ, List, Bool, length, true, false, OnOk, OnErr, IfOk, IfErr};
+ghost use Rattle.std.specs.Prelude.{◌≡◌, ◌≢◌, ◌<◌, ◌+◌, ◌-◌, ◌^◌, ◌∷◌, [], ℕ, List, Bool, length, true, false, OnOk, OnErr, IfOk, IfErr};
 ghost use Rattle.machine.specs.Machine.{MachineState, Input as GivenInput, Power, State, as_input, applied};
 ghost use Rattle.snapshot.specs.Legal.{IsLegalSnapshot, IsOfImage};
 ghost use Rattle.snapshot.specs.Reading.{machine_in};
@@ -88,7 +88,7 @@ pub trait Playable {
         ensures not_told { IfErr result (λ why. told_as why ≡ SessionError.Output → ⊥) };
 
     /// Switches the power of the machine off and on, which is not saved yet. The answer is whether there was memory for it: where there is
-    /// none, nothing changes. A game that takes no states answers the same.
+    /// none, nothing changes, and one more input could have been counted. A game that takes no states answers the same as one with no memory.
     fn power(&mut self, alloc: Global, cartridge: &Cartridge) -> Result<bool, Self::Fault>
         requires whole { whole self.old }
         requires few { unsaved self.old < most_unsaved }
@@ -96,7 +96,8 @@ pub trait Playable {
         ensures given { IfOk result (λ done. done ≡ true → gives self.old self.new Power) }
         ensures machine { IfOk result (λ done. done ≡ true → machine self.new ≡ applied Power (machine self.old)) }
         ensures unsaved { IfOk result (λ done. done ≡ true → unsaved self.new ≡ unsaved self.old + 1) }
-        ensures nothing { IfOk result (λ done. done ≡ false → self.new ≡ self.old) }
+        ensures nothing { IfOk result (λ done. done ≡ false → (self.new ≡ self.old) ×
+            (takes_states ≡ true → acknowledged self.old + unsaved self.old ≢ 2 ^ 64 - 1)) }
         ensures whole { OnOk result (whole self.new) }
         ensures refused { IfErr result (λ why. refuses self.old self.new Power why) }
         ensures acknowledged { acknowledged self.new ≡ acknowledged self.old }

@@ -5,14 +5,14 @@ ghost use Rattle.sector_device.specs.DiskState.{HasAnswered};
 ghost use Rattle.sector_device.specs.Runs.{HoldsSince};
 ghost use Rattle.session.specs.Calls.{faults_after};
 ghost use Rattle.session.specs.Accessors.{device_of, machine_of, rom_of, pending_of, acknowledged_of, is_broken, left_by};
-ghost use Rattle.playing.specs.Played.{PlayImage, HasPlayed, HasReached, IsNotTakenUp, HasStopped};
+ghost use Rattle.playing.specs.Played.{PlayImage, HasPlayed, HasReached, IsNotTakenUp, HasStopped, HasFoundNoMemory};
 ghost use Rattle.playing.specs.Report.{inputs_of_moves, report_of};
 
 use crate::moves::play_on;
 use cartridge::Cartridge;
 use script::Move;
 use sector_device::SectorDevice;
-use session::{Refused, Session, resume};
+use session::{Refused, Session, SessionError, resume};
 use std::alloc::Global;
 use std::io::Write;
 
@@ -21,7 +21,7 @@ use std::io::Write;
 /// any is unsaved. N is the count of all inputs.
 ///
 /// Refusals: those of `resume`, with nothing written to the report; then whichever comes first of
-/// `GenerationsUsedUp`, `Device`, `CountFull` and `Output`. What was saved stays saved: the report then has the
+/// `GenerationsUsedUp`, `Device`, `CountFull`, `Output` and, at a power switch, `Memory`. What was saved stays saved: the report then has the
 /// first of its lines, followed, only on `Output`, by a part of the next, and each image that is
 /// left has all inputs up to each N that these lines report.
 pub fn play<D: SectorDevice, W: Write>(
@@ -40,10 +40,11 @@ pub fn play<D: SectorDevice, W: Write>(
         Appends (W.contents report.old) (W.contents report.new) (report_of count moves.now)) }
     ensures whole { IfOk result (λ s. (pending_of s ≡ []) × (is_broken s ≡ false) × (rom_of s ≡ cartridge.now)) }
 
-    // where it is refused: not taken up, or stopped after that
+    // where it is refused: not taken up, or stopped after that, or at a power switch with no memory for it
     ensures refused { IfErr result (λ refused.
         IsNotTakenUp cartridge.now (D.disk device) (D.disk refused.device) refused.why (W.contents report.old) (W.contents report.new)
-        ⊎ HasStopped cartridge.now (D.disk device) (D.disk refused.device) moves.now refused.why (W.contents report.old) (W.contents report.new)) }
+        ⊎ HasStopped cartridge.now (D.disk device) (D.disk refused.device) moves.now refused.why (W.contents report.old) (W.contents report.new)
+        ⊎ HasFoundNoMemory cartridge.now (D.disk device) (D.disk refused.device) moves.now refused.why (W.contents report.old) (W.contents report.new)) }
 
     // at each moment
     ensures images { (D.disk device).honest →
@@ -55,8 +56,12 @@ pub fn play<D: SectorDevice, W: Write>(
         Ok(session) => session,
         Err(refused) => return Err(refused),
     };
-    match play_on(&mut session, moves, report) {
-        Ok(()) => Ok(session),
+    match play_on(&mut session, alloc, cartridge, moves, report) {
+        Ok(true) => Ok(session),
+        Ok(false) => Err(Refused {
+            why: SessionError::Memory,
+            device: session.into_device(),
+        }),
         Err(why) => Err(Refused {
             why,
             device: session.into_device(),

@@ -8,7 +8,7 @@ use Rattle.machine.specs.Machine.{MachineState, after}
 use Rattle.machine.specs.Machine.{Input}
 use Rattle.machine.specs.Machine.{Frame}
 use Rattle.script.specs.declared.moves.Move.{Move}
-use Rattle.script.specs.declared.moves.Move.TheVariants.{Frames, Seconds, Save}
+use Rattle.script.specs.declared.moves.Move.TheVariants.{Frames, Seconds, Save, Power}
 use Rattle.session.specs.Stands.{Position}
 use Rattle.playing.specs.Report.{Line, resumed_line, saved_line, unsaved_after, line_due, lines_of_inputs, inputs_of_move, lines_of_move}
 use Rattle.snapshot.specs.Encoding.{encoded}
@@ -16,7 +16,7 @@ use Rattle.machine_lines.specs.Texts.{count_line, memory_text, state_text}
 use Rattle.streaming.specs.Orders.{Deed, Does, GoesOnWith}
 use Rattle.streaming.specs.Answers.{answer, other_text, inputs_of_order, inputs_of_deed, inputs_of_deeds, unsaved_behind_deed, lines_of_order, lines_of_deed, lines_of_deeds, picture_line, ended, stream_lines}
 use Rattle.streaming.specs.declared.order.Order.{Order}
-use Rattle.streaming.specs.declared.order.Order.TheVariants.{Make, Picture, State, Memory, Power, Keep, Back, Restore}
+use Rattle.streaming.specs.declared.order.Order.TheVariants.{Make, Picture, State, Memory, Keep, Back, Restore}
 use Rattle.streaming.proofs.Wholes.{ended_gives}
 
 -- no line tells more than this
@@ -55,13 +55,13 @@ move_at_most : (count unsaved : ℕ) (move : Move) → AreAtMost (count + length
 move_at_most count unsaved (Frames buttons times) = inputs_at_most count unsaved (replicate times (Frame buttons))
 move_at_most count unsaved (Seconds n) = due_at_most unsaved (count + 1)
 move_at_most count unsaved Save = one_at_most (count + 0) (saved_line count) (omega arith)
+move_at_most count unsaved Power = due_at_most unsaved (count + 1)
 
 order_at_most : (machine : MachineState) (count unsaved : ℕ) (order : Order) → AreAtMost (count + length (inputs_of_order order)) (lines_of_order machine count unsaved order)
 order_at_most machine count unsaved (Make move) = move_at_most count unsaved move
 order_at_most machine count unsaved Picture = one_at_most (count + 0) (picture_line machine) (omega arith)
 order_at_most machine count unsaved State = one_at_most (count + 0) (answer (state_text (encoded machine))) (omega arith)
 order_at_most machine count unsaved (Memory address n) = one_at_most (count + 0) (answer (memory_text machine address n)) (omega arith)
-order_at_most machine count unsaved Power = due_at_most unsaved (count + 1)
 order_at_most machine count unsaved (Keep k) = one_at_most (count + 0) (answer (count_line (codes "kept") k)) (omega arith)
 order_at_most machine count unsaved (Back k) = none_at_most (count + 0)
 order_at_most machine count unsaved (Restore n) = none_at_most (count + 0)

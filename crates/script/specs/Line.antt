@@ -6,7 +6,7 @@ use Rattle.std.specs.Option.{option_map}
 use Rattle.std.specs.Str.{bytes_eq}
 use Rattle.std.specs.Str.Parse.{digits_value}
 use Rattle.script.specs.declared.moves.Move.{Move}
-use Rattle.script.specs.declared.moves.Move.TheVariants.{Frames, Seconds, Save}
+use Rattle.script.specs.declared.moves.Move.TheVariants.{Frames, Seconds, Save, Power}
 
 -- what stands between the spaces; an empty word where two of them meet, and before a first or behind a last one
 abbrev pub words_of : List ℕ → List (List ℕ)
@@ -32,7 +32,9 @@ frames_of (Some buttons) (Some times) = Some (Frames buttons times)
 frames_of buttons times = None
 
 abbrev pub move_of_one : List ℕ → Option Move
-move_of_one name = if bytes_eq name (codes "save") then Some Save else None
+move_of_one name =
+    if bytes_eq name (codes "save") then Some Save
+    else (if bytes_eq name (codes "power") then Some Power else None)
 
 abbrev pub move_of_two : List ℕ → List ℕ → Option Move
 move_of_two name word =
@@ -42,7 +44,7 @@ move_of_two name word =
 abbrev pub move_of_three : List ℕ → List ℕ → List ℕ → Option Move
 move_of_three name word count = if bytes_eq name (codes "frames") then frames_of (byte_of word) (count_of 1 1000000 count) else None
 
--- `save`, `frame BB`, `seconds N` or `frames BB N`, and nothing else
+-- `save`, `power`, `frame BB`, `seconds N` or `frames BB N`, and nothing else
 abbrev pub move_of_words : List (List ℕ) → Option Move
 move_of_words (name ∷ []) = move_of_one name
 move_of_words (name ∷ word ∷ []) = move_of_two name word
@@ -58,3 +60,4 @@ abbrev pub HasTimes : Move → Type 0
 HasTimes (Frames buttons times) = (1 ≤ times) × (times ≤ 1000000)
 HasTimes (Seconds count) = ⊤
 HasTimes Save = ⊤
+HasTimes Power = ⊤

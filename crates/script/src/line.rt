@@ -17,8 +17,8 @@ const MOST_DIGITS: usize = 10;
 /// The most frames of one line.
 const MOST_TIMES: u32 = 1_000_000;
 
-/// The move of one line, without its newline: `frame BB`, `frames BB N`, `seconds N` or `save`, as `read_script` takes them. `None`
-/// where it is none of these; an empty line is none.
+/// The move of one line, without its newline: `frame BB`, `frames BB N`, `seconds N`, `save` or `power`, as `read_script` takes them.
+/// `None` where it is none of these; an empty line is none.
 pub fn read_line(line: &[u8]) -> Option<Move>
     ensures line { result ≡ move_of_line line.now }
     ensures times { IfSome result HasTimes }
@@ -43,10 +43,12 @@ fn lone(name: &[u8]) -> Option<Move>
     ensures times { IfSome result HasTimes }
 {
     if is_word(name, b"save") {
-        Some(Move::Save)
-    } else {
-        None
+        return Some(Move::Save);
     }
+    if is_word(name, b"power") {
+        return Some(Move::Power);
+    }
+    None
 }
 
 fn with_one(name: &[u8], word: &[u8]) -> Option<Move>

@@ -19,9 +19,10 @@ const MOST_BYTES: usize = 1_048_576;
 /// The moves of a script.
 ///
 /// Lines end with a newline, which the last one may lack, and words are separated by exactly one
-/// space. Empty lines are skipped. A line is `frame BB`, `frames BB N`, `seconds N` or `save`: BB
-/// is two hexadecimal digits in either case, N is one to ten decimal digits, 1 to 1,000,000 for
-/// `frames` and 0 to 4,294,967,295 for `seconds`, and `frame BB` is `frames BB 1`.
+/// space. Empty lines are skipped. A line is `frame BB`, `frames BB N`, `seconds N`,
+/// `save` or `power`: BB is two hexadecimal digits in either case, N is one to ten decimal digits,
+/// 1 to 1,000,000 for `frames` and 0 to 4,294,967,295 for `seconds`, and `frame BB` is
+/// `frames BB 1`.
 ///
 /// Refusals: `Script` with the number of the first line that is none of these, counted from 1, or
 /// with 0 where the script has more than 1,048,576 bytes; then `Memory`.

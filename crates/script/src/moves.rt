@@ -13,4 +13,6 @@ pub enum Move {
     Seconds(u32),
     /// A save.
     Save,
+    /// The power switch, off and on.
+    Power,
 }

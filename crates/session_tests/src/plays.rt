@@ -93,7 +93,8 @@ fn snapshots_of(
         match *one {
             Move::Frames { buttons, times } => give_frames(&mut past, alloc, buttons, times)?,
             Move::Seconds(count) => give(&mut past, alloc, Input::Seconds(count))?,
-            Move::Save => {}
+            // no script of these tests has one
+            Move::Power | Move::Save => {}
         }
     }
     Ok(past.snapshots)

@@ -8,3 +8,4 @@ pub mod Runs
 pub mod FastSteps
 pub mod UsualStates
 pub mod KeptMemory
+pub mod StillSteps

@@ -15,6 +15,7 @@ pub mod processor;
 mod register_operations;
 mod register_pairs;
 pub mod step;
+mod still_steps;
 
 pub use lengths::length_of_opcode;
 pub use memory::Memory;

@@ -78,7 +78,7 @@ impl<M: Memory> Processor<M> {
         }
     }
 
-    fn fetch(&self) -> [u8; 3]
+    pub(crate) fn fetch(&self) -> [u8; 3]
         ensures { result ≡ byte_at M.rules self.now.registers.pc self.now ∷ byte_at M.rules (second_address self.now) self.now ∷
             byte_at M.rules (next_address (second_address self.now)) self.now ∷ [] }
     {

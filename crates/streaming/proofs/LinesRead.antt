@@ -7,7 +7,7 @@ use Rattle.input_lines.specs.Given.{Given, text_of, texts_of, IsWhole, HasReadGi
 use Rattle.input_lines.proofs.Givings.{texts_more}
 use Rattle.streaming.specs.Orders.{order_of, asked, asked_by, Deed, Does, GoesOnWith, order_in, IsOwn, IsOther, IsDoneBy}
 use Rattle.streaming.specs.declared.order.Order.{Order}
-use Rattle.streaming.specs.declared.order.Order.TheVariants.{Make, Picture, State, Memory, Power, Keep, Back, Restore}
+use Rattle.streaming.specs.declared.order.Order.TheVariants.{Make, Picture, State, Memory, Keep, Back, Restore}
 use Rattle.machine_lines.specs.KeptStates.{KeptMachine}
 
 -- ---- the last of a list
@@ -57,7 +57,6 @@ own_asks (Make move) own = refl
 own_asks Picture own = refl
 own_asks State own = refl
 own_asks (Memory address count) own = refl
-own_asks Power own = refl
 own_asks (Keep k) own = refl
 own_asks (Back k) own = absurd own
 own_asks (Restore n) own = absurd own
@@ -69,7 +68,6 @@ other_asks rom kept bytes (Make move) machine other = absurd other
 other_asks rom kept bytes Picture machine other = absurd other
 other_asks rom kept bytes State machine other = absurd other
 other_asks rom kept bytes (Memory address count) machine other = absurd other
-other_asks rom kept bytes Power machine other = absurd other
 other_asks rom kept bytes (Keep k) machine other = absurd other
 
 -- as many bytes as the order of a deed asks for

@@ -1,7 +1,7 @@
 -- What a stream answers to its orders.
 use Rattle.std.specs.Prelude.{◌==◌, ◌+◌, ℕ, List, [], ◌∷◌, ◌++◌, codes, length, if◌then◌else◌}
 use Rattle.machine.specs.Machine.{MachineState, after, picture_rows}
-use Rattle.machine.specs.Machine.{Input, Power as PowerInput, State as StateInput}
+use Rattle.machine.specs.Machine.{Input, State as StateInput}
 use Rattle.picture_unit.specs.Pgm.{picture_text}
 use Rattle.snapshot.specs.Encoding.{encoded}
 use Rattle.script.specs.declared.moves.Move.TheVariants.{Save}
@@ -10,13 +10,12 @@ use Rattle.playing.specs.Report.{Line, resumed_line, line_due, inputs_of_move, u
 use Rattle.machine_lines.specs.Texts.{count_line, memory_text, state_text}
 use Rattle.streaming.specs.Orders.{Deed, Does, GoesOnWith}
 use Rattle.streaming.specs.declared.order.Order.{Order}
-use Rattle.streaming.specs.declared.order.Order.TheVariants.{Make, Picture, State, Memory, Power, Keep, Back}
+use Rattle.streaming.specs.declared.order.Order.TheVariants.{Make, Picture, State, Memory, Keep, Back}
 
 -- ---- the inputs
 
 abbrev pub inputs_of_order : Order → List Input
 inputs_of_order (Make move) = inputs_of_move move
-inputs_of_order Power = PowerInput ∷ []
 inputs_of_order order = []
 
 abbrev pub inputs_of_deed : Deed → List Input
@@ -31,7 +30,6 @@ inputs_of_deeds (deed ∷ deeds) = inputs_of_deed deed ++ inputs_of_deeds deeds
 
 abbrev pub unsaved_behind_order : ℕ → Order → ℕ
 unsaved_behind_order unsaved (Make move) = unsaved_behind_move unsaved move
-unsaved_behind_order unsaved Power = unsaved_after unsaved
 unsaved_behind_order unsaved order = unsaved
 
 abbrev pub unsaved_behind_deed : ℕ → Deed → ℕ
@@ -57,7 +55,6 @@ lines_of_order machine count unsaved (Make move) = lines_of_move count unsaved m
 lines_of_order machine count unsaved Picture = picture_line machine ∷ []
 lines_of_order machine count unsaved State = answer (state_text (encoded machine)) ∷ []
 lines_of_order machine count unsaved (Memory address n) = answer (memory_text machine address n) ∷ []
-lines_of_order machine count unsaved Power = line_due unsaved (count + 1)
 lines_of_order machine count unsaved (Keep k) = answer (count_line (codes "kept") k) ∷ []
 lines_of_order machine count unsaved order = []
 

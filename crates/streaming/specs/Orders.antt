@@ -7,11 +7,13 @@ use Rattle.snapshot.specs.Legal.{IsLegalSnapshot}
 use Rattle.snapshot.specs.Reading.{machine_in}
 use Rattle.input_lines.specs.Newlines.{HasNoNewline}
 use Rattle.input_lines.specs.Given.{Given}
+use Rattle.script.specs.declared.moves.Move.{Move}
+use Rattle.script.specs.declared.moves.Move.TheVariants.{Power}
 use Rattle.script.specs.Line.{move_of_line, words_of}
 use Rattle.machine_lines.specs.KeptStates.{KeptMachine, kept_under}
 use Rattle.machine_lines.specs.Words.{address_of, room_of, size_of, slot_of}
 use Rattle.streaming.specs.declared.order.Order.{Order}
-use Rattle.streaming.specs.declared.order.Order.TheVariants.{Make, Picture, State, Memory, Power, Keep, Back, Restore}
+use Rattle.streaming.specs.declared.order.Order.TheVariants.{Make, Picture, State, Memory, Keep, Back, Restore}
 
 -- ---- a line
 
@@ -20,11 +22,9 @@ abbrev pub memory_of : Option ℕ → Option ℕ → Option Order
 memory_of (Some address) (Some count) = Some (Memory address count)
 memory_of address count = None
 
--- `state`, `power`
+-- `state`
 abbrev pub order_of_one : List ℕ → Option Order
-order_of_one name =
-    if bytes_eq name (codes "state") then Some State
-    else (if bytes_eq name (codes "power") then Some Power else None)
+order_of_one name = if bytes_eq name (codes "state") then Some State else None
 
 -- `keep K`, `back K`, `restore N`
 abbrev pub order_of_two : List ℕ → List ℕ → Option Order
@@ -42,9 +42,13 @@ order_of_words (name ∷ word ∷ []) = order_of_two name word
 order_of_words (name ∷ word ∷ other ∷ []) = order_of_three name word other
 order_of_words words = None
 
+abbrev pub is_power : Move → Bool
+is_power Power = true
+is_power move = false
+
 -- an order that needs the power switch or another machine to be inputs of the game
 abbrev pub needs_states : Order → Bool
-needs_states Power = true
+needs_states (Make move) = is_power move
 needs_states (Keep k) = true
 needs_states (Back k) = true
 needs_states (Restore n) = true

@@ -7,11 +7,12 @@ use Rattle.snapshot.specs.Reading.{machine_in}
 use Rattle.input_lines.specs.Newlines.{HasNoNewline}
 use Rattle.input_lines.specs.Reading.{TakesLine}
 use Rattle.input_lines.specs.Given.{Given, IsUnfinished, HasReadGiven}
+use Rattle.script.specs.declared.moves.Move.TheVariants.{Power}
 use Rattle.machine_lines.specs.KeptStates.{KeptMachine, kept_under}
 use Rattle.streaming.specs.Orders.{order_of, asked, Deed, GoesOnWith, IsAskedFor, kept_behind, IsWrong}
 use Rattle.streaming.specs.Answers.{inputs_of_deeds}
 use Rattle.streaming.specs.Numbers.{IsNumbered}
-use Rattle.streaming.specs.declared.order.Order.TheVariants.{Power, Keep, Back, Restore}
+use Rattle.streaming.specs.declared.order.Order.TheVariants.{Make, Keep, Back, Restore}
 use Rattle.streaming.specs.declared.obeying.End.{End as Ending}
 use Rattle.streaming.specs.declared.obeying.End.TheVariants.{Whole, Wrong as WrongLine, Failed as FailedRead, Damaged, NoMemory}
 use Rattle.streaming.specs.declared.next_order.Next.{Next}
@@ -64,7 +65,7 @@ IsDamaged states rom given = (n : ℕ) × (order_of states given.line ≡ Some (
 -- the line takes memory: the machine at power-on, or the first one under its number
 abbrev pub TakesMemory : (states : Bool) → List KeptMachine → Given → Type 0
 TakesMemory states kept given =
-    (given.bytes ≡ []) × ((order_of states given.line ≡ Some Power) ⊎ ((k : ℕ) × (order_of states given.line ≡ Some (Keep k)) × (kept_under k kept ≡ None)))
+    (given.bytes ≡ []) × ((order_of states given.line ≡ Some (Make Power)) ⊎ ((k : ℕ) × (order_of states given.line ≡ Some (Keep k)) × (kept_under k kept ≡ None)))
 
 module _ (states : Bool) (lines : List Given) (before since : Option (List ℕ)) where
   -- these lines were read, and one more

@@ -3,13 +3,14 @@ use Rattle.std.specs.Prelude.{◌≡◌, ◌⊎◌, ◌<◌, ℕ, List, ◌∷�
 use Rattle.std.specs.Io.KnownBytes.{Consumes, IsAtEnd}
 use Rattle.snapshot.specs.Legal.{IsLegalSnapshot}
 use Rattle.snapshot.specs.Reading.{machine_in}
+use Rattle.script.specs.declared.moves.Move.TheVariants.{Power}
 use Rattle.machine_lines.specs.KeptStates.{KeptMachine, kept_under}
 use Rattle.machine_lines.specs.Slots.{AreKept}
 use Rattle.playing.specs.declared.playable.Playable.{Ghosts}
 use Rattle.streaming.specs.Orders.{Deed, GoesOnWith, order_in, IsDoneBy, kept_behind}
 use Rattle.streaming.specs.Obeying.{Obeys, StopsAmong}
 use Rattle.streaming.specs.declared.order.Order.{Order}
-use Rattle.streaming.specs.declared.order.Order.TheVariants.{Power, Keep, Back, Restore}
+use Rattle.streaming.specs.declared.order.Order.TheVariants.{Make, Keep, Back, Restore}
 use Rattle.streaming.specs.declared.obeying.Went.{Went}
 use Rattle.streaming.specs.declared.obeying.Went.TheVariants.{On, Wrong, Damaged, NoMemory, Failed}
 
@@ -50,7 +51,7 @@ module _ {G F : Type 0} (game : Ghosts G F) (old new : G) (before since : Option
   IsStep states On = IsObeyed states
   IsStep states Wrong = IsStill × ((k : ℕ) × (order ≡ Back k) × (kept_under k kept ≡ None)) × Consumes left.before left.since []
   IsStep states Damaged = IsStill × ((n : ℕ) × (order ≡ Restore n) × IsBad rom n left)
-  IsStep states NoMemory = IsStill × ((order ≡ Power) ⊎ ((k : ℕ) × (order ≡ Keep k) × (kept_under k kept ≡ None))) × Consumes left.before left.since []
+  IsStep states NoMemory = IsStill × ((order ≡ Make Power) ⊎ ((k : ℕ) × (order ≡ Keep k) × (kept_under k kept ≡ None))) × Consumes left.before left.since []
   IsStep states Failed = IsStill × ((n : ℕ) × (order ≡ Restore n) × IsShort n left)
 
   -- it was refused

@@ -10,6 +10,7 @@ ghost use Rattle.snapshot.specs.Encoding.{snapshot_length};
 ghost use Rattle.snapshot.specs.Legal.{IsLegalSnapshot};
 ghost use Rattle.snapshot.specs.Reading.{machine_in};
 ghost use Rattle.input_lines.specs.Reading.{left_of};
+ghost use Rattle.script.specs.declared.moves.Move.TheVariants.{Power};
 ghost use Rattle.session.specs.Calls.{most_unsaved};
 ghost use Rattle.machine_lines.specs.KeptStates.{KeptMachine, kept_under, slots};
 ghost use Rattle.machine_lines.specs.Slots.{AreKept};
@@ -28,7 +29,7 @@ use exact_text::{OutputFailed, write_whole};
 use input_lines::{Taken, Unread, skip_bytes, take_bytes};
 use machine::Region;
 use machine_lines::{KeptStates, write_count, write_memory, write_state};
-use playing::{Playable, give_power, give_state, make_move, save_line, write_resumed};
+use playing::{Playable, give_state, make_move, save_line, write_resumed};
 use script::Move;
 use snapshot::length;
 use std::alloc::Global;
@@ -72,16 +73,26 @@ fn draw<G: Playable, W: Write>(game: &G, out: &mut W) -> Result<(), OutputFailed
     game.machine().picture().write_pgm(out)
 }
 
-/// Makes a move.
-fn obey_move<G: Playable, W: Write>(game: &mut G, a_move: Move, out: &mut W) -> Result<(), G::Fault>
+/// Makes a move. The answer is whether there was memory for it.
+fn obey_move<G: Playable, W: Write>(
+    game: &mut G,
+    alloc: Global,
+    cartridge: &Cartridge,
+    a_move: Move,
+    out: &mut W,
+) -> Result<bool, G::Fault>
+    requires takes { a_move ≡ Power → G.takes_states ≡ true }
+    requires of { G.rom game.old ≡ cartridge.now }
     requires whole { G.whole game.old }
     requires few { G.unsaved game.old < most_unsaved }
-    ensures obeyed { OnOk result (Obeys ⟦<G as Playable>⟧ game.old game.new (W.contents out.old) (W.contents out.new) (Does (Order.Make a_move) ∷ [])) }
+    ensures obeyed { IfOk result (λ done. done ≡ true →
+        Obeys ⟦<G as Playable>⟧ game.old game.new (W.contents out.old) (W.contents out.new) (Does (Order.Make a_move) ∷ [])) }
+    ensures nothing { IfOk result (λ done. done ≡ false → (a_move ≡ Power) × (game.new ≡ game.old) × (out.new ≡ out.old)) }
     ensures stopped { IfErr result (λ why.
         StopsAmong ⟦<G as Playable>⟧ game.old game.new (W.contents out.old) (W.contents out.new) (Does (Order.Make a_move) ∷ []) why) }
     ensures whole { OnOk result (G.whole game.new × (G.unsaved game.new < most_unsaved)) }
 {
-    make_move(game, a_move, out)
+    make_move(game, alloc, cartridge, a_move, out)
 }
 
 /// Writes a picture.
@@ -313,8 +324,9 @@ fn obey<G: Playable, R: Read, W: Write>(
     ensures room { length room.new.snapshot.items ≡ length room.old.snapshot.items }
 {
     match order {
-        Order::Make(a_move) => match obey_move(game, a_move, out) {
-            Ok(()) => Ok(Went::On),
+        Order::Make(a_move) => match obey_move(game, alloc, cartridge, a_move, out) {
+            Ok(true) => Ok(Went::On),
+            Ok(false) => Ok(Went::NoMemory),
             Err(why) => Err(why),
         },
         Order::Picture => match obey_picture(game, out) {
@@ -327,11 +339,6 @@ fn obey<G: Playable, R: Read, W: Write>(
         },
         Order::Memory { address, count } => match obey_memory(game, address, count, out) {
             Ok(()) => Ok(Went::On),
-            Err(why) => Err(why),
-        },
-        Order::Power => match give_power(game, alloc, cartridge, out) {
-            Ok(true) => Ok(Went::On),
-            Ok(false) => Ok(Went::NoMemory),
             Err(why) => Err(why),
         },
         Order::Keep(slot) => match obey_keep(game, alloc, &mut room.kept, slot, out) {

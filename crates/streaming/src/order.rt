@@ -28,8 +28,6 @@ pub enum Order {
         /// How many: 1 to 65,536.
         count: u32,
     },
-    /// The power switch, off and on.
-    Power,
     /// To keep the machine under a number, 0 to 999.
     Keep(u32),
     /// To go on with the machine that was kept under a number.
@@ -66,7 +64,7 @@ fn needs_states(order: Order) -> bool
     ensures { result ≡ needs_states order }
 {
     match order {
-        Order::Power | Order::Keep(_) | Order::Back(_) | Order::Restore(_) => true,
+        Order::Make(Move::Power) | Order::Keep(_) | Order::Back(_) | Order::Restore(_) => true,
         Order::Make(_) | Order::Picture | Order::State | Order::Memory { .. } => false,
     }
 }
@@ -101,12 +99,10 @@ fn with_none(name: &[u8]) -> Option<Order>
     ensures numbered { IfSome result IsNumbered }
 {
     if is_word(name, b"state") {
-        return Some(Order::State);
+        Some(Order::State)
+    } else {
+        None
     }
-    if is_word(name, b"power") {
-        return Some(Order::Power);
-    }
-    None
 }
 
 fn with_one(name: &[u8], word: &[u8]) -> Option<Order>

@@ -1,8 +1,8 @@
 -- How the parts of a test make up the whole.
-use Rattle.std.proofs.Math.Seq.{drop-cons}
-use Rattle.std.proofs.lemmas.List.{drop_all}
+use Rattle.std.proofs.Math.Seq.{take-suc}
 use Rattle.script.specs.declared.moves.Move.{Move}
-use Rattle.std.proofs.Common.{◌≡◌, ◌≢◌, ◌≤◌, ◌<◌, ℕ, suc, ◌+◌, ◌-◌, add-one, drop, get_or, replicate, List, [], ◌∷◌, ◌++◌, true, false, Bool, cond, length, refl, sym, ap, subst, ◌∙◌, append-nil, append_assoc, Option, Some, None}
+use Rattle.script.specs.declared.moves.Move.TheVariants.{Power as PowerMove}
+use Rattle.std.proofs.Common.{◌≡◌, ◌≢◌, ◌≤◌, ◌<◌, ℕ, zero, suc, ◌+◌, ◌-◌, take, drop, get_or, replicate, List, [], ◌∷◌, ◌++◌, true, false, Bool, cond, length, refl, sym, ap, subst, ◌∙◌, append-nil, append_assoc, Option, Some, None}
 use Rattle.std.specs.Prelude.{◌==◌}
 use Rattle.std.proofs.lemmas.Bool.Decides.{nat_tests}
 use Rattle.std.proofs.Common.{arith}
@@ -10,8 +10,8 @@ use Rattle.std.specs.Io.KnownBytes.{Appends}
 use Rattle.exact_text.specs.Written.{AppendsProperPrefix}
 use Rattle.exact_text.proofs.Writes.{appends_nothing, appends_twice, prefix_of_longer, whole_then_prefix}
 use Rattle.machine.specs.Machine.{Input}
-use Rattle.machine.specs.Machine.{Frame, Seconds}
-use Rattle.machine.specs.Machine.{MachineState, seconds_passed}
+use Rattle.machine.specs.Machine.{Frame, Seconds, Power}
+use Rattle.machine.specs.Machine.{MachineState, powered, seconds_passed}
 use Rattle.machine.specs.Watched.{FrameState, Seen, begun_with, machine_after, seen_in}
 use Rattle.debugger.specs.Registers.{register_line}
 use Rattle.test_run.specs.declared.ends.End.{End}
@@ -25,6 +25,7 @@ use Rattle.test_run.specs.Ends.{end_seen}
 use Rattle.test_run.specs.Told.{ToldState, told_all}
 use Rattle.test_run.specs.Tested.{Tested, ended_at, frames_with, inputs_of_move, inputs_of_moves, played_then, sent_first, tested}
 use Rattle.test_run.specs.Playing.{HasPlayed, HasReached, HasEnded, IsEnded, GoesOn, StopsIn}
+use Rattle.test_run.specs.Refusals.{FindsNoMemory}
 use Rattle.test_run.proofs.Telling.{told_all-append}
 
 -- ---- one input
@@ -36,6 +37,10 @@ tested-none limit done m = refl
 pub tested-seconds : (limit done n : ℕ) (inputs : List Input) (m : MachineState) → tested limit done (Seconds n ∷ inputs) m ≡ tested limit done inputs (seconds_passed n m)
 unfolding tested
 tested-seconds limit done n inputs m = refl
+
+pub tested-power : (limit done : ℕ) (inputs : List Input) (m : MachineState) → tested limit done (Power ∷ inputs) m ≡ tested limit done inputs (powered m)
+unfolding tested
+tested-power limit done inputs m = refl
 
 abbrev frame_then : ℕ → ℕ → Seen → List Input → Tested
 frame_then limit done seen inputs =
@@ -198,17 +203,6 @@ frames_all times i buttons all =
     let none : times - i ≡ 0 = omega arith in
     ap (λ (n : ℕ). replicate {A = Input} n (Frame buttons)) none
 
--- the next of several moves
-pub moves_next : (moves : List Move) (i : ℕ) (move d : Move) → i < length moves → move ≡ get_or moves i d
-    → inputs_of_moves (drop i moves) ≡ inputs_of_move move ++ inputs_of_moves (drop (i + 1) moves)
-moves_next moves i move d less is =
-    ap inputs_of_moves (drop-cons moves i d less)
-    ∙ ap (λ (m : Move). inputs_of_move m ++ inputs_of_moves (drop (suc i) moves)) (sym is)
-    ∙ ap (λ (n : ℕ). inputs_of_move move ++ inputs_of_moves (drop n moves)) (sym (add-one i))
-
-pub moves_all : (moves : List Move) (i : ℕ) → length moves ≤ i → inputs_of_moves (drop i moves) ≡ []
-moves_all moves i all = ap inputs_of_moves (drop_all i moves all)
-
 -- ---- a move
 
 pub reached_seconds : (limit n : ℕ) (machine m : MachineState) (old : Progress) (a : Option (List ℕ)) → old.done ≤ limit → m ≡ seconds_passed n machine
@@ -219,6 +213,16 @@ reached_seconds limit n machine m old a most e = record {
   told = refl;
   most = most;
   goes = λ inputs. tested-seconds limit old.done n inputs machine ∙ ap (λ (m : MachineState). tested limit old.done inputs m) (sym e);
+}
+
+pub reached_power : (limit : ℕ) (machine m : MachineState) (old : Progress) (a : Option (List ℕ)) → old.done ≤ limit → m ≡ powered machine
+    → HasReached limit (Power ∷ []) [] machine old old a a (On m)
+reached_power limit machine m old a most e = record {
+  sent = [];
+  written = appends_nothing a;
+  told = refl;
+  most = most;
+  goes = λ inputs. tested-power limit old.done inputs machine ∙ ap (λ (m : MachineState). tested limit old.done inputs m) (sym e);
 }
 
 -- ---- the end
@@ -281,3 +285,78 @@ pub whole_stops : (limit : ℕ) (given more : List Input) (machine m : MachineSt
 whole_stops limit given more machine m old mid a b c first second =
     subst (λ (l : List Input). AppendsProperPrefix a c (tested limit old.done l machine).sent) (append-nil (given ++ more))
     (stops_then limit (given ++ more) more more [] machine m old mid a b c (sym (append-nil more)) (reached_before limit given more machine m old mid a b first) second [])
+
+-- ---- moves, one after another
+
+split : (moves : List Move) (i : ℕ) → take i moves ++ drop i moves ≡ moves
+split moves zero = refl
+split [] (suc i) = refl
+split (m ∷ moves) (suc i) = ap (λ (l : List Move). m ∷ l) (split moves i)
+
+inputs_append : (first second : List Move) → inputs_of_moves (first ++ second) ≡ inputs_of_moves first ++ inputs_of_moves second
+inputs_append [] second = refl
+inputs_append (m ∷ first) second = ap (λ (l : List Input). inputs_of_move m ++ l) (inputs_append first second) ∙ sym (append_assoc (inputs_of_move m) (inputs_of_moves first) (inputs_of_moves second))
+
+one_more : (moves : List Move) (i : ℕ) (d : Move) → i < length moves → take i moves ++ get_or moves i d ∷ [] ≡ take (i + 1) moves
+one_more moves i d less = let next : suc i ≡ i + 1 = omega arith in sym (take-suc moves i d less) ∙ ap (λ (k : ℕ). take k moves) next
+
+module _ (limit : ℕ) (moves : List Move) (i : ℕ) (d : Move) (less : i < length moves) (machine m : MachineState) (old mid new : Progress) (a b c : Option (List ℕ))
+    (so_far : HasReached limit (inputs_of_moves (take i moves)) [] machine old mid a b (On m)) where
+  abbrev next : Move
+  next = get_or moves i d
+
+  first_are : inputs_of_moves (take i moves) ++ inputs_of_move next ≡ inputs_of_moves (take (i + 1) moves)
+  first_are =
+      ap (λ (l : List Input). inputs_of_moves (take i moves) ++ l) (sym (append-nil (inputs_of_move next)))
+      ∙ sym (inputs_append (take i moves) (next ∷ [])) ∙ ap inputs_of_moves (one_more moves i d less)
+
+  all_are : (inputs_of_moves (take i moves) ++ inputs_of_move next) ++ inputs_of_moves (drop (i + 1) moves) ≡ inputs_of_moves moves
+  all_are = ap (λ (l : List Input). l ++ inputs_of_moves (drop (i + 1) moves)) first_are ∙ sym (inputs_append (take (i + 1) moves) (drop (i + 1) moves)) ∙ ap inputs_of_moves (split moves (i + 1))
+
+  so_far_and : (went : Went) → HasReached limit (inputs_of_move next) [] m mid new b c went → HasReached limit (inputs_of_moves (take i moves) ++ inputs_of_move next) [] machine old new a c went
+  so_far_and went one = whole_reached limit (inputs_of_moves (take i moves)) (inputs_of_move next) machine m old mid new a b c went so_far one
+
+  pub move_reached : (n : MachineState) → HasReached limit (inputs_of_move next) [] m mid new b c (On n) → HasReached limit (inputs_of_moves (take (i + 1) moves)) [] machine old new a c (On n)
+  move_reached n one = subst (λ (l : List Input). HasReached limit l [] machine old new a c (On n)) first_are (so_far_and (On n) one)
+
+  pub move_ended : (ended : Ended) → HasReached limit (inputs_of_move next) [] m mid new b c (Over ended) → HasReached limit (inputs_of_moves moves) [] machine old new a c (Over ended)
+  move_ended ended one =
+      let reached = so_far_and (Over ended) one in
+      let more = inputs_of_moves (drop (i + 1) moves) in
+      subst (λ (l : List Input). HasReached limit l [] machine old new a c (Over ended)) all_are
+      (record {
+        sent = reached.sent;
+        written = reached.written;
+        told = reached.told;
+        most = reached.most;
+        goes = λ inputs.
+            subst (λ (t : Tested). GoesOn t (λ n. tested limit new.done ([] ++ inputs) n) reached.sent new.done (Over ended))
+            (ap (λ (l : List Input). tested limit old.done l machine) (sym (append_assoc (inputs_of_moves (take i moves) ++ inputs_of_move next) more inputs)))
+            (reached.goes (more ++ inputs));
+      })
+
+  pub move_failed : StopsIn limit (inputs_of_move next) m mid b c → StopsIn limit (inputs_of_moves moves) machine old a c
+  move_failed stop = λ inputs.
+      let given = inputs_of_moves (take i moves) in
+      let more = inputs_of_moves (drop (i + 1) moves) in
+      let all : (given ++ inputs_of_move next) ++ (more ++ inputs) ≡ inputs_of_moves moves ++ inputs =
+      sym (append_assoc (given ++ inputs_of_move next) more inputs) ∙ ap (λ (l : List Input). l ++ inputs) all_are in
+      subst (λ (l : List Input). AppendsProperPrefix a c (tested limit old.done l machine).sent) all
+      (stops_then limit (given ++ inputs_of_move next) (inputs_of_move next) (inputs_of_move next) [] machine m old mid a b c (sym (append-nil (inputs_of_move next)))
+      (reached_before limit given (inputs_of_move next) machine m old mid a b so_far) stop (more ++ inputs))
+
+  pub move_without_memory : next ≡ PowerMove → c ≡ b → FindsNoMemory limit old.done moves machine a c
+  move_without_memory is quiet =
+      let given = inputs_of_moves (take i moves) in
+      let reached : tested limit old.done (given ++ []) machine ≡ sent_first so_far.sent (tested limit mid.done [] m) = so_far.goes [] in
+      let whole : tested limit old.done given machine ≡ sent_first so_far.sent (ended_at m.processor mid.done Frames) =
+      ap (λ (l : List Input). tested limit old.done l machine) (sym (append-nil given)) ∙ reached ∙ ap (sent_first so_far.sent) (tested-none limit mid.done m) in
+      let sent_is : so_far.sent ≡ (tested limit old.done given machine).sent = sym (append-nil so_far.sent) ∙ sym (ap (λ (t : Tested). t.sent) whole) in
+      record {
+        made = take i moves;
+        left = drop (i + 1) moves;
+        moves_are =
+            sym (split moves (i + 1)) ∙ ap (λ (l : List Move). l ++ drop (i + 1) moves) (sym (one_more moves i d less)) ∙ append_assoc (take i moves) (next ∷ []) (drop (i + 1) moves)
+            ∙ ap (λ (m : Move). take i moves ++ m ∷ drop (i + 1) moves) is;
+        written = subst (λ (o : Option (List ℕ)). Appends a o (tested limit old.done given machine).sent) (sym quiet) (subst (Appends a b) sent_is so_far.written);
+      }

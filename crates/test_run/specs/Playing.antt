@@ -1,7 +1,10 @@
 -- What the code has done in a frame, and in several of them.
-use Rattle.std.specs.Prelude.{◌≡◌, ◌≤◌, ℕ, List, [], ◌++◌, Option, None}
+use Rattle.std.specs.Prelude.{◌≡◌, ◌≤◌, ℕ, List, [], ◌++◌, Option, None, ⊤}
 use Rattle.std.specs.Io.KnownBytes.{Appends}
 use Rattle.exact_text.specs.Written.{AppendsProperPrefix}
+use Rattle.bank_controllers.specs.CartridgeState.{IsSameCartridge}
+use Rattle.script.specs.declared.moves.Move.{Move}
+use Rattle.script.specs.declared.moves.Move.TheVariants.{Power as PowerMove}
 use Rattle.machine.specs.Machine.{Input}
 use Rattle.machine.specs.Machine.{MachineState, cycles_per_frame}
 use Rattle.machine.specs.Watched.{Seen}
@@ -11,9 +14,12 @@ use Rattle.test_run.specs.declared.run.Ended.{Ended}
 use Rattle.test_run.specs.declared.run.Went.{Went}
 use Rattle.test_run.specs.declared.run.Went.TheVariants.{On, Over}
 use Rattle.test_run.specs.declared.run.Progress.{Progress}
+use Rattle.test_run.specs.declared.run.Stop.{Stop}
+use Rattle.test_run.specs.declared.run.Stop.TheVariants.{Output, Memory}
 use Rattle.test_run.specs.Ends.{end_seen}
 use Rattle.test_run.specs.Told.{ToldState, told_all}
-use Rattle.test_run.specs.Tested.{Tested, sent_first, tested}
+use Rattle.test_run.specs.Tested.{Tested, inputs_of_move, inputs_of_moves, sent_first, tested}
+use Rattle.test_run.specs.Refusals.{FindsNoMemory}
 
 -- a frame in which this is seen was played, and its bytes are written
 pub record HasPlayed (seen : Seen) (old new : ToldState) (before since : Option (List ℕ)) (played : PlayedFrame) : Type 0 where
@@ -48,6 +54,25 @@ pub record HasReached (limit : ℕ) (given left : List Input) (machine : Machine
 abbrev pub StopsIn : (limit : ℕ) → (given : List Input) → MachineState → Progress → (before since : Option (List ℕ)) → Type 0
 StopsIn limit given machine old before since =
     (inputs : List Input) → AppendsProperPrefix before since (tested limit old.done (given ++ inputs) machine).sent
+
+-- a machine with which it goes on has the cartridge of this one
+abbrev pub IsKeptBy : MachineState → Went → Type 0
+IsKeptBy machine (On m) = IsSameCartridge machine.processor.memory.banks m.processor.memory.banks
+IsKeptBy machine (Over ended) = ⊤
+
+-- a move that stops: a write failed among what its inputs send; or it is a power switch for which there is no memory, and nothing was written
+abbrev pub IsMoveStop : (limit : ℕ) → Move → MachineState → Progress → (before since : Option (List ℕ)) → Stop → Type 0
+IsMoveStop limit a_move machine old before since Output = StopsIn limit (inputs_of_move a_move) machine old before since
+IsMoveStop limit a_move machine old before since Memory = (a_move ≡ PowerMove) × (since ≡ before)
+
+abbrev pub IsMovesStop : (limit : ℕ) → List Move → MachineState → Progress → (before since : Option (List ℕ)) → Stop → Type 0
+IsMovesStop limit moves machine old before since Output = StopsIn limit (inputs_of_moves moves) machine old before since
+IsMovesStop limit moves machine old before since Memory = FindsNoMemory limit old.done moves machine before since
+
+-- a whole test that stops: only a proper prefix of this text is written, or there is no memory for a power switch
+abbrev pub IsTestStop : (limit done : ℕ) → List Move → MachineState → (text : List ℕ) → (before since : Option (List ℕ)) → Stop → Type 0
+IsTestStop limit done moves machine text before since Output = AppendsProperPrefix before since text
+IsTestStop limit done moves machine text before since Memory = FindsNoMemory limit done moves machine before since
 
 -- a test has ended, and the bytes that it sent are written
 pub record HasEnded (whole : Tested) (old new : Progress) (before since : Option (List ℕ)) (ended : Ended) : Type 0 where

@@ -1,7 +1,7 @@
 -- A test of a ROM: which inputs it is given, and where it ends.
 use Rattle.std.specs.Prelude.{ℕ, ◌+◌, ◌==◌, if◌then◌else◌, List, [], ◌∷◌, ◌++◌, replicate, Option, Some, None}
 use Rattle.script.specs.declared.moves.Move.{Move}
-use Rattle.script.specs.declared.moves.Move.TheVariants.{Frames as FramesMove, Seconds as SecondsMove, Save}
+use Rattle.script.specs.declared.moves.Move.TheVariants.{Frames as FramesMove, Seconds as SecondsMove, Save, Power as PowerMove}
 use Rattle.machine.specs.Machine.{Input, Frame, Seconds, MachineState, seconds_passed, start, Power, State, powered}
 use Rattle.machine.specs.Watched.{Seen, begun_with, machine_after, seen_in}
 use Rattle.memory_map.specs.State.{BusState}
@@ -17,6 +17,7 @@ abbrev pub inputs_of_move : Move → List Input
 inputs_of_move (FramesMove buttons times) = replicate times (Frame buttons)
 inputs_of_move (SecondsMove n) = Seconds n ∷ []
 inputs_of_move Save = []
+inputs_of_move PowerMove = Power ∷ []
 
 abbrev pub inputs_of_moves : List Move → List Input
 inputs_of_moves [] = []

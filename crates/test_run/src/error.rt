@@ -13,7 +13,7 @@ pub enum TestError {
     /// The script is refused.
     #[error(transparent)]
     Script(ScriptError),
-    /// There is no memory for the machine.
+    /// There is no memory for the machine, or at a power switch for the machine at power-on.
     #[error("no memory")]
     Memory,
     /// A write failed or took no byte: a proper prefix of the text went out.

@@ -2,13 +2,13 @@
 
 ghost use Rattle.std.specs.Prelude.{◌≡◌, ◌≤◌, ◌<◌, ◌++◌, [], ◌∷◌, IfOk, IfErr, OnErr, OnOk, replicate};
 ghost use Rattle.std.specs.Io.KnownBytes.{Appends};
-ghost use Rattle.exact_text.specs.Written.{AppendsProperPrefix};
-ghost use Rattle.machine.specs.Machine.{Frame};
+ghost use Rattle.bank_controllers.specs.CartridgeState.{IsSameCartridge};
+ghost use Rattle.machine.specs.Machine.{Frame, start};
 ghost use Rattle.debugger.specs.Registers.{register_line};
 ghost use Rattle.test_run.specs.Tested.{tested, frames_with, inputs_of_move, inputs_of_moves};
 ghost use Rattle.test_run.specs.Text.{test_text};
 ghost use Rattle.test_run.specs.Verdict.{verdict_of};
-ghost use Rattle.test_run.specs.Playing.{HasReached, HasEnded, StopsIn};
+ghost use Rattle.test_run.specs.Playing.{HasReached, HasEnded, StopsIn, IsKeptBy, IsMoveStop, IsMovesStop, IsTestStop};
 ghost use Rattle.test_run.specs.Refusals.{IsTested, IsTestRefused};
 
 use crate::ends::End;
@@ -24,6 +24,7 @@ use machine::{Input, Machine, Processor};
 use memory_map::Bus;
 use script::{Move, read_script};
 use sm83_alu::Registers;
+use snapshot::powered;
 use std::alloc::Global;
 use std::io::Write;
 
@@ -40,6 +41,15 @@ pub(crate) struct Ended {
 pub(crate) enum Went {
     On(Machine),
     Over(Ended),
+}
+
+/// Why a test stops before its end.
+#[derive(Clone, Copy, Debug, PartialEq, Eq)]
+pub(crate) enum Stop {
+    /// There is no memory for a power switch.
+    Memory,
+    /// A write failed.
+    Output,
 }
 
 /// How far a test is.
@@ -84,6 +94,7 @@ fn test_frame<W: Write>(
     requires { progress.old.done ≤ limit }
     ensures ok { IfOk result (HasReached limit (Frame buttons ∷ []) [] machine progress.old progress.new (W.contents out.old) (W.contents out.new)) }
     ensures err { OnErr result (StopsIn limit (Frame buttons ∷ []) machine progress.old (W.contents out.old) (W.contents out.new)) }
+    ensures kept { IfOk result (IsKeptBy machine) }
 {
     if progress.done >= limit {
         return Ok(Went::Over(ended_at(machine.processor(), End::Frames)));
@@ -116,6 +127,7 @@ fn test_frames<W: Write>(
     requires { progress.old.done ≤ limit }
     ensures ok { IfOk result (HasReached limit (replicate times (Frame buttons)) [] machine progress.old progress.new (W.contents out.old) (W.contents out.new)) }
     ensures err { OnErr result (StopsIn limit (replicate times (Frame buttons)) machine progress.old (W.contents out.old) (W.contents out.new)) }
+    ensures kept { IfOk result (IsKeptBy machine) }
 {
     let mut machine = machine;
     for _i in 0..times {
@@ -131,46 +143,60 @@ fn test_frames<W: Write>(
 /// Makes a move of a test.
 fn test_move<W: Write>(
     machine: Machine,
+    alloc: Global,
+    cartridge: &Cartridge,
     a_move: Move,
     limit: u32,
     progress: &mut Progress,
     out: &mut W,
-) -> Result<Went, OutputFailed>
-    requires { progress.old.done ≤ limit }
+) -> Result<Went, Stop>
+    requires most { progress.old.done ≤ limit }
+    requires of { IsSameCartridge machine.processor.memory.banks (start cartridge.now).processor.memory.banks }
     ensures ok { IfOk result (HasReached limit (inputs_of_move a_move) [] machine progress.old progress.new (W.contents out.old) (W.contents out.new)) }
-    ensures err { OnErr result (StopsIn limit (inputs_of_move a_move) machine progress.old (W.contents out.old) (W.contents out.new)) }
+    ensures err { IfErr result (IsMoveStop limit a_move machine progress.old (W.contents out.old) (W.contents out.new)) }
+    ensures kept { IfOk result (IsKeptBy machine) }
 {
     match a_move {
-        Move::Frames { buttons, times } => test_frames(
-            machine, buttons, times, limit, progress, out,
-        ),
+        Move::Frames { buttons, times } => {
+            match test_frames(machine, buttons, times, limit, progress, out) {
+                Ok(went) => Ok(went),
+                Err(_) => Err(Stop::Output),
+            }
+        }
         Move::Seconds(seconds) => {
             let mut machine = machine;
             machine.apply(Input::Seconds(seconds));
             Ok(Went::On(machine))
         }
         Move::Save => Ok(Went::On(machine)),
+        Move::Power => match powered(alloc, cartridge, &machine) {
+            Ok(fresh) => Ok(Went::On(fresh)),
+            Err(_) => Err(Stop::Memory),
+        },
     }
 }
 
 /// Makes the moves of a test, one after another.
 fn test_moves<W: Write>(
     machine: Machine,
+    alloc: Global,
+    cartridge: &Cartridge,
     moves: &[Move],
     limit: u32,
     progress: &mut Progress,
     out: &mut W,
-) -> Result<Went, OutputFailed>
-    requires { progress.old.done ≤ limit }
+) -> Result<Went, Stop>
+    requires most { progress.old.done ≤ limit }
+    requires of { IsSameCartridge machine.processor.memory.banks (start cartridge.now).processor.memory.banks }
     ensures ok { IfOk result (HasReached limit (inputs_of_moves moves.now) [] machine progress.old progress.new (W.contents out.old) (W.contents out.new)) }
-    ensures err { OnErr result (StopsIn limit (inputs_of_moves moves.now) machine progress.old (W.contents out.old) (W.contents out.new)) }
+    ensures err { IfErr result (IsMovesStop limit moves.now machine progress.old (W.contents out.old) (W.contents out.new)) }
 {
     let mut machine = machine;
     for a_move in moves {
-        match test_move(machine, *a_move, limit, progress, out) {
+        match test_move(machine, alloc, cartridge, *a_move, limit, progress, out) {
             Ok(Went::On(after)) => machine = after,
             Ok(Went::Over(ended)) => return Ok(Went::Over(ended)),
-            Err(fault) => return Err(fault),
+            Err(why) => return Err(why),
         }
     }
     Ok(Went::On(machine))
@@ -179,26 +205,29 @@ fn test_moves<W: Write>(
 /// Makes the moves of a test, and then plays frames without buttons, up to its end.
 fn test_to_end<W: Write>(
     machine: Machine,
+    alloc: Global,
+    cartridge: &Cartridge,
     moves: &[Move],
     limit: u32,
     progress: &mut Progress,
     out: &mut W,
-) -> Result<Ended, OutputFailed>
-    requires { progress.old.done ≤ limit }
+) -> Result<Ended, Stop>
+    requires most { progress.old.done ≤ limit }
+    requires of { IsSameCartridge machine.processor.memory.banks (start cartridge.now).processor.memory.banks }
     ensures ok { IfOk result (HasEnded (tested limit progress.old.done (inputs_of_moves moves.now ++ replicate limit (Frame 0)) machine)
         progress.old progress.new (W.contents out.old) (W.contents out.new)) }
-    ensures err { OnErr result (AppendsProperPrefix (W.contents out.old) (W.contents out.new)
-        (tested limit progress.old.done (inputs_of_moves moves.now ++ replicate limit (Frame 0)) machine).sent) }
+    ensures err { IfErr result (IsTestStop limit progress.old.done moves.now machine
+        (tested limit progress.old.done (inputs_of_moves moves.now ++ replicate limit (Frame 0)) machine).sent (W.contents out.old) (W.contents out.new)) }
 {
-    let machine = match test_moves(machine, moves, limit, progress, out) {
+    let machine = match test_moves(machine, alloc, cartridge, moves, limit, progress, out) {
         Ok(Went::On(machine)) => machine,
         Ok(Went::Over(ended)) => return Ok(ended),
-        Err(fault) => return Err(fault),
+        Err(why) => return Err(why),
     };
     match test_frames(machine, 0, limit, limit, progress, out) {
         Ok(Went::On(machine)) => Ok(ended_at(machine.processor(), End::Frames)),
         Ok(Went::Over(ended)) => Ok(ended),
-        Err(fault) => Err(fault),
+        Err(_) => Err(Stop::Output),
     }
 }
 
@@ -208,8 +237,8 @@ fn test_to_end<W: Write>(
 /// with DE B0 61 behind it. It writes each byte that is sent over the serial port, then,
 /// on a new line, the registers, `frames` with the number of frames that were done, and `ended` with why.
 ///
-/// Refusals, in this order: what is wrong with the image; with the script; no memory, all with nothing written; output failed, where a
-/// proper prefix of the text went out.
+/// Refusals: what is wrong with the image; with the script; no memory, all with nothing written; then, whichever comes first, no memory at a
+/// power switch of the script, where all that was sent before it went out, and output failed, where a proper prefix of the text went out.
 pub fn run_test<W: Write>(
     alloc: Global,
     rom: Vec<u8>,
@@ -232,35 +261,39 @@ pub fn run_test<W: Write>(
         Ok(machine) => machine,
         Err(_) => return Err(TestError::Memory),
     };
-    match test_machine(machine, &moves, frames, out) {
+    match test_machine(machine, alloc, &cartridge, &moves, frames, out) {
         Ok(verdict) => Ok(verdict),
-        Err(_) => Err(TestError::Output),
+        Err(Stop::Memory) => Err(TestError::Memory),
+        Err(Stop::Output) => Err(TestError::Output),
     }
 }
 
 /// Tests a machine, and writes how it ended.
 fn test_machine<W: Write>(
     machine: Machine,
+    alloc: Global,
+    cartridge: &Cartridge,
     moves: &[Move],
     frames: u32,
     out: &mut W,
-) -> Result<Verdict, OutputFailed>
+) -> Result<Verdict, Stop>
+    requires { IsSameCartridge machine.processor.memory.banks (start cartridge.now).processor.memory.banks }
     ensures written { OnOk result (Appends (W.contents out.old) (W.contents out.new)
         (test_text (tested frames 0 (inputs_of_moves moves.now ++ replicate frames (Frame 0)) machine))) }
     ensures verdict { IfOk result (λ v. v ≡ verdict_of (tested frames 0 (inputs_of_moves moves.now ++ replicate frames (Frame 0)) machine)) }
-    ensures err { OnErr result (AppendsProperPrefix (W.contents out.old) (W.contents out.new)
-        (test_text (tested frames 0 (inputs_of_moves moves.now ++ replicate frames (Frame 0)) machine))) }
+    ensures err { IfErr result (IsTestStop frames 0 moves.now machine
+        (test_text (tested frames 0 (inputs_of_moves moves.now ++ replicate frames (Frame 0)) machine)) (W.contents out.old) (W.contents out.new)) }
 {
     let mut progress = Progress {
         done: 0,
         told: Told::new(),
     };
-    let ended = match test_to_end(machine, moves, frames, &mut progress, out) {
+    let ended = match test_to_end(machine, alloc, cartridge, moves, frames, &mut progress, out) {
         Ok(ended) => ended,
-        Err(fault) => return Err(fault),
+        Err(why) => return Err(why),
     };
-    if let Err(fault) = write_end(&ended, &progress, out) {
-        return Err(fault);
+    if let Err(_) = write_end(&ended, &progress, out) {
+        return Err(Stop::Output);
     }
     Ok(verdict_by(
         ended.why,

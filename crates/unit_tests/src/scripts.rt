@@ -37,6 +37,12 @@ fn reads_moves(rt: HostRuntime) {
     accepts(
         &rt,
         alloc,
+        b"power\npower\nsave",
+        &[Move::Power, Move::Power, Move::Save],
+    );
+    accepts(
+        &rt,
+        alloc,
         b"frame aF\nframe Fa",
         &[frames(0xAF, 1), frames(0xFA, 1)],
     );

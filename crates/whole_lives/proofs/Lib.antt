@@ -1,3 +1,4 @@
 pub mod RoundLaws
 pub mod LifeLaws
 pub mod CauseLaws
+pub mod PlayLaws

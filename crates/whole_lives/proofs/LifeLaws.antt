@@ -42,32 +42,32 @@ last_behind (round ∷ rounds) i first last below fresh =
     let next : suc i ≡ i + 1 = omega arith in
     subst (λ (n : ℕ). IsLast (take n (round ∷ rounds)) first last) next fresh
 
-life_push : (rounds : List Round) (ends : List RoundEnd) (known : ℕ) (first next last : Position) (round : Round) (end : RoundEnd)
-    → IsLife rounds ends known first next → IsRound (inputs_of_round round) end (known_behind known ends) next last → IsLife (rounds ++ round ∷ []) (ends ++ end ∷ []) known first last
-life_push [] [] known first next last round end life more = (last, subst (λ (p : Position). IsRound (inputs_of_round round) end known p last) life more, refl)
-life_push [] (e ∷ ends) known first next last round end life more = absurd life
-life_push (r ∷ rounds) [] known first next last round end life more = absurd life
-life_push (r ∷ rounds) (e ∷ ends) known first next last round end life more =
-    (life.0, life.1, life_push rounds ends e.saved life.0 next last round end life.2 more)
+life_push : (rom : List ℕ) (rounds : List Round) (ends : List RoundEnd) (known : ℕ) (first next last : Position) (round : Round) (end : RoundEnd)
+    → IsLife rom rounds ends known first next → IsRound (inputs_of_round rom round) end (known_behind known ends) next last → IsLife rom (rounds ++ round ∷ []) (ends ++ end ∷ []) known first last
+life_push rom [] [] known first next last round end life more = (last, subst (λ (p : Position). IsRound (inputs_of_round rom round) end known p last) life more, refl)
+life_push rom [] (e ∷ ends) known first next last round end life more = absurd life
+life_push rom (r ∷ rounds) [] known first next last round end life more = absurd life
+life_push rom (r ∷ rounds) (e ∷ ends) known first next last round end life more =
+    (life.0, life.1, life_push rom rounds ends e.saved life.0 next last round end life.2 more)
 
 pub lived_nothing : (rom : List ℕ) (now : DiskState) → LeavesLife rom now now [] []
 lived_nothing rom now = λ last stood. record { first = last; stood = stood; life = refl }
 
 -- a life, and one round after it
 pub lived_more : (rom : List ℕ) (old mid now : DiskState) (rounds : List Round) (ends : List RoundEnd) (round : Round) (end : RoundEnd) (known : ℕ) → known ≡ known_behind 0 ends
-    → LeavesLife rom old mid rounds ends → LeavesRound rom mid now (inputs_of_round round) end known → LeavesLife rom old now (rounds ++ round ∷ []) (ends ++ end ∷ [])
+    → LeavesLife rom old mid rounds ends → LeavesRound rom mid now (inputs_of_round rom round) end known → LeavesLife rom old now (rounds ++ round ∷ []) (ends ++ end ∷ [])
 lived_more rom old mid now rounds ends round end known is before more = λ last stood.
     let one = more last stood in
     let lived = before one.first one.stood in
     record {
       first = lived.first;
       stood = lived.stood;
-      life = life_push rounds ends 0 lived.first one.first last round end lived.life (subst (λ (k : ℕ). IsRound (inputs_of_round round) end k one.first last) is one.round);
+      life = life_push rom rounds ends 0 lived.first one.first last round end lived.life (subst (λ (k : ℕ). IsRound (inputs_of_round rom round) end k one.first last) is one.round);
     }
 
 -- the same of the first so many rounds
 pub lived_next : (rom : List ℕ) (old mid now : DiskState) (rounds : List Round) (i : ℕ) (d : Round) (ends : List RoundEnd) (end : RoundEnd) (known : ℕ) → i < length rounds → known ≡ known_behind 0 ends
-    → LeavesLife rom old mid (take i rounds) ends → LeavesRound rom mid now (inputs_of_round (get_or rounds i d)) end known → LeavesLife rom old now (take (i + 1) rounds) (ends ++ end ∷ [])
+    → LeavesLife rom old mid (take i rounds) ends → LeavesRound rom mid now (inputs_of_round rom (get_or rounds i d)) end known → LeavesLife rom old now (take (i + 1) rounds) (ends ++ end ∷ [])
 lived_next rom old mid now rounds i d ends end known less is before more =
     let next : suc i ≡ i + 1 = omega arith in
     subst (λ (l : List Round). LeavesLife rom old now l (ends ++ end ∷ [])) (sym (take-suc rounds i d less) ∙ ap (λ (k : ℕ). take k rounds) next)
@@ -93,7 +93,7 @@ lived_until rom old left now rounds ends lived held =
 
 -- what refuses a round ends the life of the rounds before it
 pub life_refused : (rom : List ℕ) (old mid : DiskState) (rounds : List Round) (i : ℕ) (round : Round) (ends : List RoundEnd) (left : List (List ℕ)) (why : SessionError) → slice_get rounds i ≡ Some round
-    → LeavesLife rom old mid (take i rounds) ends → IsRoundRefusal rom mid (inputs_of_round round) left why → IsLifeStop rom old rounds left why
+    → LeavesLife rom old mid (take i rounds) ends → IsRoundRefusal rom mid (inputs_of_round rom round) left why → IsLifeStop rom old rounds left why
 life_refused rom old mid rounds i round ends left Memory next lived refusal = tt
 life_refused rom old mid rounds i round ends left Device next lived refusal = tt
 life_refused rom old mid rounds i round ends left NoSession next lived refusal = refusal
@@ -137,16 +137,16 @@ out_of_memory rom rounds first last left is (inr rest) = inr rest
 -- ---- what is kept in a life
 
 -- one round
-record RoundSurvives (round : Round) (resumed : Option ℕ) (saved known : ℕ) (first last : Position) : Type 0 where
+record RoundSurvives (rom : List ℕ) (round : Round) (resumed : Option ℕ) (saved known : ℕ) (first last : Position) : Type 0 where
   survived : ℕ
-  count_is : last.count ≡ first.count + length (survivors_of round resumed survived)
-  machine_is : last.machine ≡ after first.machine (survivors_of round resumed survived)
+  count_is : last.count ≡ first.count + length (survivors_of rom round resumed survived)
+  machine_is : last.machine ≡ after first.machine (survivors_of rom round resumed survived)
   saved_is : saved ≤ last.count
   taken_up : IsTakenUpFrom known resumed
   rises : known ≤ saved
 
-round_survives : (round : Round) (resumed : Option ℕ) (saved known : ℕ) (first last : Position) → known ≤ first.count → IsRoundBy (inputs_of_round round) resumed saved known first last → RoundSurvives round resumed saved known first last
-round_survives round None saved known first last less by = record {
+round_survives : (rom : List ℕ) (round : Round) (resumed : Option ℕ) (saved known : ℕ) (first last : Position) → known ≤ first.count → IsRoundBy (inputs_of_round rom round) resumed saved known first last → RoundSurvives rom round resumed saved known first last
+round_survives rom round None saved known first last less by = record {
   survived = 0;
   count_is = ap (λ (p : Position). p.count) by.0 ∙ (let e : first.count ≡ first.count + 0 = omega arith in e);
   machine_is = ap (λ (p : Position). p.machine) by.0 ∙ sym (after_none first.machine);
@@ -154,8 +154,8 @@ round_survives round None saved known first last less by = record {
   taken_up = tt;
   rises = omega (arith, by.1);
 }
-round_survives round (Some count) saved known first last less by =
-    let size : length (take by.survived (inputs_of_round round)) ≡ by.survived = length-take-le by.survived (inputs_of_round round) (omega (arith, by.survivors_given, by.were_given)) in
+round_survives rom round (Some count) saved known first last less by =
+    let size : length (take by.survived (inputs_of_round rom round)) ≡ by.survived = length-take-le by.survived (inputs_of_round rom round) (omega (arith, by.survivors_given, by.were_given)) in
     record {
       survived = by.survived;
       count_is = omega (arith, by.count_is, size);
@@ -170,16 +170,16 @@ saved_first end ends n one all zero d less = one
 saved_first end ends n one all (suc k) d less = all k d (omega (arith, less))
 
 -- from any count that was known to be saved
-record Surviving (rounds : List Round) (ends : List RoundEnd) (known : ℕ) (first last : Position) : Type 0 where
+record Surviving (rom : List ℕ) (rounds : List Round) (ends : List RoundEnd) (known : ℕ) (first last : Position) : Type 0 where
   survived : List ℕ
   each : length survived ≡ length rounds
-  count_is : last.count ≡ first.count + length (survivors rounds ends survived)
-  machine_is : last.machine ≡ after first.machine (survivors rounds ends survived)
+  count_is : last.count ≡ first.count + length (survivors rom rounds ends survived)
+  machine_is : last.machine ≡ after first.machine (survivors rom rounds ends survived)
   saved : All (λ end. end.saved ≤ last.count) ends
   never_falls : NeverFalls known ends
 
-survives : (rounds : List Round) (ends : List RoundEnd) (known : ℕ) (first last : Position) → known ≤ first.count → IsLife rounds ends known first last → Surviving rounds ends known first last
-survives [] [] known first last less life = record {
+survives : (rom : List ℕ) (rounds : List Round) (ends : List RoundEnd) (known : ℕ) (first last : Position) → known ≤ first.count → IsLife rom rounds ends known first last → Surviving rom rounds ends known first last
+survives rom [] [] known first last less life = record {
   survived = [];
   each = refl;
   count_is = ap (λ (p : Position). p.count) life ∙ (let e : first.count ≡ first.count + 0 = omega arith in e);
@@ -187,14 +187,14 @@ survives [] [] known first last less life = record {
   saved = λ k d no. absurd (omega (arith, no));
   never_falls = tt;
 }
-survives [] (e ∷ ends) known first last less life = absurd life
-survives (r ∷ rounds) [] known first last less life = absurd life
-survives (r ∷ rounds) (e ∷ ends) known first last less life =
+survives rom [] (e ∷ ends) known first last less life = absurd life
+survives rom (r ∷ rounds) [] known first last less life = absurd life
+survives rom (r ∷ rounds) (e ∷ ends) known first last less life =
     let next = life.0 in
-    let one = round_survives r e.resumed e.saved known first next less life.1 in
-    let rest = survives rounds ends e.saved next last one.saved_is life.2 in
-    let these : List Input = survivors_of r e.resumed one.survived in
-    let those : List Input = survivors rounds ends rest.survived in
+    let one = round_survives rom r e.resumed e.saved known first next less life.1 in
+    let rest = survives rom rounds ends e.saved next last one.saved_is life.2 in
+    let these : List Input = survivors_of rom r e.resumed one.survived in
+    let those : List Input = survivors rom rounds ends rest.survived in
     record {
       survived = one.survived ∷ rest.survived;
       each = ap suc rest.each;
@@ -205,6 +205,6 @@ survives (r ∷ rounds) (e ∷ ends) known first last less life =
     }
 
 pub keeps_what_was_saved : NoLifeLosesWhatWasSaved
-keeps_what_was_saved rounds ends first last life =
-    let s = survives rounds ends 0 first last (omega arith) life in
+keeps_what_was_saved rom rounds ends first last life =
+    let s = survives rom rounds ends 0 first last (omega arith) life in
     record { survived = s.survived; each = s.each; count_is = s.count_is; machine_is = s.machine_is; saved = s.saved; never_falls = s.never_falls }

@@ -175,7 +175,7 @@ counts_later why first old new less counts = record {
 -- ---- causes
 
 -- moves that were stopped refuse the round, where their report can't fail
-pub moves_refuse : (rom : List ℕ) (old now : MemoryState) (inputs : List Input) (from : Position) (all : ℕ) (why : SessionError) → StandsFor rom (memory_disk old) from → all ≡ from.count + length inputs → (why ≡ Output → ⊥) → IsStop why all (memory_disk now)
+moves_refuse : (rom : List ℕ) (old now : MemoryState) (inputs : List Input) (from : Position) (all : ℕ) (why : SessionError) → StandsFor rom (memory_disk old) from → all ≡ from.count + length inputs → (why ≡ Output → ⊥) → IsStop why all (memory_disk now)
     → IsRoundRefusal rom (memory_disk old) inputs (memory_disk now).sectors why
 moves_refuse rom old now inputs from all Memory stood is other stop = tt
 moves_refuse rom old now inputs from all Device stood is other stop = tt
@@ -188,6 +188,12 @@ moves_refuse rom old now inputs from all CountFull stood is other stop = record 
 moves_refuse rom old now inputs from all Broken stood is other stop = stop
 moves_refuse rom old now inputs from all SaveFirst stood is other stop = stop
 moves_refuse rom old now inputs from all Output stood is other stop = other refl
+
+-- so do plays that were stopped, be it for lack of memory
+pub plays_refuse : (rom : List ℕ) (old now : MemoryState) (inputs : List Input) (from : Position) (all : ℕ) (why : SessionError) → StandsFor rom (memory_disk old) from → all ≡ from.count + length inputs → (why ≡ Output → ⊥)
+    → (why ≡ Memory) ⊎ IsStop why all (memory_disk now) → IsRoundRefusal rom (memory_disk old) inputs (memory_disk now).sectors why
+plays_refuse rom old now inputs from all why stood is other (inl memory) = subst (λ (w : SessionError). IsRoundRefusal rom (memory_disk old) inputs (memory_disk now).sectors w) (sym memory) tt
+plays_refuse rom old now inputs from all why stood is other (inr stop) = moves_refuse rom old now inputs from all why stood is other stop
 
 refused_by : (rom : List ℕ) (old : DiskState) (inputs : List Input) (left : List (List ℕ)) (why : SessionError) → IsResumeCause rom (generation_in left) (content left) why → IsRoundRefusal rom old inputs left why
 refused_by rom old inputs left Memory cause = tt
@@ -216,7 +222,7 @@ pub refusal_fused : (rom : List ℕ) (old fused : MemoryState) (inputs : List In
     → IsRoundRefusal rom (memory_disk fused) inputs left why → IsRoundRefusal rom (memory_disk old) inputs left why
 refusal_fused rom old fused inputs left why same refusal = subst (λ (d : DiskState). IsRoundRefusal rom d inputs left why) same refusal
 
-pub moves_sound_stop : (why : SessionError) (all : ℕ) (now : DiskState) → (why ≡ Output → ⊥) → IsStop why all now → IsSoundStop why
+moves_sound_stop : (why : SessionError) (all : ℕ) (now : DiskState) → (why ≡ Output → ⊥) → IsStop why all now → IsSoundStop why
 moves_sound_stop Memory all now other stop = tt
 moves_sound_stop Device all now other stop = tt
 moves_sound_stop GenerationsUsedUp all now other stop = tt
@@ -228,6 +234,10 @@ moves_sound_stop (Damaged d) all now other stop = stop
 moves_sound_stop Broken all now other stop = stop
 moves_sound_stop SaveFirst all now other stop = stop
 moves_sound_stop Output all now other stop = other refl
+
+pub plays_sound_stop : (why : SessionError) (all : ℕ) (now : DiskState) → (why ≡ Output → ⊥) → (why ≡ Memory) ⊎ IsStop why all now → IsSoundStop why
+plays_sound_stop why all now other (inl memory) = subst (λ (w : SessionError). IsSoundStop w) (sym memory) tt
+plays_sound_stop why all now other (inr stop) = moves_sound_stop why all now other stop
 
 -- ---- memory
 

@@ -9,16 +9,16 @@ use Rattle.whole_lives.specs.declared.rounds.Round.{Round}
 use Rattle.whole_lives.specs.declared.rounds.RoundEnd.{RoundEnd}
 
 -- the first so many of a round's inputs, none where it was not taken up
-abbrev pub survivors_of : Round → (resumed : Option ℕ) → (survived : ℕ) → List Input
-survivors_of round None survived = []
-survivors_of round (Some count) survived = take survived (inputs_of_round round)
+abbrev pub survivors_of : (rom : List ℕ) → Round → (resumed : Option ℕ) → (survived : ℕ) → List Input
+survivors_of rom round None survived = []
+survivors_of rom round (Some count) survived = take survived (inputs_of_round rom round)
 
 -- those of each round, one round after the other
-abbrev pub survivors : List Round → List RoundEnd → (survived : List ℕ) → List Input
-survivors [] ends survived = []
-survivors (round ∷ rounds) [] survived = []
-survivors (round ∷ rounds) (end ∷ ends) [] = []
-survivors (round ∷ rounds) (end ∷ ends) (k ∷ survived) = survivors_of round end.resumed k ++ survivors rounds ends survived
+abbrev pub survivors : (rom : List ℕ) → List Round → List RoundEnd → (survived : List ℕ) → List Input
+survivors rom [] ends survived = []
+survivors rom (round ∷ rounds) [] survived = []
+survivors rom (round ∷ rounds) (end ∷ ends) [] = []
+survivors rom (round ∷ rounds) (end ∷ ends) (k ∷ survived) = survivors_of rom round end.resumed k ++ survivors rom rounds ends survived
 
 -- a round was taken up at no less than this count, if it was
 abbrev pub IsTakenUpFrom : (known : ℕ) → (resumed : Option ℕ) → Type 0
@@ -31,14 +31,15 @@ NeverFalls known [] = ⊤
 NeverFalls known (end ∷ ends) = IsTakenUpFrom known end.resumed × (known ≤ end.saved) × NeverFalls end.saved ends
 
 -- the life ends after exactly the inputs that survived, and none that was saved is missing, at its end or on the way
-pub record KeepsWhatWasSaved (rounds : List Round) (ends : List RoundEnd) (first last : Position) : Type 0 where
+pub record KeepsWhatWasSaved (rom : List ℕ) (rounds : List Round) (ends : List RoundEnd) (first last : Position) : Type 0 where
   -- how many of each round's inputs survived
   pub survived : List ℕ
   pub each : length survived ≡ length rounds
-  pub count_is : last.count ≡ first.count + length (survivors rounds ends survived)
-  pub machine_is : last.machine ≡ after first.machine (survivors rounds ends survived)
+  pub count_is : last.count ≡ first.count + length (survivors rom rounds ends survived)
+  pub machine_is : last.machine ≡ after first.machine (survivors rom rounds ends survived)
   pub saved : All (λ end. end.saved ≤ last.count) ends
   pub never_falls : NeverFalls 0 ends
 
 abbrev pub NoLifeLosesWhatWasSaved : Type 0
-NoLifeLosesWhatWasSaved = (rounds : List Round) (ends : List RoundEnd) (first last : Position) → IsLife rounds ends 0 first last → KeepsWhatWasSaved rounds ends first last
+NoLifeLosesWhatWasSaved =
+    (rom : List ℕ) (rounds : List Round) (ends : List RoundEnd) (first last : Position) → IsLife rom rounds ends 0 first last → KeepsWhatWasSaved rom rounds ends first last

@@ -1,17 +1,35 @@
 -- What a life of a save file is, whatever was cut in it.
-use Rattle.std.specs.Prelude.{◌≡◌, ◌≤◌, ◌+◌, ℕ, List, [], ◌∷◌, length, take, Option, Some, None}
+use Rattle.std.specs.Prelude.{◌≡◌, ◌≤◌, ◌+◌, ℕ, List, [], ◌∷◌, ◌++◌, length, take, if◌then◌else◌, Option, Some, None}
 use Rattle.machine.specs.Machine.{after}
-use Rattle.machine.specs.Machine.{Input}
+use Rattle.machine.specs.Machine.{Input, State}
+use Rattle.snapshot.specs.Reading.{machine_in}
 use Rattle.sector_device.specs.DiskState.{DiskState}
 use Rattle.log_format.specs.Content.{content}
-use Rattle.session.specs.Stands.{Position, stands}
-use Rattle.playing.specs.Report.{inputs_of_moves}
+use Rattle.session.specs.Stands.{Position, is_snapshot, stands}
+use Rattle.playing.specs.Report.{inputs_of_move}
+use Rattle.whole_lives.specs.declared.plays.Play.{Play}
+use Rattle.whole_lives.specs.declared.plays.Play.TheVariants.{Make, Restore}
 use Rattle.whole_lives.specs.declared.rounds.Round.{Round}
 use Rattle.whole_lives.specs.declared.rounds.RoundEnd.{RoundEnd}
 
--- the inputs of a round's moves
-abbrev pub inputs_of_round : Round → List Input
-inputs_of_round round = inputs_of_moves round.moves.items
+-- ---- the inputs of a round, with the cartridge of this ROM
+
+-- the machine of a snapshot; bytes that are no legal snapshot are no input
+unfoldable pub inputs_of_state : (rom bytes : List ℕ) → List Input
+inputs_of_state rom bytes = if is_snapshot rom bytes then State (machine_in rom bytes) ∷ [] else []
+
+abbrev pub inputs_of_play : (rom : List ℕ) → Play → List Input
+inputs_of_play rom (Make move) = inputs_of_move move
+inputs_of_play rom (Restore bytes) = inputs_of_state rom bytes.items
+
+abbrev pub inputs_of_plays : (rom : List ℕ) → List Play → List Input
+inputs_of_plays rom [] = []
+inputs_of_plays rom (play ∷ plays) = inputs_of_play rom play ++ inputs_of_plays rom plays
+
+abbrev pub inputs_of_round : (rom : List ℕ) → Round → List Input
+inputs_of_round rom round = inputs_of_plays rom round.plays.items
+
+-- ---- what a life is
 
 -- A round that was taken up at the first position, with this count. The first `given` of its inputs were given, and so many were known
 -- to be saved. The cut kept the first `survived` of those that were given, and with them all that were saved.
@@ -37,12 +55,12 @@ abbrev pub IsRound : (inputs : List Input) → RoundEnd → (known : ℕ) → (f
 IsRound inputs end known first last = IsRoundBy inputs end.resumed end.saved known first last
 
 -- one end for each round, in order; each round begins where the one before it ended
-abbrev pub IsLife : List Round → List RoundEnd → (known : ℕ) → (first last : Position) → Type 0
-IsLife [] [] known first last = last ≡ first
-IsLife [] (end ∷ ends) known first last = ⊥
-IsLife (round ∷ rounds) [] known first last = ⊥
-IsLife (round ∷ rounds) (end ∷ ends) known first last =
-    (next : Position) × IsRound (inputs_of_round round) end known first next × IsLife rounds ends end.saved next last
+abbrev pub IsLife : (rom : List ℕ) → List Round → List RoundEnd → (known : ℕ) → (first last : Position) → Type 0
+IsLife rom [] [] known first last = last ≡ first
+IsLife rom [] (end ∷ ends) known first last = ⊥
+IsLife rom (round ∷ rounds) [] known first last = ⊥
+IsLife rom (round ∷ rounds) (end ∷ ends) known first last =
+    (next : Position) × IsRound (inputs_of_round rom round) end known first next × IsLife rom rounds ends end.saved next last
 
 -- ---- on a device
 
@@ -56,7 +74,7 @@ pub record StandsFor (rom : List ℕ) (now : DiskState) (position : Position) : 
 pub record HasLived (rom : List ℕ) (old : DiskState) (rounds : List Round) (ends : List RoundEnd) (last : Position) : Type 0 where
   pub first : Position
   pub stood : StandsFor rom old first
-  pub life : IsLife rounds ends 0 first last
+  pub life : IsLife rom rounds ends 0 first last
 
 -- whatever position an image stands for that is left, a life leads to it
 abbrev pub LeavesLife : (rom : List ℕ) → (old now : DiskState) → List Round → List RoundEnd → Type 0

@@ -23,7 +23,7 @@ pub record IsUncountable (rom : List ℕ) (old : DiskState) (rounds : List Round
   pub lived : HasLived rom old (take done rounds) ends from
   pub round : Round
   pub next : slice_get rounds done ≡ Some round
-  pub past : 2 ^ 64 ≤ from.count + length (inputs_of_round round)
+  pub past : 2 ^ 64 ≤ from.count + length (inputs_of_round rom round)
 
 -- Why a life ends before its rounds do, by the sectors that reads then give: what refuses the game that they hold, generations that are
 -- used up, or inputs that can't be counted. Of running out of memory `IsOutOfMemory` speaks, and of a failed call that it is counted.

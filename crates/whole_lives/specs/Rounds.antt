@@ -1,14 +1,16 @@
 -- What one round leaves on a device; a reader needs none of this.
-use Rattle.std.specs.Prelude.{◌≡◌, ◌≤◌, ◌+◌, ◌-◌, ◌^◌, ℕ, List, [], Bool, length, ⊤}
+use Rattle.std.specs.Prelude.{◌≡◌, ◌⊎◌, ◌≤◌, ◌+◌, ◌-◌, ◌^◌, ℕ, List, [], ◌++◌, Bool, length, Some, Err, ⊤}
 use Rattle.machine.specs.Machine.{Input}
-use Rattle.sector_device.specs.DiskState.{DiskState}
+use Rattle.sector_device.specs.DiskState.{DiskState, HasAnswered}
 use Rattle.sector_device.specs.Memory.{MemoryState, memory_disk, image_of}
 use Rattle.log_format.specs.Content.{content, generation_in}
+use Rattle.session.specs.Calls.{faults_after}
 use Rattle.session.specs.Found.{IsResumeCause}
-use Rattle.session.specs.Stands.{Position}
+use Rattle.session.specs.Stands.{Position, stands}
 use Rattle.session.specs.declared.error.SessionError.{SessionError}
-use Rattle.session.specs.declared.error.SessionError.TheVariants.{Memory, Device, NoSession, TooSmall, OtherCartridge, Damaged, GenerationsUsedUp, CountFull}
-use Rattle.playing.specs.Played.{Reaches}
+use Rattle.session.specs.declared.error.SessionError.TheVariants.{Memory, Device, NoSession, TooSmall, OtherCartridge, Damaged, GenerationsUsedUp, CountFull, Output}
+use Rattle.playing.specs.Going.{Place, all_of, IsPlayedAt}
+use Rattle.playing.specs.Played.{Reaches, Stopped, IsStop}
 use Rattle.whole_lives.specs.Lives.{StandsFor, IsRound}
 use Rattle.whole_lives.specs.declared.rounds.RoundEnd.{RoundEnd}
 
@@ -51,3 +53,17 @@ IsRoundRefusal rom old inputs left (Damaged damage) = IsResumeCause rom (generat
 IsRoundRefusal rom old inputs left GenerationsUsedUp = generation_in left ≡ 2 ^ 64 - 1
 IsRoundRefusal rom old inputs left CountFull = IsPastCounting rom old inputs
 IsRoundRefusal rom old inputs left why = ⊥
+
+-- One of these inputs was refused, or a save among them, or there was no memory for it.
+pub record StopsPlays (old new : Place) (inputs : List Input) (why : SessionError) : Type 0 where
+  -- each image at each moment stands for some of the inputs before and of these, and each that is left at least for what is saved
+  pub stopped : (rom : List ℕ) (from : Position) (given : List Input) → IsPlayedAt rom old from given
+      → Stopped rom old.disk new.disk new.acknowledged from (given ++ inputs)
+  pub cause : (why ≡ Memory) ⊎ IsStop why (all_of old + length inputs) new.disk
+  -- where memory was refused, what reads give stands for a position
+  pub stands_still : why ≡ Memory → (rom : List ℕ) (from : Position) (given : List Input) → IsPlayedAt rom old from given
+      → (position : Position) × (stands rom (content new.disk.sectors) ≡ Some position)
+  -- a call of the device failed if that is the cause, and else none
+  pub calls : HasAnswered {T = Unit {0}} faults_after old.disk new.disk (Err why)
+  -- no line is written
+  pub silent : why ≡ Output → ⊥

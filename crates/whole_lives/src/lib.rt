@@ -6,7 +6,9 @@
 
 pub mod laws;
 mod lives;
+mod plays;
 mod rounds;
 
 pub use lives::live;
+pub use plays::Play;
 pub use rounds::{Lived, Round, RoundEnd};

@@ -59,13 +59,13 @@ fn live_rounds(
 }
 
 /// Lives through rounds on a device. In each round the fuse is set to its `calls`, the game is
-/// resumed, and its moves are made, with a save at each `Save` and right after the input that makes
+/// resumed, and its plays are made, with a save at each `Save` and right after the input that makes
 /// 3,200 unsaved, until they are made or the fuse is blown. Then the power is cut: the device
 /// becomes the image that keeps the chosen writes. After the last round the game is resumed once
 /// more, with no fuse.
 ///
-/// Refusals: those of `resume`; `GenerationsUsedUp`, `Device` and `CountFull` of the moves; `Memory` for the
-/// ends and for an image. A `Device` by a round's fuse ends the round; any other refusal ends the
+/// Refusals: those of `resume`; `GenerationsUsedUp`, `Device` and `CountFull` of the plays; `Memory` for the
+/// ends, for an image and for the machine of a power switch. A `Device` by a round's fuse ends the round; any other refusal ends the
 /// life, as do a full record and a call that `fail_at` made fail.
 pub fn live(
     alloc: Global,

@@ -1,16 +1,14 @@
 //! One round of a life: a game resumed, played, and cut.
 ghost use Rattle.std.specs.Prelude.{◌≡◌, ◌≤◌, ◌⊎◌, ◌<◌, ◌-◌, ◌^◌, Some, None, true, false, IfOk, IfErr};
-ghost use Rattle.playing.specs.Report.{inputs_of_moves};
 ghost use Rattle.sector_device.specs.Memory.{memory_disk, image_of};
 ghost use Rattle.sector_device.specs.MemoryDevice.{memory, IsNewMemory};
-ghost use Rattle.whole_lives.specs.Lives.{inputs_of_round, EachStands};
+ghost use Rattle.whole_lives.specs.Lives.{inputs_of_plays, inputs_of_round, EachStands};
 ghost use Rattle.whole_lives.specs.Refusals.{IsFresh, IsStanding, IsOutOfMemory, IsSoundStop, CountsLifeFaults};
 ghost use Rattle.whole_lives.specs.Rounds.{LeavesRound, IsCutRound, IsRoundRefusal};
 ghost use Rattle.whole_lives.specs.declared.rounds.RoundEnd.{RoundEnd};
 
+use crate::plays::{Play, make_plays};
 use cartridge::Cartridge;
-use playing::{Silent, make_moves};
-use script::Move;
 use sector_device::MemoryDevice;
 use session::{Refused, Session, SessionError, resume};
 use std::alloc::Global;
@@ -19,7 +17,7 @@ use std::alloc::Global;
 #[derive(Drop)]
 pub struct Round {
     /// What is played.
-    pub moves: Vec<Move>,
+    pub plays: Vec<Play>,
     /// How many device calls pass before the cut.
     pub calls: u64,
     /// Which of the writes since the last successful sync the cut keeps: a missing choice is false,
@@ -71,20 +69,20 @@ fn with_fuse(device: MemoryDevice, calls: u64) -> MemoryDevice
     device
 }
 
-/// Resumes a game and makes the moves, until they are made or the fuse is blown.
+/// Resumes a game and plays, until all is played or the fuse is blown.
 fn play_until_blown(
     alloc: Global,
     device: MemoryDevice,
     cartridge: &Cartridge,
-    moves: &[Move],
+    plays: &[Play],
     known: u64,
 ) -> Result<(MemoryDevice, RoundEnd), Refused<MemoryDevice>>
     ensures leaves { IfOk result (λ r.
-        LeavesRound cartridge.now (memory_disk (memory device)) (memory_disk (memory r.0)) (inputs_of_moves moves.now) r.1 known) }
+        LeavesRound cartridge.now (memory_disk (memory device)) (memory_disk (memory r.0)) (inputs_of_plays cartridge.now plays.now) r.1 known) }
     ensures refused { IfErr result (λ refused. (end : RoundEnd) ×
-        LeavesRound cartridge.now (memory_disk (memory device)) (memory_disk (memory refused.device)) (inputs_of_moves moves.now) end known) }
+        LeavesRound cartridge.now (memory_disk (memory device)) (memory_disk (memory refused.device)) (inputs_of_plays cartridge.now plays.now) end known) }
     ensures cause { IfErr result (λ refused.
-        IsRoundRefusal cartridge.now (memory_disk (memory device)) (inputs_of_moves moves.now) (memory_disk (memory refused.device)).sectors
+        IsRoundRefusal cartridge.now (memory_disk (memory device)) (inputs_of_plays cartridge.now plays.now) (memory_disk (memory refused.device)).sectors
         refused.why) }
     ensures ended { IfOk result (λ r. ((memory r.0).blown ≡ true) ⊎ IsStanding cartridge.now (memory r.0)) }
     ensures memory { IfErr result (λ refused. refused.why ≡ SessionError.Memory →
@@ -108,7 +106,7 @@ fn play_until_blown(
         }
     };
     let resumed = session.counts().all;
-    let made = make_moves(&mut session, moves, &mut Silent);
+    let made = make_plays(&mut session, alloc, cartridge, plays);
     let end = RoundEnd {
         resumed: Some(resumed),
         saved: session.counts().acknowledged,
@@ -148,14 +146,14 @@ pub(crate) fn one_round(
     known: u64,
 ) -> Result<(MemoryDevice, RoundEnd), Refused<MemoryDevice>>
     ensures leaves { IfOk result (λ r.
-        LeavesRound cartridge.now (memory_disk (memory device)) (memory_disk (memory r.0)) (inputs_of_round round.now) r.1 known) }
+        LeavesRound cartridge.now (memory_disk (memory device)) (memory_disk (memory r.0)) (inputs_of_round cartridge.now round.now) r.1 known) }
     ensures refused { IfErr result (λ refused. (end : RoundEnd) ×
-        LeavesRound cartridge.now (memory_disk (memory device)) (memory_disk (memory refused.device)) (inputs_of_round round.now) end known) }
+        LeavesRound cartridge.now (memory_disk (memory device)) (memory_disk (memory refused.device)) (inputs_of_round cartridge.now round.now) end known) }
     ensures cut { IfOk result (λ r.
-        IsCutRound cartridge.now (memory_disk (memory device)) (round.now).kept.items (memory r.0) (inputs_of_round round.now) r.1 known) }
+        IsCutRound cartridge.now (memory_disk (memory device)) (round.now).kept.items (memory r.0) (inputs_of_round cartridge.now round.now) r.1 known) }
     ensures fresh { IfOk result (λ r. IsFresh (memory r.0)) }
     ensures cause { IfErr result (λ refused.
-        IsRoundRefusal cartridge.now (memory_disk (memory device)) (inputs_of_round round.now) (memory_disk (memory refused.device)).sectors
+        IsRoundRefusal cartridge.now (memory_disk (memory device)) (inputs_of_round cartridge.now round.now) (memory_disk (memory refused.device)).sectors
         refused.why) }
     ensures memory { IfErr result (λ refused. refused.why ≡ SessionError.Memory →
         IsOutOfMemory cartridge.now (memory device) (memory refused.device)) }
@@ -168,7 +166,7 @@ pub(crate) fn one_round(
     ensures fuse { IfErr result (λ refused. refused.why ≡ SessionError.Device → (memory refused.device).blown ≡ false) }
 {
     let device = with_fuse(device, round.calls);
-    let (device, end) = match play_until_blown(alloc, device, cartridge, &round.moves, known) {
+    let (device, end) = match play_until_blown(alloc, device, cartridge, &round.plays, known) {
         Ok(ended) => ended,
         Err(refused) => return Err(refused),
     };

@@ -8,7 +8,7 @@ abbrev pub invariant-loop-passed : goal.invariant-loop-passed
 invariant-loop-passed g l = record {
   run : steps_until bus_rules 17556 l.passed l.processor ≡ steps_until bus_rules 17556 l.fn.passed l.fn.processor;
   start : l.fn.passed ≤ l.passed;
-  below : l.passed < 17556;
+  below : l.passed < l.fn.until;
   fast : IsFast bus_rules l.processor;
 }
 

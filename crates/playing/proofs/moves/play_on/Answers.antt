@@ -3,10 +3,8 @@ use Rattle.std.specs.Prelude.{⊤}
 use Rattle.playing.specs.Making.{count_of}
 use Rattle.playing.specs.Report.{inputs_of_moves, unsaved_behind_moves, lines_of_moves, last_line}
 use Rattle.playing.proofs.Making.{makes_by, makes_nothing, stops_by}
-use Rattle.playing.proofs.PlayLaws.{on_ok}
 use Rattle.playing.proofs.ReportLaws.{last_none, last_some}
-use Rattle.playing.proofs.Stops.{if_err, handed_on}
-use Rattle.playing.proofs.Wholes.{resumed_made, resumed_failed, play_made, play_stopped, play_not_saved}
+use Rattle.playing.proofs.Wholes.{resumed_made, resumed_failed, play_made, play_stopped, play_not_saved, play_without_memory}
 use Rattle.playing.proofs.moves.play_on.Goals as goal
 
 pub returns-in-Err-clause-stopped : goal.returns-in-Err-clause-stopped
@@ -18,18 +16,26 @@ returns-in-Err-clause-stopped g c =
     (resumed_failed game was (g.W.Write.contents c.args.report.now) (g.W.Write.contents c.write_resumed.new.out) c.counts.result.all c.counts.ensures.all c.requires.none (inputs_of_moves moves)
     (lines_of_moves (game.acknowledged was) 0 moves ++ last_line (game.acknowledged was + length (inputs_of_moves moves)) (unsaved_behind_moves 0 moves)) c.unwritten.ensures.told tt c.in-Err.ensures.err)
 
-pub returns-in_err-make_moves-clause-stopped : goal.returns-in_err-make_moves-clause-stopped
-returns-in_err-make_moves-clause-stopped g c =
+pub returns-in-Ok-false-clause-memory : goal.returns-in-Ok-false-clause-memory
+returns-in-Ok-false-clause-memory g c = λ done.
     let game = g.G.Playable in
     let was = c.args.game.now in
     let x = g.W.Write.contents c.args.report.now in
     let y = g.W.Write.contents c.write_resumed.new.out in
     let resumed = resumed_made game was x y c.counts.result.all c.counts.ensures.all c.requires.none c.in_default.ensures.ok in
-    rw (handed_on c.from_residual.result c.from_residual.ensures.1)
-    (play_stopped game was c.make_moves.new.game x y (g.W.Write.contents c.make_moves.new.report) c.args.moves.now c.requires.none resumed ⊤ c.in_err-make_moves.field-0.0 c.in_err-make_moves.ensures.stopped)
+    play_without_memory game was c.make_moves.new.game x y (g.W.Write.contents c.make_moves.new.report) c.args.moves.now c.requires.none resumed (c.in-Ok-false.ensures.memory c.in-Ok-false.field-0-test)
+
+pub returns-in-Err-make_moves-clause-stopped : goal.returns-in-Err-make_moves-clause-stopped
+returns-in-Err-make_moves-clause-stopped g c =
+    let game = g.G.Playable in
+    let was = c.args.game.now in
+    let x = g.W.Write.contents c.args.report.now in
+    let y = g.W.Write.contents c.write_resumed.new.out in
+    let resumed = resumed_made game was x y c.counts.result.all c.counts.ensures.all c.requires.none c.in_default.ensures.ok in
+    play_stopped game was c.make_moves.new.game x y (g.W.Write.contents c.make_moves.new.report) c.args.moves.now c.requires.none resumed ⊤ c.in-Err-make_moves.why c.in-Err-make_moves.ensures.stopped
 
 pub returns-then-counts-eq0-clause-made : goal.returns-then-counts-eq0-clause-made
-returns-then-counts-eq0-clause-made g c =
+returns-then-counts-eq0-clause-made g c = λ done.
     let game = g.G.Playable in
     let was = c.args.game.now in
     let there = c.make_moves.new.game in
@@ -38,11 +44,11 @@ returns-then-counts-eq0-clause-made g c =
     let z = g.W.Write.contents c.make_moves.new.report in
     let resumed = resumed_made game was x y c.counts.result.all c.counts.ensures.all c.requires.none c.in_default.ensures.ok in
     let none : game.unsaved there ≡ 0 = sym c.counts-2.ensures.pending ∙ c.if-counts-eq0.true in
-    play_made game was there x y z c.args.moves.now c.requires.none resumed c.in_ok-make_moves.ensures.made there z
+    play_made game was there x y z c.args.moves.now c.requires.none resumed (c.in-Ok-true.ensures.made c.in-Ok-true.field-0-test) there z
     (makes_by game refl none (sym (last_none (count_of game there) (game.unsaved there) none)) (makes_nothing game there z))
 
-pub returns-clause-made : goal.returns-clause-made
-returns-clause-made g c =
+pub returns-in-Ok-clause-made : goal.returns-in-Ok-clause-made
+returns-in-Ok-clause-made g c = λ done.
     let game = g.G.Playable in
     let was = c.args.game.now in
     let there = c.make_moves.new.game in
@@ -50,13 +56,11 @@ returns-clause-made g c =
     let y = g.W.Write.contents c.write_resumed.new.out in
     let resumed = resumed_made game was x y c.counts.result.all c.counts.ensures.all c.requires.none c.in_default.ensures.ok in
     let line = last_some (count_of game there) (game.unsaved there) (λ none. c.if-counts-eq0.false (c.counts-2.ensures.pending ∙ none)) in
-    on_ok c.save_line.result c.save_line.ensures.made
-    (λ saved.
-    play_made game was there x y (g.W.Write.contents c.make_moves.new.report) c.args.moves.now c.requires.none resumed c.in_ok-make_moves.ensures.made
-    c.save_line.new.game (g.W.Write.contents c.save_line.new.report) (makes_by game refl refl (sym line) saved))
+    play_made game was there x y (g.W.Write.contents c.make_moves.new.report) c.args.moves.now c.requires.none resumed (c.in-Ok-true.ensures.made c.in-Ok-true.field-0-test)
+    c.save_line.new.game (g.W.Write.contents c.save_line.new.report) (makes_by game refl refl (sym line) c.in-Ok.ensures.made)
 
-pub returns-clause-stopped : goal.returns-clause-stopped
-returns-clause-stopped g c =
+pub returns-in-Err-save_line-clause-stopped : goal.returns-in-Err-save_line-clause-stopped
+returns-in-Err-save_line-clause-stopped g c =
     let game = g.G.Playable in
     let was = c.args.game.now in
     let there = c.make_moves.new.game in
@@ -64,7 +68,5 @@ returns-clause-stopped g c =
     let y = g.W.Write.contents c.write_resumed.new.out in
     let resumed = resumed_made game was x y c.counts.result.all c.counts.ensures.all c.requires.none c.in_default.ensures.ok in
     let line = last_some (count_of game there) (game.unsaved there) (λ none. c.if-counts-eq0.false (c.counts-2.ensures.pending ∙ none)) in
-    if_err c.save_line.result c.save_line.ensures.stopped
-    (λ why stop.
-    play_not_saved game was there x y (g.W.Write.contents c.make_moves.new.report) c.args.moves.now c.requires.none resumed c.in_ok-make_moves.ensures.made
-    c.save_line.new.game (g.W.Write.contents c.save_line.new.report) ⊤ why (stops_by game refl (sym line) stop))
+    play_not_saved game was there x y (g.W.Write.contents c.make_moves.new.report) c.args.moves.now c.requires.none resumed (c.in-Ok-true.ensures.made c.in-Ok-true.field-0-test)
+    c.save_line.new.game (g.W.Write.contents c.save_line.new.report) ⊤ c.in-Err-save_line.why (stops_by game refl (sym line) c.in-Err-save_line.ensures.stopped)

@@ -1,21 +1,29 @@
-use Rattle.std.proofs.Common.{◌∷◌, [], inl, inr, refl, sym, ap, subst}
+use Rattle.std.proofs.Common.{◌∷◌, [], ◌∙◌, inl, inr, refl, sym, ap, subst}
 use Rattle.std.proofs.KnownBytes.{Consumes-nil}
 use Rattle.input_lines.specs.Reading.{left_of}
 use Rattle.machine_lines.specs.Slots.{AreKept}
-use Rattle.streaming.specs.Orders.{Does}
-use Rattle.streaming.specs.declared.order.Order.TheVariants.{Make, Picture, State, Memory, Power, Keep}
+use Rattle.streaming.specs.Orders.{Does, needs_states}
+use Rattle.streaming.specs.declared.order.Order.TheVariants.{Make, Picture, State, Memory, Keep}
 use Rattle.streaming.proofs.obeying.obey.Goals as goal
 
-pub returns-in-Ok-clause-step : goal.returns-in-Ok-clause-step
-returns-in-Ok-clause-step g c machines kept = record {
+pub obey_move-requires-clause-takes : goal.obey_move-requires-clause-takes
+obey_move-requires-clause-takes g c = λ is. c.requires.takes (ap needs_states (c.in-Make.is ∙ ap Make is))
+
+pub returns-in-Ok-true-clause-step : goal.returns-in-Ok-true-clause-step
+returns-in-Ok-true-clause-step g c machines kept = record {
   bytes = [];
   deed = Does (Make c.in-Make.a_move);
   order_is = sym c.in-Make.is;
   done = (refl, tt);
   took = Consumes-nil (left_of c.args.unread.now.items (g.R.Read.remaining c.args.input.now));
-  obeys = c.in-Ok.ensures.obeyed;
+  obeys = c.in-Ok-true.ensures.obeyed c.in-Ok-true.field-0-test;
   kept_is = kept;
 }
+
+pub returns-in-Ok-false-clause-step : goal.returns-in-Ok-false-clause-step
+returns-in-Ok-false-clause-step g c machines kept =
+    let nothing = c.in-Ok-false.ensures.nothing c.in-Ok-false.field-0-test in
+    (record { same = nothing.1; quiet = ap g.W.Write.contents nothing.2 }, inl (c.in-Make.is ∙ ap Make nothing.0), Consumes-nil (left_of c.args.unread.now.items (g.R.Read.remaining c.args.input.now)))
 
 pub returns-in-Err-clause-refused : goal.returns-in-Err-clause-refused
 returns-in-Err-clause-refused g c machines kept = record {
@@ -27,14 +35,14 @@ returns-in-Err-clause-refused g c machines kept = record {
   stops = c.in-Err.ensures.stopped;
 }
 
-pub returns-in-Ok-obey_picture-clause-step : goal.returns-in-Ok-obey_picture-clause-step
-returns-in-Ok-obey_picture-clause-step g c machines kept = record {
+pub returns-in-Ok-clause-step : goal.returns-in-Ok-clause-step
+returns-in-Ok-clause-step g c machines kept = record {
   bytes = [];
   deed = Does Picture;
   order_is = sym c.in-Picture.is;
   done = (refl, tt);
   took = Consumes-nil (left_of c.args.unread.now.items (g.R.Read.remaining c.args.input.now));
-  obeys = c.in-Ok-obey_picture.ensures.obeyed;
+  obeys = c.in-Ok.ensures.obeyed;
   kept_is = kept;
 }
 
@@ -88,27 +96,6 @@ returns-in-Err-obey_memory-clause-refused g c machines kept = record {
   asked = inl (refl, tt);
   took = Consumes-nil (left_of c.args.unread.now.items (g.R.Read.remaining c.args.input.now));
   stops = c.in-Err-obey_memory.ensures.stopped;
-}
-
-pub returns-in-Ok-true-clause-step : goal.returns-in-Ok-true-clause-step
-returns-in-Ok-true-clause-step g c machines kept = record {
-  bytes = [];
-  deed = Does Power;
-  order_is = sym c.in-Power.is;
-  done = (refl, tt);
-  took = Consumes-nil (left_of c.args.unread.now.items (g.R.Read.remaining c.args.input.now));
-  obeys = c.in-Ok-true.ensures.made c.in-Ok-true.field-0-test;
-  kept_is = kept;
-}
-
-pub returns-in-Err-give_power-clause-refused : goal.returns-in-Err-give_power-clause-refused
-returns-in-Err-give_power-clause-refused g c machines kept = record {
-  bytes = [];
-  deed = Does Power;
-  order_is = sym c.in-Power.is;
-  asked = inl (refl, tt);
-  took = Consumes-nil (left_of c.args.unread.now.items (g.R.Read.remaining c.args.input.now));
-  stops = c.in-Err-give_power.ensures.stopped;
 }
 
 pub returns-in-Ok-true-obey_keep-clause-step : goal.returns-in-Ok-true-obey_keep-clause-step

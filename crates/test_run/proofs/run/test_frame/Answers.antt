@@ -3,6 +3,7 @@ use Rattle.memory_map.specs.State.{BusState}
 use Rattle.sm83_processor.specs.declared.processor.Processor.{Processor}
 use Rattle.debugger.specs.Registers.{register_line}
 use Rattle.test_run.proofs.Reaching.{frame_ends, frame_full, frame_goes_on, frame_stops}
+use Rattle.test_run.proofs.Switching.{frame_same}
 use Rattle.test_run.proofs.run.test_frame.Goals as goal
 
 pub returns-then-progress-limit-clause-ok : goal.returns-then-progress-limit-clause-ok
@@ -26,3 +27,6 @@ pub returns-in-None-clause-ok : goal.returns-in-None-clause-ok
 returns-in-None-clause-ok g c =
     frame_goes_on c.args.limit c.args.buttons c.args.machine c.end.result c.args.progress.now _ _ _ c.in-Ok.played c.if-progress-limit.false
     c.in-Ok.ensures.ok c.in-None.is refl c.end.ensures
+
+pub returns-in-None-clause-kept : goal.returns-in-None-clause-kept
+returns-in-None-clause-kept g c = frame_same c.args.buttons c.args.machine c.end.result c.in-Ok.played.frame c.in-Ok.ensures.ok.frame c.end.ensures

@@ -5,6 +5,7 @@ use Rattle.machine.specs.Machine.{Frame}
 use Rattle.debugger.specs.Registers.{register_line}
 use Rattle.test_run.specs.Tested.{inputs_of_moves}
 use Rattle.test_run.proofs.Reaching.{ended_after_all, ended_among, ended_over, whole_reached, whole_stops}
+use Rattle.test_run.proofs.Stopping.{test_stopped}
 use Rattle.test_run.proofs.run.test_to_end.Goals as goal
 
 pub returns-in-Ok-Over-clause-ok : goal.returns-in-Ok-Over-clause-ok
@@ -37,3 +38,6 @@ returns-in-Err-test_frames-clause-err g c =
     let first = rw c.in-Ok-On.field-0-is at c.in-Ok-On.ensures.ok in
     whole_stops c.args.limit (inputs_of_moves c.args.moves.now) (replicate c.args.limit (Frame 0)) c.args.machine c.in-Ok-On.machine c.args.progress.now c.test_moves.new.progress _ _ _
     first c.in-Err-test_frames.ensures.err
+
+pub returns-in-Err-clause-err : goal.returns-in-Err-clause-err
+returns-in-Err-clause-err g c = test_stopped c.args.limit c.args.moves.now (replicate c.args.limit (Frame 0)) c.args.machine c.args.progress.now _ _ c.in-Err.why c.in-Err.ensures.err

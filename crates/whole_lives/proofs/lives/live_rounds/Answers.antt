@@ -27,7 +27,7 @@ returns-in-Err-clause-left c =
       done = i + 1;
       ends = ends ++ left.0 ∷ [];
       leaves = lived_next rom (memory_disk (memory c.args.device)) before now rounds i c.round-item.result ends left.0 c.loop-round.known c.loop-round-test.true c.loop-round.invariant.known c.loop-round.invariant.lived
-          (subst (λ (round : Round). LeavesRound rom before now (inputs_of_round round) left.0 c.loop-round.known) c.round-item.is left.1);
+          (subst (λ (round : Round). LeavesRound rom before now (inputs_of_round rom round) left.0 c.loop-round.known) c.round-item.is left.1);
     }
 
 pub returns-in-Err-clause-sound : goal.returns-in-Err-clause-sound
@@ -45,7 +45,7 @@ loop-round-preserved c =
     record {
       lived = subst (λ (l : List RoundEnd). LeavesLife rom (memory_disk (memory c.args.device)) now (take (i + 1) rounds) l) (sym c.push_reserved.ensures.items)
           (lived_next rom (memory_disk (memory c.args.device)) before now rounds i c.round-item.result ends end c.loop-round.known c.loop-round-test.true c.loop-round.invariant.known c.loop-round.invariant.lived
-          (subst (λ (round : Round). LeavesRound rom before now (inputs_of_round round) end c.loop-round.known) c.round-item.is c.in-Ok-one_round.ensures.leaves));
+          (subst (λ (round : Round). LeavesRound rom before now (inputs_of_round rom round) end c.loop-round.known) c.round-item.is c.in-Ok-one_round.ensures.leaves));
       known = sym (ap (known_behind 0) c.push_reserved.ensures.items ∙ known_push 0 ends end);
       size = omega (arith, c.loop-round.invariant.size, ap length c.push_reserved.ensures.items, length_push ends end);
       room = omega (arith, c.loop-round.invariant.room, c.push_reserved.ensures.capacity);
@@ -74,7 +74,7 @@ returns-in-Err-clause-cause c =
     let before = memory_disk (memory c.loop-round.left) in
     let left = (memory_disk (memory c.in-Err.refused.device)).sectors in
     life_refused rom (memory_disk (memory c.args.device)) before rounds i (get_or rounds i c.round-item.result) c.loop-round.ends.items left c.in-Err.refused.why (slice_get-get_or rounds i c.round-item.result c.loop-round-test.true) c.loop-round.invariant.lived
-    (subst (λ (round : Round). IsRoundRefusal rom before (inputs_of_round round) left c.in-Err.refused.why) c.round-item.is c.in-Err.ensures.cause)
+    (subst (λ (round : Round). IsRoundRefusal rom before (inputs_of_round rom round) left c.in-Err.refused.why) c.round-item.is c.in-Err.ensures.cause)
 
 pub returns-in-Err-clause-memory : goal.returns-in-Err-clause-memory
 returns-in-Err-clause-memory c = λ memory_is.

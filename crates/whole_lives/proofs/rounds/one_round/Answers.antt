@@ -1,12 +1,11 @@
 use Rattle.std.proofs.Common.{inl, inr, ⊎_elim, List, sym, ap, ◌∙◌, subst}
-use Rattle.script.specs.declared.moves.Move.{Move}
 use Rattle.sector_device.specs.Memory.{memory_disk, image_of}
 use Rattle.sector_device.specs.MemoryDevice.{memory}
 use Rattle.sector_device.specs.declared.memory.MemoryDevice.{MemoryDevice}
-use Rattle.playing.specs.Report.{inputs_of_moves}
-use Rattle.whole_lives.specs.Lives.{inputs_of_round}
+use Rattle.whole_lives.specs.Lives.{inputs_of_plays, inputs_of_round}
 use Rattle.whole_lives.specs.Refusals.{IsOutOfMemory}
 use Rattle.whole_lives.specs.Rounds.{LeavesRound, IsRoundRefusal}
+use Rattle.whole_lives.specs.declared.plays.Play.{Play}
 use Rattle.whole_lives.proofs.RoundLaws.{round_fused, round_cut, cut_image, each_moved, each_fused, refusal_fused}
 use Rattle.whole_lives.proofs.rounds.one_round.Goals as goal
 
@@ -17,8 +16,8 @@ returns-in-Err-clause-refused c =
     let now = memory_disk (memory c.in-Err.refused.device) in
     let left = c.in-Err.ensures.refused in (
       left.0,
-      round_fused rom (memory c.args.device) fused now (inputs_of_round c.args.round.now) left.0 c.args.known (ap memory_disk c.with_fuse-device.ensures)
-          (subst (λ (moves : List Move). LeavesRound rom (memory_disk fused) now (inputs_of_moves moves) left.0 c.args.known) c.deref.ensures.value left.1),
+      round_fused rom (memory c.args.device) fused now (inputs_of_round rom c.args.round.now) left.0 c.args.known (ap memory_disk c.with_fuse-device.ensures)
+          (subst (λ (plays : List Play). LeavesRound rom (memory_disk fused) now (inputs_of_plays rom plays) left.0 c.args.known) c.deref.ensures.value left.1),
     )
 
 pub returns-in-Err-clause-sound : goal.returns-in-Err-clause-sound
@@ -31,10 +30,10 @@ returns-in-Ok-cut-clause-leaves c =
     let played = memory c.in-Ok.ended.0 in
     let image = memory c.in-Ok-cut.image in
     let end = c.in-Ok.ended.1 in
-    let inputs = inputs_of_round c.args.round.now in
+    let inputs = inputs_of_round rom c.args.round.now in
     round_cut rom (memory_disk (memory c.args.device)) played image inputs end c.args.known (cut_image played image c.deref-2.result.now played.room played.faults c.in-Ok-cut.ensures.image)
     (round_fused rom (memory c.args.device) fused (memory_disk played) inputs end c.args.known (ap memory_disk c.with_fuse-device.ensures)
-    (subst (λ (moves : List Move). LeavesRound rom (memory_disk fused) (memory_disk played) (inputs_of_moves moves) end c.args.known) c.deref.ensures.value c.in-Ok.ensures.leaves))
+    (subst (λ (plays : List Play). LeavesRound rom (memory_disk fused) (memory_disk played) (inputs_of_plays rom plays) end c.args.known) c.deref.ensures.value c.in-Ok.ensures.leaves))
 
 pub returns-in-Ok-cut-clause-stand : goal.returns-in-Ok-cut-clause-stand
 returns-in-Ok-cut-clause-stand c = λ each left here.
@@ -50,9 +49,9 @@ returns-in-Err-cut-clause-refused c =
     let played = c.in-Ok.ended.0 in
     let end = c.in-Ok.ended.1 in (
       end,
-      subst (λ (d : MemoryDevice). LeavesRound rom (memory_disk (memory c.args.device)) (memory_disk (memory d)) (inputs_of_round c.args.round.now) end c.args.known) (sym c.in-Err-cut.ensures.refused.1)
-          (round_fused rom (memory c.args.device) fused (memory_disk (memory played)) (inputs_of_round c.args.round.now) end c.args.known (ap memory_disk c.with_fuse-device.ensures)
-          (subst (λ (moves : List Move). LeavesRound rom (memory_disk fused) (memory_disk (memory played)) (inputs_of_moves moves) end c.args.known) c.deref.ensures.value c.in-Ok.ensures.leaves)),
+      subst (λ (d : MemoryDevice). LeavesRound rom (memory_disk (memory c.args.device)) (memory_disk (memory d)) (inputs_of_round rom c.args.round.now) end c.args.known) (sym c.in-Err-cut.ensures.refused.1)
+          (round_fused rom (memory c.args.device) fused (memory_disk (memory played)) (inputs_of_round rom c.args.round.now) end c.args.known (ap memory_disk c.with_fuse-device.ensures)
+          (subst (λ (plays : List Play). LeavesRound rom (memory_disk fused) (memory_disk (memory played)) (inputs_of_plays rom plays) end c.args.known) c.deref.ensures.value c.in-Ok.ensures.leaves)),
     )
 
 pub returns-in-Err-clause-kept : goal.returns-in-Err-clause-kept
@@ -68,8 +67,8 @@ returns-in-Err-clause-cause c =
     let rom = c.args.cartridge.now in
     let fused = memory c.with_fuse-device.result in
     let left = (memory_disk (memory c.in-Err.refused.device)).sectors in
-    refusal_fused rom (memory c.args.device) fused (inputs_of_round c.args.round.now) left c.in-Err.refused.why (ap memory_disk c.with_fuse-device.ensures)
-    (subst (λ (moves : List Move). IsRoundRefusal rom (memory_disk fused) (inputs_of_moves moves) left c.in-Err.refused.why) c.deref.ensures.value c.in-Err.ensures.cause)
+    refusal_fused rom (memory c.args.device) fused (inputs_of_round rom c.args.round.now) left c.in-Err.refused.why (ap memory_disk c.with_fuse-device.ensures)
+    (subst (λ (plays : List Play). IsRoundRefusal rom (memory_disk fused) (inputs_of_plays rom plays) left c.in-Err.refused.why) c.deref.ensures.value c.in-Err.ensures.cause)
 
 pub returns-in-Ok-cut-clause-cut : goal.returns-in-Ok-cut-clause-cut
 returns-in-Ok-cut-clause-cut c =
@@ -79,8 +78,8 @@ returns-in-Ok-cut-clause-cut c =
     let end = c.in-Ok.ended.1 in
     record {
       played = played;
-      leaves = round_fused rom (memory c.args.device) fused (memory_disk played) (inputs_of_round c.args.round.now) end c.args.known (ap memory_disk c.with_fuse-device.ensures)
-          (subst (λ (moves : List Move). LeavesRound rom (memory_disk fused) (memory_disk played) (inputs_of_moves moves) end c.args.known) c.deref.ensures.value c.in-Ok.ensures.leaves);
+      leaves = round_fused rom (memory c.args.device) fused (memory_disk played) (inputs_of_round rom c.args.round.now) end c.args.known (ap memory_disk c.with_fuse-device.ensures)
+          (subst (λ (plays : List Play). LeavesRound rom (memory_disk fused) (memory_disk played) (inputs_of_plays rom plays) end c.args.known) c.deref.ensures.value c.in-Ok.ensures.leaves);
       cut = ap (λ m. m.at_start) c.in-Ok-cut.ensures.image ∙ ap (image_of played) c.deref-2.ensures.value;
       fresh = ap (λ m. m.recorded) c.in-Ok-cut.ensures.image;
     }

@@ -1,6 +1,5 @@
 use Rattle.std.proofs.Common.{◌≡◌, ◌⊎◌, inl, inr, ⊎_elim, ◌≤◌, ◌+◌, ℕ, [], length, Some, None, refl, sym, ap, ◌∙◌, subst, arith}
 use Rattle.sector_device.specs.Memory.{memory_disk}
-use Rattle.sector_device.specs.RecordLaws.{only_last}
 use Rattle.sector_device.specs.MemoryDevice.{memory}
 use Rattle.sector_device.specs.declared.memory.MemoryDevice.{MemoryDevice}
 use Rattle.log_format.specs.Content.{content, generation_in}
@@ -10,14 +9,13 @@ use Rattle.session.specs.declared.error.SessionError.{SessionError}
 use Rattle.session.specs.declared.error.SessionError.TheVariants.{Device}
 use Rattle.session.proofs.Beginnings.{if_ok, if_err}
 use Rattle.playing.specs.Played.{IsPlayed}
-use Rattle.playing.specs.Report.{inputs_of_moves}
-use Rattle.playing.proofs.Going.{goes_all, no_further_at_all}
 use Rattle.playing.proofs.PlayLaws.{begun_played}
+use Rattle.whole_lives.specs.Lives.{inputs_of_plays}
 use Rattle.whole_lives.specs.Refusals.{IsStanding, IsSoundStop, CountsLifeFaults}
 use Rattle.whole_lives.specs.Rounds.{Leaves, LeavesRound, IsRoundRefusal}
 use Rattle.whole_lives.specs.declared.rounds.RoundEnd.{RoundEnd}
 use Rattle.whole_lives.proofs.CauseLaws.{sound_stop}
-use Rattle.whole_lives.proofs.RoundLaws.{round_missed, round_moved, round_ended, each_before, each_left, each_moved, leaves_played, leaves_stopped, least_after, counts_refusal, moves_refuse, resume_refuses, moves_sound_stop, no_memory_to_resume, memory_moved, no_memory_stops_moves, stands_here, reads}
+use Rattle.whole_lives.proofs.RoundLaws.{round_missed, round_moved, round_ended, each_before, each_left, each_moved, leaves_played, leaves_stopped, least_after, counts_refusal, plays_refuse, resume_refuses, plays_sound_stop, no_memory_to_resume, memory_moved, stands_here, reads}
 use Rattle.whole_lives.proofs.rounds.play_until_blown.Goals as goal
 
 -- ---- not taken up
@@ -25,7 +23,7 @@ use Rattle.whole_lives.proofs.rounds.play_until_blown.Goals as goal
 pub returns-in-Err-clause-leaves : goal.returns-in-Err-clause-leaves
 returns-in-Err-clause-leaves c =
     let rom = c.args.cartridge.now in
-    let inputs = inputs_of_moves c.args.moves.now in
+    let inputs = inputs_of_plays c.args.cartridge.now c.args.plays.now in
     let end : RoundEnd = record { resumed = None; saved = c.args.known } in
     if_ok c.ended_by.result c.ended_by.ensures.ended
     (λ r is. round_moved rom (memory_disk (memory c.args.device)) inputs c.args.known c.in-Err.refused.device r.0 end r.1 is.0 is.1
@@ -34,7 +32,7 @@ returns-in-Err-clause-leaves c =
 pub returns-in-Err-clause-refused : goal.returns-in-Err-clause-refused
 returns-in-Err-clause-refused c =
     let rom = c.args.cartridge.now in
-    let inputs = inputs_of_moves c.args.moves.now in
+    let inputs = inputs_of_plays c.args.cartridge.now c.args.plays.now in
     let end : RoundEnd = record { resumed = None; saved = c.args.known } in
     if_err c.ended_by.result c.ended_by.ensures.refused
     (λ r is. (
@@ -62,11 +60,11 @@ returns-in-Err-clause-sound c =
 
 pub returns-in-Ok-made-clause-leaves : goal.returns-in-Ok-made-clause-leaves
 returns-in-Ok-made-clause-leaves c =
-    let goes = goes_all (λ d. only_last d.at_start.items d.recorded.items) (λ a b input one. one) (λ a b one. one) c.in-Ok.session c.make_moves-made.new.game (inputs_of_moves c.args.moves.now) c.in-Ok-made.ensures.made.advances in
+    let goes = c.in-Ok-made.ensures.made in
     let rom = c.args.cartridge.now in
     let s = c.in-Ok.session in
-    let now = c.make_moves-made.new.game in
-    let inputs = inputs_of_moves c.args.moves.now in
+    let now = c.make_plays-made.new.session in
+    let inputs = inputs_of_plays c.args.cartridge.now c.args.plays.now in
     let from : Position = record { count = acknowledged_of s; machine = machine_of s } in
     let begun : IsPlayed rom (memory_disk (memory (device_of s))) (acknowledged_of s) (pending_of s) (machine_of s) from [] =
     begun_played rom (memory_disk (memory (device_of s))) (acknowledged_of s) (pending_of s) (machine_of s) tt c.in-Ok.ensures.begun.2 c.in-Ok.ensures.begun.0 (c.in-Ok.ensures.rests tt) in
@@ -80,11 +78,11 @@ returns-in-Ok-made-clause-leaves c =
 
 pub returns-in-Ok-made-clause-stand : goal.returns-in-Ok-made-clause-stand
 returns-in-Ok-made-clause-stand c = λ each.
-    let goes = goes_all (λ d. only_last d.at_start.items d.recorded.items) (λ a b input one. one) (λ a b one. one) c.in-Ok.session c.make_moves-made.new.game (inputs_of_moves c.args.moves.now) c.in-Ok-made.ensures.made.advances in
+    let goes = c.in-Ok-made.ensures.made in
     let rom = c.args.cartridge.now in
     let s = c.in-Ok.session in
-    let now = c.make_moves-made.new.game in
-    let inputs = inputs_of_moves c.args.moves.now in
+    let now = c.make_plays-made.new.session in
+    let inputs = inputs_of_plays c.args.cartridge.now c.args.plays.now in
     let from : Position = record { count = acknowledged_of s; machine = machine_of s } in
     let begun : IsPlayed rom (memory_disk (memory (device_of s))) (acknowledged_of s) (pending_of s) (machine_of s) from [] =
     begun_played rom (memory_disk (memory (device_of s))) (acknowledged_of s) (pending_of s) (machine_of s) tt c.in-Ok.ensures.begun.2 c.in-Ok.ensures.begun.0 (c.in-Ok.ensures.rests tt) in
@@ -94,7 +92,7 @@ returns-in-Ok-made-clause-stand c = λ each.
 
 pub returns-in-Ok-made-clause-ended : goal.returns-in-Ok-made-clause-ended
 returns-in-Ok-made-clause-ended c =
-    let goes = goes_all (λ d. only_last d.at_start.items d.recorded.items) (λ a b input one. one) (λ a b one. one) c.in-Ok.session c.make_moves-made.new.game (inputs_of_moves c.args.moves.now) c.in-Ok-made.ensures.made.advances in
+    let goes = c.in-Ok-made.ensures.made in
     let rom = c.args.cartridge.now in
     let s = c.in-Ok.session in
     let from : Position = record { count = acknowledged_of s; machine = machine_of s } in
@@ -107,11 +105,11 @@ returns-in-Ok-made-clause-ended c =
 
 pub returns-in-Err-made-clause-leaves : goal.returns-in-Err-made-clause-leaves
 returns-in-Err-made-clause-leaves c =
-    let stop = no_further_at_all (λ d. only_last d.at_start.items d.recorded.items) (λ a b input one. one) (λ a b one. one) (λ a b input why one. one) (λ a b why one. one) refl c.in-Ok.session c.make_moves-made.new.game (inputs_of_moves c.args.moves.now) c.in-Err-made.why c.in-Err-made.ensures.stopped.stops in
+    let stop = c.in-Err-made.ensures.stopped in
     let rom = c.args.cartridge.now in
     let s = c.in-Ok.session in
-    let now = c.make_moves-made.new.game in
-    let inputs = inputs_of_moves c.args.moves.now in
+    let now = c.make_plays-made.new.session in
+    let inputs = inputs_of_plays c.args.cartridge.now c.args.plays.now in
     let from : Position = record { count = acknowledged_of s; machine = machine_of s } in
     let begun : IsPlayed rom (memory_disk (memory (device_of s))) (acknowledged_of s) (pending_of s) (machine_of s) from [] =
     begun_played rom (memory_disk (memory (device_of s))) (acknowledged_of s) (pending_of s) (machine_of s) tt c.in-Ok.ensures.begun.2 c.in-Ok.ensures.begun.0 (c.in-Ok.ensures.rests tt) in
@@ -129,11 +127,11 @@ returns-in-Err-made-clause-leaves c =
 
 pub returns-in-Err-made-clause-refused : goal.returns-in-Err-made-clause-refused
 returns-in-Err-made-clause-refused c =
-    let stop = no_further_at_all (λ d. only_last d.at_start.items d.recorded.items) (λ a b input one. one) (λ a b one. one) (λ a b input why one. one) (λ a b why one. one) refl c.in-Ok.session c.make_moves-made.new.game (inputs_of_moves c.args.moves.now) c.in-Err-made.why c.in-Err-made.ensures.stopped.stops in
+    let stop = c.in-Err-made.ensures.stopped in
     let rom = c.args.cartridge.now in
     let s = c.in-Ok.session in
-    let now = c.make_moves-made.new.game in
-    let inputs = inputs_of_moves c.args.moves.now in
+    let now = c.make_plays-made.new.session in
+    let inputs = inputs_of_plays c.args.cartridge.now c.args.plays.now in
     let from : Position = record { count = acknowledged_of s; machine = machine_of s } in
     let begun : IsPlayed rom (memory_disk (memory (device_of s))) (acknowledged_of s) (pending_of s) (machine_of s) from [] =
     begun_played rom (memory_disk (memory (device_of s))) (acknowledged_of s) (pending_of s) (machine_of s) tt c.in-Ok.ensures.begun.2 c.in-Ok.ensures.begun.0 (c.in-Ok.ensures.rests tt) in
@@ -151,15 +149,15 @@ returns-in-Err-made-clause-refused c =
 
 pub returns-in-Err-made-clause-cause : goal.returns-in-Err-made-clause-cause
 returns-in-Err-made-clause-cause c =
-    let stop = no_further_at_all (λ d. only_last d.at_start.items d.recorded.items) (λ a b input one. one) (λ a b one. one) (λ a b input why one. one) (λ a b why one. one) refl c.in-Ok.session c.make_moves-made.new.game (inputs_of_moves c.args.moves.now) c.in-Err-made.why c.in-Err-made.ensures.stopped.stops in
+    let stop = c.in-Err-made.ensures.stopped in
     let rom = c.args.cartridge.now in
     let s = c.in-Ok.session in
-    let now = c.make_moves-made.new.game in
-    let inputs = inputs_of_moves c.args.moves.now in
+    let now = c.make_plays-made.new.session in
+    let inputs = inputs_of_plays c.args.cartridge.now c.args.plays.now in
     let from : Position = record { count = acknowledged_of s; machine = machine_of s } in
     let none = ap length c.in-Ok.ensures.begun.0 in
     let all : acknowledged_of s + length (pending_of s) + length inputs ≡ from.count + length inputs = omega (arith, none) in
-    let refused = moves_refuse rom (memory c.args.device) (memory (device_of now)) inputs from (acknowledged_of s + length (pending_of s) + length inputs) c.in-Err-made.why (stands_here rom (memory c.args.device) from (c.in-Ok.ensures.stands tt)) all c.in-Err-made.ensures.stopped.output stop.cause in
+    let refused = plays_refuse rom (memory c.args.device) (memory (device_of now)) inputs from (acknowledged_of s + length (pending_of s) + length inputs) c.in-Err-made.why (stands_here rom (memory c.args.device) from (c.in-Ok.ensures.stands tt)) all stop.silent stop.cause in
     if_err c.ended_by-in-Err-made.result c.ended_by-in-Err-made.ensures.refused
     (λ r is.
     subst (λ (d : MemoryDevice). IsRoundRefusal rom (memory_disk (memory c.args.device)) inputs (memory_disk (memory d)).sectors r.why) (sym (is.0 ∙ c.into_device-device.ensures.device))
@@ -168,7 +166,7 @@ returns-in-Err-made-clause-cause c =
 pub returns-in-Err-clause-cause : goal.returns-in-Err-clause-cause
 returns-in-Err-clause-cause c =
     let rom = c.args.cartridge.now in
-    let inputs = inputs_of_moves c.args.moves.now in
+    let inputs = inputs_of_plays c.args.cartridge.now c.args.plays.now in
     let was = memory_disk (memory c.args.device) in
     let left = memory_disk (memory c.in-Err.refused.device) in
     let kept : (c.in-Err.refused.why ≡ Device) ⊎ (left.sectors ≡ was.sectors) = ⊎_elim inl (λ same. inr (same tt)) c.in-Err.ensures.kept in
@@ -180,11 +178,11 @@ returns-in-Err-clause-cause c =
 
 pub returns-in-Err-made-clause-stand : goal.returns-in-Err-made-clause-stand
 returns-in-Err-made-clause-stand c =
-    let stop = no_further_at_all (λ d. only_last d.at_start.items d.recorded.items) (λ a b input one. one) (λ a b one. one) (λ a b input why one. one) (λ a b why one. one) refl c.in-Ok.session c.make_moves-made.new.game (inputs_of_moves c.args.moves.now) c.in-Err-made.why c.in-Err-made.ensures.stopped.stops in
+    let stop = c.in-Err-made.ensures.stopped in
     let rom = c.args.cartridge.now in
     let s = c.in-Ok.session in
-    let now = c.make_moves-made.new.game in
-    let inputs = inputs_of_moves c.args.moves.now in
+    let now = c.make_plays-made.new.session in
+    let inputs = inputs_of_plays c.args.cartridge.now c.args.plays.now in
     let from : Position = record { count = acknowledged_of s; machine = machine_of s } in
     let begun : IsPlayed rom (memory_disk (memory (device_of s))) (acknowledged_of s) (pending_of s) (machine_of s) from [] =
     begun_played rom (memory_disk (memory (device_of s))) (acknowledged_of s) (pending_of s) (machine_of s) tt c.in-Ok.ensures.begun.2 c.in-Ok.ensures.begun.0 (c.in-Ok.ensures.rests tt) in
@@ -195,15 +193,15 @@ returns-in-Err-made-clause-stand c =
 
 pub returns-in-Err-made-clause-sound : goal.returns-in-Err-made-clause-sound
 returns-in-Err-made-clause-sound c =
-    let stop = no_further_at_all (λ d. only_last d.at_start.items d.recorded.items) (λ a b input one. one) (λ a b one. one) (λ a b input why one. one) (λ a b why one. one) refl c.in-Ok.session c.make_moves-made.new.game (inputs_of_moves c.args.moves.now) c.in-Err-made.why c.in-Err-made.ensures.stopped.stops in
+    let stop = c.in-Err-made.ensures.stopped in
     if_err c.ended_by-in-Err-made.result c.ended_by-in-Err-made.ensures.refused
-    (λ r is each. subst (λ (why : SessionError). IsSoundStop why) (sym is.1) (moves_sound_stop c.in-Err-made.why (acknowledged_of c.in-Ok.session + length (pending_of c.in-Ok.session) + length (inputs_of_moves c.args.moves.now)) (memory_disk (memory (device_of c.make_moves-made.new.game))) c.in-Err-made.ensures.stopped.output stop.cause))
+    (λ r is each. subst (λ (why : SessionError). IsSoundStop why) (sym is.1) (plays_sound_stop c.in-Err-made.why (acknowledged_of c.in-Ok.session + length (pending_of c.in-Ok.session) + length (inputs_of_plays c.args.cartridge.now c.args.plays.now)) (memory_disk (memory (device_of c.make_plays-made.new.session))) stop.silent stop.cause))
 
 pub returns-in-Err-made-clause-faults_ok : goal.returns-in-Err-made-clause-faults_ok
 returns-in-Err-made-clause-faults_ok c =
-    let stop = no_further_at_all (λ d. only_last d.at_start.items d.recorded.items) (λ a b input one. one) (λ a b one. one) (λ a b input why one. one) (λ a b why one. one) refl c.in-Ok.session c.make_moves-made.new.game (inputs_of_moves c.args.moves.now) c.in-Err-made.why c.in-Err-made.ensures.stopped.stops in
+    let stop = c.in-Err-made.ensures.stopped in
     let s = c.in-Ok.session in
-    let now = c.make_moves-made.new.game in
+    let now = c.make_plays-made.new.session in
     let grown : (device_of s).faults ≤ (device_of now).faults = least_after c.in-Err-made.why (device_of s).faults (device_of now).faults (device_of s).faults_fit stop.calls.faults in
     if_ok c.ended_by-in-Err-made.result c.ended_by-in-Err-made.ensures.ended
     (λ r is.
@@ -212,9 +210,9 @@ returns-in-Err-made-clause-faults_ok c =
 
 pub returns-in-Err-made-clause-faults : goal.returns-in-Err-made-clause-faults
 returns-in-Err-made-clause-faults c =
-    let stop = no_further_at_all (λ d. only_last d.at_start.items d.recorded.items) (λ a b input one. one) (λ a b one. one) (λ a b input why one. one) (λ a b why one. one) refl c.in-Ok.session c.make_moves-made.new.game (inputs_of_moves c.args.moves.now) c.in-Err-made.why c.in-Err-made.ensures.stopped.stops in
+    let stop = c.in-Err-made.ensures.stopped in
     let s = c.in-Ok.session in
-    let now = c.make_moves-made.new.game in
+    let now = c.make_plays-made.new.session in
     let first = c.args.device.faults in
     let counted : CountsLifeFaults first (device_of now).faults c.in-Err-made.why =
     counts_refusal c.in-Err-made.why first (device_of s).faults (device_of now).faults (omega (arith, c.in-Ok.ensures.answered.faults_ok)) (device_of s).faults_fit stop.calls.faults in
@@ -231,11 +229,11 @@ returns-in-Err-clause-kept c =
 
 pub returns-in-Err-made-clause-kept : goal.returns-in-Err-made-clause-kept
 returns-in-Err-made-clause-kept c =
-    let stop = no_further_at_all (λ d. only_last d.at_start.items d.recorded.items) (λ a b input one. one) (λ a b one. one) (λ a b input why one. one) (λ a b why one. one) refl c.in-Ok.session c.make_moves-made.new.game (inputs_of_moves c.args.moves.now) c.in-Err-made.why c.in-Err-made.ensures.stopped.stops in
+    let stop = c.in-Err-made.ensures.stopped in
     let rom = c.args.cartridge.now in
     let s = c.in-Ok.session in
-    let now = c.make_moves-made.new.game in
-    let inputs = inputs_of_moves c.args.moves.now in
+    let now = c.make_plays-made.new.session in
+    let inputs = inputs_of_plays c.args.cartridge.now c.args.plays.now in
     let from : Position = record { count = acknowledged_of s; machine = machine_of s } in
     let begun : IsPlayed rom (memory_disk (memory (device_of s))) (acknowledged_of s) (pending_of s) (machine_of s) from [] =
     begun_played rom (memory_disk (memory (device_of s))) (acknowledged_of s) (pending_of s) (machine_of s) tt c.in-Ok.ensures.begun.2 c.in-Ok.ensures.begun.0 (c.in-Ok.ensures.rests tt) in
@@ -261,11 +259,17 @@ returns-in-Err-clause-memory c =
 
 pub returns-in-Err-made-clause-memory : goal.returns-in-Err-made-clause-memory
 returns-in-Err-made-clause-memory c =
-    let stop = no_further_at_all (λ d. only_last d.at_start.items d.recorded.items) (λ a b input one. one) (λ a b one. one) (λ a b input why one. one) (λ a b why one. one) refl c.in-Ok.session c.make_moves-made.new.game (inputs_of_moves c.args.moves.now) c.in-Err-made.why c.in-Err-made.ensures.stopped.stops in
+    let stop = c.in-Err-made.ensures.stopped in
+    let rom = c.args.cartridge.now in
+    let s = c.in-Ok.session in
+    let now = c.make_plays-made.new.session in
+    let from : Position = record { count = acknowledged_of s; machine = machine_of s } in
+    let begun : IsPlayed rom (memory_disk (memory (device_of s))) (acknowledged_of s) (pending_of s) (machine_of s) from [] =
+    begun_played rom (memory_disk (memory (device_of s))) (acknowledged_of s) (pending_of s) (machine_of s) tt c.in-Ok.ensures.begun.2 c.in-Ok.ensures.begun.0 (c.in-Ok.ensures.rests tt) in
     if_err c.ended_by-in-Err-made.result c.ended_by-in-Err-made.ensures.refused
-    (λ r is memory. absurd (no_memory_stops_moves c.in-Err-made.why _ _ stop.cause (sym is.1 ∙ memory)))
+    (λ r is memory_is. inr (subst (λ (d : MemoryDevice). IsStanding rom (memory d)) (sym (is.0 ∙ c.into_device-device.ensures.device)) (stop.stands_still (sym is.1 ∙ memory_is) rom from [] begun)))
 
 pub returns-in-Ok-made-clause-faults_ok : goal.returns-in-Ok-made-clause-faults_ok
 returns-in-Ok-made-clause-faults_ok c =
-    let goes = goes_all (λ d. only_last d.at_start.items d.recorded.items) (λ a b input one. one) (λ a b one. one) c.in-Ok.session c.make_moves-made.new.game (inputs_of_moves c.args.moves.now) c.in-Ok-made.ensures.made.advances in
+    let goes = c.in-Ok-made.ensures.made in
     omega (arith, c.in-Ok.ensures.answered.faults_ok, goes.calls.faults_ok, ap (λ (d : MemoryDevice). d.faults) c.into_device-device.ensures.device)

@@ -1,11 +1,11 @@
-use Rattle.std.proofs.Common.{ap}
+use Rattle.std.proofs.Common.{◌+◌, length, ap}
 use Rattle.machine.specs.Machine.{Power}
-use Rattle.session.specs.Accessors.{device_of, pending_of, is_broken}
+use Rattle.session.specs.Accessors.{device_of, pending_of, acknowledged_of, is_broken}
 use Rattle.session.proofs.Saving.{no_input_is_none}
 use Rattle.playing.specs.Going.{place}
 use Rattle.playing.proofs.Going.{input_goes, input_goes_no_further}
 use Rattle.playing.proofs.PlayLaws.{one_unlogged}
-use Rattle.playing.proofs.Stops.{power_refused}
+use Rattle.playing.proofs.Stops.{power_refused, power_room}
 use Rattle.playing.proofs.playable.SessionPlayable.power.Goals as goal
 
 pub returns-in-Ok-clause-given : goal.returns-in-Ok-clause-given
@@ -22,3 +22,8 @@ returns-in_default-clause-refused g c =
     input_goes_no_further (place was) (place now) Power (ap g.D.SectorDevice.disk c.power.ensures.device) c.power.ensures.kept.0 c.power.ensures.kept.2 (g.met.D.SectorDevice.only_now (device_of was))
     c.in-Err.why (is_broken was) c.requires.whole c.requires.few
     (power_refused c.in-Err.why _ c.in-Err.ensures.answer c.in_default.not-Memory)
+
+pub returns-in-Memory-clause-nothing : goal.returns-in-Memory-clause-nothing
+returns-in-Memory-clause-nothing g c = λ done.
+    let was = c.args.self.now in
+    (c.in-Err.ensures.same, λ takes. power_room c.in-Err.why (is_broken was) (length (pending_of was)) (acknowledged_of was + length (pending_of was)) c.requires.whole c.requires.few c.in-Err.ensures.answer c.in-Memory.is)
