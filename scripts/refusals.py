@@ -27,7 +27,7 @@ def sources(crate):
 
 def public_calls(text):
     """The calls of a file that anybody may make, as (name, head, contract); that of a method begins with its type."""
-    for found in re.finditer(r'^( *)pub (?:const )?fn (\w+)(.*?)(?:^\1\{| \{$)', text, re.S | re.M):
+    for found in re.finditer(r'^( *)pub (?:const )?fn (\w+)(.*?)(?:^\1\{|(?<!record) \{$)', text, re.S | re.M):
         types = re.findall(r'^impl\b(?:<[^>]*>)? (?:.* for )?(\w+)', text[:found.start()], re.M) if found[1] else []
         yield '::'.join([*types[-1:], found[2]]), *parted(found[3])
     for trait in re.finditer(r'^pub trait (\w+).*?^\}', text, re.S | re.M):

@@ -143,9 +143,6 @@ hours_by_turning n c h = steps_by_turning 24 32 next_day next_hour hours n c h
 abbrev pub IsDayLegal : ClockRegisters → Type 0
 IsDayLegal c = (c.day_low < 256) × (c.day_high < 256) × (c.day_high % 64 < 2)
 
-high_bits : (high : ℕ) → high < 256 → high % 64 < 2 → 128 * (high / 128) + 64 * (high / 64 % 2) + high % 2 ≡ high
-high_bits high small unused = omega arith
-
 day_within : (c : ClockRegisters) → IsDayLegal c → day_of c < 512
 day_within c h = omega (arith, h.0)
 

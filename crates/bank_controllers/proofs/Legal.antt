@@ -238,14 +238,6 @@ seconds_without_clock n b none =
     let next : CartridgeState = record b { state = record b.state { clock = clock_second b.state.clock } } in
     iterate-still second b (ap (λ v. cond v next b) none) n
 
-pub no_clock : (k : Controller) → k ≢ Mbc3Clock → has_clock k ≡ false
-no_clock NoMbc other = refl
-no_clock Mbc1 other = refl
-no_clock Mbc2 other = refl
-no_clock Mbc3 other = refl
-no_clock Mbc3Clock other = absurd (other refl)
-no_clock Mbc5 other = refl
-
 -- ---- power-on
 
 zero_clock : (k : Controller) → IsClockOf k clock_at_power_on

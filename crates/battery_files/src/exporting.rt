@@ -41,9 +41,11 @@ pub fn export_battery<D: SectorDevice>(
     ensures looked { (D.disk device).honest → HasLooked (D.disk device) (D.disk (left_by result)) }
     ensures cause { IfErr result (λ refused. IsExportCause rom.items (D.disk device) refused.why) }
     ensures untouched { IfErr result (λ refused. IsUntouchedBy refused.why device refused.device) }
-    ensures memory { IfErr result (λ refused. refused.why ≡ ExportError.Session SessionError.Memory → (refused.device ≡ device) ⊎
+    ensures memory { IfErr result (λ refused.
+        refused.why ≡ ExportError.Session SessionError.Memory → (refused.device ≡ device) ⊎
         ((D.disk device).honest → CanBeLookedAt rom.items (D.disk device))) }
-    ensures answered { HasAnswered (λ refused. faults_after_export refused.why) (D.disk device) (D.disk (left_by result)) result }
+    ensures answered { HasAnswered (λ refused. faults_after_export refused.why) (D.disk device)
+        (D.disk (left_by result)) result }
 {
     let cartridge = match Cartridge::read(rom) {
         Ok(cartridge) => cartridge,

@@ -35,7 +35,8 @@ fn is_taken_length(cartridge: &Cartridge, size: usize) -> bool
 
 /// Why a file of so many bytes is not taken for this cartridge.
 fn refusal(cartridge: &Cartridge, battery: &[u8]) -> Option<ImportError>
-    ensures none { IfNone result ((has_battery cartridge.now ≡ true) × (is_taken_length cartridge.now (length battery.now) ≡ true)) }
+    ensures none { IfNone result ((has_battery cartridge.now ≡ true) ×
+        (is_taken_length cartridge.now (length battery.now) ≡ true)) }
     ensures some { IfSome result (IsImportCause cartridge.now battery.now) }
     ensures accepted { IsAccepted cartridge.now }
 {
@@ -125,7 +126,8 @@ pub fn machine_with_battery(
     cartridge: &Cartridge,
     battery: &[u8],
 ) -> Result<Machine, ImportError>
-    ensures taken { IfOk result (λ m. (has_battery cartridge.now ≡ true) × (is_taken_length cartridge.now (length battery.now) ≡ true)) }
+    ensures taken { IfOk result (λ m.
+        (has_battery cartridge.now ≡ true) × (is_taken_length cartridge.now (length battery.now) ≡ true)) }
     ensures machine { IfOk result (λ m. m ≡ start_with cartridge.now battery.now) }
     ensures of { IfOk result (λ m. IsMachineOf cartridge.now m) }
     ensures cause { IfErr result (IsImportCause cartridge.now battery.now) }

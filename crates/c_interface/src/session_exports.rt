@@ -71,9 +71,13 @@ pub extern "C" fn gbkeep_begin_session(
     out: &mut SessionHandle,
 ) -> u32
     ensures held { result ≡ done → out.new.held ≡ true }
-    ensures begun { result ≡ done → (acknowledged_of out.new.value.session ≡ 0) × (pending_of out.new.value.session ≡ []) × (is_broken out.new.value.session ≡ false) }
-    ensures machine { result ≡ done → (machine_of out.new.value.session ≡ start rom.now) × (rom_of out.new.value.session ≡ rom.now) }
-    ensures rests { result ≡ done → IsAtRest rom.now (host_disk (device_of out.new.value.session)) 0 [] (start rom.now) }
+    ensures begun { result ≡ done →
+        (acknowledged_of out.new.value.session ≡ 0) × (pending_of out.new.value.session ≡ []) ×
+        (is_broken out.new.value.session ≡ false) }
+    ensures machine { result ≡ done →
+        (machine_of out.new.value.session ≡ start rom.now) × (rom_of out.new.value.session ≡ rom.now) }
+    ensures rests { result ≡ done →
+        IsAtRest rom.now (host_disk (device_of out.new.value.session)) 0 [] (start rom.now) }
     ensures step { result ≡ done → out.new.value.in_step ≡ true }
     ensures first { result ≡ done → out.new.value.handed ≡ 0 }
 {
@@ -98,9 +102,13 @@ pub extern "C" fn gbkeep_import_session(
     out: &mut SessionHandle,
 ) -> u32
     ensures held { result ≡ done → out.new.held ≡ true }
-    ensures begun { result ≡ done → (acknowledged_of out.new.value.session ≡ 0) × (pending_of out.new.value.session ≡ []) × (is_broken out.new.value.session ≡ false) }
-    ensures machine { result ≡ done → (machine_of out.new.value.session ≡ start_with rom.now battery.now) × (rom_of out.new.value.session ≡ rom.now) }
-    ensures rests { result ≡ done → IsAtRest rom.now (host_disk (device_of out.new.value.session)) 0 [] (start_with rom.now battery.now) }
+    ensures begun { result ≡ done →
+        (acknowledged_of out.new.value.session ≡ 0) × (pending_of out.new.value.session ≡ []) ×
+        (is_broken out.new.value.session ≡ false) }
+    ensures machine { result ≡ done →
+        (machine_of out.new.value.session ≡ start_with rom.now battery.now) × (rom_of out.new.value.session ≡ rom.now) }
+    ensures rests { result ≡ done →
+        IsAtRest rom.now (host_disk (device_of out.new.value.session)) 0 [] (start_with rom.now battery.now) }
     ensures taken { result ≡ done → IsTaken rom.now battery.now }
     ensures step { result ≡ done → out.new.value.in_step ≡ true }
     ensures first { result ≡ done → out.new.value.handed ≡ 0 }
@@ -126,11 +134,15 @@ pub extern "C" fn gbkeep_resume_session(
     out: &mut SessionHandle,
 ) -> u32
     ensures held { result ≡ done → out.new.held ≡ true }
-    ensures begun { result ≡ done → (pending_of out.new.value.session ≡ []) × (is_broken out.new.value.session ≡ false) × (rom_of out.new.value.session ≡ rom.now) }
-    ensures rests { result ≡ done → IsAtRest rom.now (host_disk (device_of out.new.value.session)) (acknowledged_of out.new.value.session) []
+    ensures begun { result ≡ done →
+        (pending_of out.new.value.session ≡ []) × (is_broken out.new.value.session ≡ false) ×
+        (rom_of out.new.value.session ≡ rom.now) }
+    ensures rests { result ≡ done →
+        IsAtRest rom.now (host_disk (device_of out.new.value.session)) (acknowledged_of out.new.value.session) []
         (machine_of out.new.value.session) }
     ensures step { result ≡ done → out.new.value.in_step ≡ true }
-    ensures from { result ≡ done → IsFrom rom.now image.now (acknowledged_of out.new.value.session) (machine_of out.new.value.session) }
+    ensures from { result ≡ done →
+        IsFrom rom.now image.now (acknowledged_of out.new.value.session) (machine_of out.new.value.session) }
 {
     let game = match Game::resume(alloc, rom, image) {
         Ok(game) => game,
@@ -160,8 +172,10 @@ pub extern "C" fn gbkeep_play_session(
 ) -> u32
     requires held { session.held ≡ true }
     ensures held { out.new.held ≡ true }
-    ensures machine { result ≡ done → machine_of out.new.value.session ≡ applied (Frame buttons) (machine_of session.value.session) }
-    ensures pending { result ≡ done → pending_of out.new.value.session ≡ pending_of session.value.session ++ entry_of (Frame buttons) ∷ [] }
+    ensures machine { result ≡ done →
+        machine_of out.new.value.session ≡ applied (Frame buttons) (machine_of session.value.session) }
+    ensures pending { result ≡ done →
+        pending_of out.new.value.session ≡ pending_of session.value.session ++ entry_of (Frame buttons) ∷ [] }
     ensures refused { ¬ (result ≡ done) → IsUnchanged session.value.session out.new.value.session }
     ensures noted { out.new.value.noted.items ≡ session.value.noted.items }
     ensures handed { out.new.value.handed ≡ session.value.handed }
@@ -184,8 +198,10 @@ pub extern "C" fn gbkeep_wait_session(
 ) -> u32
     requires held { session.held ≡ true }
     ensures held { out.new.held ≡ true }
-    ensures machine { result ≡ done → machine_of out.new.value.session ≡ applied (Seconds seconds) (machine_of session.value.session) }
-    ensures pending { result ≡ done → pending_of out.new.value.session ≡ pending_of session.value.session ++ entry_of (Seconds seconds) ∷ [] }
+    ensures machine { result ≡ done →
+        machine_of out.new.value.session ≡ applied (Seconds seconds) (machine_of session.value.session) }
+    ensures pending { result ≡ done →
+        pending_of out.new.value.session ≡ pending_of session.value.session ++ entry_of (Seconds seconds) ∷ [] }
     ensures refused { ¬ (result ≡ done) → IsUnchanged session.value.session out.new.value.session }
     ensures noted { out.new.value.noted.items ≡ session.value.noted.items }
     ensures handed { out.new.value.handed ≡ session.value.handed }
@@ -208,8 +224,10 @@ pub extern "C" fn gbkeep_power_session(
 ) -> u32
     requires held { session.held ≡ true }
     ensures held { out.new.held ≡ true }
-    ensures machine { result ≡ done → machine_of out.new.value.session ≡ applied Power (machine_of session.value.session) }
-    ensures pending { result ≡ done → pending_of out.new.value.session ≡ pending_of session.value.session ++ entry_of Power ∷ [] }
+    ensures machine { result ≡ done →
+        machine_of out.new.value.session ≡ applied Power (machine_of session.value.session) }
+    ensures pending { result ≡ done →
+        pending_of out.new.value.session ≡ pending_of session.value.session ++ entry_of Power ∷ [] }
     ensures refused { ¬ (result ≡ done) → IsUnchanged session.value.session out.new.value.session }
     ensures noted { out.new.value.noted.items ≡ session.value.noted.items }
     ensures handed { out.new.value.handed ≡ session.value.handed }
@@ -233,7 +251,9 @@ pub extern "C" fn gbkeep_restore_session(
     requires held { session.held ≡ true }
     ensures held { out.new.held ≡ true }
     ensures machine { result ≡ done → encoded (machine_of out.new.value.session) ≡ bytes.now }
-    ensures pending { result ≡ done → pending_of out.new.value.session ≡ pending_of session.value.session ++ entry_of (State (machine_of out.new.value.session)) ∷ [] }
+    ensures pending { result ≡ done →
+        pending_of out.new.value.session ≡
+        pending_of session.value.session ++ entry_of (State (machine_of out.new.value.session)) ∷ [] }
     ensures refused { ¬ (result ≡ done) → IsUnchanged session.value.session out.new.value.session }
     ensures noted { out.new.value.noted.items ≡ session.value.noted.items }
     ensures handed { out.new.value.handed ≡ session.value.handed }
@@ -259,15 +279,23 @@ pub extern "C" fn gbkeep_save_session(
     ensures grows { take (length session.value.noted.items) out.new.value.noted.items ≡ session.value.noted.items }
     ensures handed { out.new.value.handed ≡ session.value.handed }
     ensures step { result ≡ done → out.new.value.noted.items ≡ calls_of (device_of out.new.value.session) }
-    ensures all { result ≡ done → (saved.new ≡ acknowledged_of session.value.session + length (pending_of session.value.session)) ×
+    ensures all { result ≡ done →
+        (saved.new ≡ acknowledged_of session.value.session + length (pending_of session.value.session)) ×
         (acknowledged_of out.new.value.session ≡ saved.new) × (pending_of out.new.value.session ≡ []) }
-    ensures rests { result ≡ done → IsAtRest (rom_of session.value.session) (host_disk (device_of out.new.value.session)) saved.new []
+    ensures rests { result ≡ done →
+        IsAtRest (rom_of session.value.session) (host_disk (device_of out.new.value.session)) saved.new []
         (machine_of session.value.session) }
-    ensures images { is_broken session.value.session ≡ false → HoldsSince (host_disk (device_of session.value.session)) (host_disk (device_of out.new.value.session))
+    ensures images { is_broken session.value.session ≡ false →
+        HoldsSince (host_disk (device_of session.value.session)) (host_disk (device_of out.new.value.session))
         (StandsBetween (can_be_logged (pending_of session.value.session)) (rom_of session.value.session)
-        (stands (rom_of session.value.session) (content (host_disk (device_of session.value.session)).sectors)) (inputs_of (pending_of session.value.session))
-        (record { count = acknowledged_of session.value.session + length (pending_of session.value.session); machine = machine_of session.value.session })) }
-    ensures machine { (machine_of out.new.value.session ≡ machine_of session.value.session) × (rom_of out.new.value.session ≡ rom_of session.value.session) }
+        (stands (rom_of session.value.session) (content (host_disk (device_of session.value.session)).sectors))
+        (inputs_of (pending_of session.value.session))
+        (record {
+          count = acknowledged_of session.value.session + length (pending_of session.value.session);
+          machine = machine_of session.value.session;
+        })) }
+    ensures machine { (machine_of out.new.value.session ≡ machine_of session.value.session) ×
+        (rom_of out.new.value.session ≡ rom_of session.value.session) }
 {
     let mut game = session.into_box();
     let code = match game.save() {
@@ -292,8 +320,11 @@ pub extern "C" fn gbkeep_next_session(
     requires held { session.held ≡ true }
     requires room { length bytes.old ≡ 512 }
     ensures held { out.new.held ≡ true }
-    ensures none { result ≡ no_call → (slice_get session.value.noted.items session.value.handed ≡ None) × (out.new.value.handed ≡ session.value.handed) }
-    ensures write { result ≡ a_write → slice_get session.value.noted.items session.value.handed ≡ Some (Write sector.new bytes.new) }
+    ensures none { result ≡ no_call →
+        (slice_get session.value.noted.items session.value.handed ≡ None) ×
+        (out.new.value.handed ≡ session.value.handed) }
+    ensures write { result ≡ a_write →
+        slice_get session.value.noted.items session.value.handed ≡ Some (Write sector.new bytes.new) }
     ensures sync { result ≡ a_sync → slice_get session.value.noted.items session.value.handed ≡ Some Sync }
     ensures handed { ¬ (result ≡ no_call) → out.new.value.handed ≡ session.value.handed + 1 }
     ensures noted { out.new.value.noted.items ≡ session.value.noted.items }
@@ -368,7 +399,8 @@ pub extern "C" fn gbkeep_keep_session(
     out: &mut SessionHandle,
 )
     requires held { session.held ≡ true }
-    requires room { length bytes.old ≡ snapshot_length (length (machine_of session.value.session).processor.memory.banks.ram) }
+    requires room { length bytes.old ≡
+        snapshot_length (length (machine_of session.value.session).processor.memory.banks.ram) }
     ensures held { out.new.held ≡ true }
     ensures state { bytes.new ≡ encoded (machine_of session.value.session) }
     ensures session { out.new.value.session ≡ session.value.session }
@@ -410,7 +442,9 @@ pub extern "C" fn gbkeep_battery_session(
     requires held { session.held ≡ true }
     requires room { length bytes.old ≡ battery_length (rom_of session.value.session) }
     ensures held { out.new.held ≡ true }
-    ensures battery { result ≡ done → (has_battery (rom_of session.value.session) ≡ true) × (bytes.new ≡ battery_of (machine_of session.value.session)) }
+    ensures battery { result ≡ done →
+        (has_battery (rom_of session.value.session) ≡ true) ×
+        (bytes.new ≡ battery_of (machine_of session.value.session)) }
     ensures refused { ¬ (result ≡ done) → bytes.new ≡ bytes.old }
     ensures code { IsBatteryCode (rom_of session.value.session) result }
     ensures session { out.new.value.session ≡ session.value.session }

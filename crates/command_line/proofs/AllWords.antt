@@ -353,10 +353,6 @@ pub error_answers : (app : App) (words : List Word) (error : Error) (r : Result 
 error_answers app words error (Ok o) is kinds same = absurd same
 error_answers app words error (Err e) is kinds same = λ request. ap kind_of same ∙ refused app words error is kinds request
 
-pub memory_answers : (words : List Word) (r : Result (Option Request) Error) → IsErrAnd r (λ e. kind_of e ≡ OutOfMemory) → IsAnswer words r
-memory_answers words (Ok o) memory = absurd memory
-memory_answers words (Err e) memory = λ request. memory
-
 pub error_has_kind : (app : App) (words : List Word) (error : Error) (r : Result (Option Request) Error) → app ≡ gbkeep
     → (is_simple_and_free app ≡ true → HasKind (fault_of app words) error) → IsErrAnd r (λ e. e ≡ error) → FailsBy (fault_of gbkeep words) r
 error_has_kind app words error (Ok o) is kinds same = absurd same

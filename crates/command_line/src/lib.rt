@@ -170,7 +170,8 @@ fn named_request<'a>(name: &str, values: &ArgMatches<'a>) -> Option<Request<'a>>
 
 /// An operand, as it was given.
 fn operand<'a>(values: &ArgMatches<'a>, id: &str) -> Option<&'a str>
-    ensures { (word : Word) → HasOperand (rows_of (found_of values.now)) id.now word → IsSomeAnd result (λ s. s.now ≡ word) }
+    ensures { (word : Word) → HasOperand (rows_of (found_of values.now)) id.now word →
+        IsSomeAnd result (λ s. s.now ≡ word) }
 {
     values.get_str(id)
 }
@@ -178,7 +179,8 @@ fn operand<'a>(values: &ArgMatches<'a>, id: &str) -> Option<&'a str>
 /// An operand, as it was given. `None`: it was left out.
 fn optional_operand<'a>(values: &ArgMatches<'a>, id: &str) -> Option<&'a str>
     ensures none { HasNoOperand (rows_of (found_of values.now)) id.now → result ≡ None }
-    ensures some { (word : Word) → HasOperand (rows_of (found_of values.now)) id.now word → IsSomeAnd result (λ s. s.now ≡ word) }
+    ensures some { (word : Word) → HasOperand (rows_of (found_of values.now)) id.now word →
+        IsSomeAnd result (λ s. s.now ≡ word) }
 {
     values.get_str(id)
 }
@@ -186,7 +188,8 @@ fn optional_operand<'a>(values: &ArgMatches<'a>, id: &str) -> Option<&'a str>
 /// A number, whose range `clap` has looked at. `None`: it was left out.
 fn number(values: &ArgMatches<'_>, id: &str) -> Option<u32>
     ensures none { HasNoNumber (rows_of (found_of values.now)) id.now → result ≡ None }
-    ensures some { (least most : ℕ) (word : Word) → most < 2 ^ 32 → HasNumber (rows_of (found_of values.now)) id.now least most word
+    ensures some { (least most : ℕ) (word : Word) → most < 2 ^ 32 →
+        HasNumber (rows_of (found_of values.now)) id.now least most word
         → IsSomeAnd result (WritesWithin least most word) }
 {
     values.get_one(id)

@@ -114,7 +114,8 @@ fn joined<'a>(
     command: Result<Command<'a>, AllocError>,
     below: Result<Command<'a>, AllocError>,
 ) -> Result<Command<'a>, AllocError>
-    ensures { (app sub : App) → IfOk command.entry (Reads app) → IfOk below.entry (Reads sub) → IfOk result (Reads (with_subcommand app sub.top)) }
+    ensures { (app sub : App) → IfOk command.entry (Reads app) → IfOk below.entry (Reads sub) →
+        IfOk result (Reads (with_subcommand app sub.top)) }
 {
     command?.subcommand(below?)
 }

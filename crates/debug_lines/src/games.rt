@@ -34,13 +34,26 @@ pub fn debug_game<D: SectorDevice, R: Read, W: Write>(
 ) -> Result<D, DebugGameRefused<D>>
     ensures accepted { OnOk result (IsAccepted rom.items) }
     ensures debugged { OnOk result (HasDebugged rom.items (D.disk device) (D.disk (left_by result))
-        (record { unread = R.remaining input.old; left = R.remaining input.new; before = W.contents out.old; since = W.contents out.new })) }
-    ensures images { (D.disk device).honest → HoldsSince (D.disk device) (D.disk (left_by result)) (StandsAsBefore rom.items (D.disk device)) }
+        (record {
+          unread = R.remaining input.old;
+          left = R.remaining input.new;
+          before = W.contents out.old;
+          since = W.contents out.new;
+        })) }
+    ensures images { (D.disk device).honest →
+        HoldsSince (D.disk device) (D.disk (left_by result)) (StandsAsBefore rom.items (D.disk device)) }
     ensures cause { IfErr result (λ refused. IsDebugGameCause rom.items (D.disk device) (D.disk refused.device)
-        (record { unread = R.remaining input.old; left = R.remaining input.new; before = W.contents out.old; since = W.contents out.new })
+        (record {
+          unread = R.remaining input.old;
+          left = R.remaining input.new;
+          before = W.contents out.old;
+          since = W.contents out.new;
+        })
         refused.why) }
-    ensures untouched { IfErr result (λ refused. (fault : _) → refused.why ≡ DebugGameError.Cart fault → refused.device ≡ device) }
-    ensures answered { HasAnswered (λ refused. faults_after_debug refused.why) (D.disk device) (D.disk (left_by result)) result }
+    ensures untouched { IfErr result (λ refused.
+        (fault : _) → refused.why ≡ DebugGameError.Cart fault → refused.device ≡ device) }
+    ensures answered { HasAnswered (λ refused. faults_after_debug refused.why) (D.disk device) (D.disk (left_by result))
+        result }
 {
     let cartridge = match Cartridge::read(rom) {
         Ok(cartridge) => cartridge,
@@ -77,9 +90,19 @@ fn debug_machine<R: Read, W: Write>(
     requires rom { machine.now.processor.memory.banks.rom ≡ cartridge.now }
     requires own { IsOfItsRom machine.now }
     ensures ok { OnOk result (IsMachineOf cartridge.now machine.now × IsBegunAndDebugged inputs machine.now
-        (record { unread = R.remaining input.old; left = R.remaining input.new; before = W.contents out.old; since = W.contents out.new })) }
+        (record {
+          unread = R.remaining input.old;
+          left = R.remaining input.new;
+          before = W.contents out.old;
+          since = W.contents out.new;
+        })) }
     ensures err { IfErr result (IsNotDebugged cartridge.now inputs machine.now
-        (record { unread = R.remaining input.old; left = R.remaining input.new; before = W.contents out.old; since = W.contents out.new })) }
+        (record {
+          unread = R.remaining input.old;
+          left = R.remaining input.new;
+          before = W.contents out.old;
+          since = W.contents out.new;
+        })) }
 {
     let Some(copy) = copy_of(alloc, machine, cartridge) else {
         return Err(DebugGameError::Memory);

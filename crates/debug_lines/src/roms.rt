@@ -26,9 +26,19 @@ pub fn debug_rom<R: Read, W: Write>(
 ) -> Result<(), DebugRomError>
     ensures accepted { OnOk result (IsAccepted rom.items) }
     ensures answered { OnOk result (HasAnsweredAll (begun (start rom.items))
-        (record { unread = R.remaining input.old; left = R.remaining input.new; before = W.contents out.old; since = W.contents out.new })) }
+        (record {
+          unread = R.remaining input.old;
+          left = R.remaining input.new;
+          before = W.contents out.old;
+          since = W.contents out.new;
+        })) }
     ensures cause { IfErr result (λ why. IsDebugRomCause rom.items
-        (record { unread = R.remaining input.old; left = R.remaining input.new; before = W.contents out.old; since = W.contents out.new }) why) }
+        (record {
+          unread = R.remaining input.old;
+          left = R.remaining input.new;
+          before = W.contents out.old;
+          since = W.contents out.new;
+        }) why) }
 {
     let cartridge = match Cartridge::read(rom) {
         Ok(cartridge) => cartridge,

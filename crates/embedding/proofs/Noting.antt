@@ -67,12 +67,6 @@ module _ {E : Type 0} (old new : HostDevice) (count : count_of new ≡ count_of 
       (subst (λ (l : List Recorded). HasSynced {E = E} (host_disk old) (recorded_disk (Unit {0}) (blank (count_of old)) l new.faults) (Ok tt)) (sym (more (calls_of old) (calls_of new) Sync calls))
       (synced (Unit {0}) tt (blank (count_of old)) (recorded_of (calls_of old)) old.faults new.faults (Ok tt) tt))
 
-  pub sync_failed : (e : E) → calls_of new ≡ calls_of old → HasSynced {E = E} (host_disk old) (host_disk new) (Err e)
-  sync_failed e calls =
-      subst (λ (n : ℕ). HasSynced {E = E} (host_disk old) (disk_after n (calls_of new) new.faults) (Err e)) (sym count)
-      (subst (λ (l : List Call). HasSynced {E = E} (host_disk old) (disk_after (count_of old) l new.faults) (Err e)) (sym calls)
-      (no_sync (Unit {0}) tt (blank (count_of old)) (recorded_of (calls_of old)) old.faults new.faults e))
-
 -- ---- a call that may be noted
 
 pub either : (P : List Call → Type 0) (b : Bool) (calls new : List Call) (call : Call) → (b ≡ true → new ≡ calls ++ call ∷ []) → (b ≡ false → new ≡ calls)

@@ -62,7 +62,8 @@ fn read_cartridge(alloc: Global, rom: &[u8]) -> Result<Cartridge, GameError>
 
 /// Why a battery file was not taken, as a refusal of a game.
 fn import_fault(why: ImportError) -> GameError
-    ensures { (rom battery : List ℕ) (sectors : ℕ) → IsAccepted rom → IsFileCause rom battery why → IsImportCause rom battery sectors result }
+    ensures { (rom battery : List ℕ) (sectors : ℕ) → IsAccepted rom → IsFileCause rom battery why →
+        IsImportCause rom battery sectors result }
 {
     match why {
         ImportError::NoBattery => GameError::NoBattery,
@@ -174,7 +175,8 @@ impl Game {
     ///
     /// Refusals: `Memory`; `Cart`; `Session` with `TooSmall`.
     pub fn begin(alloc: Global, rom: &[u8], sectors: usize) -> Result<Game, GameError>
-        ensures begun { IfOk result (λ g. (acknowledged_of g.session ≡ 0) × (pending_of g.session ≡ []) × (is_broken g.session ≡ false)) }
+        ensures begun { IfOk result (λ g.
+            (acknowledged_of g.session ≡ 0) × (pending_of g.session ≡ []) × (is_broken g.session ≡ false)) }
         ensures machine { IfOk result (λ g. (machine_of g.session ≡ start rom.now) × (rom_of g.session ≡ rom.now)) }
         ensures rests { IfOk result (λ g. IsAtRest rom.now (host_disk (device_of g.session)) 0 [] (start rom.now)) }
         ensures step { IfOk result (λ g. g.in_step ≡ true) }
@@ -204,9 +206,12 @@ impl Game {
         battery: &[u8],
         sectors: usize,
     ) -> Result<Game, GameError>
-        ensures begun { IfOk result (λ g. (acknowledged_of g.session ≡ 0) × (pending_of g.session ≡ []) × (is_broken g.session ≡ false)) }
-        ensures machine { IfOk result (λ g. (machine_of g.session ≡ start_with rom.now battery.now) × (rom_of g.session ≡ rom.now)) }
-        ensures rests { IfOk result (λ g. IsAtRest rom.now (host_disk (device_of g.session)) 0 [] (start_with rom.now battery.now)) }
+        ensures begun { IfOk result (λ g.
+            (acknowledged_of g.session ≡ 0) × (pending_of g.session ≡ []) × (is_broken g.session ≡ false)) }
+        ensures machine { IfOk result (λ g.
+            (machine_of g.session ≡ start_with rom.now battery.now) × (rom_of g.session ≡ rom.now)) }
+        ensures rests { IfOk result (λ g.
+            IsAtRest rom.now (host_disk (device_of g.session)) 0 [] (start_with rom.now battery.now)) }
         ensures taken { IfOk result (λ g. IsTaken rom.now battery.now) }
         ensures cause { IfErr result (IsImportCause rom.now battery.now sectors) }
         ensures step { IfOk result (λ g. g.in_step ≡ true) }
@@ -235,14 +240,17 @@ impl Game {
     pub fn input(&mut self, input: Input) -> Result<(), SessionError>
         ensures answer { result ≡ input_answer (is_broken self.old.session) (length (pending_of self.old.session))
             (acknowledged_of self.old.session + length (pending_of self.old.session)) }
-        ensures machine { OnOk result (machine_of self.new.session ≡ applied (as_input input) (machine_of self.old.session)) }
-        ensures pending { OnOk result (pending_of self.new.session ≡ pending_of self.old.session ++ entry_of (as_input input) ∷ []) }
+        ensures machine { OnOk result (machine_of self.new.session ≡
+            applied (as_input input) (machine_of self.old.session)) }
+        ensures pending { OnOk result (pending_of self.new.session ≡
+            pending_of self.old.session ++ entry_of (as_input input) ∷ []) }
         ensures refused { OnErr result (IsUnchanged self.old.session self.new.session) }
         ensures device { device_of self.new.session ≡ device_of self.old.session }
         ensures noted { self.new.noted.items ≡ self.old.noted.items }
         ensures handed { self.new.handed ≡ self.old.handed }
         ensures step { self.new.in_step ≡ self.old.in_step }
-        ensures kept { (acknowledged_of self.new.session ≡ acknowledged_of self.old.session) × (rom_of self.new.session ≡ rom_of self.old.session) }
+        ensures kept { (acknowledged_of self.new.session ≡ acknowledged_of self.old.session) ×
+            (rom_of self.new.session ≡ rom_of self.old.session) }
     {
         self.session.input(input)
     }
@@ -252,13 +260,15 @@ impl Game {
     /// Refusals, none of which changes anything: those of `Session::power`.
     pub fn power(&mut self, alloc: Global) -> Result<(), SessionError>
         ensures machine { OnOk result (machine_of self.new.session ≡ applied Power (machine_of self.old.session)) }
-        ensures pending { OnOk result (pending_of self.new.session ≡ pending_of self.old.session ++ entry_of Power ∷ []) }
+        ensures pending { OnOk result (pending_of self.new.session ≡
+            pending_of self.old.session ++ entry_of Power ∷ []) }
         ensures refused { OnErr result (IsUnchanged self.old.session self.new.session) }
         ensures device { device_of self.new.session ≡ device_of self.old.session }
         ensures noted { self.new.noted.items ≡ self.old.noted.items }
         ensures handed { self.new.handed ≡ self.old.handed }
         ensures step { self.new.in_step ≡ self.old.in_step }
-        ensures kept { (acknowledged_of self.new.session ≡ acknowledged_of self.old.session) × (rom_of self.new.session ≡ rom_of self.old.session) }
+        ensures kept { (acknowledged_of self.new.session ≡ acknowledged_of self.old.session) ×
+            (rom_of self.new.session ≡ rom_of self.old.session) }
     {
         self.session.power(alloc, &self.cartridge)
     }
@@ -267,16 +277,19 @@ impl Game {
     ///
     /// Refusals, none of which changes anything: those of `Session::restore`.
     pub fn restore(&mut self, bytes: &[u8]) -> Result<(), SessionError>
-        ensures answer { IsRestoreAnswer self.old.cartridge bytes.now (input_answer (is_broken self.old.session) (length (pending_of self.old.session))
+        ensures answer { IsRestoreAnswer self.old.cartridge bytes.now
+            (input_answer (is_broken self.old.session) (length (pending_of self.old.session))
             (acknowledged_of self.old.session + length (pending_of self.old.session))) result }
         ensures machine { OnOk result (encoded (machine_of self.new.session) ≡ bytes.now) }
-        ensures pending { OnOk result (pending_of self.new.session ≡ pending_of self.old.session ++ entry_of (State (machine_of self.new.session)) ∷ []) }
+        ensures pending { OnOk result (pending_of self.new.session ≡
+            pending_of self.old.session ++ entry_of (State (machine_of self.new.session)) ∷ []) }
         ensures refused { OnErr result (IsUnchanged self.old.session self.new.session) }
         ensures device { device_of self.new.session ≡ device_of self.old.session }
         ensures noted { self.new.noted.items ≡ self.old.noted.items }
         ensures handed { self.new.handed ≡ self.old.handed }
         ensures step { self.new.in_step ≡ self.old.in_step }
-        ensures kept { (acknowledged_of self.new.session ≡ acknowledged_of self.old.session) × (rom_of self.new.session ≡ rom_of self.old.session) }
+        ensures kept { (acknowledged_of self.new.session ≡ acknowledged_of self.old.session) ×
+            (rom_of self.new.session ≡ rom_of self.old.session) }
     {
         self.session.restore(bytes, &self.cartridge)
     }
@@ -292,18 +305,28 @@ impl Game {
 
         // at Ok they are those of the device, which rests at all inputs
         ensures step { IfOk result (λ all. self.new.noted.items ≡ calls_of (device_of self.new.session)) }
-        ensures all { IfOk result (λ all. (all ≡ acknowledged_of self.old.session + length (pending_of self.old.session)) ×
+        ensures all { IfOk result (λ all.
+            (all ≡ acknowledged_of self.old.session + length (pending_of self.old.session)) ×
             (acknowledged_of self.new.session ≡ all) × (pending_of self.new.session ≡ [])) }
-        ensures rests { IfOk result (λ all. IsAtRest (rom_of self.old.session) (host_disk (device_of self.new.session)) all [] (machine_of self.old.session)) }
+        ensures rests { IfOk result (λ all.
+            IsAtRest (rom_of self.old.session) (host_disk (device_of self.new.session)) all []
+            (machine_of self.old.session)) }
 
         // at each moment the device stands for a prefix of the inputs that has all that were told before
-        ensures images { is_broken self.old.session ≡ false → HoldsSince (host_disk (device_of self.old.session)) (host_disk (device_of self.new.session))
+        ensures images { is_broken self.old.session ≡ false →
+            HoldsSince (host_disk (device_of self.old.session)) (host_disk (device_of self.new.session))
             (StandsBetween (can_be_logged (pending_of self.old.session)) (rom_of self.old.session)
-            (stands (rom_of self.old.session) (content (host_disk (device_of self.old.session)).sectors)) (inputs_of (pending_of self.old.session))
-            (record { count = acknowledged_of self.old.session + length (pending_of self.old.session); machine = machine_of self.old.session })) }
-        ensures stood { is_broken self.old.session ≡ false → can_be_logged (pending_of self.old.session) ≡ true → IsAtRest (rom_of self.old.session) (host_disk (device_of self.old.session))
+            (stands (rom_of self.old.session) (content (host_disk (device_of self.old.session)).sectors))
+            (inputs_of (pending_of self.old.session))
+            (record {
+              count = acknowledged_of self.old.session + length (pending_of self.old.session);
+              machine = machine_of self.old.session;
+            })) }
+        ensures stood { is_broken self.old.session ≡ false → can_be_logged (pending_of self.old.session) ≡ true →
+            IsAtRest (rom_of self.old.session) (host_disk (device_of self.old.session))
             (acknowledged_of self.old.session) (pending_of self.old.session) (machine_of self.old.session) }
-        ensures machine { (machine_of self.new.session ≡ machine_of self.old.session) × (rom_of self.new.session ≡ rom_of self.old.session) }
+        ensures machine { (machine_of self.new.session ≡ machine_of self.old.session) ×
+            (rom_of self.new.session ≡ rom_of self.old.session) }
     {
         let saved = self.session.save();
         self.in_step = false;
@@ -367,7 +390,8 @@ impl Game {
 
     /// Writes the state: the snapshot of the machine. Condition: there are as many bytes as `state_length` says.
     pub fn state(&mut self, bytes: &mut [u8])
-        requires { length bytes.old ≡ snapshot_length (length (machine_of self.old.session).processor.memory.banks.ram) }
+        requires { length bytes.old ≡
+            snapshot_length (length (machine_of self.old.session).processor.memory.banks.ram) }
         ensures state { bytes.new ≡ encoded (machine_of self.old.session) }
         ensures session { self.new.session ≡ self.old.session }
         ensures noted { self.new.noted.items ≡ self.old.noted.items }
@@ -390,7 +414,8 @@ impl Game {
     /// Refusals, in this order: `NoBattery`; `Memory`.
     pub fn battery(&self, alloc: Global, bytes: &mut [u8]) -> Result<(), GameError>
         requires { length bytes.old ≡ battery_length (rom_of self.now.session) }
-        ensures battery { OnOk result ((has_battery (rom_of self.now.session) ≡ true) × (bytes.new ≡ battery_of (machine_of self.now.session))) }
+        ensures battery { OnOk result ((has_battery (rom_of self.now.session) ≡ true) ×
+            (bytes.new ≡ battery_of (machine_of self.now.session))) }
         ensures refused { OnErr result (bytes.new ≡ bytes.old) }
         ensures cause { IfErr result (IsBatteryCause (rom_of self.now.session)) }
     {
@@ -409,8 +434,10 @@ impl Game {
     ///
     /// Refusals: `Size` for an image that is not whole sectors; `Memory`; `Cart`; `Session` with those of `resume`.
     pub fn resume(alloc: Global, rom: &[u8], image: &[u8]) -> Result<Game, GameError>
-        ensures begun { IfOk result (λ g. (pending_of g.session ≡ []) × (is_broken g.session ≡ false) × (rom_of g.session ≡ rom.now)) }
-        ensures rests { IfOk result (λ g. IsAtRest rom.now (host_disk (device_of g.session)) (acknowledged_of g.session) [] (machine_of g.session)) }
+        ensures begun { IfOk result (λ g.
+            (pending_of g.session ≡ []) × (is_broken g.session ≡ false) × (rom_of g.session ≡ rom.now)) }
+        ensures rests { IfOk result (λ g.
+            IsAtRest rom.now (host_disk (device_of g.session)) (acknowledged_of g.session) [] (machine_of g.session)) }
         ensures step { IfOk result (λ g. g.in_step ≡ true) }
         ensures from { IfOk result (λ g. IsFrom rom.now image.now (acknowledged_of g.session) (machine_of g.session)) }
     {

@@ -116,13 +116,15 @@ impl SectorDevice for HostDevice {
 
     ghost reads_are_an_image = { λ d _. reads_image (blank (count_of d)) (recorded_of (calls_of d)) };
 
-    ghost images_are_sized = { λ d c _. images_sized (blank (count_of d)) (recorded_of (calls_of d)) c (sized (count_of d)) d.recordable };
+    ghost images_are_sized = { λ d c _. images_sized (blank (count_of d)) (recorded_of (calls_of d)) c
+        (sized (count_of d)) d.recordable };
 
     ghost counts_now = { λ d. counts_last (blank (count_of d)) (recorded_of (calls_of d)) };
 
     ghost only_now = { λ d. only_last (blank (count_of d)) (recorded_of (calls_of d)) };
 
-    ghost count_fits = { λ d. reads_fit (blank (count_of d)) (recorded_of (calls_of d)) (sized (count_of d)) d.recordable d.few };
+    ghost count_fits = { λ d. reads_fit (blank (count_of d)) (recorded_of (calls_of d)) (sized (count_of d))
+        d.recordable d.few };
 
     ghost faults_fit = { λ d. d.faults_fit };
 

@@ -40,7 +40,8 @@ pub(crate) fn export<R: Files<File = File> + AllocGlobal, O: Write>(
     battery: &str,
     out: &mut O,
 ) -> Result<(), Fault>
-    ensures { IsServed (Request.Export cart.entry save.entry battery.entry) result (O.contents out.old) (O.contents out.new) }
+    ensures { IsServed (Request.Export cart.entry save.entry battery.entry) result (O.contents out.old)
+        (O.contents out.new) }
 {
     let rom = file_bytes(rt, cart, MOST_ROM)?;
     let device = FileDevice::attach(rt, Path::new(save))?;
@@ -87,7 +88,8 @@ pub(crate) fn import<R: Files<File = File> + AllocGlobal, O: Write>(
     sectors: Option<u32>,
     out: &mut O,
 ) -> Result<(), Fault>
-    ensures { IsServed (Request.Import cart.entry battery.entry save.entry sectors) result (O.contents out.old) (O.contents out.new) }
+    ensures { IsServed (Request.Import cart.entry battery.entry save.entry sectors) result (O.contents out.old)
+        (O.contents out.new) }
 {
     let rom = file_bytes(rt, cart, MOST_ROM)?;
     let cartridge = Cartridge::read(rom)?;
@@ -133,7 +135,8 @@ fn begin_import(
 ) -> Result<Session<FileDevice>, SessionError>
     ensures begun { IfOk result (λ session. (file_disk device).honest →
         IsImported cartridge.now battery.now (file_disk device) (file_disk (device_of session))) }
-    ensures cause { IfErr result (IsNewGameCause (snapshot_length (ram_length_of cartridge.now)) (length (file_disk device).sectors)) }
+    ensures cause { IfErr result
+        (IsNewGameCause (snapshot_length (ram_length_of cartridge.now)) (length (file_disk device).sectors)) }
 {
     let Ok(machine) = machine_with_battery(alloc, cartridge, battery) else {
         return Err(SessionError::Memory);

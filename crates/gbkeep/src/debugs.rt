@@ -52,7 +52,10 @@ fn resumed<R: Files<File = File> + AllocGlobal, I: Read, O: Write>(
     input: &mut I,
     out: &mut O,
 ) -> Result<(), Fault>
-    ensures { IsDebugServed (Some save.entry) result (record { before = I.remaining input.old; since = I.remaining input.new })
+    ensures { IsDebugServed (Some save.entry) result (record {
+      before = I.remaining input.old;
+      since = I.remaining input.new;
+    })
         (record { before = O.contents out.old; since = O.contents out.new }) }
 {
     let device = FileDevice::attach(rt, Path::new(save))?;

@@ -36,16 +36,23 @@ pub fn play_to_picture<D: SectorDevice, W: Write, P: Write>(
     ensures played { OnOk result ((D.disk device).honest →
         HasPlayed rom.items (D.disk device) (D.disk (left_by result)) (inputs_of_script script.now)) }
     ensures images { (D.disk device).honest →
-        HoldsSince (D.disk device) (D.disk (left_by result)) (PlayImage rom.items (D.disk device) (inputs_of_script script.now)) }
+        HoldsSince (D.disk device) (D.disk (left_by result))
+        (PlayImage rom.items (D.disk device) (inputs_of_script script.now)) }
     ensures playable { OnOk result (IsPlayable rom.items script.now) }
-    ensures report { OnOk result (HasReported rom.items script.now (D.disk device) (W.contents report.old) (W.contents report.new)) }
+    ensures report { OnOk result
+        (HasReported rom.items script.now (D.disk device) (W.contents report.old) (W.contents report.new)) }
     ensures cause { IfErr result (λ refused.
         IsPlayCause rom.items script.now
-        (record { old = D.disk device; now = D.disk refused.device; output = record { before = W.contents report.old; since = W.contents report.new } })
+        (record {
+          old = D.disk device;
+          now = D.disk refused.device;
+          output = record { before = W.contents report.old; since = W.contents report.new };
+        })
         refused.why) }
     ensures untouched { IfErr result (λ refused. IsUnplayable refused.why → refused.device ≡ device) }
     ensures undrawn { is_none out.entry ≡ true → IfErr result (λ refused. refused.why ≢ PlayError.Picture) }
-    ensures answered { HasAnswered (λ refused. faults_after_play refused.why) (D.disk device) (D.disk (left_by result)) result }
+    ensures answered { HasAnswered (λ refused. faults_after_play refused.why) (D.disk device) (D.disk (left_by result))
+        result }
 {
     if let Some(out) = out {
         return play_and_draw(alloc, device, rom, script, report, out);
@@ -68,17 +75,26 @@ pub fn play_and_draw<D: SectorDevice, W: Write, P: Write>(
     ensures played { OnOk result ((D.disk device).honest →
         HasPlayed rom.items (D.disk device) (D.disk (left_by result)) (inputs_of_script script.now)) }
     ensures images { (D.disk device).honest →
-        HoldsSince (D.disk device) (D.disk (left_by result)) (PlayImage rom.items (D.disk device) (inputs_of_script script.now)) }
+        HoldsSince (D.disk device) (D.disk (left_by result))
+        (PlayImage rom.items (D.disk device) (inputs_of_script script.now)) }
     ensures playable { OnOk result (IsPlayable rom.items script.now) }
-    ensures report { OnOk result (HasReported rom.items script.now (D.disk device) (W.contents report.old) (W.contents report.new)) }
+    ensures report { OnOk result
+        (HasReported rom.items script.now (D.disk device) (W.contents report.old) (W.contents report.new)) }
     ensures cause { IfErr result (λ refused.
         IsPlayCause rom.items script.now
-        (record { old = D.disk device; now = D.disk refused.device; output = record { before = W.contents report.old; since = W.contents report.new } })
+        (record {
+          old = D.disk device;
+          now = D.disk refused.device;
+          output = record { before = W.contents report.old; since = W.contents report.new };
+        })
         refused.why) }
     ensures untouched { IfErr result (λ refused. IsUnplayable refused.why → refused.device ≡ device) }
-    ensures picture { OnOk result (HasDrawn rom.items script.now (D.disk device) (P.contents out.old) (P.contents out.new)) }
-    ensures part { IfErr result (λ refused. HasDrawnPart rom.items script.now (D.disk device) (P.contents out.old) (P.contents out.new) refused.why) }
-    ensures answered { HasAnswered (λ refused. faults_after_play refused.why) (D.disk device) (D.disk (left_by result)) result }
+    ensures picture { OnOk result
+        (HasDrawn rom.items script.now (D.disk device) (P.contents out.old) (P.contents out.new)) }
+    ensures part { IfErr result (λ refused.
+        HasDrawnPart rom.items script.now (D.disk device) (P.contents out.old) (P.contents out.new) refused.why) }
+    ensures answered { HasAnswered (λ refused. faults_after_play refused.why) (D.disk device) (D.disk (left_by result))
+        result }
 {
     match play_script(alloc, device, rom, script, report) {
         Ok(session) => picture_of(session, out),
@@ -97,17 +113,24 @@ fn play_script<D: SectorDevice, W: Write>(
     ensures played { OnOk result ((D.disk device).honest →
         HasPlayed rom.items (D.disk device) (D.disk (left_by_session result)) (inputs_of_script script.now)) }
     ensures images { (D.disk device).honest →
-        HoldsSince (D.disk device) (D.disk (left_by_session result)) (PlayImage rom.items (D.disk device) (inputs_of_script script.now)) }
+        HoldsSince (D.disk device) (D.disk (left_by_session result))
+        (PlayImage rom.items (D.disk device) (inputs_of_script script.now)) }
     ensures playable { OnOk result (IsPlayable rom.items script.now) }
-    ensures report { OnOk result (HasReported rom.items script.now (D.disk device) (W.contents report.old) (W.contents report.new)) }
+    ensures report { OnOk result
+        (HasReported rom.items script.now (D.disk device) (W.contents report.old) (W.contents report.new)) }
     ensures cause { IfErr result (λ refused.
         IsPlayCause rom.items script.now
-        (record { old = D.disk device; now = D.disk refused.device; output = record { before = W.contents report.old; since = W.contents report.new } })
+        (record {
+          old = D.disk device;
+          now = D.disk refused.device;
+          output = record { before = W.contents report.old; since = W.contents report.new };
+        })
         refused.why) }
     ensures untouched { IfErr result (λ refused. IsUnplayable refused.why → refused.device ≡ device) }
     ensures last { IfOk result (λ s. IsLastMachine rom.items script.now (D.disk device) (machine_of s)) }
     ensures undrawn { IfErr result (λ refused. refused.why ≢ PlayError.Picture) }
-    ensures answered { HasAnswered (λ refused. faults_after_play refused.why) (D.disk device) (D.disk (left_by_session result)) result }
+    ensures answered { HasAnswered (λ refused. faults_after_play refused.why) (D.disk device)
+        (D.disk (left_by_session result)) result }
 {
     let cartridge = match Cartridge::read(rom) {
         Ok(cartridge) => cartridge,

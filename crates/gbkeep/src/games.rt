@@ -71,7 +71,8 @@ pub(crate) fn play<R: Files<File = File> + AllocGlobal, O: Write>(
     script: &str,
     out: &mut O,
 ) -> Result<(), Fault>
-    ensures { IsServed (Request.Play cart.entry save.entry script.entry) result (O.contents out.old) (O.contents out.new) }
+    ensures { IsServed (Request.Play cart.entry save.entry script.entry) result (O.contents out.old)
+        (O.contents out.new) }
 {
     let rom = file_bytes(rt, cart, MOST_ROM)?;
     not_a_pipe(rt, script)?;
@@ -100,7 +101,8 @@ pub(crate) fn frame<R: Files<File = File> + AllocGlobal, O: Write>(
     picture: &str,
     out: &mut O,
 ) -> Result<(), Fault>
-    ensures { IsServed (Request.Frame cart.entry save.entry picture.entry) result (O.contents out.old) (O.contents out.new) }
+    ensures { IsServed (Request.Frame cart.entry save.entry picture.entry) result (O.contents out.old)
+        (O.contents out.new) }
 {
     let rom = file_bytes(rt, cart, MOST_ROM)?;
     let device = FileDevice::attach(rt, Path::new(save))?;
@@ -155,7 +157,10 @@ pub(crate) fn stream<R: Files<File = File> + AllocGlobal, I: Read, O: Write>(
     input: &mut I,
     out: &mut O,
 ) -> Result<(), Fault>
-    ensures { IsStreamServed result (record { before = I.remaining input.old; since = I.remaining input.new }) (record { before = O.contents out.old; since = O.contents out.new }) }
+    ensures { IsStreamServed result (record {
+      before = I.remaining input.old;
+      since = I.remaining input.new;
+    }) (record { before = O.contents out.old; since = O.contents out.new }) }
 {
     let rom = file_bytes(rt, cart, MOST_ROM)?;
     let device = FileDevice::attach(rt, Path::new(save))?;

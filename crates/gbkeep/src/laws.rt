@@ -9,7 +9,8 @@ use sector_device::SectorDevice;
 
 /// What `new` and `new-recording` begin of one ROM stands together: whatever a power cut leaves of both agrees.
 pub fn new_files_stand_together<S: SectorDevice, D: SectorDevice>(_save: &S, _recording: &D)
-    ensures { (rom : List ℕ) → IsNewGame rom (S.disk _save.now) → IsNewRecording rom (D.disk _recording.now) → AllAgree rom (S.disk _save.now) (D.disk _recording.now) }
+    ensures { (rom : List ℕ) → IsNewGame rom (S.disk _save.now) → IsNewRecording rom (D.disk _recording.now) →
+        AllAgree rom (S.disk _save.now) (D.disk _recording.now) }
 {}
 
 /// Where a test ended as locked, or in a loop, its registers stay as they are, and nothing more is sent, however many steps follow.

@@ -26,8 +26,10 @@ pub fn list_lines<W: Write>(
     out: &mut W,
 ) -> Result<(), TextError>
     ensures accepted { OnOk result (IsAccepted rom.items) }
-    ensures lines { OnOk result (Appends (W.contents out.old) (W.contents out.new) (lines_from (start rom.items) address count)) }
-    ensures refused { IfErr result (Refuses rom.items (lines_from (start rom.items) address count) (W.contents out.old) (W.contents out.new)) }
+    ensures lines { OnOk result
+        (Appends (W.contents out.old) (W.contents out.new) (lines_from (start rom.items) address count)) }
+    ensures refused { IfErr result
+        (Refuses rom.items (lines_from (start rom.items) address count) (W.contents out.old) (W.contents out.new)) }
 {
     let cartridge = match Cartridge::read(rom) {
         Ok(cartridge) => cartridge,

@@ -116,7 +116,10 @@ fn answer<R: Files<File = File> + AllocGlobal, I: Read, O: Write, E: Write>(
 
 /// Warns of a SAVE that another emulator takes for its battery file.
 fn warn<E: Write>(request: Request<'_>, err: &mut E)
-    ensures { HasWarned (makes_battery_name request.entry) (record { before = E.contents err.old; since = E.contents err.new }) }
+    ensures { HasWarned (makes_battery_name request.entry) (record {
+      before = E.contents err.old;
+      since = E.contents err.new;
+    }) }
 {
     match request {
         Request::New { save, .. } => warn_of(save, err),
@@ -126,7 +129,10 @@ fn warn<E: Write>(request: Request<'_>, err: &mut E)
 }
 
 fn warn_of<E: Write>(save: &str, err: &mut E)
-    ensures { HasWarned (is_battery_name save.now) (record { before = E.contents err.old; since = E.contents err.new }) }
+    ensures { HasWarned (is_battery_name save.now) (record {
+      before = E.contents err.old;
+      since = E.contents err.new;
+    }) }
 {
     if is_battery_name(save.as_bytes()) {
         write_line(
@@ -157,7 +163,10 @@ fn serve<R: Files<File = File> + AllocGlobal, I: Read, O: Write>(
     input: &mut I,
     out: &mut O,
 ) -> Result<(), Fault>
-    ensures { IsServedReading request.entry result (record { before = I.remaining input.old; since = I.remaining input.new })
+    ensures { IsServedReading request.entry result (record {
+      before = I.remaining input.old;
+      since = I.remaining input.new;
+    })
         (record { before = O.contents out.old; since = O.contents out.new }) }
 {
     match request {

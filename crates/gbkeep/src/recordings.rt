@@ -42,7 +42,8 @@ pub(crate) fn new_recording<R: Files<File = File> + AllocGlobal, O: Write>(
     sectors: u32,
     out: &mut O,
 ) -> Result<(), Fault>
-    ensures { IsServed (Request.NewRecording cart.entry recording.entry sectors) result (O.contents out.old) (O.contents out.new) }
+    ensures { IsServed (Request.NewRecording cart.entry recording.entry sectors) result (O.contents out.old)
+        (O.contents out.new) }
 {
     let rom = file_bytes(rt, cart, MOST_ROM)?;
     let cartridge = Cartridge::read(rom)?;
@@ -70,7 +71,10 @@ pub(crate) fn record<R: Files<File = File> + AllocGlobal, I: Read, O: Write>(
     input: &mut I,
     out: &mut O,
 ) -> Result<(), Fault>
-    ensures { IsRecordServed result (record { before = I.remaining input.old; since = I.remaining input.new }) (record { before = O.contents out.old; since = O.contents out.new }) }
+    ensures { IsRecordServed result (record {
+      before = I.remaining input.old;
+      since = I.remaining input.new;
+    }) (record { before = O.contents out.old; since = O.contents out.new }) }
 {
     let rom = file_bytes(rt, cart, MOST_ROM)?;
     let pair = game_and_recording(rt, save, recording)?;
@@ -132,7 +136,8 @@ pub(crate) fn verify<R: Files<File = File> + AllocGlobal, O: Write>(
     recording: &str,
     out: &mut O,
 ) -> Result<(), Fault>
-    ensures { IsServed (Request.Verify cart.entry save.entry recording.entry) result (O.contents out.old) (O.contents out.new) }
+    ensures { IsServed (Request.Verify cart.entry save.entry recording.entry) result (O.contents out.old)
+        (O.contents out.new) }
 {
     let rom = file_bytes(rt, cart, MOST_ROM)?;
     let pair = game_and_recording(rt, save, recording)?;

@@ -27,7 +27,8 @@ pub fn step_line<W: Write>(
 ) -> Result<(), TextError>
     ensures accepted { OnOk result (IsAccepted rom.items) }
     ensures line { OnOk result (Appends (W.contents out.old) (W.contents out.new) (line_after rom.items count)) }
-    ensures refused { IfErr result (Refuses rom.items (line_after rom.items count) (W.contents out.old) (W.contents out.new)) }
+    ensures refused { IfErr result
+        (Refuses rom.items (line_after rom.items count) (W.contents out.old) (W.contents out.new)) }
 {
     let cartridge = match Cartridge::read(rom) {
         Ok(cartridge) => cartridge,

@@ -28,14 +28,21 @@ pub fn stream_play<D: SectorDevice, R: Read, W: Write>(
 ) -> Result<D, StreamPlayRefused<D>>
     ensures accepted { OnOk result (IsAccepted rom.items) }
     ensures streamed { OnOk result
-        (HasStreamed rom.items (D.disk device) (D.disk (left_by result)) Whole (R.remaining input.old) (R.remaining input.new)
+        (HasStreamed rom.items (D.disk device) (D.disk (left_by result)) Whole (R.remaining input.old)
+        (R.remaining input.new)
         (W.contents out.old) (W.contents out.new)) }
     ensures cause { IfErr result (λ refused.
         IsStreamPlayCause rom.items (record { before = R.remaining input.old; since = R.remaining input.new })
-        (record { old = D.disk device; now = D.disk refused.device; output = record { before = W.contents out.old; since = W.contents out.new } })
+        (record {
+          old = D.disk device;
+          now = D.disk refused.device;
+          output = record { before = W.contents out.old; since = W.contents out.new };
+        })
         refused.why) }
-    ensures untouched { IfErr result (λ refused. (fault : _) → refused.why ≡ StreamPlayError.Cart fault → refused.device ≡ device) }
-    ensures answered { HasAnswered (λ refused. faults_after_stream_play refused.why) (D.disk device) (D.disk (left_by result)) result }
+    ensures untouched { IfErr result (λ refused.
+        (fault : _) → refused.why ≡ StreamPlayError.Cart fault → refused.device ≡ device) }
+    ensures answered { HasAnswered (λ refused. faults_after_stream_play refused.why) (D.disk device)
+        (D.disk (left_by result)) result }
 {
     let cartridge = match Cartridge::read(rom) {
         Ok(cartridge) => cartridge,

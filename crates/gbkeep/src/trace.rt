@@ -40,14 +40,23 @@ pub fn trace_lines<D: SectorDevice, W: Write>(
     out: &mut W,
 ) -> Result<D, TraceRefused<D>>
     ensures accepted { OnOk result (IsAccepted rom.items) }
-    ensures traced { OnOk result (HasTraced rom.items (D.disk device) (D.disk (left_by result)) count (W.contents out.old) (W.contents out.new)) }
-    ensures images { (D.disk device).honest → HoldsSince (D.disk device) (D.disk (left_by result)) (StandsAsBefore rom.items (D.disk device)) }
+    ensures traced { OnOk result
+        (HasTraced rom.items (D.disk device) (D.disk (left_by result)) count (W.contents out.old)
+        (W.contents out.new)) }
+    ensures images { (D.disk device).honest →
+        HoldsSince (D.disk device) (D.disk (left_by result)) (StandsAsBefore rom.items (D.disk device)) }
     ensures cause { IfErr result (λ refused.
         IsTraceCause rom.items count
-        (record { old = D.disk device; now = D.disk refused.device; output = record { before = W.contents out.old; since = W.contents out.new } })
+        (record {
+          old = D.disk device;
+          now = D.disk refused.device;
+          output = record { before = W.contents out.old; since = W.contents out.new };
+        })
         refused.why) }
-    ensures untouched { IfErr result (λ refused. (fault : _) → refused.why ≡ TraceError.Cart fault → refused.device ≡ device) }
-    ensures answered { HasAnswered (λ refused. faults_after_trace refused.why) (D.disk device) (D.disk (left_by result)) result }
+    ensures untouched { IfErr result (λ refused.
+        (fault : _) → refused.why ≡ TraceError.Cart fault → refused.device ≡ device) }
+    ensures answered { HasAnswered (λ refused. faults_after_trace refused.why) (D.disk device) (D.disk (left_by result))
+        result }
 {
     let cartridge = match Cartridge::read(rom) {
         Ok(cartridge) => cartridge,
@@ -85,7 +94,8 @@ fn write_trace<W: Write>(
     requires own { IsOfItsRom machine.now }
     ensures ok { OnOk result (IsMachineOf cartridge.now machine.now ×
         Appends (W.contents out.old) (W.contents out.new) (trace_text inputs machine.now count)) }
-    ensures err { IfErr result (IsUntraced cartridge.now machine.now (trace_text inputs machine.now count) (W.contents out.old)
+    ensures err { IfErr result
+        (IsUntraced cartridge.now machine.now (trace_text inputs machine.now count) (W.contents out.old)
         (W.contents out.new)) }
 {
     let Some(mut debugger) = debugger_of(alloc, machine, cartridge) else {
@@ -118,7 +128,9 @@ fn write_steps<W: Write>(
     count: u32,
     out: &mut W,
 ) -> Result<(), OutputFailed>
-    ensures ok { OnOk result (Appends (W.contents out.old) (W.contents out.new) (step_lines bus_rules count debugger.old.machine.processor)) }
+    ensures ok { OnOk result
+        (Appends (W.contents out.old) (W.contents out.new)
+        (step_lines bus_rules count debugger.old.machine.processor)) }
     ensures err { OnErr result (AppendsProperPrefix (W.contents out.old) (W.contents out.new)
         (step_lines bus_rules count debugger.old.machine.processor)) }
 {

@@ -1,5 +1,5 @@
 -- Entries have six bytes.
-use Rattle.std.proofs.Common.{◌≡◌, ◌==◌, ◌*◌, inl, inr, ℕ, zero, suc, List, [], ◌∷◌, ◌++◌, length, take, drop, Bool, if◌then◌else◌, refl, ap, ◌∙◌, arith, length-append}
+use Rattle.std.proofs.Common.{◌≡◌, ◌==◌, inl, inr, ℕ, zero, suc, List, [], ◌∷◌, ◌++◌, length, take, drop, Bool, if◌then◌else◌, refl, ap, ◌∙◌, arith, length-append}
 use Rattle.std.proofs.lemmas.Bool.{cases_Bool}
 use Rattle.std.specs.List.{flat_map}
 use Rattle.std.specs.Int.{w32, to_le_bytes}
@@ -29,10 +29,6 @@ codes-append (x ∷ xs) ys a b = (a.0, codes-append xs ys a.1 b)
 
 abbrev pub codes_of : List StoredEntry → List ℕ
 codes_of es = flat_map (λ (x : StoredEntry). x.code) es
-
-pub length-codes : (es : List StoredEntry) → AreCodes es → length (flat_map (λ (x : StoredEntry). x.code) es) ≡ 6 * length es
-length-codes [] are = refl
-length-codes (e ∷ es) are = omega (arith, are.0, length-codes es are.1, length-append e.code (flat_map (λ (x : StoredEntry). x.code) es))
 
 pub code_single : (e : Entry) → length e.code ≡ 5 → length (single e).code ≡ 6
 unfolding single

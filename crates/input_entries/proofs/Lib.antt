@@ -1,4 +1,5 @@
 pub mod CodeLengths
 pub mod Meanings
+pub mod MoreInputs
 pub mod Runs
 pub mod ShortLists

@@ -1,6 +1,6 @@
 -- A run with one frame more, and the entry of one input.
 use Rattle.std.proofs.Common.{◌≡◌, ◌==◌, ◌&&◌, ◌||◌, inl, inr, ℕ, zero, suc, ◌+◌, ◌<◌, ◌≤◌, List, [], ◌∷◌, ◌++◌, length, take, drop, Bool, true, false, if◌then◌else◌, nat_le, refl, sym, ap, ◌∙◌, subst, arith, append_assoc}
-use Rattle.std.proofs.lemmas.List.{length-replicate, replicate-append-replicate}
+use Rattle.std.proofs.lemmas.List.{replicate-append-replicate}
 use Rattle.std.proofs.lemmas.Bool.{cases_eq}
 use Rattle.std.proofs.lemmas.Bool.Decides.{nat_tests}
 use Rattle.std.proofs.lemmas.Nat.{from_le_bytes-to_le_bytes_4}
@@ -102,9 +102,6 @@ joined s e size entry input join =
     let f = five e.code size in
     let same : e ≡ record { code = f.a ∷ f.b ∷ f.c ∷ f.d ∷ f.e ∷ [] } = ap (λ (l : List ℕ). record { code = l }) f.is in
     subst (Joined s) (sym same) (joined_at s f.a f.b f.c f.d f.e entry (ap is_input (sym same) ∙ input) (ap (joins s) (sym same) ∙ join))
-
-pub joined_length : (s : StoredEntry) (e : Entry) → Joined s e → length (inputs_in s) ≡ run_length s
-joined_length s e j = ap length j.stands ∙ length-replicate (run_length s) (frame (byte 1 s.code))
 
 is_run_now : (b n : ℕ) → 1 ≤ n → n ≤ 216000 → is_run (record { code = 0 ∷ b ∷ to_le_bytes w32 n }) ≡ true
 is_run_now b n low high =

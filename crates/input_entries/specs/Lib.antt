@@ -1,3 +1,4 @@
 pub mod Bytes
+pub mod Growing
 pub mod Inputs
 pub mod Sizes

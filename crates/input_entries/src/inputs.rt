@@ -51,7 +51,7 @@ pub fn single(entry: &Entry) -> StoredEntry
 
 /// Whether the input is one more frame of the run.
 #[tactic(auto, unfolding(crate::specs::Inputs::joins))]
-pub fn joins(last: &StoredEntry, entry: &Entry) -> bool
+pub(crate) fn joins(last: &StoredEntry, entry: &Entry) -> bool
     ensures is { result ≡ joins last.now entry.now }
     ensures five { length entry.now.code ≡ 5 }
 {

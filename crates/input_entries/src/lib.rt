@@ -4,12 +4,14 @@
 
 mod bytes;
 mod counts;
+mod growing;
 mod inputs;
 mod logged;
 
 pub use bytes::{begins_with, is_zeros, u16_at, u32_at, u64_at};
 pub use counts::{inputs_of, run_length};
-pub use inputs::{are_inputs, joins, longer, single};
+pub use growing::{grown_length, last_of, lengthens};
+pub use inputs::{are_inputs, longer, single};
 pub use logged::Logged;
 
 /// One input, as it is given: `00`, buttons and three zeros for a frame, or `01` and the seconds,

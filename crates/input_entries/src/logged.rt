@@ -58,7 +58,8 @@ impl StoredEntry {
     /// What the entry stands for; `None` if it is neither a run of 1 to 216,000 frames nor seconds.
     pub fn logged(&self) -> Option<Logged>
         ensures none { IsNone result → is_entry self.now ≡ false }
-        ensures some { IfSome result (λ logged. (is_entry self.now ≡ true) × (inputs_in self.now ≡ inputs_logged logged)) }
+        ensures some { IfSome result (λ logged.
+            (is_entry self.now ≡ true) × (inputs_in self.now ≡ inputs_logged logged)) }
         ensures times { IfSome result HasFewTimes }
     {
         let code = self.code;

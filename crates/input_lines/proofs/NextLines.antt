@@ -35,10 +35,6 @@ next_last next old unread rest since before cut rest_is all some at_end =
     (cut_line next unread old (left_of [] since) since (no_newline_at_all unread all) (subst (IsCut next) (all_of_it unread all) cut)
     (inr (some, all_taken old unread since before, none_left since at_end))))
 
--- no line
-pub next_none : (old : Option (List ℕ)) (unread : List ℕ) (since : Option (List ℕ)) → Consumes old (left_of unread since) [] → unread ≡ [] → IsAtEnd since → Consumes old since [] × IsAtEnd since
-next_none old unread since before none at_end = (subst (Consumes old since) none (left_read old unread since [] before), at_end)
-
 pub next_failed : (old : Option (List ℕ)) (unread : List ℕ) (since : Option (List ℕ)) → Consumes old (left_of unread since) [] → position_or_len (λ byte. byte == 10) unread ≡ length unread
     → IsNextLine Failed old (left_of unread since) since
 next_failed old unread since before all = (unread, no_newline_at_all unread all, left_read old unread since [] before, inl before)

@@ -6,11 +6,6 @@ use Rattle.std.specs.List.{position_or_len}
 abbrev pub HasNoNewline : List ℕ → Type 0
 HasNoNewline line = All (λ byte. byte ≢ 10) line
 
--- the lines one after another, each with its newline
-abbrev pub joined : List (List ℕ) → List ℕ
-joined [] = []
-joined (line ∷ lines) = line ++ (10 ∷ joined lines)
-
 -- the bytes before the first newline, and those behind it
 abbrev pub first_line : List ℕ → List ℕ
 first_line bytes = take (position_or_len (λ byte. byte == 10) bytes) bytes

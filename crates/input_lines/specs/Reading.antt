@@ -1,8 +1,8 @@
 -- How lines are read.
-use Rattle.std.specs.Prelude.{◌≡◌, ◌==◌, ◌⊎◌, ◌<◌, ◌≤◌, ℕ, List, [], ◌∷◌, ◌++◌, length, Option, All}
+use Rattle.std.specs.Prelude.{◌≡◌, ◌==◌, ◌⊎◌, ◌<◌, ◌≤◌, ℕ, List, [], ◌∷◌, ◌++◌, length, Option}
 use Rattle.std.specs.List.{position_or_len}
 use Rattle.std.specs.Io.KnownBytes.{Consumes, IsAtEnd, prepend_known}
-use Rattle.input_lines.specs.Newlines.{HasNoNewline, joined}
+use Rattle.input_lines.specs.Newlines.{HasNoNewline}
 use Rattle.input_lines.specs.declared.filling.More.{More}
 use Rattle.input_lines.specs.declared.filling.More.TheVariants.{Bytes as MoreRead, End as NoMore, Failed as MoreFailed}
 use Rattle.input_lines.specs.declared.filling.Filled.{Filled}
@@ -52,22 +52,3 @@ IsNextLine TooLong old new since = (line : List ℕ) × HasNoNewline line × (12
 IsNextLine End old new since = Consumes old since [] × IsAtEnd since
 IsNextLine Failed old new since =
     (rest : List ℕ) × HasNoNewline rest × Consumes old since rest × (Consumes old new [] ⊎ ((128 < length rest) × Consumes old new rest))
-
--- ---- lines
-
--- these lines were taken
-abbrev pub TakesLines : List (List ℕ) → (old new : Option (List ℕ)) → Type 0
-TakesLines lines old new = Consumes old new (joined lines) ⊎ ((text : List ℕ) × (text ++ 10 ∷ [] ≡ joined lines) × Consumes old new text × IsAtEnd new)
-
--- These lines were read, and then some bytes more; of lines to the end the last may lack its newline.
-abbrev pub ReadsLines : List (List ℕ) → (more : List ℕ) → (before since : Option (List ℕ)) → Type 0
-ReadsLines lines more before since =
-    Consumes before since (joined lines ++ more)
-    ⊎ ((text : List ℕ) × (text ++ 10 ∷ [] ≡ joined lines) × (more ≡ []) × Consumes before since text × IsAtEnd since)
-
--- lines that were taken or read, with no newline within any
-abbrev pub HasTaken : List (List ℕ) → (old new : Option (List ℕ)) → Type 0
-HasTaken lines old new = All HasNoNewline lines × TakesLines lines old new
-
-abbrev pub HasRead : List (List ℕ) → (more : List ℕ) → (before since : Option (List ℕ)) → Type 0
-HasRead lines more before since = All HasNoNewline lines × ReadsLines lines more before since

@@ -51,7 +51,8 @@ pub fn line_length(bytes: &[u8]) -> usize
 /// One read.
 pub(crate) fn read_more<R: Read>(unread: &mut Unread, input: &mut R) -> More
     requires { length unread.old.items ≤ 128 }
-    ensures left { Consumes (left_of unread.old.items (R.remaining input.old)) (left_of unread.new.items (R.remaining input.new)) [] }
+    ensures left { Consumes (left_of unread.old.items (R.remaining input.old))
+        (left_of unread.new.items (R.remaining input.new)) [] }
     ensures more { HasReadMore result unread.old.items unread.new.items (R.remaining input.new) }
 {
     let mut bytes = [0; 896];
@@ -70,7 +71,8 @@ pub(crate) fn read_more<R: Read>(unread: &mut Unread, input: &mut R) -> More
 /// read stays in `unread`, also where the input ends or fails.
 pub fn fill<R: Read>(unread: &mut Unread, input: &mut R, most: usize) -> Filled
     requires { most ≤ 128 }
-    ensures left { Consumes (left_of unread.old.items (R.remaining input.old)) (left_of unread.new.items (R.remaining input.new)) [] }
+    ensures left { Consumes (left_of unread.old.items (R.remaining input.old))
+        (left_of unread.new.items (R.remaining input.new)) [] }
     ensures filled { IsFilled result most unread.new.items (R.remaining input.new) }
     ensures nothing { IsLineThere most unread.old.items → (unread.new ≡ unread.old) × (input.new ≡ input.old) }
 {

@@ -4,7 +4,7 @@
 //! soon as its newline is read. `next_line` takes a line at a time; a protocol with rules of its own
 //! for a line that is too long takes lines by `fill`, `line_length` and `drop_first`. Bytes that stand
 //! behind a line are taken by `take_bytes`, or by `skip_bytes`. How lines that were taken one after
-//! another stand in the input is told by the laws in `proofs/Takings.antt`.
+//! another stand in the input is told by the laws in `proofs/Givings.antt`.
 #![tactic(auto)]
 
 mod filling;

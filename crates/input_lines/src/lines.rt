@@ -50,7 +50,8 @@ fn take_line(unread: &mut Unread) -> NextLine
 fn skip_line<R: Read>(unread: &mut Unread, input: &mut R) -> NextLine
     requires long { 128 < length unread.old.items }
     requires one { position_or_len (λ byte. byte == 10) unread.old.items ≡ length unread.old.items }
-    ensures { IsNextLine result (left_of unread.old.items (R.remaining input.old)) (left_of unread.new.items (R.remaining input.new))
+    ensures { IsNextLine result (left_of unread.old.items (R.remaining input.old))
+        (left_of unread.new.items (R.remaining input.new))
         (R.remaining input.new) }
 {
     unread.clear();
@@ -77,7 +78,8 @@ fn skip_line<R: Read>(unread: &mut Unread, input: &mut R) -> NextLine
 /// it stays in `unread`, unless it is more than 128 bytes, of which some may be gone. It is also
 /// answered when 2^64 - 1 reads do not reach the end of one line.
 pub fn next_line<R: Read>(unread: &mut Unread, input: &mut R) -> NextLine
-    ensures { IsNextLine result (left_of unread.old.items (R.remaining input.old)) (left_of unread.new.items (R.remaining input.new))
+    ensures { IsNextLine result (left_of unread.old.items (R.remaining input.old))
+        (left_of unread.new.items (R.remaining input.new))
         (R.remaining input.new) }
 {
     match fill(unread, input, MOST) {

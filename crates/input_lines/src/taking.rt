@@ -20,7 +20,8 @@ pub enum Taken {
 /// Takes as many bytes as the slice has: first of what was read before, then of the input, from which no byte behind them is read. Where the
 /// input ends or fails first, those that there are are taken, and what the slice holds is not told.
 pub fn take_bytes<R: Read>(unread: &mut Unread, input: &mut R, bytes: &mut [u8]) -> Taken
-    ensures taken { HasTakenBytes result bytes.new (left_of unread.old.items (R.remaining input.old)) (left_of unread.new.items (R.remaining input.new)) }
+    ensures taken { HasTakenBytes result bytes.new (left_of unread.old.items (R.remaining input.old))
+        (left_of unread.new.items (R.remaining input.new)) }
     ensures unread { unread.new.items ≡ drop (length bytes.old) unread.old.items }
     ensures none { (result ≡ Taken.All → ⊥) → unread.new.items ≡ [] }
     ensures room { length bytes.new ≡ length bytes.old }
@@ -42,7 +43,8 @@ pub fn take_bytes<R: Read>(unread: &mut Unread, input: &mut R, bytes: &mut [u8])
 /// Takes so many bytes as `take_bytes` does, and drops them.
 pub fn skip_bytes<R: Read>(unread: &mut Unread, input: &mut R, count: usize) -> Taken
     ensures none { (result ≡ Taken.All → ⊥) → unread.new.items ≡ [] }
-    ensures skipped { HasSkippedBytes result count (left_of unread.old.items (R.remaining input.old)) (left_of unread.new.items (R.remaining input.new)) }
+    ensures skipped { HasSkippedBytes result count (left_of unread.old.items (R.remaining input.old))
+        (left_of unread.new.items (R.remaining input.new)) }
 {
     let mut bytes = [0; 1024];
     let mut left = count;

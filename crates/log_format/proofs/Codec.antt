@@ -19,9 +19,6 @@ entries_read (e ∷ es) rest are =
     let later : drop 6 ((e.code ++ flat_map (λ (x : StoredEntry). x.code) es) ++ rest) ≡ flat_map (λ (x : StoredEntry). x.code) es ++ rest = ap (drop 6) front ∙ drop_at e.code (flat_map (λ (x : StoredEntry). x.code) es ++ rest) 6 are.0 in
     λ i. record { code = first i } ∷ (ap (entries_from Two (length es)) later ∙ entries_read es rest are.1) i
 
-pub entries_blank : (index : ℕ) → entries_at Two index (replicate 512 0) ≡ []
-entries_blank index = refl
-
 pub valid_written : (index : ℕ) (e : StoredEntry) (es : List StoredEntry) → index < 65536 → length (e ∷ es) ≤ 84 → is_log_sector Two index (log_sector index (e ∷ es)) ≡ true
 valid_written index e es small few =
     let here : from_le_bytes w16 (to_le_bytes w16 index) ≡ index = from_le_bytes-to_le_bytes_2 index (omega arith) in

@@ -1,18 +1,17 @@
 -- A log with more inputs, after any subset of the writes that make it.
-use Rattle.std.proofs.Common.{◌≡◌, inl, inr, ⊎_elim, ℕ, ◌+◌, ◌-◌, ◌*◌, ◌/◌, ◌<◌, ◌≤◌, List, [], ◌∷◌, ◌++◌, length, take, drop, sym, ap, ◌∙◌, subst, arith, append_assoc, length-append, length-take, length-drop, zero, suc, true}
+use Rattle.std.proofs.Common.{◌≡◌, ⊎_elim, ℕ, ◌+◌, ◌-◌, ◌*◌, ◌/◌, ◌<◌, ◌≤◌, List, [], ◌∷◌, ◌++◌, length, take, drop, sym, ap, ◌∙◌, subst, arith, append_assoc, length-append, length-take, length-drop, zero, suc, true}
 use Rattle.std.proofs.lemmas.List.{take_all, append-nil, length-take-le, take-append-drop, drop-append-le, take-append-le}
-use Rattle.std.proofs.lemmas.Bool.{cases_Bool}
 use Rattle.log_format.specs.Log.{log_from, log_sectors, log_area}
-use Rattle.input_entries.specs.Inputs.{AllFive, inputs, all_input, all_entries, joins}
-use Rattle.log_format.specs.Inputs.{AreInputs, with_input, with_inputs, sealed, grown, fits, HaveSix}
+use Rattle.input_entries.specs.Inputs.{AllFive, inputs, all_input, all_entries}
+use Rattle.input_entries.specs.Growing.{with_inputs}
+use Rattle.log_format.specs.Inputs.{AreInputs, sealed, grown, fits, HaveSix}
 use Rattle.input_entries.specs.declared.Entry.{Entry}
 use Rattle.input_entries.specs.declared.StoredEntry.{StoredEntry}
 use Rattle.log_format.specs.declared.root.Version.TheVariants.{Two}
 use Rattle.input_entries.proofs.CodeLengths.{AreCodes, codes-take, codes-drop, codes-append}
+use Rattle.input_entries.proofs.MoreInputs.{Whole, whole, Prefix, prefix, codes-with_inputs, length-with_inputs}
 use Rattle.log_format.proofs.AppendLaw.{EachOldOrNew, append_law}
 use Rattle.input_entries.proofs.Runs.{inputs-append, entries-append, entries-take, entries-drop}
-use Rattle.log_format.proofs.Runs.{Prefix, prefix, one_more, joins_then, joins_else, length-with_inputs}
-use Rattle.input_entries.proofs.CodeLengths.{code_single, code_longer}
 use Rattle.std.proofs.lemmas.Bool.Decides.{nat_tests}
 
 pub codes_of_six : (es : List StoredEntry) → HaveSix es → AreCodes es
@@ -23,30 +22,6 @@ pub six_of_codes : (es : List StoredEntry) → AreCodes es → HaveSix es
 six_of_codes [] codes k le = absurd (omega arith)
 six_of_codes (e ∷ es) codes zero le = codes.0
 six_of_codes (e ∷ es) codes (suc k) le = six_of_codes es codes.1 k (omega arith)
-
-pub codes-with_input : (log : List StoredEntry) (e : Entry) → AreCodes log → length e.code ≡ 5 → AreCodes (with_input log e)
-codes-with_input [] e codes size = (code_single e size, tt)
-codes-with_input (s ∷ []) e codes size = elim (cases_Bool (joins s e)) [
-  | inl holds ↦ subst AreCodes (sym (joins_then [] s e holds)) (code_longer s, tt)
-  | inr fails ↦ subst AreCodes (sym (joins_else [] s e fails)) (codes.0, (code_single e size, tt))
-]
-codes-with_input (s ∷ t ∷ log) e codes size = (codes.0, codes-with_input (t ∷ log) e codes.1 size)
-
-pub codes-with_inputs : (log : List StoredEntry) (es : List Entry) → AreCodes log → AllFive es → AreCodes (with_inputs log es)
-codes-with_inputs log [] codes fives = codes
-codes-with_inputs log (e ∷ es) codes fives = codes-with_inputs (with_input log e) es (codes-with_input log e codes fives.0) fives.1
-
--- all of them were added
-pub record Whole (log now : List StoredEntry) (new : List Entry) : Type 0 where
-  pub each : all_entries now
-  pub stand : inputs now ≡ inputs log ++ new
-
-pub whole_of : (log : List StoredEntry) (new : List Entry) → all_entries log → AllFive new → all_input new → length (inputs log) + length new ≤ 216000 → Whole log (with_inputs log new) new
-whole_of log [] are fives input room = record { each = are; stand = sym (append-nil (inputs log)) }
-whole_of log (e ∷ es) are fives input room =
-    let next = one_more log e are fives.0 input.0 (omega arith) in
-    let later = whole_of (with_input log e) es next.each fives.1 input.1 (omega (arith, ap length next.stand, length-append (inputs log) (e ∷ []))) in
-    record { each = later.each; stand = later.stand ∙ ap (λ l. l ++ es) next.stand ∙ append_assoc (inputs log) (e ∷ []) es }
 
 module _ (log : List StoredEntry) where
   abbrev full : List StoredEntry
@@ -70,9 +45,6 @@ module _ (log : List StoredEntry) where
   inputs_parts : inputs full ++ inputs tail ≡ inputs log
   inputs_parts = sym (inputs-append full tail) ∙ ap inputs parts
 
-  inputs_size : length (inputs tail) ≤ length (inputs log)
-  inputs_size = omega (arith, ap length inputs_parts, length-append (inputs full) (inputs tail))
-
   -- a log that stands in its sectors is read back
   pub read_back : (sectors : List (List ℕ)) → AreCodes log → length log ≤ 2688 → EachOldOrNew (log_area log) (log_area log) sectors → log_from Two 0 sectors ≡ log
   unfolding log_area
@@ -93,7 +65,7 @@ module _ (log : List StoredEntry) where
     pub whole_grown : Whole log (grown log new) new
     unfolding grown
     whole_grown =
-        let w = whole_of tail new (entries-drop (sealed log) log are.each) fives input (omega (arith, inputs_size)) in
+        let w = whole tail new (entries-drop (sealed log) log are.each) fives input in
         record {
           each = entries-append full rest (entries-take (sealed log) log are.each) w.each;
           stand = inputs-append full rest ∙ ap (λ l. inputs full ++ l) w.stand ∙ sym (append_assoc (inputs full) (inputs tail) new) ∙ ap (λ l. l ++ new) inputs_parts;
@@ -117,7 +89,7 @@ module _ (log : List StoredEntry) where
           stand = ap inputs (old ∙ parts) ∙ sym (append-nil (inputs log));
         })
         (λ cut.
-        let p = prefix tail new (entries-drop (sealed log) log are.each) fives input (omega (arith, inputs_size)) r.count cut.0 in
+        let p = prefix tail new (entries-drop (sealed log) log are.each) fives input r.count cut.0 in
         record {
           count = p.count;
           within = p.within;

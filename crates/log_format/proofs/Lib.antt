@@ -10,5 +10,4 @@ pub mod Grown
 mod OpenLaw
 mod Parsing
 pub mod Roots
-pub mod Runs
 pub mod Wrong

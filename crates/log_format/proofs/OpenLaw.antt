@@ -7,7 +7,8 @@ use lib.ListN.{replicate}
 use Rattle.sector_device.specs.DiskState.{sector_at}
 use Rattle.log_format.specs.Log.{is_log_sector, count_in, entries_from, entries_at, log_from, log_sector, log_sectors, log_area}
 use Rattle.input_entries.specs.Inputs.{AllFive, inputs, all_input, all_entries}
-use Rattle.log_format.specs.Inputs.{with_inputs, sealed, grown, fits}
+use Rattle.input_entries.specs.Growing.{with_inputs}
+use Rattle.log_format.specs.Inputs.{sealed, grown, fits}
 use Rattle.log_format.specs.Appends.{HoldsPrefix}
 use Rattle.log_format.specs.Content.{chosen, last_generation, header_of, area, area_length, area_start, content_by}
 use Rattle.log_format.specs.Laws.{EndsOpen, AnyWritten, ExtendsBy, IsOpenEnded, IsInAppend}
@@ -19,11 +20,11 @@ use Rattle.input_entries.specs.declared.Entry.{Entry}
 use Rattle.input_entries.specs.declared.StoredEntry.{StoredEntry}
 use Rattle.log_format.specs.declared.root.Version.TheVariants.{Two}
 use Rattle.input_entries.proofs.CodeLengths.{AreCodes, codes-drop}
+use Rattle.input_entries.proofs.MoreInputs.{Prefix, prefix, codes-with_inputs, length-with_inputs}
 use Rattle.log_format.proofs.AppendLaw.{EachOldOrNew, CutOf, log_full, log_last, open_sector, blank_law, each_from_index}
-use Rattle.log_format.proofs.Grown.{codes_of_six, fits_means, codes-with_inputs, length-grown}
+use Rattle.log_format.proofs.Grown.{codes_of_six, fits_means, length-grown}
 use Rattle.log_format.proofs.Parsing.{length-entries_from}
 use Rattle.input_entries.proofs.Runs.{inputs-append, entries-append, entries-take, entries-drop}
-use Rattle.log_format.proofs.Runs.{Prefix, prefix, length-with_inputs}
 
 blank_all : (n index : ℕ) (olds : List (List ℕ)) → length olds ≡ n → ((k : ℕ) → k < n → sector_at olds k ≡ replicate 512 0) → olds ≡ log_sectors n index []
 blank_all zero index [] size blank = refl
@@ -138,7 +139,7 @@ open_now (suc n) index (o ∷ olds) (c ∷ cs) log new size small codes are few 
         cut_prefix r = ⊎_elim
             (λ old. record { count = 0; within = omega arith; each = subst all_entries (sym old) are; stand = ap inputs old ∙ sym (append-nil (inputs log)) })
             (λ cut.
-            let p = prefix log new are fives input few r.count cut.0 in
+            let p = prefix log new are fives input r.count cut.0 in
             record { count = p.count; within = p.within; each = subst all_entries (sym cut.1) p.each; stand = ap inputs cut.1 ∙ p.stand })
             r.is
 

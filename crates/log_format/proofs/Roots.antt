@@ -17,9 +17,6 @@ abbrev pub in_two : Root → Root
 in_two root = record { version = Two; generation = root.generation; id = root.id; base = root.base; blob_length = root.blob_length }
 
 module _ (root : Root) (fits : Fits root) where
-  tail : List ℕ
-  tail = to_le_bytes w64 root.base ++ to_le_bytes w32 root.blob_length ++ replicate 448 0
-
   after_id : drop 20 (root_bytes (in_two root)) ≡ root.id ++ (to_le_bytes w64 root.base ++ (to_le_bytes w32 root.blob_length ++ replicate 448 0))
   after_id = append_assoc (root.id ++ to_le_bytes w64 root.base) (to_le_bytes w32 root.blob_length) (replicate 448 0) ∙ append_assoc root.id (to_le_bytes w64 root.base) (to_le_bytes w32 root.blob_length ++ replicate 448 0)
 

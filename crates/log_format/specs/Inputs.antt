@@ -1,6 +1,7 @@
 -- The entries of a log: how many inputs they count, which is the first that is none, and what more inputs make of them.
-use Rattle.std.specs.Prelude.{◌≡◌, ◌&&◌, ◌++◌, ◌+◌, ◌*◌, ◌/◌, ◌≤◌, ◌<◌, ℕ, List, [], ◌∷◌, length, take, drop, slice_index_or, Bool, false, if◌then◌else◌, nat_le, Option, Some, None}
-use Rattle.input_entries.specs.Inputs.{inputs, inputs_in, is_entry, all_entries, single, joins, longer}
+use Rattle.std.specs.Prelude.{◌≡◌, ◌&&◌, ◌++◌, ◌+◌, ◌*◌, ◌/◌, ◌≤◌, ◌<◌, ℕ, List, [], ◌∷◌, length, take, drop, slice_index_or, Bool, if◌then◌else◌, nat_le, Option, Some, None}
+use Rattle.input_entries.specs.Growing.{with_inputs}
+use Rattle.input_entries.specs.Inputs.{inputs, inputs_in, is_entry, all_entries}
 use Rattle.log_format.specs.Sizes.{entries_per_sector, most_entries, most_inputs}
 use Rattle.input_entries.specs.declared.Entry.{Entry}
 use Rattle.input_entries.specs.declared.StoredEntry.{StoredEntry}
@@ -28,21 +29,6 @@ wrong_from index before (s ∷ log) =
 
 abbrev pub first_wrong : List StoredEntry → Option ℕ
 first_wrong log = wrong_from 0 0 log
-
--- the same of the last entry, where there is one
-abbrev pub joins_last : Option StoredEntry → Entry → Bool
-joins_last None e = false
-joins_last (Some s) e = joins s e
-
--- one input more: a frame lengthens the last run where it is equal, and every other input is a new entry
-abbrev pub with_input : List StoredEntry → Entry → List StoredEntry
-with_input [] e = single e ∷ []
-with_input (s ∷ []) e = if joins s e then longer s ∷ [] else s ∷ single e ∷ []
-with_input (s ∷ t ∷ log) e = s ∷ with_input (t ∷ log) e
-
-abbrev pub with_inputs : List StoredEntry → List Entry → List StoredEntry
-with_inputs log [] = log
-with_inputs log (e ∷ es) = with_inputs (with_input log e) es
 
 -- the entries of full sectors
 abbrev pub sealed : List StoredEntry → ℕ

@@ -1,29 +1,17 @@
 //! Inputs as entries of a log.
 ghost use Rattle.std.specs.Prelude.{◌≡◌, ◌↔◌, ◌≤◌, ◌<◌, ◌+◌, ◌^◌, ◌++◌, true, IsTrue, length, take, drop, vec_capacity};
-ghost use Rattle.input_entries.specs.Inputs.{is_input, all_input, all_entries, inputs, run_length, single, joins, longer, AllFive};
-ghost use Rattle.log_format.specs.Inputs.{joins_last, with_input, grown};
+ghost use Rattle.input_entries.specs.Inputs.{all_input, all_entries, inputs, AllFive};
+ghost use Rattle.input_entries.specs.Growing.{with_input};
+ghost use Rattle.log_format.specs.Inputs.{grown};
 ghost use Rattle.log_format.specs.Sizes.{most_entries, most_inputs};
 
 use crate::sizes::ENTRIES_PER_SECTOR;
-use input_entries::{Entry, StoredEntry, joins, longer, single};
-
-/// Whether the input is one more frame of the last entry, if there is one.
-fn joins_last(last: &Option<StoredEntry>, input: &Entry) -> bool
-    ensures { result ≡ joins_last last.now input.now }
-{
-    match last {
-        Some(run) => joins(run, input),
-        None => false,
-    }
-}
+use input_entries::{Entry, StoredEntry, lengthens, longer, single};
 
 /// Adds one input; the first `sealed` entries stay as they are.
 fn add_input(log: &mut Vec<StoredEntry>, sealed: usize, input: &Entry)
     requires sealed { sealed ≤ length log.old.items }
     requires room { length (with_input (drop sealed log.old.items) input.now) + sealed ≤ vec_capacity log.old }
-    requires entries { all_entries log.old.items }
-    requires few { length (inputs log.old.items) < most_inputs }
-    requires input { is_input input.now ≡ true }
     ensures items { log.new.items ≡ take sealed log.old.items ++ with_input (drop sealed log.old.items) input.now }
     ensures capacity { vec_capacity log.old ≤ vec_capacity log.new }
     ensures five { length input.now.code ≡ 5 }
@@ -31,7 +19,7 @@ fn add_input(log: &mut Vec<StoredEntry>, sealed: usize, input: &Entry)
     let count = log.len();
     if count > sealed {
         let last = log[count - 1];
-        if joins(&last, input) {
+        if lengthens(&last, input) {
             log[count - 1] = longer(&last);
             return;
         }
@@ -65,17 +53,6 @@ pub fn grown_length(log: &[StoredEntry], more: &[Entry]) -> usize
     requires more { length more.now ≤ most_inputs }
     ensures { result ≡ length (grown log.now more.now) }
 {
-    let mut count = log.len();
-    let mut last = if count % ENTRIES_PER_SECTOR == 0 {
-        None
-    } else {
-        Some(log[count - 1])
-    };
-    for input in more {
-        if !joins_last(&last, input) {
-            count += 1;
-            last = Some(single(input));
-        }
-    }
-    count
+    let sealed = log.len() / ENTRIES_PER_SECTOR * ENTRIES_PER_SECTOR;
+    sealed + input_entries::grown_length(&log[sealed..], more)
 }

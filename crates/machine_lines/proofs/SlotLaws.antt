@@ -14,9 +14,6 @@ use Rattle.machine_lines.specs.Slots.{AreKept, IsKeptAs, state_under}
 
 -- ---- a machine of a cartridge
 
-pub of_machine : (rom : List ℕ) (m : MachineState) → IsMachineOf rom m → IsOfImage rom m
-of_machine rom m of = record { rom = of.rom; kind = of.kind; rumble = of.rumble; ram_length = of.ram_length }
-
 pub machine_of : (rom : List ℕ) (m : MachineState) → IsOfImage rom m → IsLegalMachine m → IsMachineOf rom m
 machine_of rom m of legal = record { legal = legal; rom = of.rom; kind = of.kind; rumble = of.rumble; ram_length = of.ram_length }
 

@@ -68,7 +68,8 @@ impl KeptStates {
         ensures kept { OnOk result (self.new ≡ slice_set self.old number (encoded machine.now)) }
         ensures legal { OnOk result (IsLegalMachine machine.now) }
         ensures size { length self.old ≡ slots }
-        ensures refused { OnErr result ((self.new ≡ self.old) × (length (state_under self.old number) ≢ snapshot_length (length machine.now.processor.memory.banks.ram))) }
+        ensures refused { OnErr result ((self.new ≡ self.old) ×
+            (length (state_under self.old number) ≢ snapshot_length (length machine.now.processor.memory.banks.ram))) }
     {
         let state = &mut self.states[number];
         if state.len() != room {

@@ -37,8 +37,10 @@ pub fn write_memory<W: Write>(
     count: u32,
     out: &mut W,
 ) -> Result<(), OutputFailed>
-    ensures ok { OnOk result (Appends (W.contents out.old) (W.contents out.new) (memory_text machine.now address count)) }
-    ensures err { OnErr result (AppendsProperPrefix (W.contents out.old) (W.contents out.new) (memory_text machine.now address count)) }
+    ensures ok { OnOk result
+        (Appends (W.contents out.old) (W.contents out.new) (memory_text machine.now address count)) }
+    ensures err { OnErr result
+        (AppendsProperPrefix (W.contents out.old) (W.contents out.new) (memory_text machine.now address count)) }
 {
     let mut place = address;
     for _i in 0..count / ROW {

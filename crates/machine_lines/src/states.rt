@@ -20,7 +20,8 @@ pub fn write_state<W: Write>(
 ) -> Result<(), OutputFailed>
     requires { length bytes.old ≡ snapshot_length (length machine.now.processor.memory.banks.ram) }
     ensures ok { OnOk result (Appends (W.contents out.old) (W.contents out.new) (state_text (encoded machine.now))) }
-    ensures err { OnErr result (AppendsProperPrefix (W.contents out.old) (W.contents out.new) (state_text (encoded machine.now))) }
+    ensures err { OnErr result
+        (AppendsProperPrefix (W.contents out.old) (W.contents out.new) (state_text (encoded machine.now))) }
     ensures room { length bytes.new ≡ length bytes.old }
 {
     encode(machine, bytes);

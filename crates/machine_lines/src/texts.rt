@@ -24,7 +24,8 @@ fn count_text(word: &str, count: usize) -> Option<ArrayString<32>>
 /// Writes how many lines or bytes follow, or under which number a state is kept: a word and the number.
 pub fn write_count<W: Write>(word: &str, count: usize, out: &mut W) -> Result<(), OutputFailed>
     ensures ok { OnOk result (Appends (W.contents out.old) (W.contents out.new) (count_line word.now count)) }
-    ensures err { OnErr result (AppendsProperPrefix (W.contents out.old) (W.contents out.new) (count_line word.now count)) }
+    ensures err { OnErr result
+        (AppendsProperPrefix (W.contents out.old) (W.contents out.new) (count_line word.now count)) }
 {
     match count_text(word, count) {
         Some(text) => write_whole(out, text.as_bytes()),

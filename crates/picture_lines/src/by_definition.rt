@@ -134,8 +134,9 @@ impl LineRegisters {
         }
     }
 
+    /// How many lines an object has: 8, or 16 by bit 2 of LCDC.
     #[tactic(auto, unfolding(crate::specs::Pixel::object_height))]
-    pub(crate) fn object_height(&self) -> usize
+    pub fn object_height(&self) -> usize
         ensures { result ≡ height_of self.now }
     {
         if has_bit(self.lcdc, OBJECT_SIZE) {
@@ -270,8 +271,9 @@ impl LineRegisters {
     }
 }
 
+/// An object of OAM, by its place there. Condition: OAM has that many.
 #[tactic(auto, unfolding(crate::specs::Pixel::object_at))]
-pub(crate) fn object_at(oam: &[u8], index: usize) -> Object
+pub fn object_at(oam: &[u8], index: usize) -> Object
     requires { 4 * index + 3 < length oam.now }
     ensures { result ≡ entry_at oam.now index }
 {

@@ -11,7 +11,7 @@ mod object_entry;
 mod registers;
 mod tiles;
 
-pub use by_definition::winner_is_least;
+pub use by_definition::{object_at, winner_is_least};
 pub use chosen::ChosenObjects;
 pub use kernels::{map_shades, tile_colours};
 pub use object_entry::Object;

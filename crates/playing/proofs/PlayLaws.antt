@@ -199,16 +199,6 @@ pub going_nowhere : (rom : List ℕ) (now : DiskState) (acknowledged : ℕ) (pen
 going_nowhere rom now acknowledged pending machine from given played only =
     subst (Going rom now now acknowledged pending machine from) (sym (append-nil given)) (record { moments = since_here rom now acknowledged pending machine from given played only; played = played })
 
--- a stop behind what was given
-pub stopped_after : (rom : List ℕ) (old now : DiskState) (acknowledged : ℕ) (pending : List Entry) (machine : MachineState) (from : Position) (given : List Input) → Going rom old now acknowledged pending machine from given → Stopped rom old now acknowledged from given
-stopped_after rom old now acknowledged pending machine from given going = record {
-  honest = going.played.honest;
-  moments = going.moments;
-  least = going.played.saved;
-  acknowledged_is = going.played.acknowledged_is;
-  images = reaches_here rom now acknowledged pending machine from given going.played;
-}
-
 -- ---- answers
 
 pub on_ok : {T E : Type 0} (r : Result T E) {P Q : Type 0} → OnOk r P → (P → Q) → OnOk r Q

@@ -99,9 +99,6 @@ restore_refused rom bytes SaveFirst (Ok done) answer other = absurd answer
 restore_refused rom bytes CountFull (Ok done) answer other = absurd answer
 restore_refused rom bytes Output (Ok done) answer other = absurd answer
 
-pub full_not_output : (why : SessionError) → why ≡ CountFull → why ≡ Output → ⊥
-full_not_output why full is = cc
-
 pub full_stops : (why : SessionError) (all : ℕ) (now : DiskState) → why ≡ CountFull → 2 ^ 64 ≤ all → IsStop why all now
 full_stops why all now full least = subst (λ (w : SessionError). IsStop w all now) (sym full) least
 

@@ -20,9 +20,11 @@ use std::io::Write;
 /// Saves, and writes the line of the save once it is made.
 pub fn save_line<G: Playable, R: Report>(game: &mut G, report: &mut R) -> Result<(), G::Fault>
     requires { G.whole game.old }
-    ensures made { OnOk result (Makes ⟦<G as Playable>⟧ game.old game.new (R.contents report.old) (R.contents report.new) [] 0
+    ensures made { OnOk result
+        (Makes ⟦<G as Playable>⟧ game.old game.new (R.contents report.old) (R.contents report.new) [] 0
         (saved_line (count_of ⟦<G as Playable>⟧ game.old) ∷ [])) }
-    ensures stopped { IfErr result (λ why. StopsMaking ⟦<G as Playable>⟧ game.old game.new (R.contents report.old) (R.contents report.new)
+    ensures stopped { IfErr result (λ why.
+        StopsMaking ⟦<G as Playable>⟧ game.old game.new (R.contents report.old) (R.contents report.new)
         R.may_fail [] (saved_line (count_of ⟦<G as Playable>⟧ game.old) ∷ []) why) }
     ensures whole { OnOk result (G.whole game.new) }
 {
@@ -41,8 +43,10 @@ fn save_due<G: Playable, R: Report>(game: &mut G, report: &mut R) -> Result<(), 
     requires few { G.unsaved game.old ≤ most_unsaved }
     ensures made { (before : G) (input : GivenInput) → IsGiven ⟦<G as Playable>⟧ before game.old input → OnOk result
         (GivesInputs ⟦<G as Playable>⟧ before game.new (R.contents report.old) (R.contents report.new) (input ∷ [])) }
-    ensures stopped { (before : G) (input : GivenInput) → IsGiven ⟦<G as Playable>⟧ before game.old input → IfErr result (λ why.
-        StopsAmongInputs ⟦<G as Playable>⟧ before game.new (R.contents report.old) (R.contents report.new) R.may_fail (input ∷ []) why) }
+    ensures stopped { (before : G) (input : GivenInput) → IsGiven ⟦<G as Playable>⟧ before game.old input →
+        IfErr result (λ why.
+        StopsAmongInputs ⟦<G as Playable>⟧ before game.new (R.contents report.old) (R.contents report.new) R.may_fail
+        (input ∷ []) why) }
     ensures whole { OnOk result (G.whole game.new × (G.unsaved game.new < most_unsaved)) }
 {
     if game.counts().pending == MOST_UNSAVED {
@@ -59,9 +63,12 @@ pub fn give<G: Playable, R: Report>(
 ) -> Result<(), G::Fault>
     requires whole { G.whole game.old }
     requires few { G.unsaved game.old < most_unsaved }
-    ensures made { OnOk result (GivesInputs ⟦<G as Playable>⟧ game.old game.new (R.contents report.old) (R.contents report.new) (as_input input ∷ [])) }
+    ensures made { OnOk result
+        (GivesInputs ⟦<G as Playable>⟧ game.old game.new (R.contents report.old) (R.contents report.new)
+        (as_input input ∷ [])) }
     ensures stopped { IfErr result (λ why.
-        StopsAmongInputs ⟦<G as Playable>⟧ game.old game.new (R.contents report.old) (R.contents report.new) R.may_fail (as_input input ∷ []) why) }
+        StopsAmongInputs ⟦<G as Playable>⟧ game.old game.new (R.contents report.old) (R.contents report.new) R.may_fail
+        (as_input input ∷ []) why) }
     ensures whole { OnOk result (G.whole game.new × (G.unsaved game.new < most_unsaved)) }
 {
     match game.input(input) {
@@ -87,7 +94,8 @@ pub fn give_power<G: Playable, R: Report>(
     ensures nothing { IfOk result (λ done. done ≡ false → (game.new ≡ game.old) × (report.new ≡ report.old) ×
         HasRoom ⟦<G as Playable>⟧ game.old) }
     ensures stopped { IfErr result (λ why.
-        StopsAmongInputs ⟦<G as Playable>⟧ game.old game.new (R.contents report.old) (R.contents report.new) R.may_fail (Power ∷ []) why) }
+        StopsAmongInputs ⟦<G as Playable>⟧ game.old game.new (R.contents report.old) (R.contents report.new) R.may_fail
+        (Power ∷ []) why) }
     ensures whole { OnOk result (G.whole game.new × (G.unsaved game.new < most_unsaved)) }
 {
     match game.power(alloc, cartridge) {
@@ -112,11 +120,15 @@ pub fn give_state<G: Playable, R: Report>(
     requires of { G.rom game.old ≡ cartridge.now }
     requires whole { G.whole game.old }
     requires few { G.unsaved game.old < most_unsaved }
-    ensures made { IfOk result (λ done. done ≡ true → GivesInputs ⟦<G as Playable>⟧ game.old game.new (R.contents report.old) (R.contents report.new)
+    ensures made { IfOk result (λ done.
+        done ≡ true → GivesInputs ⟦<G as Playable>⟧ game.old game.new (R.contents report.old) (R.contents report.new)
         (State (machine_in cartridge.now bytes.now) ∷ [])) }
     ensures legal { IfOk result (λ done. done ≡ true → IsLegalSnapshot cartridge.now bytes.now) }
-    ensures nothing { IfOk result (λ done. done ≡ false → (game.new ≡ game.old) × (report.new ≡ report.old) × (¬ IsLegalSnapshot cartridge.now bytes.now)) }
-    ensures stopped { IfErr result (λ why. StopsAmongInputs ⟦<G as Playable>⟧ game.old game.new (R.contents report.old) (R.contents report.new) R.may_fail
+    ensures nothing { IfOk result (λ done.
+        done ≡ false →
+        (game.new ≡ game.old) × (report.new ≡ report.old) × (¬ IsLegalSnapshot cartridge.now bytes.now)) }
+    ensures stopped { IfErr result (λ why.
+        StopsAmongInputs ⟦<G as Playable>⟧ game.old game.new (R.contents report.old) (R.contents report.new) R.may_fail
         (State (machine_in cartridge.now bytes.now) ∷ []) why) }
     ensures whole { OnOk result (G.whole game.new × (G.unsaved game.new < most_unsaved)) }
 {
@@ -139,9 +151,12 @@ fn give_frames<G: Playable, R: Report>(
 ) -> Result<(), G::Fault>
     requires whole { G.whole game.old }
     requires few { G.unsaved game.old < most_unsaved }
-    ensures made { OnOk result (GivesInputs ⟦<G as Playable>⟧ game.old game.new (R.contents report.old) (R.contents report.new) (replicate times (Frame buttons))) }
+    ensures made { OnOk result
+        (GivesInputs ⟦<G as Playable>⟧ game.old game.new (R.contents report.old) (R.contents report.new)
+        (replicate times (Frame buttons))) }
     ensures stopped { IfErr result (λ why.
-        StopsAmongInputs ⟦<G as Playable>⟧ game.old game.new (R.contents report.old) (R.contents report.new) R.may_fail (replicate times (Frame buttons)) why) }
+        StopsAmongInputs ⟦<G as Playable>⟧ game.old game.new (R.contents report.old) (R.contents report.new) R.may_fail
+        (replicate times (Frame buttons)) why) }
     ensures whole { OnOk result (G.whole game.new × (G.unsaved game.new < most_unsaved)) }
 {
     for _i in 0..times {
@@ -171,10 +186,12 @@ pub fn make_move<G: Playable, R: Report>(
     requires few { G.unsaved game.old < most_unsaved }
     ensures made { IfOk result (λ done. done ≡ true →
         MakesMoves ⟦<G as Playable>⟧ game.old game.new (R.contents report.old) (R.contents report.new) (a_move ∷ [])) }
-    ensures nothing { IfOk result (λ done. done ≡ false → (a_move ≡ SwitchMove) × (game.new ≡ game.old) × (report.new ≡ report.old) ×
+    ensures nothing { IfOk result (λ done.
+        done ≡ false → (a_move ≡ SwitchMove) × (game.new ≡ game.old) × (report.new ≡ report.old) ×
         HasRoom ⟦<G as Playable>⟧ game.old) }
     ensures stopped { IfErr result (λ why.
-        StopsAmongMoves ⟦<G as Playable>⟧ game.old game.new (R.contents report.old) (R.contents report.new) R.may_fail (a_move ∷ []) why) }
+        StopsAmongMoves ⟦<G as Playable>⟧ game.old game.new (R.contents report.old) (R.contents report.new) R.may_fail
+        (a_move ∷ []) why) }
     ensures whole { OnOk result (G.whole game.new × (G.unsaved game.new < most_unsaved)) }
 {
     match a_move {
@@ -215,7 +232,8 @@ pub fn make_moves<G: Playable, R: Report>(
     ensures memory { IfOk result (λ done. done ≡ false →
         FindsNoMemory ⟦<G as Playable>⟧ game.old game.new (R.contents report.old) (R.contents report.new) moves.now) }
     ensures stopped { IfErr result (λ why.
-        StopsAmongMoves ⟦<G as Playable>⟧ game.old game.new (R.contents report.old) (R.contents report.new) R.may_fail moves.now why) }
+        StopsAmongMoves ⟦<G as Playable>⟧ game.old game.new (R.contents report.old) (R.contents report.new) R.may_fail
+        moves.now why) }
     ensures whole { OnOk result (G.whole game.new × (G.unsaved game.new < most_unsaved)) }
 {
     for next in moves {
@@ -240,11 +258,13 @@ pub(crate) fn play_on<G: Playable, W: Write>(
     requires of { G.rom game.old ≡ cartridge.now }
     requires whole { G.whole game.old }
     requires none { G.unsaved game.old ≡ 0 }
-    ensures made { IfOk result (λ done. done ≡ true → Makes ⟦<G as Playable>⟧ game.old game.new (W.contents report.old) (W.contents report.new)
+    ensures made { IfOk result (λ done.
+        done ≡ true → Makes ⟦<G as Playable>⟧ game.old game.new (W.contents report.old) (W.contents report.new)
         (inputs_of_moves moves.now) 0 (report_lines (G.acknowledged game.old) moves.now)) }
     ensures memory { IfOk result (λ done. done ≡ false →
         PlaysToMemory ⟦<G as Playable>⟧ game.old game.new (W.contents report.old) (W.contents report.new) moves.now) }
-    ensures stopped { IfErr result (λ why. StopsMaking ⟦<G as Playable>⟧ game.old game.new (W.contents report.old) (W.contents report.new) ⊤
+    ensures stopped { IfErr result (λ why.
+        StopsMaking ⟦<G as Playable>⟧ game.old game.new (W.contents report.old) (W.contents report.new) ⊤
         (inputs_of_moves moves.now) (report_lines (G.acknowledged game.old) moves.now) why) }
     ensures whole { OnOk result (G.whole game.new) }
 {

@@ -110,13 +110,16 @@ pub trait Playable {
         requires whole { whole self.old }
         requires few { unsaved self.old < most_unsaved }
         requires of { rom self.old ≡ cartridge.now }
-        ensures given { IfOk result (λ done. done ≡ true → gives self.old self.new (State (machine_in cartridge.now bytes.now))) }
+        ensures given { IfOk result (λ done.
+            done ≡ true → gives self.old self.new (State (machine_in cartridge.now bytes.now))) }
         ensures machine { IfOk result (λ done. done ≡ true → machine self.new ≡ machine_in cartridge.now bytes.now) }
         ensures legal { IfOk result (λ done. done ≡ true → IsLegalSnapshot cartridge.now bytes.now) }
         ensures unsaved { IfOk result (λ done. done ≡ true → unsaved self.new ≡ unsaved self.old + 1) }
-        ensures nothing { IfOk result (λ done. done ≡ false → (self.new ≡ self.old) × (takes_states ≡ true → ¬ IsLegalSnapshot cartridge.now bytes.now)) }
+        ensures nothing { IfOk result (λ done.
+            done ≡ false → (self.new ≡ self.old) × (takes_states ≡ true → ¬ IsLegalSnapshot cartridge.now bytes.now)) }
         ensures whole { OnOk result (whole self.new) }
-        ensures refused { IfErr result (λ why. refuses self.old self.new (State (machine_in cartridge.now bytes.now)) why) }
+        ensures refused { IfErr result (λ why.
+            refuses self.old self.new (State (machine_in cartridge.now bytes.now)) why) }
         ensures acknowledged { acknowledged self.new ≡ acknowledged self.old }
         ensures rom { rom self.new ≡ rom self.old }
         ensures not_told { IfErr result (λ why. told_as why ≡ SessionError.Output → ⊥) };

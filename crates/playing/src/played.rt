@@ -42,15 +42,20 @@ pub fn play<D: SectorDevice, W: Write>(
 
     // where it is refused: not taken up, or stopped after that, or at a power switch with no memory for it
     ensures refused { IfErr result (λ refused.
-        IsNotTakenUp cartridge.now (D.disk device) (D.disk refused.device) refused.why (W.contents report.old) (W.contents report.new)
-        ⊎ HasStopped cartridge.now (D.disk device) (D.disk refused.device) moves.now refused.why (W.contents report.old) (W.contents report.new)
-        ⊎ HasFoundNoMemory cartridge.now (D.disk device) (D.disk refused.device) moves.now refused.why (W.contents report.old) (W.contents report.new)) }
+        IsNotTakenUp cartridge.now (D.disk device) (D.disk refused.device) refused.why (W.contents report.old)
+        (W.contents report.new)
+        ⊎ HasStopped cartridge.now (D.disk device) (D.disk refused.device) moves.now refused.why (W.contents report.old)
+        (W.contents report.new)
+        ⊎ HasFoundNoMemory cartridge.now (D.disk device) (D.disk refused.device) moves.now refused.why
+        (W.contents report.old) (W.contents report.new)) }
 
     // at each moment
     ensures images { (D.disk device).honest →
-        HoldsSince (D.disk device) (D.disk (left_by result)) (PlayImage cartridge.now (D.disk device) (inputs_of_moves moves.now)) }
+        HoldsSince (D.disk device) (D.disk (left_by result))
+        (PlayImage cartridge.now (D.disk device) (inputs_of_moves moves.now)) }
 
-    ensures answered { HasAnswered (λ refused. faults_after refused.why) (D.disk device) (D.disk (left_by result)) result }
+    ensures answered { HasAnswered (λ refused. faults_after refused.why) (D.disk device) (D.disk (left_by result))
+        result }
 {
     let mut session = match resume(alloc, device, cartridge) {
         Ok(session) => session,

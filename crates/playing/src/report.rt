@@ -32,7 +32,8 @@ fn saved_text(count: u64) -> Option<ArrayString<32>>
 /// Writes the line `resumed N`: a session was resumed at this count.
 pub fn write_resumed<W: Write>(out: &mut W, count: u64) -> Result<(), OutputFailed>
     ensures ok { OnOk result (Appends (W.contents out.old) (W.contents out.new) (resumed_line count).text) }
-    ensures err { OnErr result (AppendsProperPrefix (W.contents out.old) (W.contents out.new) (resumed_line count).text) }
+    ensures err { OnErr result
+        (AppendsProperPrefix (W.contents out.old) (W.contents out.new) (resumed_line count).text) }
 {
     match resumed_text(count) {
         Some(text) => write_whole(out, text.as_bytes()),
@@ -61,7 +62,8 @@ pub trait Report {
     /// Writes the line `saved N`: this count of inputs is saved.
     fn saved(&mut self, count: u64) -> Result<(), OutputFailed>
         ensures ok { OnOk result (Appends (contents self.old) (contents self.new) (saved_line count).text) }
-        ensures err { OnErr result (AppendsProperPrefix (contents self.old) (contents self.new) (saved_line count).text) }
+        ensures err { OnErr result
+            (AppendsProperPrefix (contents self.old) (contents self.new) (saved_line count).text) }
         ensures fails { OnErr result may_fail };
 }
 

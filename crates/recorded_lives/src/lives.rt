@@ -34,7 +34,8 @@ pub fn live_recorded(
         (texts_of rounds.now) (reports_of life.ends.items) (wholes_of life.ends.items)) }
     // A round is cut only where a call failed.
     ensures counts { IfOk result (λ life.
-        CountsCuts (wholes_of life.ends.items) (memory save).faults (memory recording).faults (memory life.save).faults (memory life.recording).faults) }
+        CountsCuts (wholes_of life.ends.items) (memory save).faults (memory recording).faults (memory life.save).faults
+        (memory life.recording).faults) }
 
     // when it is refused, and what then is left
     ensures left { IfErr result (λ refused.

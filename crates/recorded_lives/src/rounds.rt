@@ -66,7 +66,8 @@ pub(crate) type Refused = RecordRefused<MemoryDevice, MemoryDevice>;
 fn ended_by(refused: Refused, end: RecordedEnd) -> Result<(Devices, RecordedEnd), Refused>
     ensures ended { IfOk result (λ r. (r.0.save ≡ refused.save) × (r.0.recording ≡ refused.recording) × (r.1 ≡ end) ×
         IsByFuse refused.why (memory refused.save) (memory refused.recording)) }
-    ensures refused { IfErr result (λ r. (r ≡ refused) × IsByNoFuse refused.why (memory refused.save) (memory refused.recording)) }
+    ensures refused { IfErr result (λ r.
+        (r ≡ refused) × IsByNoFuse refused.why (memory refused.save) (memory refused.recording)) }
 {
     let by_fuse = match refused.why {
         RecordError::Session(SessionError::Device) => refused.save.blown(),
@@ -114,7 +115,8 @@ fn play_until_blown(
         StandTogether cartridge.now (memory_disk (memory devices.save)) (memory_disk (memory devices.recording)) →
         LeavesRound cartridge.now (memory_disk (memory devices.save)) (memory_disk (memory devices.recording))
         (memory_disk (memory r.0.save)) (memory_disk (memory r.0.recording)) lines.now r.1.report.items r.1.whole) }
-    ensures counts { IfOk result (λ r. CountsCut r.1.whole (memory devices.save).faults (memory devices.recording).faults
+    ensures counts { IfOk result (λ r.
+        CountsCut r.1.whole (memory devices.save).faults (memory devices.recording).faults
         (memory r.0.save).faults (memory r.0.recording).faults) }
     ensures refused { IfErr result (λ refused.
         RefusesRound cartridge.now (memory_disk (memory devices.save)) (memory_disk (memory devices.recording))
@@ -146,7 +148,8 @@ fn play_until_blown(
 /// the chosen later writes.
 fn cut(alloc: Global, devices: Devices, round: &RecordedRound) -> Result<Devices, Refused>
     ensures save { IfOk result (λ d. IsCut (round.now).save_kept.items (memory devices.save) (memory d.save)) }
-    ensures recording { IfOk result (λ d. IsCut (round.now).recording_kept.items (memory devices.recording) (memory d.recording)) }
+    ensures recording { IfOk result (λ d.
+        IsCut (round.now).recording_kept.items (memory devices.recording) (memory d.recording)) }
     ensures refused { IfErr result (λ refused. (refused.why ≡ OfSession NoMemory) × (refused.save ≡ devices.save) ×
         (refused.recording ≡ devices.recording)) }
 {
@@ -163,7 +166,8 @@ fn cut(alloc: Global, devices: Devices, round: &RecordedRound) -> Result<Devices
 /// The images of both that keep the chosen writes. `Err` only when out of memory.
 fn cut_both(alloc: Global, devices: &Devices, round: &RecordedRound) -> Result<Devices, AllocError>
     ensures save { IfOk result (λ d. IsCut (round.now).save_kept.items (memory (devices.now).save) (memory d.save)) }
-    ensures recording { IfOk result (λ d. IsCut (round.now).recording_kept.items (memory (devices.now).recording) (memory d.recording)) }
+    ensures recording { IfOk result (λ d.
+        IsCut (round.now).recording_kept.items (memory (devices.now).recording) (memory d.recording)) }
 {
     let save = devices.save.image(alloc, &round.save_kept)?;
     let recording = devices.recording.image(alloc, &round.recording_kept)?;
@@ -180,11 +184,13 @@ pub(crate) fn one_round(
     ensures cut { IfOk result (λ r.
         IsCutRound cartridge.now (memory_disk (memory devices.save)) (memory_disk (memory devices.recording)) round.now
         (memory r.0.save) (memory r.0.recording) r.1.report.items r.1.whole) }
-    ensures counts { IfOk result (λ r. CountsCut r.1.whole (memory devices.save).faults (memory devices.recording).faults
+    ensures counts { IfOk result (λ r.
+        CountsCut r.1.whole (memory devices.save).faults (memory devices.recording).faults
         (memory r.0.save).faults (memory r.0.recording).faults) }
     ensures refused { IfErr result (λ refused.
         RefusesRound cartridge.now (memory_disk (memory devices.save)) (memory_disk (memory devices.recording))
-        (memory_disk (memory refused.save)) (memory_disk (memory refused.recording)) (round.now).lines.items refused.why) }
+        (memory_disk (memory refused.save)) (memory_disk (memory refused.recording)) (round.now).lines.items
+        refused.why) }
     ensures fuse { IfErr result (λ refused. IsByNoFuse refused.why (memory refused.save) (memory refused.recording)) }
 {
     let fused = Devices {

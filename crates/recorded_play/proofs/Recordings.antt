@@ -105,9 +105,6 @@ saved_more rom now acknowledged pending more all added held more_is = record {
   recorded_is = held.recorded_is ∙ ap (λ (l : List Input). Some l) (sym (take-append-le acknowledged all added held.within));
 }
 
-pub saved_by : {rom : List ℕ} {now : DiskState} {acknowledged : ℕ} {pending : List Entry} {all all' : List Input} → all ≡ all' → HoldsSaved rom now acknowledged pending all → HoldsSaved rom now acknowledged pending all'
-saved_by {rom} {now} {acknowledged} {pending} {all} {all'} same held = subst (HoldsSaved rom now acknowledged pending) same held
-
 pub records_by : {rom : List ℕ} {old now : DiskState} {acknowledged : ℕ} {pending : List Entry} {all all' : List Input} → all ≡ all' → Records rom old now acknowledged pending all → Records rom old now acknowledged pending all'
 records_by {rom} {old} {now} {acknowledged} {pending} {all} {all'} same held = subst (Records rom old now acknowledged pending) same held
 

@@ -26,8 +26,10 @@ fn pass<D: SectorDevice>(
 ) -> Result<u64, SessionError>
     requires whole { is_broken session.old ≡ false }
     requires few { length (pending_of session.old) < most_unsaved }
-    ensures passes { IfOk result (λ left. Passes (place session.old) (place session.new) skip left (as_input input ∷ [])) }
-    ensures fails { IfErr result (λ why. Fails (place session.old) (place session.new) (drop skip (as_input input ∷ [])) why) }
+    ensures passes { IfOk result (λ left.
+        Passes (place session.old) (place session.new) skip left (as_input input ∷ [])) }
+    ensures fails { IfErr result (λ why.
+        Fails (place session.old) (place session.new) (drop skip (as_input input ∷ [])) why) }
     ensures whole { OnOk result ((is_broken session.new ≡ false) × (length (pending_of session.new) < most_unsaved)) }
 {
     if skip > 0 {
@@ -48,8 +50,10 @@ fn pass_frames<D: SectorDevice>(
 ) -> Result<u64, SessionError>
     requires whole { is_broken session.old ≡ false }
     requires few { length (pending_of session.old) < most_unsaved }
-    ensures passes { IfOk result (λ left. Passes (place session.old) (place session.new) skip left (replicate times (Frame buttons))) }
-    ensures fails { IfErr result (λ why. Fails (place session.old) (place session.new) (drop skip (replicate times (Frame buttons))) why) }
+    ensures passes { IfOk result (λ left.
+        Passes (place session.old) (place session.new) skip left (replicate times (Frame buttons))) }
+    ensures fails { IfErr result (λ why.
+        Fails (place session.old) (place session.new) (drop skip (replicate times (Frame buttons))) why) }
     ensures whole { OnOk result ((is_broken session.new ≡ false) × (length (pending_of session.new) < most_unsaved)) }
 {
     let mut left = skip;
@@ -70,8 +74,10 @@ fn pass_entry<D: SectorDevice>(
 ) -> Result<u64, SessionError>
     requires whole { is_broken session.old ≡ false }
     requires few { length (pending_of session.old) < most_unsaved }
-    ensures passes { IfOk result (λ left. Passes (place session.old) (place session.new) skip left (given_by entry.now)) }
-    ensures fails { IfErr result (λ why. Fails (place session.old) (place session.new) (drop skip (given_by entry.now)) why) }
+    ensures passes { IfOk result (λ left.
+        Passes (place session.old) (place session.new) skip left (given_by entry.now)) }
+    ensures fails { IfErr result (λ why.
+        Fails (place session.old) (place session.new) (drop skip (given_by entry.now)) why) }
     ensures whole { OnOk result ((is_broken session.new ≡ false) × (length (pending_of session.new) < most_unsaved)) }
 {
     match entry.logged() {
@@ -89,8 +95,10 @@ fn pass_entries<D: SectorDevice>(
 ) -> Result<u64, SessionError>
     requires whole { is_broken session.old ≡ false }
     requires few { length (pending_of session.old) < most_unsaved }
-    ensures passes { IfOk result (λ left. Passes (place session.old) (place session.new) skip left (given_by_all entries.now)) }
-    ensures fails { IfErr result (λ why. Fails (place session.old) (place session.new) (drop skip (given_by_all entries.now)) why) }
+    ensures passes { IfOk result (λ left.
+        Passes (place session.old) (place session.new) skip left (given_by_all entries.now)) }
+    ensures fails { IfErr result (λ why.
+        Fails (place session.old) (place session.new) (drop skip (given_by_all entries.now)) why) }
     ensures whole { OnOk result ((is_broken session.new ≡ false) × (length (pending_of session.new) < most_unsaved)) }
 {
     let mut left = skip;
@@ -122,7 +130,8 @@ fn pass_sector<D: SectorDevice, E: SectorDevice>(
     ensures fails { IfErr result (λ why. FailsRecorded
         (place session.old) (place session.new)
         (E.disk (device_of_recording recording.old)) (E.disk (device_of_recording recording.new)) skip
-        (given_by_all (entries_at number (sector_at (E.disk (device_of_recording recording.old)).sectors number))) why) }
+        (given_by_all (entries_at number (sector_at (E.disk (device_of_recording recording.old)).sectors number)))
+        why) }
     ensures whole { OnOk result ((is_broken session.new ≡ false) × (is_broken_recording recording.new ≡ false) ×
         (length (pending_of session.new) < most_unsaved)) }
     ensures same { used_of recording.new ≡ used_of recording.old }
@@ -181,9 +190,11 @@ pub(crate) fn catch_up<D: SectorDevice, E: SectorDevice>(
         (E.disk (device_of_recording recording.old)) (E.disk (device_of_recording recording.new))) }
     ensures fails { IfErr result (λ why. FailsRecorded
         (place session.old) (place session.new)
-        (E.disk (device_of_recording recording.old)) (E.disk (device_of_recording recording.new)) (acknowledged_of session.old)
+        (E.disk (device_of_recording recording.old)) (E.disk (device_of_recording recording.new))
+        (acknowledged_of session.old)
         (recorded_in (E.disk (device_of_recording recording.old))) why) }
-    ensures whole { OnOk result ((is_broken session.new ≡ false) × (is_broken_recording recording.new ≡ false) × (pending_of session.new ≡ [])) }
+    ensures whole { OnOk result ((is_broken session.new ≡ false) × (is_broken_recording recording.new ≡ false) ×
+        (pending_of session.new ≡ [])) }
 {
     let count = session.counts().acknowledged;
     if let Err(why) = pass_all(session, recording, count) {

@@ -23,7 +23,11 @@ fn stopped<D: SectorDevice, E: SectorDevice>(
     game: RecordedGame<D, E>,
     why: RecordError,
 ) -> RecordRefused<D, E>
-    ensures { result ≡ record { why = why; save = device_of game.session; recording = device_of_recording game.recording } }
+    ensures { result ≡ record {
+      why = why;
+      save = device_of game.session;
+      recording = device_of_recording game.recording;
+    } }
 {
     let RecordedGame { session, recording } = game;
     RecordRefused {
@@ -52,20 +56,25 @@ pub fn record<D: SectorDevice, E: SectorDevice, R: Read, W: Write>(
     out: &mut W,
 ) -> Result<RecordedGame<D, E>, RecordRefused<D, E>>
     ensures recorded { IfOk result (λ game. HasRecorded cartridge.now (D.disk save) (D.disk (device_of game.session))
-        (E.disk recording) (E.disk (device_of_recording game.recording)) WholeInput (R.remaining input.old) (R.remaining input.new)
+        (E.disk recording) (E.disk (device_of_recording game.recording)) WholeInput (R.remaining input.old)
+        (R.remaining input.new)
         (W.contents out.old) (W.contents out.new)) }
     ensures whole { IfOk result (λ game. (pending_of game.session ≡ []) × (is_broken game.session ≡ false) ×
         (is_broken_recording game.recording ≡ false) × (rom_of game.session ≡ cartridge.now)) }
-    ensures refused { IfErr result (λ refused. IsRecordCause refused.why cartridge.now (D.disk save) (D.disk refused.save)
+    ensures refused { IfErr result (λ refused.
+        IsRecordCause refused.why cartridge.now (D.disk save) (D.disk refused.save)
         (E.disk recording) (E.disk refused.recording) (R.remaining input.old) (R.remaining input.new)
         (W.contents out.old) (W.contents out.new)) }
 
     // Whatever a power cut leaves of both agrees.
-    ensures agree { (D.disk save).honest → (E.disk recording).honest → AllAgree cartridge.now (D.disk save) (E.disk recording) →
+    ensures agree { (D.disk save).honest → (E.disk recording).honest →
+        AllAgree cartridge.now (D.disk save) (E.disk recording) →
         AllAgree cartridge.now (D.disk (save_left result)) (E.disk (recording_left result)) }
 
-    ensures save_answered { HasAnswered (λ refused. save_faults_after refused.why) (D.disk save) (D.disk (save_left result)) result }
-    ensures recording_answered { HasAnswered (λ refused. recording_faults_after refused.why) (E.disk recording) (E.disk (recording_left result)) result }
+    ensures save_answered { HasAnswered (λ refused. save_faults_after refused.why) (D.disk save)
+        (D.disk (save_left result)) result }
+    ensures recording_answered { HasAnswered (λ refused. recording_faults_after refused.why) (E.disk recording)
+        (E.disk (recording_left result)) result }
 {
     let Ok(mut room) = StateRoom::new(alloc, cartridge) else {
         return Err(RecordRefused {

@@ -38,13 +38,15 @@ impl<D: SectorDevice, E: SectorDevice> Playable for RecordedGame<D, E> {
 
     ghost takes_states = { false };
 
-    ghost whole = { λ g. (is_broken g.session ≡ false) × (is_broken_recording g.recording ≡ false) × (can_be_logged (pending_of g.session) ≡ true) };
+    ghost whole = { λ g. (is_broken g.session ≡ false) × (is_broken_recording g.recording ≡ false) ×
+        (can_be_logged (pending_of g.session) ≡ true) };
 
     ghost gives = { λ a b input. Comes (game a.session a.recording) (game b.session b.recording) (input ∷ []) };
 
     ghost saves = { λ a b. Comes (game a.session a.recording) (game b.session b.recording) [] };
 
-    ghost refuses = { λ a b input why. Halts (game a.session a.recording) (game b.session b.recording) (input ∷ []) why };
+    ghost refuses = { λ a b input why. Halts (game a.session a.recording) (game b.session b.recording) (input ∷
+        []) why };
 
     ghost fails = { λ a b why. Halts (game a.session a.recording) (game b.session b.recording) [] why };
 

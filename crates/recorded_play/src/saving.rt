@@ -32,8 +32,10 @@ pub fn save_both<D: SectorDevice, E: SectorDevice>(
         (acknowledged_of session.new ≡ all) × (pending_of session.new ≡ [])) }
     ensures whole { OnOk result ((is_broken session.new ≡ false) × (is_broken_recording recording.new ≡ false)) }
     ensures comes { OnOk result (Comes (game session.old recording.old) (game session.new recording.new) []) }
-    ensures halts { IfErr result (λ why. Halts (game session.old recording.old) (game session.new recording.new) [] why) }
-    ensures nothing { pending_of session.old ≡ [] → (recording.new ≡ recording.old) × IsUnchanged session.old session.new }
+    ensures halts { IfErr result (λ why.
+        Halts (game session.old recording.old) (game session.new recording.new) [] why) }
+    ensures nothing { pending_of session.old ≡ [] →
+        (recording.new ≡ recording.old) × IsUnchanged session.old session.new }
     ensures full { IfErr result (λ why. why ≡ RecordError.Recording Full →
         (recording.new ≡ recording.old) × (session.new ≡ session.old)) }
     ensures kept { OnErr result (acknowledged_of session.new ≡ acknowledged_of session.old) }

@@ -28,17 +28,25 @@ fn resume_and_catch_up<D: SectorDevice, E: SectorDevice>(
 ) -> Result<RecordedGame<D, E>, RecordRefused<D, E>>
     requires rom { rom_of_look look ≡ cartridge.now }
     requires open { is_broken_recording recording ≡ false }
-    requires generation { (D.disk (device_of_look look)).honest → generation_of_look look ≡ generation_in (D.disk (device_of_look look)).sectors }
-    ensures goes { IfOk result (λ game. GoesOn cartridge.now (D.disk (device_of_look look)) (D.disk (device_of game.session))
+    requires generation { (D.disk (device_of_look look)).honest →
+        generation_of_look look ≡ generation_in (D.disk (device_of_look look)).sectors }
+    ensures goes { IfOk result (λ game.
+        GoesOn cartridge.now (D.disk (device_of_look look)) (D.disk (device_of game.session))
         (E.disk (device_of_recording recording)) (E.disk (device_of_recording game.recording))
-        (record { count = count_of_look look; machine = machine_of_look look }) (acknowledged_of game.session) (machine_of game.session)) }
+        (record {
+          count = count_of_look look;
+          machine = machine_of_look look;
+        }) (acknowledged_of game.session) (machine_of game.session)) }
     ensures whole { IfOk result (λ game. (pending_of game.session ≡ []) × (is_broken game.session ≡ false) ×
         (is_broken_recording game.recording ≡ false) × (rom_of game.session ≡ cartridge.now)) }
-    ensures stops { IfErr result (λ refused. StopsGoingOn cartridge.now (D.disk (device_of_look look)) (D.disk refused.save)
+    ensures stops { IfErr result (λ refused.
+        StopsGoingOn cartridge.now (D.disk (device_of_look look)) (D.disk refused.save)
         (E.disk (device_of_recording recording)) (E.disk refused.recording)
         (record { count = count_of_look look; machine = machine_of_look look }) refused.why) }
-    ensures save_answered { HasAnswered (λ refused. save_faults_after refused.why) (D.disk (device_of_look look)) (D.disk (save_left result)) result }
-    ensures recording_answered { HasAnswered (λ refused. recording_faults_after refused.why) (E.disk (device_of_recording recording)) (E.disk (recording_left result)) result }
+    ensures save_answered { HasAnswered (λ refused. save_faults_after refused.why) (D.disk (device_of_look look))
+        (D.disk (save_left result)) result }
+    ensures recording_answered { HasAnswered (λ refused. recording_faults_after refused.why)
+        (E.disk (device_of_recording recording)) (E.disk (recording_left result)) result }
 {
     let mut recording = recording;
     let mut session = match look.resume(alloc, cartridge) {
@@ -72,15 +80,19 @@ pub fn take_up<D: SectorDevice, E: SectorDevice>(
     cartridge: &Cartridge,
 ) -> Result<RecordedGame<D, E>, RecordRefused<D, E>>
     ensures taken_up { IfOk result (λ game. HasTakenUp cartridge.now (D.disk save) (D.disk (device_of game.session))
-        (E.disk recording) (E.disk (device_of_recording game.recording)) (acknowledged_of game.session) (machine_of game.session)) }
+        (E.disk recording) (E.disk (device_of_recording game.recording)) (acknowledged_of game.session)
+        (machine_of game.session)) }
     ensures whole { IfOk result (λ game. (pending_of game.session ≡ []) × (is_broken game.session ≡ false) ×
         (is_broken_recording game.recording ≡ false) × (rom_of game.session ≡ cartridge.now)) }
     ensures refused { IfErr result (λ refused. IsNotTakenUp cartridge.now (D.disk save) (D.disk refused.save)
         (E.disk recording) (E.disk refused.recording) refused.why) }
-    ensures agree { (D.disk save).honest → (E.disk recording).honest → AllAgree cartridge.now (D.disk save) (E.disk recording) →
+    ensures agree { (D.disk save).honest → (E.disk recording).honest →
+        AllAgree cartridge.now (D.disk save) (E.disk recording) →
         AllAgree cartridge.now (D.disk (save_left result)) (E.disk (recording_left result)) }
-    ensures save_answered { HasAnswered (λ refused. save_faults_after refused.why) (D.disk save) (D.disk (save_left result)) result }
-    ensures recording_answered { HasAnswered (λ refused. recording_faults_after refused.why) (E.disk recording) (E.disk (recording_left result)) result }
+    ensures save_answered { HasAnswered (λ refused. save_faults_after refused.why) (D.disk save)
+        (D.disk (save_left result)) result }
+    ensures recording_answered { HasAnswered (λ refused. recording_faults_after refused.why) (E.disk recording)
+        (E.disk (recording_left result)) result }
 {
     let look = match look_at(alloc, save, cartridge) {
         Ok(look) => look,

@@ -13,11 +13,12 @@ use Rattle.input_entries.proofs.CodeLengths.{AreCodes, codes-take, codes-drop}
 use Rattle.input_entries.proofs.Runs.{inputs-append, entries-take, entries-drop}
 use Rattle.recording.specs.Calls.{HoldsPrefix, KeepsFull, IsAppended, with_more}
 use Rattle.recording.specs.Format.{entries_at, list_sector}
-use Rattle.recording.specs.Growing.{with_inputs, fits}
+use Rattle.input_entries.specs.Growing.{with_inputs}
+use Rattle.recording.specs.Growing.{fits}
 use Rattle.recording.specs.Keeping.{EndsAt, BlankFrom, blanked, grown_image, HasPacked, Kept, IsStored}
 use Rattle.recording.specs.Recorded.{entries, recorded}
 use Rattle.recording.specs.Sizes.{list_sectors, list_sectors_in, sectors_for}
-use Rattle.recording.proofs.Growing.{Whole, whole}
+use Rattle.input_entries.proofs.MoreInputs.{Whole, whole, codes-with_inputs}
 use Rattle.recording.proofs.Images.{most_is, recorded_more, same_tail, holds_none, holds_all, holds_prefix, length-blanked, blanked_before, blanked_after, length-grown, grown_before, grown_after, list_sector_in, length-list_sectors, beyond}
 use Rattle.recording.proofs.ListBytes.{codes_of_good, entries_of_good, entries_written, blank_has_none, nothing_has_none, few_inputs_of, none_is_blank}
 use Rattle.recording.proofs.ListLaw.{chunk}
@@ -37,20 +38,6 @@ old_holds old more settled c is = subst (HoldsPrefix old.sectors more) (sym (set
 
 old_keeps : (old : DiskState) (full : ℕ) → Settled old → (c : List (List ℕ)) → old.image c → KeepsFull old.sectors full c
 old_keeps old full settled c is = subst (KeepsFull old.sectors full) (sym (settled c is)) (keeps_all old.sectors full)
-
--- nothing is called
-pub since_nothing : (old : DiskState) (more : List Entry) → Settled old → ((c : List (List ℕ)) → old.since old.moment c → old.image c) → HoldsSince old old (HoldsPrefix old.sectors more)
-since_nothing old more settled only = holds_since only (record { later = omega arith; each = λ t c le since. inl since }) (λ t c le since. since) (old_holds old more settled)
-
-pub since_unwritten : (old : DiskState) (full : ℕ) → Settled old → ((c : List (List ℕ)) → old.since old.moment c → old.image c) → HoldsSince old old (KeepsFull old.sectors full)
-since_unwritten old full settled only = holds_since only (record { later = omega arith; each = λ t c le since. inl since }) (λ t c le since. since) (old_keeps old full settled)
-
-pub nothing_appended : (old : DiskState) (more : List Entry) → Settled old → length more ≡ 0 → IsAppended old old more
-nothing_appended old more settled none = record { settled = settled; adds = λ id. go id more none }
-  where
-    go : (id : List ℕ) (more : List Entry) → length more ≡ 0 → recorded id old.sectors ≡ with_more more (recorded id old.sectors)
-    go id [] none = recorded_more old.sectors old.sectors [] id refl (sym (append-nil (inputs (entries old.sectors))))
-    go id (e ∷ more) none = absurd (omega arith)
 
 empty : (l : List StoredEntry) → length l ≡ 0 → l ≡ []
 empty [] is = refl
@@ -77,7 +64,7 @@ module _ (n full : ℕ) (tail : List StoredEntry) (count : ℕ) (more : List Ent
   placed_after = omega (arith, size_after, room, packed.short, packed.later, kept.placed)
 
   stands_after : Whole tail grown_list more
-  stands_after = whole tail more (entries_of_good tail kept.good) (codes_of_good tail kept.good) fives input
+  stands_after = whole tail more (entries_of_good tail kept.good) fives input
 
   pub kept_after : Kept n full' tail' (count + length more)
   kept_after =
@@ -249,7 +236,7 @@ module _ (old : DiskState) (full : ℕ) (tail : List StoredEntry) (count : ℕ) 
     placed' = placed_after (length old.sectors) full tail count more kept fives input room full' tail' packed
 
     done : Whole tail list more
-    done = whole tail more are codes fives input
+    done = whole tail more are fives input
 
     -- the sector of the list with this index, after the full ones of before
     new_at : (k : ℕ) → full ≤ k → k < length (list_sectors grown) → sector_at (list_sectors grown) k ≡ list_sector (k + 1) (chunk (k - full) list)
@@ -262,7 +249,7 @@ module _ (old : DiskState) (full : ℕ) (tail : List StoredEntry) (count : ℕ) 
     read_new k le less = ap (entries_at (k + 1)) (new_at k le less) ∙ written_chunk
       where
         written_chunk : entries_at (k + 1) (list_sector (k + 1) (chunk (k - full) list)) ≡ chunk (k - full) list
-        written_chunk = chunk_read list (k + 1) (k - full) (omega (arith, less, sectors, most_is)) done.codes done.each
+        written_chunk = chunk_read list (k + 1) (k - full) (omega (arith, less, sectors, most_is)) (codes-with_inputs tail more codes fives) done.each
 
     pub ends' : EndsAt grown full' tail'
     ends' = record {

@@ -35,9 +35,6 @@ zeros_replicate (suc n) = zeros_replicate n
 pub blank_of_zeros : (l : List ℕ) → length l ≡ 512 → zeros l ≡ true → l ≡ blank
 blank_of_zeros l size is = zeros_are l is ∙ ap (λ n. replicate n 0) size
 
-pub not_blank : (l : List ℕ) → zeros l ≡ false → l ≡ blank → ⊥
-not_blank l fails is = let both : true ≡ false = sym (ap zeros is ∙ zeros_replicate 512) ∙ fails in cc
-
 -- one sector more is as it is to be
 pub written_same : (old new image : List (List ℕ)) (n : ℕ) → sector_at image n ≡ sector_at new n → WrittenUpTo old new n image → WrittenUpTo old new (n + 1) image
 written_same old new image n is w = record {

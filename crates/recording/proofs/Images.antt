@@ -11,11 +11,12 @@ use Rattle.input_entries.proofs.CodeLengths.{AreCodes}
 use Rattle.input_entries.proofs.Runs.{inputs-append}
 use Rattle.recording.specs.Calls.{HoldsPrefix, with_more}
 use Rattle.recording.specs.Format.{blank, is_head_of, entries_at, list_from, list_sector}
-use Rattle.recording.specs.Growing.{with_inputs, fits, full_sectors, last_entries, fits_image}
+use Rattle.input_entries.specs.Growing.{with_inputs}
+use Rattle.recording.specs.Growing.{fits, full_sectors, last_entries, fits_image}
 use Rattle.recording.specs.Keeping.{EndsAt, BlankFrom, blanked, written, grown_image}
 use Rattle.recording.specs.Recorded.{entries, recorded, entries_up_to}
 use Rattle.recording.specs.Sizes.{most_sectors, list_sectors, list_sectors_in, sectors_for}
-use Rattle.recording.proofs.Growing.{Whole, prefix, whole, length-with_inputs}
+use Rattle.input_entries.proofs.MoreInputs.{Whole, prefix, whole, codes-with_inputs, length-with_inputs}
 use Rattle.recording.proofs.ListBytes.{nothing_has_none}
 use Rattle.recording.proofs.ListLaw.{chunk, list_last, list_full, list_split, full_length, cut_after, all_written}
 
@@ -243,9 +244,9 @@ module _ (old c : List (List ℕ)) (full : ℕ) (tail : List StoredEntry) (more 
   -- all of the writes were made
   pub holds_all : ((k : ℕ) → full + 1 + k < length old → sector_at c (full + 1 + k) ≡ list_sector (full + 1 + k) (chunk k list)) → length list ≤ 83 * (list_sectors_in (length old) - full) → inputs (entries c) ≡ inputs (entries old) ++ more
   holds_all each fits =
-      let done = whole tail more are codes fives input in
+      let done = whole tail more are fives input in
       let room : length (drop full ss_c) ≡ list_sectors_in (length old) - full = omega (arith, rest_size, length-list_sectors old) in
-      let new : list_from (full + 1) (drop full ss_c) ≡ list = all_written (drop full ss_c) (full + 1) list bound (omega (arith, fits, room)) done.codes done.each (λ k le. rest_c k le ∙ each k (inside k le)) in
+      let new : list_from (full + 1) (drop full ss_c) ≡ list = all_written (drop full ss_c) (full + 1) list bound (omega (arith, fits, room)) (codes-with_inputs tail more codes fives) done.each (λ k le. rest_c k le ∙ each k (inside k le)) in
       ap inputs (split_c ∙ ap (λ l. list_from 1 (take full ss_old) ++ l) new)
       ∙ inputs-append (list_from 1 (take full ss_old)) list
       ∙ ap (λ l. inputs (list_from 1 (take full ss_old)) ++ l) done.stand
@@ -263,14 +264,14 @@ module _ (old c : List (List ℕ)) (full : ℕ) (tail : List StoredEntry) (more 
         ⊎_elim (λ was. inl (rest_c k le ∙ was ∙ blank_after (full + 1 + k) (omega (arith, short)) (inside k le))) (λ new. inr (rest_c k le ∙ new)) (each k (inside k le))
 
     all : Whole tail (with_inputs tail more) more
-    all = whole tail more are codes fives input
+    all = whole tail more are fives input
 
     holds_cut : CutInputs old c more
     holds_cut =
         ⊎_elim
         (λ was. record { count = 0; within = omega arith; is = ap inputs (split_c ∙ ap (λ l. list_from 1 (take full ss_old) ++ l) was ∙ sym of_old) ∙ sym (append-nil (inputs (entries old))) })
         (λ cut.
-        let p = prefix tail more are codes fives input cut.0 cut.1 in
+        let p = prefix tail more are fives input cut.0 cut.1 in
         record {
           count = p.count;
           within = p.within;
@@ -280,7 +281,7 @@ module _ (old c : List (List ℕ)) (full : ℕ) (tail : List StoredEntry) (more 
               ∙ sym (append_assoc (inputs (list_from 1 (take full ss_old))) (inputs tail) (take p.count more))
               ∙ ap (λ l. l ++ take p.count more) (sym (inputs-append (list_from 1 (take full ss_old)) tail) ∙ ap inputs (sym of_old));
         })
-        (cut_after (drop full ss_c) (full + 1) tail list bound short (length-with_inputs tail more) all.codes all.each no_tail first later).is
+        (cut_after (drop full ss_c) (full + 1) tail list bound short (length-with_inputs tail more) (codes-with_inputs tail more codes fives) all.each no_tail first later).is
 
     pub holds_prefix : HoldsPrefix old more c
     holds_prefix = record { count = holds_cut.count; within = holds_cut.within; adds = λ id. recorded_more old c (take holds_cut.count more) id (same 0 (omega arith)) holds_cut.is }

@@ -1,6 +1,5 @@
 mod Appending
 mod Beginning
-mod Growing
 mod Images
 mod ListBytes
 mod ListLaw

@@ -10,11 +10,14 @@ use Rattle.std.specs.Int.{w16, w32, to_le_bytes, from_le_bytes}
 use lib.ListN.{replicate}
 use borrow.Rule.Slice.PartMut.{put_mid}
 use Rattle.input_entries.specs.Bytes.{byte}
-use Rattle.input_entries.specs.Inputs.{is_entry, is_run, run_length, frame, inputs_in, inputs, all_entries}
+use Rattle.input_entries.specs.Growing.{with_input}
+use Rattle.input_entries.specs.Inputs.{is_entry, is_input, is_run, run_length, frame, inputs_in, inputs, all_entries}
+use Rattle.input_entries.specs.declared.Entry.{Entry}
 use Rattle.input_entries.specs.declared.StoredEntry.{StoredEntry}
-use Rattle.input_entries.proofs.CodeLengths.{AreCodes, codes-take}
+use Rattle.input_entries.proofs.CodeLengths.{AreCodes}
+use Rattle.input_entries.proofs.MoreInputs.{one_more, codes-with_input}
 use Rattle.input_entries.proofs.Meanings.{own_count, some_inputs}
-use Rattle.input_entries.proofs.Runs.{inputs-append, entries-take}
+use Rattle.input_entries.proofs.Runs.{inputs-append}
 use Rattle.recording.specs.Format.{blank, list_magic, has_front, is_list_sector, count_in, entries_in, entries_from, entries_at, list_sector, stored}
 use Rattle.recording.specs.Keeping.{AreGood}
 
@@ -38,6 +41,12 @@ entry_at (e ∷ es) are (suc k) le = entry_at es are.1 k (omega arith)
 
 pub good_of : (es : List StoredEntry) → AreCodes es → all_entries es → AreGood es
 good_of es codes are = record { six = six_at es codes; entry = entry_at es are }
+
+-- so they are with one input more
+pub good_more : (list : List StoredEntry) (e : Entry) → AreGood list → length e.code ≡ 5 → is_input e ≡ true → AreGood (with_input list e)
+good_more list e good size input =
+    let more = one_more list e (entries_of_good list good) size input in
+    good_of (with_input list e) (codes-with_input list e (codes_of_good list good) size) more.each
 
 entries_read : (es : List StoredEntry) (rest : List ℕ) → AreCodes es → entries_from (length es) (flat_map (λ (x : StoredEntry). x.code) es ++ rest) ≡ es
 entries_read [] rest are = refl
@@ -210,6 +219,3 @@ inputs_more es k d le =
 
 pub counts_all : (s : StoredEntry) (n : ℕ) → n ≡ own_count s → is_entry s ≡ true → n ≡ length (inputs_in s)
 counts_all s n is entry = is ∙ ap (λ (t : Bool). if t then length (inputs_in s) else 0) entry
-
-pub good_next : (es : List StoredEntry) (i : ℕ) → i ≤ length es → AreGood es → AreGood (take i es)
-good_next es i le good = good_of (take i es) (codes-take i es (codes_of_good es good)) (entries-take i es (entries_of_good es good))

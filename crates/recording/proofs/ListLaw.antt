@@ -58,9 +58,6 @@ chunk_next k list =
     let m : 83 + 83 * k ≡ 83 * suc k = omega arith in
     sym (ap (take 83) (drop-drop (83 * k) 83 list ∙ ap (λ j. drop j list) m))
 
-chunk_first : (list : List StoredEntry) → chunk 0 list ≡ take 83 list
-chunk_first list = refl
-
 -- the list is this one up to a point
 pub record CutAt (list now : List StoredEntry) : Type 0 where
   pub count : ℕ

@@ -8,10 +8,10 @@ use Rattle.input_entries.specs.declared.StoredEntry.{StoredEntry}
 use Rattle.sector_device.specs.DiskState.{sector_at}
 use Rattle.sector_device.specs.Runs.{WrittenUpTo}
 use Rattle.recording.specs.Format.{list_sector}
-use Rattle.recording.specs.Growing.{with_inputs}
+use Rattle.input_entries.specs.Growing.{with_inputs}
 use Rattle.recording.specs.Keeping.{AreGood, BlankFrom, grown_image, HasPacked}
 use Rattle.recording.specs.Sizes.{sectors_for}
-use Rattle.recording.proofs.Growing.{some-with_inputs}
+use Rattle.input_entries.proofs.MoreInputs.{some-with_inputs}
 use Rattle.recording.proofs.Images.{grown_before, grown_after, length-grown, beyond}
 use Rattle.recording.proofs.ListBytes.{none_is_blank}
 

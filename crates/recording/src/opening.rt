@@ -24,11 +24,14 @@ use std::alloc::Global;
 fn begin<D: SectorDevice>(device: &mut D, id: &[u8; 32]) -> Result<(), RecordingFault>
     ensures answered { HasAnswered faults_after (D.disk device.old) (D.disk device.new) result }
     ensures cause { IfErr result (λ why. IsCreateCause why (D.disk device.old)) }
-    ensures untouched { IfErr result (λ why. (why ≡ Device) ⊎ ((D.disk device.old).honest → LooksOnly (D.disk device.old) (D.disk device.new))) }
-    ensures moments { (D.disk device.old).honest → Throughout (D.disk device.old) (D.disk device.new) (IsOldOrEmpty (D.disk device.old) id.now) }
+    ensures untouched { IfErr result (λ why.
+        (why ≡ Device) ⊎ ((D.disk device.old).honest → LooksOnly (D.disk device.old) (D.disk device.new))) }
+    ensures moments { (D.disk device.old).honest →
+        Throughout (D.disk device.old) (D.disk device.new) (IsOldOrEmpty (D.disk device.old) id.now) }
     ensures past { (D.disk device.old).honest → Remembers (D.disk device.old) (D.disk device.new) }
     ensures some { OnOk result (2 ≤ length (D.disk device.new).sectors) }
-    ensures begun { OnOk result ((D.disk device.old).honest → HasBegun (D.disk device.old).sectors (D.disk device.new) id.now) }
+    ensures begun { OnOk result ((D.disk device.old).honest →
+        HasBegun (D.disk device.old).sectors (D.disk device.new) id.now) }
 {
     if device.count() < 2 {
         return Err(RecordingFault::TooSmall);
@@ -51,11 +54,15 @@ pub fn create_recording<D: SectorDevice>(
     device: D,
     id: [u8; 32],
 ) -> Result<Recording<D>, Refused<D>>
-    ensures images { (D.disk device).honest → HoldsSince (D.disk device) (D.disk (left_by_open result)) (IsOldOrEmpty (D.disk device) id) }
-    ensures created { IfOk result (λ recording. HasCreated (D.disk device) (D.disk (device_of recording)) id recording) }
+    ensures images { (D.disk device).honest →
+        HoldsSince (D.disk device) (D.disk (left_by_open result)) (IsOldOrEmpty (D.disk device) id) }
+    ensures created { IfOk result (λ recording.
+        HasCreated (D.disk device) (D.disk (device_of recording)) id recording) }
     ensures cause { IfErr result (λ refused. IsCreateCause refused.why (D.disk device)) }
-    ensures untouched { IfErr result (λ refused. (refused.why ≡ Device) ⊎ ((D.disk device).honest → HasLooked (D.disk device) (D.disk refused.device))) }
-    ensures answered { HasAnswered (λ refused. faults_after refused.why) (D.disk device) (D.disk (left_by_open result)) result }
+    ensures untouched { IfErr result (λ refused.
+        (refused.why ≡ Device) ⊎ ((D.disk device).honest → HasLooked (D.disk device) (D.disk refused.device))) }
+    ensures answered { HasAnswered (λ refused. faults_after refused.why) (D.disk device) (D.disk (left_by_open result))
+        result }
 {
     let mut device = device;
     let Ok(tail) = Vec::with_capacity(alloc, ENTRIES_PER_SECTOR) else {
@@ -96,9 +103,12 @@ fn look<D: SectorDevice>(
     ensures looked { (D.disk device.old).honest → LooksOnly (D.disk device.old) (D.disk device.new) }
     ensures cause { IfErr result (λ why. IsHeadCause why id.now (D.disk device.old)) }
     ensures capacity { vec_capacity tail.old ≤ vec_capacity tail.new }
-    ensures kept { IfOk result (λ end. Kept (length (D.disk device.new).sectors) end.full tail.new.items end.input_count) }
-    ensures head { OnOk result ((D.disk device.old).honest → is_head_of id.now (sector_at (D.disk device.old).sectors 0) ≡ true) }
-    ensures stored { IfOk result (λ end. (D.disk device.old).honest → IsStored (D.disk device.new) end.full tail.new.items end.input_count false) }
+    ensures kept { IfOk result (λ end.
+        Kept (length (D.disk device.new).sectors) end.full tail.new.items end.input_count) }
+    ensures head { OnOk result ((D.disk device.old).honest →
+        is_head_of id.now (sector_at (D.disk device.old).sectors 0) ≡ true) }
+    ensures stored { IfOk result (λ end.
+        (D.disk device.old).honest → IsStored (D.disk device.new) end.full tail.new.items end.input_count false) }
 {
     device.sync()?;
     check_head(device, id)?;
@@ -117,7 +127,8 @@ pub fn open_recording<D: SectorDevice>(
     ensures looked { (D.disk device).honest → HasLooked (D.disk device) (D.disk (left_by_open result)) }
     ensures opened { IfOk result (λ recording. HasOpened (D.disk device) (D.disk (device_of recording)) id recording) }
     ensures cause { IfErr result (λ refused. IsOpenCause refused.why id (D.disk device)) }
-    ensures answered { HasAnswered (λ refused. faults_after refused.why) (D.disk device) (D.disk (left_by_open result)) result }
+    ensures answered { HasAnswered (λ refused. faults_after refused.why) (D.disk device) (D.disk (left_by_open result))
+        result }
 {
     let mut device = device;
     let Ok(mut tail) = Vec::with_capacity(alloc, ENTRIES_PER_SECTOR) else {

@@ -2,26 +2,15 @@
 ghost use Rattle.std.specs.Prelude.{◌≡◌, ◌≤◌, ◌<◌, ◌+◌, ◌^◌, ◌++◌, [], ◌∷◌, List, length, take, drop, true, false, vec_capacity};
 ghost use Rattle.input_entries.specs.Inputs.{all_input, is_input, run_length, inputs, single, AllFive};
 ghost use Rattle.input_entries.specs.declared.StoredEntry.{StoredEntry};
-ghost use Rattle.recording.specs.Growing.{lengthens, with_input, with_inputs, fits, last_of};
+ghost use Rattle.input_entries.specs.Growing.{lengthens, with_input, with_inputs, last_of};
+ghost use Rattle.recording.specs.Growing.{fits};
 ghost use Rattle.recording.specs.Keeping.{AreGood};
 ghost use Rattle.recording.specs.Sizes.{entries_per_sector};
 
 use crate::sizes::ENTRIES_PER_SECTOR;
 use input_entries::{
-    Entry, LONGEST_RUN, StoredEntry, inputs_of, joins, longer, run_length, single,
+    Entry, StoredEntry, grown_length, inputs_of, last_of, lengthens, longer, single,
 };
-
-/// Whether the input is one more frame of this run, which is not the longest.
-#[tactic(auto, unfolding(crate::specs::Growing::lengthens))]
-fn lengthens(last: &StoredEntry, input: &Entry) -> bool
-    ensures is { result ≡ lengthens last.now input.now }
-    ensures five { length input.now.code ≡ 5 }
-{
-    if !joins(last, input) {
-        return false;
-    }
-    run_length(last) < LONGEST_RUN
-}
 
 /// Adds the input, if the entries are not full or it lengthens the last of them, and answers
 /// whether it was added.
@@ -32,7 +21,8 @@ fn add_input(entries: &mut Vec<StoredEntry>, input: &Entry) -> bool
     requires input { is_input input.now ≡ true }
     ensures added { result ≡ true → entries.new.items ≡ with_input entries.old.items input.now }
     ensures short { length entries.new.items ≤ entries_per_sector }
-    ensures not_added { result ≡ false → (entries.new.items ≡ entries.old.items) × (length entries.old.items ≡ entries_per_sector) ×
+    ensures not_added { result ≡ false →
+        (entries.new.items ≡ entries.old.items) × (length entries.old.items ≡ entries_per_sector) ×
         (with_input entries.old.items input.now ≡ entries.old.items ++ single input.now ∷ []) }
     ensures room { entries.old.items ≡ [] → result ≡ true }
     ensures capacity { vec_capacity entries.old ≤ vec_capacity entries.new }
@@ -79,40 +69,6 @@ pub(crate) fn fill(entries: &mut Vec<StoredEntry>, more: &[Entry]) -> usize
     more.len()
 }
 
-/// Adds an input after the last entry, if there is one, and answers how many entries more there
-/// are.
-fn grow(last: &mut Option<StoredEntry>, input: &Entry) -> u64
-    ensures few { result ≤ 1 }
-    ensures five { length input.now.code ≡ 5 }
-    ensures grown { (list : List StoredEntry) → last_of list ≡ last.old →
-        (last_of (with_input list input.now) ≡ last.new) × (length (with_input list input.now) ≡ length list + result) }
-{
-    let Some(run) = *last else {
-        *last = Some(single(input));
-        return 1;
-    };
-    if lengthens(&run, input) {
-        *last = Some(longer(&run));
-        return 0;
-    }
-    *last = Some(single(input));
-    1
-}
-
-/// How many entries there are once these inputs are added.
-pub(crate) fn grown_length(entries: &[StoredEntry], more: &[Entry]) -> u64
-    requires { length entries.now ≤ entries_per_sector }
-    ensures length { result ≡ length (with_inputs entries.now more.now) }
-    ensures five { AllFive more.now }
-{
-    let mut count = entries.len() as u64;
-    let mut last = last_of(entries);
-    for input in more {
-        count += grow(&mut last, input);
-    }
-    count
-}
-
 /// Whether the entries after the full sectors, with these inputs after them, fit this many sectors.
 #[tactic(auto, unfolding(crate::specs::Growing::fits))]
 pub(crate) fn fits(entries: &[StoredEntry], sectors: u64, more: &[Entry]) -> bool
@@ -121,17 +77,7 @@ pub(crate) fn fits(entries: &[StoredEntry], sectors: u64, more: &[Entry]) -> boo
     ensures fits { result ≡ fits entries.now sectors more.now }
     ensures five { AllFive more.now }
 {
-    grown_length(entries, more) <= ENTRIES_PER_SECTOR as u64 * sectors
-}
-
-/// The last entry.
-fn last_of(entries: &[StoredEntry]) -> Option<StoredEntry>
-    ensures { result ≡ last_of entries.now }
-{
-    if entries.is_empty() {
-        return None;
-    }
-    Some(entries[entries.len() - 1])
+    grown_length(entries, more) as u64 <= ENTRIES_PER_SECTOR as u64 * sectors
 }
 
 /// How many inputs the entries of one sector stand for.

@@ -30,7 +30,8 @@ pub(crate) fn is_blank<D: SectorDevice>(device: &mut D) -> Result<bool, DeviceFa
     ensures called { HasCalled (D.disk device.old) (D.disk device.new) result }
     ensures looked { (D.disk device.old).honest → LooksOnly (D.disk device.old) (D.disk device.new) }
     ensures blank { IfOk result (λ yes. yes ≡ true → (D.disk device.old).honest → IsBlank (D.disk device.old).sectors) }
-    ensures not_blank { IfOk result (λ yes. yes ≡ false → (D.disk device.old).honest → IsBlank (D.disk device.old).sectors → ⊥) }
+    ensures not_blank { IfOk result (λ yes.
+        yes ≡ false → (D.disk device.old).honest → IsBlank (D.disk device.old).sectors → ⊥) }
 {
     let mut sector = [0; 512];
     let count = device.count();
@@ -51,7 +52,8 @@ pub(crate) fn check_head<D: SectorDevice>(
     ensures answered { HasAnswered faults_after (D.disk device.old) (D.disk device.new) result }
     ensures looked { (D.disk device.old).honest → LooksOnly (D.disk device.old) (D.disk device.new) }
     ensures some { OnOk result (1 ≤ length (D.disk device.new).sectors) }
-    ensures head { OnOk result ((D.disk device.old).honest → is_head_of id.now (sector_at (D.disk device.old).sectors 0) ≡ true) }
+    ensures head { OnOk result ((D.disk device.old).honest →
+        is_head_of id.now (sector_at (D.disk device.old).sectors 0) ≡ true) }
     ensures cause { IfErr result (λ why. IsHeadCause why id.now (D.disk device.old)) }
 {
     if device.count() == 0 {
@@ -87,9 +89,12 @@ pub(crate) fn read_list<D: SectorDevice>(
     ensures called { HasCalled (D.disk device.old) (D.disk device.new) result }
     ensures looked { (D.disk device.old).honest → LooksOnly (D.disk device.old) (D.disk device.new) }
     ensures capacity { vec_capacity tail.old ≤ vec_capacity tail.new }
-    ensures kept { IfOk result (λ end. Kept (length (D.disk device.new).sectors) end.full tail.new.items end.input_count) }
-    ensures ends { IfOk result (λ end. (D.disk device.old).honest → EndsAt (D.disk device.old).sectors end.full tail.new.items) }
-    ensures counted { IfOk result (λ end. (D.disk device.old).honest → end.input_count ≡ length (inputs (entries (D.disk device.old).sectors))) }
+    ensures kept { IfOk result (λ end.
+        Kept (length (D.disk device.new).sectors) end.full tail.new.items end.input_count) }
+    ensures ends { IfOk result (λ end.
+        (D.disk device.old).honest → EndsAt (D.disk device.old).sectors end.full tail.new.items) }
+    ensures counted { IfOk result (λ end.
+        (D.disk device.old).honest → end.input_count ≡ length (inputs (entries (D.disk device.old).sectors))) }
 {
     let count = device.count();
     let sectors = list_sectors_in(count);

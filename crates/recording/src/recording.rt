@@ -56,7 +56,8 @@ impl<D: SectorDevice> Recording<D> {
         requires room { entries_per_sector ≤ vec_capacity tail }
         requires page_room { entries_per_sector ≤ vec_capacity page }
         requires kept { Kept (length (D.disk device).sectors) end.full tail.items end.input_count }
-        requires stored { (D.disk device).honest → IsStored (D.disk device) end.full tail.items end.input_count blank_after }
+        requires stored { (D.disk device).honest →
+            IsStored (D.disk device) end.full tail.items end.input_count blank_after }
         ensures device { device_of result ≡ device }
         ensures full { full_of result ≡ end.full }
         ensures tail { tail_of result ≡ tail.items }
@@ -92,7 +93,8 @@ impl<D: SectorDevice> Recording<D> {
     pub fn sectors_used(&self) -> u64
         requires { is_broken self.now ≡ false }
         ensures used { result ≡ used_of self.now }
-        ensures whole { (D.disk (device_of self.now)).honest → entries (D.disk (device_of self.now)).sectors ≡ entries_up_to result (D.disk (device_of self.now)).sectors }
+        ensures whole { (D.disk (device_of self.now)).honest →
+            entries (D.disk (device_of self.now)).sectors ≡ entries_up_to result (D.disk (device_of self.now)).sectors }
     {
         if self.tail.is_empty() {
             self.full
@@ -112,7 +114,8 @@ impl<D: SectorDevice> Recording<D> {
     /// Whether the inputs can be appended: their entries fit the sectors that are left.
     pub fn fits(&self, more: &[Entry]) -> bool
         requires { is_broken self.now ≡ false }
-        ensures { result ≡ fits (tail_of self.now) (list_sectors_in (length (D.disk (device_of self.now)).sectors) - full_of self.now) more.now }
+        ensures { result ≡ fits (tail_of self.now)
+            (list_sectors_in (length (D.disk (device_of self.now)).sectors) - full_of self.now) more.now }
     {
         let left = list_sectors_in(self.device.count()) - self.full;
         fits(&self.tail, left, more)
@@ -125,17 +128,22 @@ impl<D: SectorDevice> Recording<D> {
     pub fn append(&mut self, more: &[Entry]) -> Result<(), RecordingFault>
         requires { all_input more.now }
         ensures images { is_broken self.old ≡ false → (D.disk (device_of self.old)).honest →
-            HoldsSince (D.disk (device_of self.old)) (D.disk (device_of self.new)) (HoldsPrefix (D.disk (device_of self.old)).sectors more.now) }
+            HoldsSince (D.disk (device_of self.old)) (D.disk (device_of self.new))
+            (HoldsPrefix (D.disk (device_of self.old)).sectors more.now) }
         ensures writes { is_broken self.old ≡ false → (D.disk (device_of self.old)).honest →
-            HoldsSince (D.disk (device_of self.old)) (D.disk (device_of self.new)) (KeepsFull (D.disk (device_of self.old)).sectors (full_of self.old)) }
-        ensures appended { OnOk result (HasAppended (D.disk (device_of self.old)) (D.disk (device_of self.new)) self.old self.new more.now) }
+            HoldsSince (D.disk (device_of self.old)) (D.disk (device_of self.new))
+            (KeepsFull (D.disk (device_of self.old)).sectors (full_of self.old)) }
+        ensures appended { OnOk result
+            (HasAppended (D.disk (device_of self.old)) (D.disk (device_of self.new)) self.old self.new more.now) }
         ensures cause { IfErr result (λ why. IsAppendCause why (is_broken self.old)
-            (fits (tail_of self.old) (list_sectors_in (length (D.disk (device_of self.old)).sectors) - full_of self.old) more.now)) }
+            (fits (tail_of self.old) (list_sectors_in (length (D.disk (device_of self.old)).sectors) - full_of self.old)
+            more.now)) }
         ensures full { IfErr result (λ why. why ≡ Full → (D.disk (device_of self.old)).honest →
             fits_image (D.disk (device_of self.old)).sectors more.now ≡ false) }
         ensures unchanged { IfErr result (λ why. (why ≡ Device) ⊎ (self.new ≡ self.old)) }
         ensures nothing { length more.now ≡ 0 → self.new ≡ self.old }
-        ensures broken { (is_broken self.new ≡ true) ↔ ((is_broken self.old ≡ true) ⊎ IsErrOf result RecordingFault.Device) }
+        ensures broken { (is_broken self.new ≡ true) ↔
+            ((is_broken self.old ≡ true) ⊎ IsErrOf result RecordingFault.Device) }
         ensures answered { HasAnswered faults_after (D.disk (device_of self.old)) (D.disk (device_of self.new)) result }
     {
         if self.broken {
@@ -165,12 +173,16 @@ impl<D: SectorDevice> Recording<D> {
     pub fn read_sector(&mut self, number: u64) -> Result<(), RecordingFault>
         requires one { 1 ≤ number }
         requires used { number ≤ used_of self.old }
-        ensures looked { (D.disk (device_of self.old)).honest → HasLooked (D.disk (device_of self.old)) (D.disk (device_of self.new)) }
-        ensures page { OnOk result ((D.disk (device_of self.old)).honest → page_of self.new ≡ entries_at number (sector_at (D.disk (device_of self.old)).sectors number)) }
-        ensures same { (full_of self.new ≡ full_of self.old) × (tail_of self.new ≡ tail_of self.old) × (count_of self.new ≡ count_of self.old) }
+        ensures looked { (D.disk (device_of self.old)).honest →
+            HasLooked (D.disk (device_of self.old)) (D.disk (device_of self.new)) }
+        ensures page { OnOk result ((D.disk (device_of self.old)).honest →
+            page_of self.new ≡ entries_at number (sector_at (D.disk (device_of self.old)).sectors number)) }
+        ensures same { (full_of self.new ≡ full_of self.old) × (tail_of self.new ≡ tail_of self.old) ×
+            (count_of self.new ≡ count_of self.old) }
         ensures cause { IfErr result (λ why. IsReadCause why (is_broken self.old)) }
         ensures unchanged { IfErr result (λ why. (why ≡ Device) ⊎ (self.new ≡ self.old)) }
-        ensures broken { (is_broken self.new ≡ true) ↔ ((is_broken self.old ≡ true) ⊎ IsErrOf result RecordingFault.Device) }
+        ensures broken { (is_broken self.new ≡ true) ↔
+            ((is_broken self.old ≡ true) ⊎ IsErrOf result RecordingFault.Device) }
         ensures answered { HasAnswered faults_after (D.disk (device_of self.old)) (D.disk (device_of self.new)) result }
     {
         if self.broken {

@@ -3,7 +3,7 @@ ghost use Rattle.std.specs.Prelude.{◌≡◌, ◌≤◌, ◌<◌, ◌+◌, ◌-
 ghost use Rattle.sector_device.specs.DiskState.{HasCalled, HasSynced, Settled};
 ghost use Rattle.sector_device.specs.Runs.{HoldsThroughout, Mixed};
 ghost use Rattle.input_entries.specs.Inputs.{all_input};
-ghost use Rattle.recording.specs.Growing.{with_inputs};
+ghost use Rattle.input_entries.specs.Growing.{with_inputs};
 ghost use Rattle.recording.specs.Keeping.{AreGood, BlankFrom, blanked, grown_image, HasPacked};
 ghost use Rattle.recording.specs.Sizes.{entries_per_sector, list_sectors_in, sectors_for};
 
@@ -49,7 +49,8 @@ fn leave_if_full(full: u64, entries: &mut Vec<StoredEntry>) -> u64
     requires short { length entries.old.items ≤ entries_per_sector }
     requires range { full + 1 < 2 ^ 64 }
     ensures next { length entries.old.items ≡ entries_per_sector → (result ≡ full + 1) × (entries.new.items ≡ []) }
-    ensures same { length entries.old.items < entries_per_sector → (result ≡ full) × (entries.new.items ≡ entries.old.items) }
+    ensures same { length entries.old.items < entries_per_sector →
+        (result ≡ full) × (entries.new.items ≡ entries.old.items) }
     ensures capacity { vec_capacity entries.old ≤ vec_capacity entries.new }
 {
     if entries.len() == ENTRIES_PER_SECTOR {
@@ -72,18 +73,22 @@ pub(crate) fn write_inputs<D: SectorDevice>(
     requires short { length tail.old.items < entries_per_sector }
     requires good { AreGood tail.old.items }
     requires input { all_input more.now }
-    requires fits { length (with_inputs tail.old.items more.now) ≤ entries_per_sector * (list_sectors_in (length (D.disk device.old).sectors) - full) }
+    requires fits { length (with_inputs tail.old.items more.now) ≤
+        entries_per_sector * (list_sectors_in (length (D.disk device.old).sectors) - full) }
     requires placed { full ≤ list_sectors_in (length (D.disk device.old).sectors) }
     requires some { 1 ≤ length (D.disk device.old).sectors }
     ensures called { HasCalled (D.disk device.old) (D.disk device.new) result }
     ensures capacity { vec_capacity tail.old ≤ vec_capacity tail.new }
     ensures packed { IfOk result (λ now. HasPacked full (with_inputs tail.old.items more.now) now tail.new.items) }
     ensures moments { (D.disk device.old).honest → Settled (D.disk device.old) →
-        (let old = (D.disk device.old).sectors in let new = grown_image full (with_inputs tail.old.items more.now) old in
+        (let old = (D.disk device.old).sectors in let new = grown_image full (with_inputs tail.old.items more.now) old
+        in
         HoldsThroughout (D.disk device.old) (D.disk device.new) (Mixed old new) (Mixed old new)) }
     ensures written { OnOk result ((D.disk device.old).honest → Settled (D.disk device.old) → 0 < length more.now →
         BlankFrom (D.disk device.old).sectors (1 + full + sectors_for (length tail.old.items)) →
-        Settled (D.disk device.new) × ((D.disk device.new).sectors ≡ grown_image full (with_inputs tail.old.items more.now) (D.disk device.old).sectors)) }
+        Settled (D.disk device.new) ×
+        ((D.disk device.new).sectors ≡
+        grown_image full (with_inputs tail.old.items more.now) (D.disk device.old).sectors)) }
 {
     let mut full = full;
     let mut done = 0;

@@ -26,11 +26,13 @@ pub fn recorded_lines<D: SectorDevice, W: Write>(
     out: &mut W,
 ) -> Result<D, ScriptLinesRefused<D>>
     ensures accepted { OnOk result (IsAccepted rom.items) }
-    ensures script { OnOk result ((D.disk device).honest → HasWrittenScript rom.items (D.disk device) (W.contents out.old) (W.contents out.new)) }
+    ensures script { OnOk result ((D.disk device).honest →
+        HasWrittenScript rom.items (D.disk device) (W.contents out.old) (W.contents out.new)) }
     ensures looked { (D.disk device).honest → HasLooked (D.disk device) (D.disk (left_by result)) }
     ensures cause { IfErr result (λ refused.
         IsScriptCause rom.items (D.disk device) (W.contents out.old) (W.contents out.new) refused.why) }
-    ensures answered { HasAnswered (λ refused. faults_after_script refused.why) (D.disk device) (D.disk (left_by result)) result }
+    ensures answered { HasAnswered (λ refused. faults_after_script refused.why) (D.disk device)
+        (D.disk (left_by result)) result }
 {
     let cartridge = match Cartridge::read(rom) {
         Ok(cartridge) => cartridge,

@@ -46,7 +46,8 @@ pub fn verify_line<S: SectorDevice, D: SectorDevice, W: Write>(
     ensures cause { IfErr result.answer (λ why.
         IsLineCause rom.items (S.disk save) (D.disk recording) (W.contents out.old) (W.contents out.new) why) }
     ensures answered_save { HasAnswered save_faults_after_line (S.disk save) (S.disk result.save) result.answer }
-    ensures answered_recording { HasAnswered recording_faults_after_line (D.disk recording) (D.disk result.recording) result.answer }
+    ensures answered_recording { HasAnswered recording_faults_after_line (D.disk recording) (D.disk result.recording)
+        result.answer }
 {
     let cartridge = match Cartridge::read(rom) {
         Ok(cartridge) => cartridge,

@@ -25,9 +25,6 @@ take_parts (suc n) (x ∷ xs) ys =
 pub played_nothing : (m : MachineState) → HasPlayed m m
 played_nothing m = record { inputs = []; passes = All-nil PassesTime; is = sym (after_none m) }
 
-pub played_frames : (old now : MachineState) (buttons count : ℕ) → now ≡ after old (replicate count (Frame buttons)) → HasPlayed old now
-played_frames old now buttons count is = record { inputs = replicate count (Frame buttons); passes = All-replicate PassesTime count (Frame buttons) tt; is = is }
-
 pub played_seconds : (old now : MachineState) (n : ℕ) → now ≡ applied (Seconds n) old → HasPlayed old now
 played_seconds old now n is = record { inputs = Seconds n ∷ []; passes = All-cons PassesTime (Seconds n) [] tt (All-nil PassesTime); is = is ∙ sym (after_one old (Seconds n)) }
 

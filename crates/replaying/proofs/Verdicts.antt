@@ -55,13 +55,3 @@ of_verifying None (Err (Ahead count)) kind = kind
 of_verifying None (Err Memory) kind = tt
 of_verifying None (Err Differ) kind = tt
 of_verifying (Some limits) (Err why) kind = tt
-
--- without limits it is one within limits
-pub of_some : (limits : Limits) (r : Result ℕ VerifyError) → IfErr r (IsOfComparing None) → IfErr r (IsOfComparing (Some limits))
-of_some limits (Ok count) kind = tt
-of_some limits (Err (Save why)) kind = kind
-of_some limits (Err (Recording why)) kind = tt
-of_some limits (Err (Behind count)) kind = tt
-of_some limits (Err (Ahead count)) kind = absurd kind
-of_some limits (Err Memory) kind = tt
-of_some limits (Err Differ) kind = tt

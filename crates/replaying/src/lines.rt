@@ -42,7 +42,8 @@ fn seconds_text(seconds: u32) -> Option<ArrayString<32>>
 /// Writes the line of a run; none of no frames.
 pub(crate) fn write_run<W: Write>(run: Run, out: &mut W) -> Result<(), OutputFailed>
     ensures ok { OnOk result (Appends (W.contents out.old) (W.contents out.new) (frames_line run.buttons run.times)) }
-    ensures err { OnErr result (AppendsProperPrefix (W.contents out.old) (W.contents out.new) (frames_line run.buttons run.times)) }
+    ensures err { OnErr result
+        (AppendsProperPrefix (W.contents out.old) (W.contents out.new) (frames_line run.buttons run.times)) }
 {
     if run.times == 0 {
         return Ok(());
@@ -73,8 +74,10 @@ fn write_frames<W: Write>(
 ) -> Result<(), OutputFailed>
     requires some { 1 ≤ times }
     requires few { times ≤ longest_run }
-    ensures ok { OnOk result (HasWritten run.old run.new (replicate times (Frame buttons)) (W.contents out.old) (W.contents out.new)) }
-    ensures err { OnErr result (HasStopped run.old (replicate times (Frame buttons)) (W.contents out.old) (W.contents out.new)) }
+    ensures ok { OnOk result
+        (HasWritten run.old run.new (replicate times (Frame buttons)) (W.contents out.old) (W.contents out.new)) }
+    ensures err { OnErr result
+        (HasStopped run.old (replicate times (Frame buttons)) (W.contents out.old) (W.contents out.new)) }
 {
     let before = *run;
     if before.buttons != buttons {
@@ -105,7 +108,8 @@ fn write_run_and_seconds<W: Write>(
     seconds: u32,
     out: &mut W,
 ) -> Result<(), OutputFailed>
-    ensures ok { OnOk result (HasWritten run.old run.new (Seconds seconds ∷ []) (W.contents out.old) (W.contents out.new)) }
+    ensures ok { OnOk result (HasWritten run.old run.new (Seconds seconds ∷
+        []) (W.contents out.old) (W.contents out.new)) }
     ensures err { OnErr result (HasStopped run.old (Seconds seconds ∷ []) (W.contents out.old) (W.contents out.new)) }
 {
     let before = *run;

@@ -54,7 +54,8 @@ fn replay_seconds(machine: &mut Machine, seconds: u32, left: u64) -> u64
 /// left then.
 fn replay_entry(machine: &mut Machine, entry: &StoredEntry, left: u64) -> u64
     ensures played { HasPlayed machine.old machine.new }
-    ensures replayed { is_entry entry.now ≡ true → HasReplayed machine.old machine.new left result (inputs_in entry.now) }
+    ensures replayed { is_entry entry.now ≡ true →
+        HasReplayed machine.old machine.new left result (inputs_in entry.now) }
 {
     match entry.logged() {
         Some(Logged::Frames { buttons, times }) => replay_frames(machine, buttons, times, left),
@@ -84,10 +85,13 @@ pub(crate) fn replay<D: SectorDevice>(
     requires { is_broken recording.old ≡ false }
     ensures played { HasPlayed machine.old machine.new }
     ensures machine { OnOk result ((D.disk (device_of recording.old)).honest →
-        machine.new ≡ after machine.old (inputs_of (take most (inputs (entries (D.disk (device_of recording.old)).sectors))))) }
-    ensures looked { (D.disk (device_of recording.old)).honest → HasLooked (D.disk (device_of recording.old)) (D.disk (device_of recording.new)) }
+        machine.new ≡
+        after machine.old (inputs_of (take most (inputs (entries (D.disk (device_of recording.old)).sectors))))) }
+    ensures looked { (D.disk (device_of recording.old)).honest →
+        HasLooked (D.disk (device_of recording.old)) (D.disk (device_of recording.new)) }
     ensures cause { IfErr result (λ why. why ≡ RecordingFault.Device) }
-    ensures answered { HasAnswered faults_after (D.disk (device_of recording.old)) (D.disk (device_of recording.new)) result }
+    ensures answered { HasAnswered faults_after (D.disk (device_of recording.old)) (D.disk (device_of recording.new))
+        result }
 {
     let mut left = most;
     let used = recording.sectors_used();

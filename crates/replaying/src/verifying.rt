@@ -68,10 +68,14 @@ fn machine_after<D: SectorDevice>(
     requires { is_broken recording.old ≡ false }
     ensures own { IfOk result (λ machine. IsOfItsRom machine × (machine.processor.memory.banks.rom ≡ cartridge.now)) }
     ensures machine { IfOk result (λ machine. (D.disk (device_of recording.old)).honest →
-        machine ≡ after (start cartridge.now) (inputs_of (take count (inputs (entries (D.disk (device_of recording.old)).sectors))))) }
-    ensures looked { (D.disk (device_of recording.old)).honest → HasLooked (D.disk (device_of recording.old)) (D.disk (device_of recording.new)) }
-    ensures cause { IfErr result (λ why. (why ≡ VerifyError.Memory) ⊎ (why ≡ VerifyError.Recording RecordingFault.Device)) }
-    ensures answered { HasAnswered recording_faults_after (D.disk (device_of recording.old)) (D.disk (device_of recording.new)) result }
+        machine ≡ after (start cartridge.now)
+        (inputs_of (take count (inputs (entries (D.disk (device_of recording.old)).sectors))))) }
+    ensures looked { (D.disk (device_of recording.old)).honest →
+        HasLooked (D.disk (device_of recording.old)) (D.disk (device_of recording.new)) }
+    ensures cause { IfErr result (λ why.
+        (why ≡ VerifyError.Memory) ⊎ (why ≡ VerifyError.Recording RecordingFault.Device)) }
+    ensures answered { HasAnswered recording_faults_after (D.disk (device_of recording.old))
+        (D.disk (device_of recording.new)) result }
 {
     let Ok(mut machine) = Machine::power_on(alloc, cartridge) else {
         return Err(VerifyError::Memory);
@@ -96,12 +100,16 @@ fn compare<S: SectorDevice, D: SectorDevice>(
 
     ensures count { IfOk result (λ count. count ≡ count_of_look look.now) }
     ensures leads { IfOk result (λ _. (D.disk (device_of recording.old)).honest →
-        LeadsTo cartridge.now (inputs (entries (D.disk (device_of recording.old)).sectors)) (count_of_look look.now) (machine_of_look look.now)) }
+        LeadsTo cartridge.now (inputs (entries (D.disk (device_of recording.old)).sectors)) (count_of_look look.now)
+        (machine_of_look look.now)) }
     ensures cause { IfErr result (λ why. (D.disk (device_of recording.old)).honest →
-        IsCompareCause cartridge.now (inputs (entries (D.disk (device_of recording.old)).sectors)) (count_of_look look.now) (machine_of_look look.now) why) }
+        IsCompareCause cartridge.now (inputs (entries (D.disk (device_of recording.old)).sectors))
+        (count_of_look look.now) (machine_of_look look.now) why) }
     ensures kind { IfErr result (IsOfComparing None) }
-    ensures looked { (D.disk (device_of recording.old)).honest → HasLooked (D.disk (device_of recording.old)) (D.disk (device_of recording.new)) }
-    ensures answered { HasAnswered recording_faults_after (D.disk (device_of recording.old)) (D.disk (device_of recording.new)) result }
+    ensures looked { (D.disk (device_of recording.old)).honest →
+        HasLooked (D.disk (device_of recording.old)) (D.disk (device_of recording.new)) }
+    ensures answered { HasAnswered recording_faults_after (D.disk (device_of recording.old))
+        (D.disk (device_of recording.new)) result }
 {
     let count = look.count();
     let recorded = recording.input_count();
@@ -133,12 +141,16 @@ fn compare_within<S: SectorDevice, D: SectorDevice>(
 
     ensures count { IfOk result (λ count. count ≡ count_of_look look.now) }
     ensures leads { IfOk result (λ _. (D.disk (device_of recording.old)).honest →
-        LeadsWithin limits cartridge.now (inputs (entries (D.disk (device_of recording.old)).sectors)) (count_of_look look.now) (machine_of_look look.now)) }
+        LeadsWithin limits cartridge.now (inputs (entries (D.disk (device_of recording.old)).sectors))
+        (count_of_look look.now) (machine_of_look look.now)) }
     ensures cause { IfErr result (λ why. (D.disk (device_of recording.old)).honest →
-        IsCompareCauseWithin limits cartridge.now (inputs (entries (D.disk (device_of recording.old)).sectors)) (count_of_look look.now) (machine_of_look look.now) why) }
+        IsCompareCauseWithin limits cartridge.now (inputs (entries (D.disk (device_of recording.old)).sectors))
+        (count_of_look look.now) (machine_of_look look.now) why) }
     ensures kind { IfErr result (IsOfComparing limits) }
-    ensures looked { (D.disk (device_of recording.old)).honest → HasLooked (D.disk (device_of recording.old)) (D.disk (device_of recording.new)) }
-    ensures answered { HasAnswered recording_faults_after (D.disk (device_of recording.old)) (D.disk (device_of recording.new)) result }
+    ensures looked { (D.disk (device_of recording.old)).honest →
+        HasLooked (D.disk (device_of recording.old)) (D.disk (device_of recording.new)) }
+    ensures answered { HasAnswered recording_faults_after (D.disk (device_of recording.old))
+        (D.disk (device_of recording.new)) result }
 {
     let Some(limits) = limits else {
         return compare(alloc, look, recording, cartridge);
@@ -176,7 +188,8 @@ pub fn verify<S: SectorDevice, D: SectorDevice>(
     ensures looked_save { (S.disk save).honest → HasLooked (S.disk save) (S.disk result.save) }
     ensures looked_recording { (D.disk recording).honest → HasLooked (D.disk recording) (D.disk result.recording) }
     ensures answered_save { HasAnswered save_faults_after (S.disk save) (S.disk result.save) result.answer }
-    ensures answered_recording { HasAnswered recording_faults_after (D.disk recording) (D.disk result.recording) result.answer }
+    ensures answered_recording { HasAnswered recording_faults_after (D.disk recording) (D.disk result.recording)
+        result.answer }
 {
     let look = match look_at(alloc, save, cartridge) {
         Ok(look) => look,

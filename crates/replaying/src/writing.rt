@@ -33,15 +33,20 @@ pub fn write_recorded<D: SectorDevice, W: Write>(
     ensures script { OnOk result ((D.disk (device_of recording.old)).honest →
         Appends (W.contents out.old) (W.contents out.new) (script_in (D.disk (device_of recording.old)).sectors)) }
     ensures part { IfErr result (λ why. (D.disk (device_of recording.old)).honest →
-        WritesPart why (W.contents out.old) (W.contents out.new) (script_in (D.disk (device_of recording.old)).sectors)) }
+        WritesPart why (W.contents out.old) (W.contents out.new)
+        (script_in (D.disk (device_of recording.old)).sectors)) }
 
     // the recording stays as it was
-    ensures looked { (D.disk (device_of recording.old)).honest → HasLooked (D.disk (device_of recording.old)) (D.disk (device_of recording.new)) }
-    ensures same { (full_of recording.new ≡ full_of recording.old) × (tail_of recording.new ≡ tail_of recording.old) × (count_of recording.new ≡ count_of recording.old) }
-    ensures broken { (is_broken recording.new ≡ true) ↔ ((is_broken recording.old ≡ true) ⊎ IsErrOf result WriteRecordedError.Device) }
+    ensures looked { (D.disk (device_of recording.old)).honest →
+        HasLooked (D.disk (device_of recording.old)) (D.disk (device_of recording.new)) }
+    ensures same { (full_of recording.new ≡ full_of recording.old) × (tail_of recording.new ≡ tail_of recording.old) ×
+        (count_of recording.new ≡ count_of recording.old) }
+    ensures broken { (is_broken recording.new ≡ true) ↔
+        ((is_broken recording.old ≡ true) ⊎ IsErrOf result WriteRecordedError.Device) }
 
     ensures cause { IfErr result (λ why. IsWriteCause why (is_broken recording.old)) }
-    ensures answered { HasAnswered faults_after (D.disk (device_of recording.old)) (D.disk (device_of recording.new)) result }
+    ensures answered { HasAnswered faults_after (D.disk (device_of recording.old)) (D.disk (device_of recording.new))
+        result }
 {
     if recording.is_broken() {
         return Err(WriteRecordedError::Broken);
@@ -71,15 +76,22 @@ fn write_sector<D: SectorDevice, W: Write>(
     requires used { number ≤ used_of recording.old }
 
     ensures written { OnOk result ((D.disk (device_of recording.old)).honest →
-        HasWritten run.old run.new (inputs_of (inputs (entries_at number (sector_at (D.disk (device_of recording.old)).sectors number)))) (W.contents out.old) (W.contents out.new)) }
+        HasWritten run.old run.new
+        (inputs_of (inputs (entries_at number (sector_at (D.disk (device_of recording.old)).sectors number))))
+        (W.contents out.old) (W.contents out.new)) }
     ensures output { result ≡ Err Output → (D.disk (device_of recording.old)).honest →
-        HasStopped run.old (inputs_of (inputs (entries_at number (sector_at (D.disk (device_of recording.old)).sectors number)))) (W.contents out.old) (W.contents out.new) }
+        HasStopped run.old
+        (inputs_of (inputs (entries_at number (sector_at (D.disk (device_of recording.old)).sectors number))))
+        (W.contents out.old) (W.contents out.new) }
     ensures device { result ≡ Err Device → W.contents out.new ≡ W.contents out.old }
-    ensures looked { (D.disk (device_of recording.old)).honest → HasLooked (D.disk (device_of recording.old)) (D.disk (device_of recording.new)) }
-    ensures same { (full_of recording.new ≡ full_of recording.old) × (tail_of recording.new ≡ tail_of recording.old) × (count_of recording.new ≡ count_of recording.old) }
+    ensures looked { (D.disk (device_of recording.old)).honest →
+        HasLooked (D.disk (device_of recording.old)) (D.disk (device_of recording.new)) }
+    ensures same { (full_of recording.new ≡ full_of recording.old) × (tail_of recording.new ≡ tail_of recording.old) ×
+        (count_of recording.new ≡ count_of recording.old) }
     ensures broken { (is_broken recording.new ≡ true) ↔ IsErrOf result WriteRecordedError.Device }
     ensures cause { IfErr result (λ why. (why ≡ Device) ⊎ (why ≡ Output)) }
-    ensures answered { HasAnswered faults_after (D.disk (device_of recording.old)) (D.disk (device_of recording.new)) result }
+    ensures answered { HasAnswered faults_after (D.disk (device_of recording.old)) (D.disk (device_of recording.new))
+        result }
 {
     if let Err(_) = recording.read_sector(number) {
         return Err(WriteRecordedError::Device);

@@ -43,7 +43,8 @@ pub fn show_lines<D: SectorDevice, W: Write>(
         IsShowCause rom.items (D.disk device) (W.contents out.old) (W.contents out.new) refused.why) }
     ensures memory { IfErr result (λ refused. refused.why ≡ Session Memory → (refused.device ≡ device) ⊎
         ((D.disk device).honest → CanBeLookedAt rom.items (D.disk device))) }
-    ensures answered { HasAnswered (λ refused. faults_after_show refused.why) (D.disk device) (D.disk (left_by result)) result }
+    ensures answered { HasAnswered (λ refused. faults_after_show refused.why) (D.disk device) (D.disk (left_by result))
+        result }
 {
     let cartridge = match Cartridge::read(rom) {
         Ok(cartridge) => cartridge,

@@ -15,7 +15,8 @@ pub(crate) fn numbers_text(
     sectors: u64,
 ) -> Option<ArrayString<128>>
     ensures { IfSome result (λ text.
-        text.bytes ≡ inputs_line inputs ++ (logged_line logged ++ (generation_line generation ++ sectors_line sectors))) }
+        text.bytes ≡
+        inputs_line inputs ++ (logged_line logged ++ (generation_line generation ++ sectors_line sectors))) }
 {
     let mut text = ArrayString::new();
     match write!(

@@ -15,14 +15,6 @@ none_of : (t : Bool) (n : ℕ) → cond t (Some n) None ≡ None → t ≡ false
 none_of true n e = cc
 none_of false n e = refl
 
--- the place is within the list
-pub place_within : (p : ℕ → Bool) (xs : List ℕ) (i : ℕ) → position p xs ≡ Some i → i < length xs
-place_within p xs i e =
-    let f = some_of (nat_lt (position_or_len p xs) (length xs)) (position_or_len p xs) i e in
-    let below : position_or_len p xs < length xs = ltb-true _ _ f.0 in
-    let same : position_or_len p xs ≡ i = f.1 in
-    omega arith
-
 pub cut_at : (p : ℕ → Bool) (xs : List ℕ) (i : ℕ) → position p xs ≡ Some i →
     slice_split p xs ≡ take i xs ∷ slice_split p (take (length xs - (i + 1)) (drop (i + 1) xs))
 cut_at p xs i e =

@@ -18,15 +18,6 @@ no_room true e = true_is_false e
 no_room false e = true_is_false e
 
 module _ {E : Type 0} (m : MemoryState) where
-  -- a read
-  pub read_meets : (at : ℕ) (bytes : List ℕ) (r : Result Unit E) → is_ok r ≡ passes m → OnOk r (bytes ≡ sector_at (memory_disk m).sectors at)
-      → HasRead at bytes (memory_disk m) (memory_disk (read_called m)) r
-  read_meets at bytes r e is = go (passes m)
-    where
-      go : (p : Bool) → HasRead at bytes (memory_disk m) (memory_disk (if p then call_counted m else failed (call_counted m))) r
-      go true = read (Unit {0}) tt m.at_start m.recorded m.faults m.faults at bytes r is
-      go false = read (Unit {0}) tt m.at_start m.recorded m.faults (failed m).faults at bytes r is
-
   -- a write
   pub write_meets : (at : ℕ) (bytes : List ℕ) (r : Result Unit E) → is_ok r ≡ (passes m && has_room m)
       → HasWritten at bytes (memory_disk m) (memory_disk (write_called at bytes m)) r

@@ -35,10 +35,6 @@ goes_on {start} {old} {new} held goes here entails = record {
   past = remembers_then start old new held.throughout held.past goes.past;
 }
 
--- what is known of the images now may be forgotten in part
-pub weaker : {start now : DiskState} {P Q Q' : List (List ℕ) → Type 0} → HoldsThroughout start now P Q → ((c : List (List ℕ)) → Q c → Q' c) → ((c : List (List ℕ)) → Q' c → P c) → HoldsThroughout start now P Q'
-weaker held to entails = record { honest = held.honest; throughout = held.throughout; images = λ c now. to c (held.images c now); entails = entails; past = held.past }
-
 module _ {E : Type 0} where
   pub has_read : {start old new : DiskState} {P Q : List (List ℕ) → Type 0} {at : ℕ} {bytes : List ℕ} {r : Result Unit E} → HoldsThroughout start old P Q → HasRead at bytes old new r → HoldsThroughout start new P Q
   has_read held read = goes_on held read.goes (λ c now. held.images c (read.images c now)) held.entails
@@ -97,27 +93,6 @@ each_since {old} only t here c since = ⊎_elim (λ was. here c (only c was)) (�
 -- and so of a run that is known in full
 pub holds_since : {old new : DiskState} {P : List (List ℕ) → Type 0} → ((c : List (List ℕ)) → old.since old.moment c → old.image c) → Throughout old new P → Remembers old new → ((c : List (List ℕ)) → old.image c → P c) → HoldsSince old new P
 holds_since only t past here = record { each = each_since only t here; moments = t; past = past }
-
--- ---- the cause of an error
-
-module _ {T E : Type 0} where
-  -- a failed call is one
-  pub cause_of_call : (old new : ℕ) (r : Result T E) → old < 2 ^ 64 → CountsFaults old new r → HasCause old new r
-  cause_of_call old new (Ok x) fits c = record { grows = omega (arith, c.ok); cause = λ e. absurd (no_error e) }
-    where
-      no_error : IsErr {T = T} {E = E} (Ok x) → ⊥
-      no_error e = cc
-  cause_of_call old new (Err x) fits c = record {
-    grows = omega (arith, c.err);
-    cause = λ e. elim (cases_lt old (2 ^ 64 - 1)) [ inl lt ↦ inl (omega (arith, c.err)) | inr le ↦ inr (omega (arith, c.err)) ];
-  }
-
-  -- after a part of the run that forgot no fault
-  pub cause_later : (first mid last : ℕ) (r : Result T E) → first ≤ mid → HasCause mid last r → HasCause first last r
-  cause_later first mid last r le c = record {
-    grows = omega (arith, c.grows);
-    cause = λ e. ⊎_elim (λ more. inl (omega arith)) (λ top. inr top) (c.cause e);
-  }
 
 -- ---- honesty
 

@@ -121,7 +121,8 @@ impl FileDevice {
     /// The sector as the file gives it, if that is what was found or written there.
     fn read_sector(&self, at: u64, buffer: &mut [u8; 512]) -> bool
         requires { at < length self.now.history.found }
-        ensures { IsTrue result → buffer.new ≡ sector_at (replayed self.now.history.found self.now.history.calls).reads at }
+        ensures { IsTrue result →
+            buffer.new ≡ sector_at (replayed self.now.history.found self.now.history.calls).reads at }
     {
         if self.file.read_exact_at(buffer, 512 * at).is_err() {
             return false;

@@ -15,7 +15,8 @@ pub fn memory_keeps_the_disk_model()
     ensures sectors { (d : MemoryDevice) →
         (⟦<MemoryDevice as SectorDevice>⟧.disk d).sectors ≡ (replayed (memory d).at_start (memory d).recorded).reads }
     ensures images { (d : MemoryDevice) (c : List (List ℕ)) →
-        (⟦<MemoryDevice as SectorDevice>⟧.disk d).image c ↔ IsCutOf (replayed (memory d).at_start (memory d).recorded) c }
+        (⟦<MemoryDevice as SectorDevice>⟧.disk d).image c ↔
+        IsCutOf (replayed (memory d).at_start (memory d).recorded) c }
 {}
 
 /// Law: what `SectorDevice` says of a device in a file is what `create` and `attach` say of it. So it is honest exactly under
@@ -23,9 +24,11 @@ pub fn memory_keeps_the_disk_model()
 pub fn file_keeps_the_disk_model()
     ensures honest { (d : FileDevice) → (⟦<FileDevice as SectorDevice>⟧.disk d).honest ↔ (file_disk d).honest }
     ensures sectors { (d : FileDevice) → (⟦<FileDevice as SectorDevice>⟧.disk d).sectors ≡ (file_disk d).sectors }
-    ensures images { (d : FileDevice) (c : List (List ℕ)) → (⟦<FileDevice as SectorDevice>⟧.disk d).image c ↔ (file_disk d).image c }
+    ensures images { (d : FileDevice) (c : List (List ℕ)) →
+        (⟦<FileDevice as SectorDevice>⟧.disk d).image c ↔ (file_disk d).image c }
     ensures moment { (d : FileDevice) → (⟦<FileDevice as SectorDevice>⟧.disk d).moment ≡ (file_disk d).moment }
-    ensures since { (d : FileDevice) (t : ℕ) (c : List (List ℕ)) → (⟦<FileDevice as SectorDevice>⟧.disk d).since t c ↔ (file_disk d).since t c }
+    ensures since { (d : FileDevice) (t : ℕ) (c : List (List ℕ)) →
+        (⟦<FileDevice as SectorDevice>⟧.disk d).since t c ↔ (file_disk d).since t c }
     ensures faults { (d : FileDevice) → (⟦<FileDevice as SectorDevice>⟧.disk d).faults ≡ (file_disk d).faults }
 {}
 

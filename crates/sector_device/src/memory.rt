@@ -81,7 +81,8 @@ impl MemoryDevice {
     /// Its record is empty and has the same room, its fault count is the same, and it has no fuse and no failing call.
     /// `Err` only when out of memory.
     pub fn image(&self, alloc: Global, kept: &[bool]) -> Result<MemoryDevice, AllocError>
-        ensures { IfOk result (λ d. IsNewMemory (image_of (memory self.now) kept.now) (memory self.now).room (memory self.now).faults d) }
+        ensures { IfOk result (λ d.
+            IsNewMemory (image_of (memory self.now) kept.now) (memory self.now).room (memory self.now).faults d) }
     {
         let at_start = Vec::from_slice(alloc, &self.at_start)?;
         let sectors = cut_at(at_start, &self.recorded, kept);
@@ -152,7 +153,8 @@ impl MemoryDevice {
         requires { at < length (replayed self.old.at_start.items self.old.recorded.items).reads }
         ensures state { memory self.new ≡ read_called (memory self.old) }
         ensures passes { result ≡ passes (memory self.old) }
-        ensures bytes { IsTrue result → buffer.new ≡ sector_at (replayed self.old.at_start.items self.old.recorded.items).reads at }
+        ensures bytes { IsTrue result →
+            buffer.new ≡ sector_at (replayed self.old.at_start.items self.old.recorded.items).reads at }
     {
         if !self.count_call().passes {
             self.fail();
@@ -293,7 +295,8 @@ impl SectorDevice for MemoryDevice {
     /// Fails only by the fuse, the failing call or for want of room in the record.
     fn sync(&mut self) -> Result<(), DeviceFault>
         ensures called { HasCalled (memory_disk (memory self.old)) (memory_disk (memory self.new)) result }
-        ensures synced { (memory_disk (memory self.old)).honest → HasSynced (memory_disk (memory self.old)) (memory_disk (memory self.new)) result }
+        ensures synced { (memory_disk (memory self.old)).honest →
+            HasSynced (memory_disk (memory self.old)) (memory_disk (memory self.new)) result }
         ensures device { IfErr result (λ fault. fault ≡ DeviceFault.Device) }
         ensures state { memory self.new ≡ sync_called (memory self.old) }
         ensures passes { is_ok result ≡ (passes (memory self.old) && has_room (memory self.old)) }

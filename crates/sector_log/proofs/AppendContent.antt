@@ -18,7 +18,7 @@ use Rattle.input_entries.specs.Inputs.{inputs, all_input, AllFive}
 use Rattle.log_format.specs.Inputs.{AreInputs, grown, sealed}
 use Rattle.input_entries.proofs.CodeLengths.{AreCodes}
 use Rattle.log_format.proofs.AppendLaw.{EachOldOrNew, each_from_index}
-use Rattle.log_format.proofs.Runs.{Prefix}
+use Rattle.input_entries.proofs.MoreInputs.{Prefix}
 use Rattle.log_format.proofs.Grown.{sealed_sector, length-grown, law_in_area, read_back, whole_grown, inputs_grown, codes_grown}
 use Rattle.std.proofs.lemmas.Bool.{cases_lt}
 use Rattle.std.specs.List.{flat_map}

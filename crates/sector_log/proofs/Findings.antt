@@ -35,16 +35,6 @@ module _ (now : DiskState) (root : Root) (short : Bool) (log : List StoredEntry)
   whole : short ≡ false → found_in (content now.sectors) ≡ (if nat_lt (2 ^ 64 - 1) (root.base + counted 0 log) then Damaged (header_of root) Count else Intact (header_of root))
   whole is = ap found_in here ∙ by_log root body log (sym (ap is_too_small here) ∙ found.too_small_is ∙ is) (sym (ap log_of here) ∙ found.log_is)
 
-  pub found_too_many : short ≡ false → 2 ^ 64 - 1 < root.base + counted 0 log → Damaged (header_of root) Count ≡ found_in (content now.sectors)
-  found_too_many is many =
-      let holds : nat_lt (2 ^ 64 - 1) (root.base + counted 0 log) ≡ true = grind (arith, nat_tests) in
-      sym (whole is ∙ ap (λ (t : Bool). if t then Damaged (header_of root) Count else Intact (header_of root)) holds)
-
-  pub found_sound : short ≡ false → root.base + counted 0 log ≤ 2 ^ 64 - 1 → Intact (header_of root) ≡ found_in (content now.sectors)
-  found_sound is few =
-      let fails : nat_lt (2 ^ 64 - 1) (root.base + counted 0 log) ≡ false = grind (arith, nat_tests) in
-      sym (whole is ∙ ap (λ (t : Bool). if t then Damaged (header_of root) Count else Intact (header_of root)) fails)
-
 pub found_nothing : (now : DiskState) (short : Bool) (log : List StoredEntry) → IsFound now None short log → Nothing ≡ found_in (content now.sectors)
 found_nothing now short log found = sym (ap (λ (r : Option Root). found_in (content_by r now.sectors)) found.chosen_is)
 

@@ -24,21 +24,6 @@ use Rattle.sector_log.proofs.Places.{length-replaced, replaced_at, replaced_befo
 use Rattle.log_format.proofs.Areas.{length-fresh_area, length-log_area, fresh_in_log, fresh_in_blob}
 use Rattle.log_format.proofs.Roots.{root_written}
 
--- the chosen one is no older
-newer_than_second : (a : Option Root) (b r : Root) → newer a (Some b) ≡ Some r → b.generation ≤ r.generation
-newer_than_second None b r is = let same : b ≡ r = cc in omega (arith, ap (λ (x : Root). x.generation) same)
-newer_than_second (Some a) b r is = elim (cases_lt a.generation b.generation) [
-  | inl lt ↦ let yes : nat_lt a.generation b.generation ≡ true = grind (arith, nat_tests) in let same : Some b ≡ Some r = sym (ap (λ (t : Bool). if t then Some b else Some a) yes) ∙ is in let e : b ≡ r = cc in omega (arith, ap (λ (x : Root). x.generation) e)
-  | inr ge ↦ let no : nat_lt a.generation b.generation ≡ false = grind (arith, nat_tests) in let same : Some a ≡ Some r = sym (ap (λ (t : Bool). if t then Some b else Some a) no) ∙ is in let e : a ≡ r = cc in omega (arith, ge, ap (λ (x : Root). x.generation) e)
-]
-
-newer_than_first : (a : Root) (b : Option Root) (r : Root) → newer (Some a) b ≡ Some r → a.generation ≤ r.generation
-newer_than_first a None r is = let same : a ≡ r = cc in omega (arith, ap (λ (x : Root). x.generation) same)
-newer_than_first a (Some b) r is = elim (cases_lt a.generation b.generation) [
-  | inl lt ↦ let yes : nat_lt a.generation b.generation ≡ true = grind (arith, nat_tests) in let same : Some b ≡ Some r = sym (ap (λ (t : Bool). if t then Some b else Some a) yes) ∙ is in let e : b ≡ r = cc in omega (arith, lt, ap (λ (x : Root). x.generation) e)
-  | inr ge ↦ let no : nat_lt a.generation b.generation ≡ false = grind (arith, nat_tests) in let same : Some a ≡ Some r = sym (ap (λ (t : Bool). if t then Some b else Some a) no) ∙ is in let e : a ≡ r = cc in omega (arith, ap (λ (x : Root). x.generation) e)
-]
-
 -- a root that follows wins over what stands in the other slot
 wins_first : (root : Root) (old b : Option Root) → ((r : Root) → newer old b ≡ Some r → root.generation ≡ r.generation + 1) → newer (Some root) b ≡ Some root
 wins_first root old None follows = refl

@@ -29,8 +29,10 @@ fn write_generation<D: SectorDevice>(
     ensures called { HasCalled (D.disk device.old) (D.disk device.new) result }
     ensures moments { (D.disk device.old).honest → Settled (D.disk device.old) →
         IsNextGeneration (D.disk device.old).sectors start root.now blob.now →
-        Throughout (D.disk device.old) (D.disk device.new) (HasOldOrNewContent (D.disk device.old).sectors root.now.id root.now.base blob.now) }
-    ensures past { (D.disk device.old).honest → Settled (D.disk device.old) → Remembers (D.disk device.old) (D.disk device.new) }
+        Throughout (D.disk device.old) (D.disk device.new)
+        (HasOldOrNewContent (D.disk device.old).sectors root.now.id root.now.base blob.now) }
+    ensures past { (D.disk device.old).honest → Settled (D.disk device.old) →
+        Remembers (D.disk device.old) (D.disk device.new) }
     ensures begun { OnOk result ((D.disk device.old).honest → Settled (D.disk device.old) →
         IsNextGeneration (D.disk device.old).sectors start root.now blob.now →
         HasBegun (D.disk device.old) (D.disk device.new) root.now.id root.now.base blob.now) }
@@ -79,13 +81,17 @@ pub(crate) fn begin_generation<D: SectorDevice>(
     requires can { CanBegin (length blob.now) (length (D.disk device.old).sectors) last }
 
     ensures called { HasCalled (D.disk device.old) (D.disk device.new) result }
-    ensures moments { (D.disk device.old).honest → Settled (D.disk device.old) → last ≡ generation_in (D.disk device.old).sectors →
-        Throughout (D.disk device.old) (D.disk device.new) (HasOldOrNewContent (D.disk device.old).sectors id base blob.now) }
-    ensures past { (D.disk device.old).honest → Settled (D.disk device.old) → Remembers (D.disk device.old) (D.disk device.new) }
+    ensures moments { (D.disk device.old).honest → Settled (D.disk device.old) →
+        last ≡ generation_in (D.disk device.old).sectors →
+        Throughout (D.disk device.old) (D.disk device.new)
+        (HasOldOrNewContent (D.disk device.old).sectors id base blob.now) }
+    ensures past { (D.disk device.old).honest → Settled (D.disk device.old) →
+        Remembers (D.disk device.old) (D.disk device.new) }
     ensures root { IfOk result (λ begun. begun.root ≡ root_after last id base (length blob.now)) }
     ensures placed { IfOk result (λ begun. (begun.start + log_sectors_per_area ≤ length (D.disk device.new).sectors) ×
         (begun.start + log_sectors_per_area < 2 ^ 64)) }
-    ensures begun { IfOk result (λ _. (D.disk device.old).honest → Settled (D.disk device.old) → last ≡ generation_in (D.disk device.old).sectors →
+    ensures begun { IfOk result (λ _.
+        (D.disk device.old).honest → Settled (D.disk device.old) → last ≡ generation_in (D.disk device.old).sectors →
         HasBegun (D.disk device.old) (D.disk device.new) id base blob.now) }
     ensures stored { IfOk result (λ begun. (D.disk device.old).honest → Settled (D.disk device.old) →
         last ≡ generation_in (D.disk device.old).sectors →

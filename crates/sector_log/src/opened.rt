@@ -42,7 +42,8 @@ impl<D: SectorDevice> Opened<D> {
     /// What reads give: nothing, a content, or a damaged content.
     pub fn found(&self) -> Found
         ensures seen { result ≡ (seen self.now).found }
-        ensures reads { (D.disk (device_under self.now)).honest → result ≡ found_in (content (D.disk (device_under self.now)).sectors) }
+        ensures reads { (D.disk (device_under self.now)).honest →
+            result ≡ found_in (content (D.disk (device_under self.now)).sectors) }
     {
         let Some(root) = self.root else {
             return Found::Nothing;
@@ -66,7 +67,8 @@ impl<D: SectorDevice> Opened<D> {
     /// The generation of the chosen root; 0 if there is none.
     pub fn generation(&self) -> u64
         ensures generation { result ≡ found_generation self.now }
-        ensures found { (D.disk (device_under self.now)).honest → result ≡ generation_in (D.disk (device_under self.now)).sectors }
+        ensures found { (D.disk (device_under self.now)).honest →
+            result ≡ generation_in (D.disk (device_under self.now)).sectors }
     {
         last_generation(self.root)
     }
@@ -75,7 +77,8 @@ impl<D: SectorDevice> Opened<D> {
     #[tactic(auto, unfolding(crate::specs::Accessors::seen))]
     pub fn entries(&self) -> &[StoredEntry]
         ensures seen { result.now ≡ (seen self.now).log }
-        ensures reads { (D.disk (device_under self.now)).honest → log_of (content (D.disk (device_under self.now)).sectors) ≡ result.now }
+        ensures reads { (D.disk (device_under self.now)).honest →
+            log_of (content (D.disk (device_under self.now)).sectors) ≡ result.now }
     {
         &self.log
     }
@@ -117,12 +120,16 @@ impl<D: SectorDevice> Opened<D> {
     pub fn begin(self, id: [u8; 32], base: u64, blob: &[u8]) -> Result<Store<D>, Refused<D>>
         requires { length blob.now < 2 ^ 32 }
         ensures images { (D.disk (device_under self)).honest →
-            HoldsSince (D.disk (device_under self)) (D.disk (left_by_begin result)) (HasOldOrNewContent (D.disk (device_under self)).sectors id base blob.now) }
-        ensures begun { IfOk result (λ store. HasBegunStore (D.disk (device_under self)) (D.disk (device_of store)) self id base blob.now store) }
+            HoldsSince (D.disk (device_under self)) (D.disk (left_by_begin result))
+            (HasOldOrNewContent (D.disk (device_under self)).sectors id base blob.now) }
+        ensures begun { IfOk result (λ store.
+            HasBegunStore (D.disk (device_under self)) (D.disk (device_of store)) self id base blob.now store) }
         ensures cause { IfErr result (λ refused.
-            IsBeginCause refused.why (length blob.now) (length (D.disk (device_under self)).sectors) (found_generation self)) }
+            IsBeginCause refused.why (length blob.now) (length (D.disk (device_under self)).sectors)
+            (found_generation self)) }
         ensures untouched { IfErr result (λ refused. (refused.why ≡ Device) ⊎ (refused.device ≡ device_under self)) }
-        ensures answered { HasAnswered (λ refused. faults_after refused.why) (D.disk (device_under self)) (D.disk (left_by_begin result)) result }
+        ensures answered { HasAnswered (λ refused. faults_after refused.why) (D.disk (device_under self))
+            (D.disk (left_by_begin result)) result }
     {
         let Opened {
             mut device,

@@ -23,8 +23,10 @@ pub fn open_log<D: SectorDevice>(
 ) -> Result<Opened<D>, Refused<D>>
     ensures looked { (D.disk device).honest → HasLooked (D.disk device) (D.disk (left_by_open result)) }
     ensures opened { IfOk result (λ opened. HasOpened (D.disk device) (D.disk (device_under opened)) most opened) }
-    ensures cause { IfErr result (λ refused. (refused.why ≡ Memory × refused.device ≡ device) ⊎ (refused.why ≡ Device)) }
-    ensures answered { HasAnswered (λ refused. faults_after refused.why) (D.disk device) (D.disk (left_by_open result)) result }
+    ensures cause { IfErr result (λ refused.
+        (refused.why ≡ Memory × refused.device ≡ device) ⊎ (refused.why ≡ Device)) }
+    ensures answered { HasAnswered (λ refused. faults_after refused.why) (D.disk device) (D.disk (left_by_open result))
+        result }
 {
     let mut device = device;
     let Ok(mut log) = Vec::with_capacity(alloc, MOST_ENTRIES_READ) else {

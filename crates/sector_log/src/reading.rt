@@ -86,7 +86,8 @@ pub(crate) fn read_chosen_log<D: SectorDevice>(
     ensures looked { (D.disk device.old).honest → LooksOnly (D.disk device.old) (D.disk device.new) }
     ensures capacity { vec_capacity log.old ≤ vec_capacity log.new }
     ensures few { length log.new.items ≤ most_entries_read }
-    ensures found { IfOk result (λ found. (D.disk device.old).honest → IsFound (D.disk device.new) found.root found.too_small log.new.items) }
+    ensures found { IfOk result (λ found.
+        (D.disk device.old).honest → IsFound (D.disk device.new) found.root found.too_small log.new.items) }
 {
     sync_once(device)?;
     let count = device.count();

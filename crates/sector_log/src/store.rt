@@ -87,11 +87,15 @@ impl<D: SectorDevice> Store<D> {
     pub fn append(&mut self, more: &[Entry]) -> Result<(), LogFault>
         requires { all_input more.now }
         ensures images { is_broken self.old ≡ false → (D.disk (device_of self.old)).honest →
-            HoldsSince (D.disk (device_of self.old)) (D.disk (device_of self.new)) (HoldsPrefix (D.disk (device_of self.old)).sectors more.now) }
+            HoldsSince (D.disk (device_of self.old)) (D.disk (device_of self.new))
+            (HoldsPrefix (D.disk (device_of self.old)).sectors more.now) }
         ensures writes { is_broken self.old ≡ false → (D.disk (device_of self.old)).honest →
-            HoldsSince (D.disk (device_of self.old)) (D.disk (device_of self.new)) (ChangesOpenLog (D.disk (device_of self.old)).sectors (length (entries_of self.old))) }
-        ensures appended { OnOk result (HasAppended (D.disk (device_of self.old)) (D.disk (device_of self.new)) self.old self.new more.now) }
-        ensures cause { IfErr result (λ why. IsAppendCause why (is_broken self.old) (fits (entries_of self.old) more.now)) }
+            HoldsSince (D.disk (device_of self.old)) (D.disk (device_of self.new))
+            (ChangesOpenLog (D.disk (device_of self.old)).sectors (length (entries_of self.old))) }
+        ensures appended { OnOk result
+            (HasAppended (D.disk (device_of self.old)) (D.disk (device_of self.new)) self.old self.new more.now) }
+        ensures cause { IfErr result (λ why.
+            IsAppendCause why (is_broken self.old) (fits (entries_of self.old) more.now)) }
         ensures unchanged { IfErr result (λ why. (why ≡ Device) ⊎ (self.new ≡ self.old)) }
         ensures nothing { length more.now ≡ 0 → self.new ≡ self.old }
         ensures broken { (is_broken self.new ≡ true) ↔ ((is_broken self.old ≡ true) ⊎ IsErrOf result LogFault.Device) }
@@ -126,8 +130,10 @@ impl<D: SectorDevice> Store<D> {
     pub fn replace(&mut self, base: u64, blob: &[u8]) -> Result<(), LogFault>
         requires { length blob.now < 2 ^ 32 }
         ensures images { is_broken self.old ≡ false → (D.disk (device_of self.old)).honest →
-            HoldsSince (D.disk (device_of self.old)) (D.disk (device_of self.new)) (HasOldOrNewContent (D.disk (device_of self.old)).sectors (id_of self.old) base blob.now) }
-        ensures replaced { OnOk result (HasReplaced (D.disk (device_of self.old)) (D.disk (device_of self.new)) self.old self.new base blob.now) }
+            HoldsSince (D.disk (device_of self.old)) (D.disk (device_of self.new))
+            (HasOldOrNewContent (D.disk (device_of self.old)).sectors (id_of self.old) base blob.now) }
+        ensures replaced { OnOk result
+            (HasReplaced (D.disk (device_of self.old)) (D.disk (device_of self.new)) self.old self.new base blob.now) }
         ensures cause { IfErr result (λ why.
             IsReplaceCause why (is_broken self.old) (length blob.now) (length (D.disk (device_of self.old)).sectors)
             (generation_of self.old)) }

@@ -41,7 +41,8 @@ pub(crate) fn write_log<D: SectorDevice>(
         HoldsThroughout (D.disk device.old) (D.disk device.new) (Mixed old new) (Mixed old new)) }
     ensures written { OnOk result ((D.disk device.old).honest → Settled (D.disk device.old) →
         (let old = (D.disk device.old).sectors in let new = replaced start (log_area log.now) old in
-        ((k : ℕ) → k < start + first → sector_at old k ≡ sector_at new k) → WrittenUpTo old new (start + end) (D.disk device.new).sectors)) }
+        ((k : ℕ) → k < start + first → sector_at old k ≡ sector_at new k) →
+        WrittenUpTo old new (start + end) (D.disk device.new).sectors)) }
 {
     for index in first..end {
         let entries = chunk(log, index);

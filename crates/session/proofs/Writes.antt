@@ -36,8 +36,3 @@ pub written_behind : (fits : Bool) (old new : DiskState) (entries : List Entry) 
     → IsAppended old new entries → after ≡ grown log entries → log_of (content new.sectors) ≡ after → IsWritten fits old new entries id all blob log after
 written_behind fits old new entries id all blob log after is appended entries_are reads =
     subst (λ b. IsWritten b old new entries id all blob log after) (sym is) (appended, entries_are, reads)
-
-pub written_anew : (fits : Bool) (old new : DiskState) (entries : List Entry) (id : List ℕ) (all : ℕ) (written blob : List ℕ) (log after : List StoredEntry) → fits ≡ false
-    → written ≡ blob → HasBegun old new id all written → after ≡ [] → IsWritten fits old new entries id all blob log after
-written_anew fits old new entries id all written blob log after is same begun empty =
-    subst (λ b. IsWritten b old new entries id all blob log after) (sym is) (subst (λ b. HasBegun old new id all b) same begun, empty)

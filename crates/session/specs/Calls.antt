@@ -30,10 +30,6 @@ pub record IsAtRest (rom : List ℕ) (now : DiskState) (acknowledged : ℕ) (pen
 abbrev pub game_content : (rom : List ℕ) → MachineState → ImageContent
 game_content rom machine = new_generation (sha256 rom) 0 (encoded machine)
 
--- at power-on
-abbrev pub new_game_content : (rom : List ℕ) → ImageContent
-new_game_content rom = game_content rom (start rom)
-
 -- the image has the content of one that stood before
 pub record HasContentOf (old : DiskState) (image : List (List ℕ)) : Type 0 where
   pub before : List (List ℕ)

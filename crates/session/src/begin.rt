@@ -84,7 +84,8 @@ pub(crate) fn room_with(alloc: Global, encoded: Vec<u8>) -> Result<Room, AllocEr
 pub(crate) fn make_room(alloc: Global, cartridge: &Cartridge) -> Result<Room, AllocError>
     ensures pending { IfOk result (λ room. (room.pending.items ≡ []) × (most_unsaved ≤ vec_capacity room.pending)) }
     ensures encoded { IfOk result (λ room.
-        (length room.encoded.items ≡ snapshot_length (ram_length_of cartridge.now)) × (length room.encoded.items < 2 ^ 32)) }
+        (length room.encoded.items ≡ snapshot_length (ram_length_of cartridge.now)) ×
+        (length room.encoded.items < 2 ^ 32)) }
 {
     let encoded = blank_snapshot(alloc, cartridge)?;
     room_with(alloc, encoded)
@@ -116,25 +117,29 @@ pub fn new_game<D: SectorDevice>(
     ensures machine { IfOk result (λ s. (machine_of s ≡ start cartridge.now) × (rom_of s ≡ cartridge.now)) }
 
     // what the device stands for, at Ok and at each moment
-    ensures rests { IfOk result (λ s. (D.disk device).honest → IsAtRest cartridge.now (D.disk (device_of s)) 0 [] (start cartridge.now)) }
+    ensures rests { IfOk result (λ s.
+        (D.disk device).honest → IsAtRest cartridge.now (D.disk (device_of s)) 0 [] (start cartridge.now)) }
     ensures images { (D.disk device).honest →
         HoldsSince (D.disk device) (D.disk (left_by result)) (HasOldContentOrNewGame cartridge.now (D.disk device)) }
     ensures untouched { IfErr result (λ refused. (refused.why ≡ Device) ⊎
         ((D.disk device).honest → HoldsSince (D.disk device) (D.disk refused.device) (D.disk device).image)) }
 
     // when it is refused
-    ensures can { IfOk result (λ s. (need (snapshot_length (ram_length_of cartridge.now)) ≤ length (D.disk device).sectors) ×
+    ensures can { IfOk result (λ s.
+        (need (snapshot_length (ram_length_of cartridge.now)) ≤ length (D.disk device).sectors) ×
         ((D.disk device).honest → generation_in (D.disk device).sectors < 2 ^ 64 - 1)) }
     ensures cause { IfErr result (λ refused.
         IsNewGameCause (snapshot_length (ram_length_of cartridge.now)) (length (D.disk device).sectors) refused.why) }
-    ensures worn { IfErr result (λ refused. refused.why ≡ GenerationsUsedUp → (D.disk device).honest → generation_in (D.disk device).sectors ≡ 2 ^ 64 - 1) }
+    ensures worn { IfErr result (λ refused.
+        refused.why ≡ GenerationsUsedUp → (D.disk device).honest → generation_in (D.disk device).sectors ≡ 2 ^ 64 - 1) }
 
     // before all other causes, or once none of them holds
     ensures memory { IfErr result (λ refused. refused.why ≡ Memory → refused.device ≡ device) }
     ensures failed { IfErr result (λ refused. refused.why ≡ Device → ((D.disk device).honest →
         HasLooked (D.disk device) (D.disk refused.device)) ⊎ CanBeginGame cartridge.now (D.disk device)) }
 
-    ensures answered { HasAnswered (λ refused. faults_after refused.why) (D.disk device) (D.disk (left_by result)) result }
+    ensures answered { HasAnswered (λ refused. faults_after refused.why) (D.disk device) (D.disk (left_by result))
+        result }
 {
     let Ok(machine) = machine_at_power_on(alloc, cartridge) else {
         return Err(Refused {
@@ -165,25 +170,30 @@ pub fn new_game_from<D: SectorDevice>(
     ensures machine { IfOk result (λ s. (machine_of s ≡ machine) × (rom_of s ≡ cartridge.now)) }
 
     // what the device stands for, at Ok and at each moment
-    ensures rests { IfOk result (λ s. (D.disk device).honest → IsAtRest cartridge.now (D.disk (device_of s)) 0 [] machine) }
+    ensures rests { IfOk result (λ s.
+        (D.disk device).honest → IsAtRest cartridge.now (D.disk (device_of s)) 0 [] machine) }
     ensures images { (D.disk device).honest →
-        HoldsSince (D.disk device) (D.disk (left_by result)) (HasOldContentOrGame cartridge.now machine (D.disk device)) }
+        HoldsSince (D.disk device) (D.disk (left_by result))
+        (HasOldContentOrGame cartridge.now machine (D.disk device)) }
     ensures untouched { IfErr result (λ refused. (refused.why ≡ Device) ⊎
         ((D.disk device).honest → HoldsSince (D.disk device) (D.disk refused.device) (D.disk device).image)) }
 
     // when it is refused
-    ensures can { IfOk result (λ s. (need (snapshot_length (ram_length_of cartridge.now)) ≤ length (D.disk device).sectors) ×
+    ensures can { IfOk result (λ s.
+        (need (snapshot_length (ram_length_of cartridge.now)) ≤ length (D.disk device).sectors) ×
         ((D.disk device).honest → generation_in (D.disk device).sectors < 2 ^ 64 - 1)) }
     ensures cause { IfErr result (λ refused.
         IsNewGameCause (snapshot_length (ram_length_of cartridge.now)) (length (D.disk device).sectors) refused.why) }
-    ensures worn { IfErr result (λ refused. refused.why ≡ GenerationsUsedUp → (D.disk device).honest → generation_in (D.disk device).sectors ≡ 2 ^ 64 - 1) }
+    ensures worn { IfErr result (λ refused.
+        refused.why ≡ GenerationsUsedUp → (D.disk device).honest → generation_in (D.disk device).sectors ≡ 2 ^ 64 - 1) }
 
     // before all other causes, or once none of them holds
     ensures memory { IfErr result (λ refused. refused.why ≡ Memory → refused.device ≡ device) }
     ensures failed { IfErr result (λ refused. refused.why ≡ Device → ((D.disk device).honest →
         HasLooked (D.disk device) (D.disk refused.device)) ⊎ CanBeginGame cartridge.now (D.disk device)) }
 
-    ensures answered { HasAnswered (λ refused. faults_after refused.why) (D.disk device) (D.disk (left_by result)) result }
+    ensures answered { HasAnswered (λ refused. faults_after refused.why) (D.disk device) (D.disk (left_by result))
+        result }
 {
     let Ok(room) = make_room(alloc, cartridge) else {
         return Err(Refused {
@@ -212,21 +222,27 @@ pub(crate) fn begin_with<D: SectorDevice>(
     requires rom { machine.processor.memory.banks.rom ≡ cartridge.now }
     requires own { IsOfItsRom machine }
     requires pending { (room.pending.items ≡ []) × (most_unsaved ≤ vec_capacity room.pending) }
-    requires encoded { (length room.encoded.items ≡ snapshot_length (ram_length_of cartridge.now)) × (length room.encoded.items < 2 ^ 32) }
+    requires encoded { (length room.encoded.items ≡ snapshot_length (ram_length_of cartridge.now)) ×
+        (length room.encoded.items < 2 ^ 32) }
 
-    ensures begun { IfOk result (λ s. (acknowledged_of s ≡ count) × (pending_of s ≡ []) × (is_broken s ≡ false) × (machine_of s ≡ machine)) }
+    ensures begun { IfOk result (λ s.
+        (acknowledged_of s ≡ count) × (pending_of s ≡ []) × (is_broken s ≡ false) × (machine_of s ≡ machine)) }
     ensures of { IsMachineOf cartridge.now machine }
     ensures new { IfOk result (λ s. (D.disk (device_under opened)).honest →
         HasBegun (D.disk (device_under opened)) (D.disk (device_of s)) (sha256 cartridge.now) count (encoded machine)) }
     ensures images { (D.disk (device_under opened)).honest →
-        HoldsSince (D.disk (device_under opened)) (D.disk (left_by result)) (HasOldOrNewContent (D.disk (device_under opened)).sectors (sha256 cartridge.now) count (encoded machine)) }
+        HoldsSince (D.disk (device_under opened)) (D.disk (left_by result))
+        (HasOldOrNewContent (D.disk (device_under opened)).sectors (sha256 cartridge.now) count (encoded machine)) }
     ensures untouched { IfErr result (λ refused. (refused.why ≡ Device) ⊎ (refused.device ≡ device_under opened)) }
     ensures can { IfOk result (λ s.
-        CanBegin (snapshot_length (ram_length_of cartridge.now)) (length (D.disk (device_under opened)).sectors) (found_generation opened)) }
-    ensures cause { IfErr result (λ refused.
-        IsBeginRefusal refused.why (snapshot_length (ram_length_of cartridge.now)) (length (D.disk (device_under opened)).sectors)
+        CanBegin (snapshot_length (ram_length_of cartridge.now)) (length (D.disk (device_under opened)).sectors)
         (found_generation opened)) }
-    ensures answered { HasAnswered (λ refused. faults_after refused.why) (D.disk (device_under opened)) (D.disk (left_by result)) result }
+    ensures cause { IfErr result (λ refused.
+        IsBeginRefusal refused.why (snapshot_length (ram_length_of cartridge.now))
+        (length (D.disk (device_under opened)).sectors)
+        (found_generation opened)) }
+    ensures answered { HasAnswered (λ refused. faults_after refused.why) (D.disk (device_under opened))
+        (D.disk (left_by result)) result }
 {
     let Room {
         pending,

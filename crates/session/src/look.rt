@@ -58,7 +58,8 @@ impl<D: SectorDevice> Look<D> {
         requires recovered { IsRecovered machine.processor.memory.banks.rom (seen opened) 0 count machine }
         requires room { length room.items ≡ snapshot_length (ram_length_of machine.processor.memory.banks.rom) }
         requires short { length room.items < 2 ^ 32 }
-        requires looks { LooksAt (D.disk (device_under opened)) (found_generation opened) count (length (inputs (seen opened).log)) machine }
+        requires looks { LooksAt (D.disk (device_under opened)) (found_generation opened) count
+            (length (inputs (seen opened).log)) machine }
         ensures opened { result.opened ≡ opened }
         ensures machine { result.machine ≡ machine }
         ensures count { (result.count ≡ count) × (result.logged ≡ length (inputs (seen opened).log)) }
@@ -114,7 +115,8 @@ impl<D: SectorDevice> Look<D> {
     pub fn device(&self) -> &D
         ensures device { result.now ≡ device_of_look self.now }
         ensures rests { (D.disk (device_of_look self.now)).honest →
-            IsAtRest (rom_of_look self.now) (D.disk (device_of_look self.now)) (count_of_look self.now) [] (machine_of_look self.now) }
+            IsAtRest (rom_of_look self.now) (D.disk (device_of_look self.now)) (count_of_look self.now) []
+            (machine_of_look self.now) }
     {
         self.opened.device()
     }
@@ -137,21 +139,25 @@ impl<D: SectorDevice> Look<D> {
 
         // what is taken up
         ensures begun { IfOk result (λ s. (pending_of s ≡ []) × (is_broken s ≡ false) × (rom_of s ≡ cartridge.now)) }
-        ensures same { IfOk result (λ s. (acknowledged_of s ≡ count_of_look self) × (machine_of s ≡ machine_of_look self)) }
+        ensures same { IfOk result (λ s.
+            (acknowledged_of s ≡ count_of_look self) × (machine_of s ≡ machine_of_look self)) }
         ensures of { IfOk result (λ s. IsMachineOf cartridge.now (machine_of s)) }
 
         // what the device stands for, at Ok and at each moment
         ensures rests { IfOk result (λ s. (D.disk (device_of_look self)).honest →
             IsAtRest cartridge.now (D.disk (device_of s)) (acknowledged_of s) [] (machine_of s)) }
         ensures images { (D.disk (device_of_look self)).honest →
-            HoldsSince (D.disk (device_of_look self)) (D.disk (left_by result)) (StandsAsBefore cartridge.now (D.disk (device_of_look self))) }
+            HoldsSince (D.disk (device_of_look self)) (D.disk (left_by result))
+            (StandsAsBefore cartridge.now (D.disk (device_of_look self))) }
         ensures untouched { IfErr result (λ refused. (refused.why ≡ Device) ⊎ (refused.device ≡ device_of_look self)) }
 
         // when it is refused
         ensures can { IfOk result (λ s. generation_of_look self < 2 ^ 64 - 1) }
-        ensures cause { IfErr result (λ refused. (D.disk (device_of_look self)).honest → IsTakeUpCause (generation_of_look self) refused.why) }
+        ensures cause { IfErr result (λ refused.
+            (D.disk (device_of_look self)).honest → IsTakeUpCause (generation_of_look self) refused.why) }
 
-        ensures answered { HasAnswered (λ refused. faults_after refused.why) (D.disk (device_of_look self)) (D.disk (left_by result)) result }
+        ensures answered { HasAnswered (λ refused. faults_after refused.why) (D.disk (device_of_look self))
+            (D.disk (left_by result)) result }
     {
         let Look {
             opened,

@@ -36,7 +36,8 @@ pub fn look_at<D: SectorDevice>(
     // what is seen
     ensures of { IfOk result (λ look. IsMachineOf cartridge.now (machine_of_look look)) }
     ensures stands { IfOk result (λ look. (D.disk device).honest →
-        stands cartridge.now (content (D.disk device).sectors) ≡ Some (record { count = count_of_look look; machine = machine_of_look look })) }
+        stands cartridge.now (content (D.disk device).sectors) ≡
+        Some (record { count = count_of_look look; machine = machine_of_look look })) }
     ensures log { IfOk result (λ look. (D.disk device).honest →
         (logged_of_look look ≡ length (inputs (log_of (content (D.disk device).sectors)))) ×
         (generation_of_look look ≡ generation_in (D.disk device).sectors)) }
@@ -49,7 +50,8 @@ pub fn look_at<D: SectorDevice>(
     ensures memory { IfErr result (λ refused. refused.why ≡ Memory → (refused.device ≡ device) ⊎
         ((D.disk device).honest → CanBeLookedAt cartridge.now (D.disk device))) }
 
-    ensures answered { HasAnswered (λ refused. faults_after refused.why) (D.disk device) (D.disk (left_by_look result)) result }
+    ensures answered { HasAnswered (λ refused. faults_after refused.why) (D.disk device) (D.disk (left_by_look result))
+        result }
 {
     let Ok(room) = blank_snapshot(alloc, cartridge) else {
         return Err(Refused {

@@ -112,7 +112,8 @@ fn rebuilt(
 ) -> Result<(u64, Machine), SessionError>
     requires few { length log.now ≤ most_entries_read }
     requires counts { header.now.base + counted 0 log.now < 2 ^ 64 }
-    ensures ok { IfOk result (λ found. IsRebuilt cartridge.now header.now encoded.now log.now generation found.0 found.1) }
+    ensures ok { IfOk result (λ found.
+        IsRebuilt cartridge.now header.now encoded.now log.now generation found.0 found.1) }
     ensures fits { IfOk result (λ found. found.0 < 2 ^ 64) }
     ensures err { IfErr result (IsRebuildCause cartridge.now encoded.now log.now generation) }
 {

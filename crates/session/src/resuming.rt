@@ -35,11 +35,14 @@ pub fn resume<D: SectorDevice>(
     ensures begun { IfOk result (λ s. (pending_of s ≡ []) × (is_broken s ≡ false) × (rom_of s ≡ cartridge.now)) }
     ensures of { IfOk result (λ s. IsMachineOf cartridge.now (machine_of s)) }
     ensures stands { IfOk result (λ s. (D.disk device).honest →
-        stands cartridge.now (content (D.disk device).sectors) ≡ Some (record { count = acknowledged_of s; machine = machine_of s })) }
+        stands cartridge.now (content (D.disk device).sectors) ≡
+        Some (record { count = acknowledged_of s; machine = machine_of s })) }
 
     // what the device stands for, at Ok and at each moment
-    ensures rests { IfOk result (λ s. (D.disk device).honest → IsAtRest cartridge.now (D.disk (device_of s)) (acknowledged_of s) [] (machine_of s)) }
-    ensures images { (D.disk device).honest → HoldsSince (D.disk device) (D.disk (left_by result)) (StandsAsBefore cartridge.now (D.disk device)) }
+    ensures rests { IfOk result (λ s.
+        (D.disk device).honest → IsAtRest cartridge.now (D.disk (device_of s)) (acknowledged_of s) [] (machine_of s)) }
+    ensures images { (D.disk device).honest →
+        HoldsSince (D.disk device) (D.disk (left_by result)) (StandsAsBefore cartridge.now (D.disk device)) }
     ensures nothing { (D.disk device).honest → stands cartridge.now (content (D.disk device).sectors) ≡ None →
         HoldsSince (D.disk device) (D.disk (left_by result)) (D.disk device).image }
     ensures kept { IfErr result (λ refused. (refused.why ≡ Device) ⊎
@@ -50,7 +53,8 @@ pub fn resume<D: SectorDevice>(
     // when it is refused
     ensures can { IfOk result (λ s. (D.disk device).honest → generation_in (D.disk device).sectors < 2 ^ 64 - 1) }
     ensures cause { IfErr result (λ refused. (D.disk device).honest →
-        IsResumeCause cartridge.now (generation_in (D.disk device).sectors) (content (D.disk device).sectors) refused.why) }
+        IsResumeCause cartridge.now (generation_in (D.disk device).sectors) (content (D.disk device).sectors)
+        refused.why) }
 
     // before all other causes, or once none of them holds
     ensures memory { IfErr result (λ refused. refused.why ≡ Memory → (refused.device ≡ device) ⊎
@@ -58,7 +62,8 @@ pub fn resume<D: SectorDevice>(
     ensures failed { IfErr result (λ refused. refused.why ≡ Device → (D.disk device).honest →
         HasLooked (D.disk device) (D.disk refused.device) ⊎ CanBeTakenUp cartridge.now (D.disk device)) }
 
-    ensures answered { HasAnswered (λ refused. faults_after refused.why) (D.disk device) (D.disk (left_by result)) result }
+    ensures answered { HasAnswered (λ refused. faults_after refused.why) (D.disk device) (D.disk (left_by result))
+        result }
 {
     let Ok(room) = make_room(alloc, cartridge) else {
         return Err(Refused {

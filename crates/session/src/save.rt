@@ -53,13 +53,18 @@ pub(crate) fn write_pending<D: SectorDevice>(
     requires short { length buffer.old < 2 ^ 32 }
     requires large { need (length buffer.old) ≤ length (D.disk (device_of store.old)).sectors }
 
-    ensures cause { IfErr result (λ why. IsSaveCause why false (fits_log (entries_of store.old) pending.now) (generation_of store.old)) }
+    ensures cause { IfErr result (λ why.
+        IsSaveCause why false (fits_log (entries_of store.old) pending.now) (generation_of store.old)) }
     ensures unchanged { IfErr result (λ why. (why ≡ SessionError.Device) ⊎ (store.new ≡ store.old)) }
     ensures broken { (is_broken store.new ≡ true) ↔ IsErrOf result SessionError.Device }
     ensures images { (D.disk (device_of store.old)).honest →
-        HoldsSince (D.disk (device_of store.old)) (D.disk (device_of store.new)) (HoldsWritten (fits_log (entries_of store.old) pending.now) (D.disk (device_of store.old)).sectors pending.now (id_of store.old) all (encoded machine.now)) }
+        HoldsSince (D.disk (device_of store.old)) (D.disk (device_of store.new))
+        (HoldsWritten (fits_log (entries_of store.old) pending.now) (D.disk (device_of store.old)).sectors pending.now
+        (id_of store.old) all (encoded machine.now)) }
     ensures written { OnOk result ((D.disk (device_of store.old)).honest →
-        IsWritten (fits_log (entries_of store.old) pending.now) (D.disk (device_of store.old)) (D.disk (device_of store.new)) pending.now (id_of store.old) all (encoded machine.now) (entries_of store.old) (entries_of store.new)) }
+        IsWritten (fits_log (entries_of store.old) pending.now) (D.disk (device_of store.old))
+        (D.disk (device_of store.new)) pending.now (id_of store.old) all (encoded machine.now) (entries_of store.old)
+        (entries_of store.new)) }
     ensures legal { fits_log (entries_of store.old) pending.now ≡ false → IsLegalMachine machine.now }
     ensures id { id_of store.new ≡ id_of store.old }
     ensures answered { HasAnswered faults_after (D.disk (device_of store.old)) (D.disk (device_of store.new)) result }

@@ -79,7 +79,8 @@ impl<D: SectorDevice> Session<D> {
         requires large { need (length encoded.items) ≤ length (D.disk (device_of_store store)).sectors }
         requires id { id_of store ≡ sha256 machine.processor.memory.banks.rom }
         requires own { IsOfItsRom machine }
-        requires rests { RestsUnlessBroken (D.disk (device_of_store store)) (entries_of store) acknowledged [] machine false }
+        requires rests { RestsUnlessBroken (D.disk (device_of_store store)) (entries_of store) acknowledged [] machine
+            false }
         ensures store { result.store ≡ store }
         ensures machine { result.machine ≡ machine }
         ensures pending { result.pending.items ≡ [] }
@@ -130,8 +131,10 @@ impl<D: SectorDevice> Session<D> {
     /// the saved inputs; what they lead to with the unsaved ones is said where these can be logged.
     pub fn device(&self) -> &D
         ensures device { result.now ≡ device_of self.now }
-        ensures rests { is_broken self.now ≡ false → can_be_logged (pending_of self.now) ≡ true → (D.disk (device_of self.now)).honest →
-            IsAtRest (rom_of self.now) (D.disk (device_of self.now)) (acknowledged_of self.now) (pending_of self.now) (machine_of self.now) }
+        ensures rests { is_broken self.now ≡ false → can_be_logged (pending_of self.now) ≡ true →
+            (D.disk (device_of self.now)).honest →
+            IsAtRest (rom_of self.now) (D.disk (device_of self.now)) (acknowledged_of self.now) (pending_of self.now)
+            (machine_of self.now) }
     {
         self.store.device()
     }
@@ -153,11 +156,13 @@ impl<D: SectorDevice> Session<D> {
             (acknowledged_of self.old + length (pending_of self.old)) }
         ensures machine { OnOk result (machine_of self.new ≡ applied (as_input input) (machine_of self.old)) }
         ensures pending { OnOk result (pending_of self.new ≡ pending_of self.old ++ entry_of (as_input input) ∷ []) }
-        ensures given { OnOk result (inputs_of (pending_of self.new) ≡ inputs_of (pending_of self.old) ++ as_input input ∷ []) }
+        ensures given { OnOk result (inputs_of (pending_of self.new) ≡
+            inputs_of (pending_of self.old) ++ as_input input ∷ []) }
         ensures logged { OnOk result (can_be_logged (pending_of self.new) ≡ can_be_logged (pending_of self.old)) }
         ensures refused { OnErr result (IsUnchanged self.old self.new) }
         ensures device { device_of self.new ≡ device_of self.old }
-        ensures kept { (acknowledged_of self.new ≡ acknowledged_of self.old) × (is_broken self.new ≡ is_broken self.old) ×
+        ensures kept { (acknowledged_of self.new ≡ acknowledged_of self.old) ×
+            (is_broken self.new ≡ is_broken self.old) ×
             (rom_of self.new ≡ rom_of self.old) }
         ensures log { (log_in self.new ≡ log_in self.old) × (generation_in_use self.new ≡ generation_in_use self.old) }
     {
@@ -198,14 +203,18 @@ impl<D: SectorDevice> Session<D> {
     /// snapshot of the cartridge.
     pub fn restore(&mut self, bytes: &[u8], cartridge: &Cartridge) -> Result<(), SessionError>
         requires { rom_of self.old ≡ cartridge.now }
-        ensures answer { IsRestoreAnswer cartridge.now bytes.now (input_answer (is_broken self.old) (length (pending_of self.old))
+        ensures answer { IsRestoreAnswer cartridge.now bytes.now
+            (input_answer (is_broken self.old) (length (pending_of self.old))
             (acknowledged_of self.old + length (pending_of self.old))) result }
-        ensures machine { OnOk result (IsMachineOf cartridge.now (machine_of self.new) × (encoded (machine_of self.new) ≡ bytes.now)) }
-        ensures pending { OnOk result (pending_of self.new ≡ pending_of self.old ++ entry_of (State (machine_of self.new)) ∷ []) }
+        ensures machine { OnOk result (IsMachineOf cartridge.now (machine_of self.new) ×
+            (encoded (machine_of self.new) ≡ bytes.now)) }
+        ensures pending { OnOk result (pending_of self.new ≡
+            pending_of self.old ++ entry_of (State (machine_of self.new)) ∷ []) }
         ensures refused { OnErr result (IsUnchanged self.old self.new) }
         ensures same { OnErr result (self.new ≡ self.old) }
         ensures device { device_of self.new ≡ device_of self.old }
-        ensures kept { (acknowledged_of self.new ≡ acknowledged_of self.old) × (is_broken self.new ≡ is_broken self.old) ×
+        ensures kept { (acknowledged_of self.new ≡ acknowledged_of self.old) ×
+            (is_broken self.new ≡ is_broken self.old) ×
             (rom_of self.new ≡ rom_of self.old) }
         ensures log { (log_in self.new ≡ log_in self.old) × (generation_in_use self.new ≡ generation_in_use self.old) }
     {
@@ -238,7 +247,8 @@ impl<D: SectorDevice> Session<D> {
         ensures refused { OnErr result (IsUnchanged self.old self.new) }
         ensures same { OnErr result (self.new ≡ self.old) }
         ensures device { device_of self.new ≡ device_of self.old }
-        ensures kept { (acknowledged_of self.new ≡ acknowledged_of self.old) × (is_broken self.new ≡ is_broken self.old) ×
+        ensures kept { (acknowledged_of self.new ≡ acknowledged_of self.old) ×
+            (is_broken self.new ≡ is_broken self.old) ×
             (rom_of self.new ≡ rom_of self.old) }
         ensures log { (log_in self.new ≡ log_in self.old) × (generation_in_use self.new ≡ generation_in_use self.old) }
     {
@@ -262,30 +272,41 @@ impl<D: SectorDevice> Session<D> {
     pub fn save(&mut self) -> Result<u64, SessionError>
         // what it answers
         ensures ok { IfOk result (λ all. (all ≡ acknowledged_of self.old + length (pending_of self.old)) ×
-            (acknowledged_of self.new ≡ all) × (pending_of self.new ≡ []) × (is_broken self.old ≡ false) × (is_broken self.new ≡ false)) }
+            (acknowledged_of self.new ≡ all) × (pending_of self.new ≡ []) × (is_broken self.old ≡ false) ×
+            (is_broken self.new ≡ false)) }
         ensures cause { IfErr result (λ why.
-            IsSaveCause why (is_broken self.old) (fits_log (log_in self.old) (pending_of self.old)) (generation_in_use self.old)) }
-        ensures worn { IfErr result (λ why. why ≡ SessionError.GenerationsUsedUp → (D.disk (device_of self.new)).honest →
+            IsSaveCause why (is_broken self.old) (fits_log (log_in self.old) (pending_of self.old))
+            (generation_in_use self.old)) }
+        ensures worn { IfErr result (λ why.
+            why ≡ SessionError.GenerationsUsedUp → (D.disk (device_of self.new)).honest →
             generation_in (D.disk (device_of self.new)).sectors ≡ 2 ^ 64 - 1) }
         ensures unchanged { IfErr result (λ why. (why ≡ SessionError.Device) ⊎ IsUnchanged self.old self.new) }
-        ensures refused { OnErr result ((pending_of self.new ≡ pending_of self.old) × (acknowledged_of self.new ≡ acknowledged_of self.old)) }
-        ensures broken { (is_broken self.new ≡ true) ↔ ((is_broken self.old ≡ true) ⊎ IsErrOf result SessionError.Device) }
+        ensures refused { OnErr result ((pending_of self.new ≡ pending_of self.old) ×
+            (acknowledged_of self.new ≡ acknowledged_of self.old)) }
+        ensures broken { (is_broken self.new ≡ true) ↔
+            ((is_broken self.old ≡ true) ⊎ IsErrOf result SessionError.Device) }
         ensures nothing { is_broken self.old ≡ false → pending_of self.old ≡ [] → IsUnchanged self.old self.new ×
             (result ≡ Ok (acknowledged_of self.old)) }
         ensures machine { (machine_of self.new ≡ machine_of self.old) × (rom_of self.new ≡ rom_of self.old) }
 
         // what the device stands for: at the start, at each moment, and at Ok
-        ensures stood { is_broken self.old ≡ false → can_be_logged (pending_of self.old) ≡ true → (D.disk (device_of self.old)).honest →
-            IsAtRest (rom_of self.old) (D.disk (device_of self.old)) (acknowledged_of self.old) (pending_of self.old) (machine_of self.old) }
+        ensures stood { is_broken self.old ≡ false → can_be_logged (pending_of self.old) ≡ true →
+            (D.disk (device_of self.old)).honest →
+            IsAtRest (rom_of self.old) (D.disk (device_of self.old)) (acknowledged_of self.old) (pending_of self.old)
+            (machine_of self.old) }
         ensures images { is_broken self.old ≡ false → (D.disk (device_of self.old)).honest →
             HoldsSince (D.disk (device_of self.old)) (D.disk (device_of self.new))
             (StandsBetween (can_be_logged (pending_of self.old)) (rom_of self.old)
             (stands (rom_of self.old) (content (D.disk (device_of self.old)).sectors)) (inputs_of (pending_of self.old))
-            (record { count = acknowledged_of self.old + length (pending_of self.old); machine = machine_of self.old })) }
+            (record {
+              count = acknowledged_of self.old + length (pending_of self.old);
+              machine = machine_of self.old;
+            })) }
         ensures rests { IfOk result (λ all. (D.disk (device_of self.old)).honest →
             IsAtRest (rom_of self.old) (D.disk (device_of self.new)) all [] (machine_of self.old)) }
         ensures saved { IfOk result (λ all. (D.disk (device_of self.old)).honest → 0 < length (pending_of self.old) →
-            IsSaved (fits_log (log_in self.old) (pending_of self.old)) (rom_of self.old) all (machine_of self.old) (pending_of self.old) (D.disk (device_of self.old)).sectors (D.disk (device_of self.new)).sectors) }
+            IsSaved (fits_log (log_in self.old) (pending_of self.old)) (rom_of self.old) all (machine_of self.old)
+            (pending_of self.old) (D.disk (device_of self.old)).sectors (D.disk (device_of self.new)).sectors) }
 
         ensures answered { HasAnswered faults_after (D.disk (device_of self.old)) (D.disk (device_of self.new)) result }
     {

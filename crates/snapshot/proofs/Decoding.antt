@@ -89,9 +89,6 @@ placed_registers image bytes kind m of fit legal e =
     let same : c.state.kind ≡ kind = of.kind ∙ kind_is image kind e in
     subst (λ (k : Controller). AreLegalFor c (registers_in k bytes)) same (registers_legal c n bytes fit fields)
 
-pub placed_length : (image bytes : List ℕ) (m : MachineState) → IsOfImage image m → IsLegalSnapshot image bytes → length bytes ≡ snapshot_length (length m.processor.memory.banks.ram)
-placed_length image bytes m of legal = legal.length ∙ ap snapshot_length (sym of.ram_length)
-
 pub placed_ram :
     (image encoded : List ℕ) (kind : Controller) (m : MachineState) → IsOfImage image m → controller_of image ≡ Some kind → IsLegalSnapshot image encoded
     → (length (slice_range encoded 22607 (length encoded)) ≡ length m.processor.memory.banks.ram) × IsLegalRam kind (slice_range encoded 22607 (length encoded))

@@ -10,9 +10,6 @@ use Rattle.snapshot.specs.Encoding.{fixed_fields, kind_byte, processor_byte}
 use Rattle.snapshot.specs.Reading.{processor_of, registers_in}
 use Rattle.snapshot.proofs.Bytes.{word_back, low_back, high_back, digit_test, test_digit, six_back, six_again, two_back, two_again, flags_back, flags_again}
 
-pub state_back : (s : ProcessorState) → processor_of (processor_byte s) ≡ s
-state_back s = let six = six_back s.ime s.ime_pending s.halted s.stopped s.locked s.halt_bug in rw (six.0, six.1, six.2, six.3, six.4, six.5) refl
-
 -- the registers of registers' bytes
 pub registers_back : (kind : Controller) (m : MachineWithoutMemory) (rest : List ℕ) → kind ≡ m.bus.banks.kind → registers_in kind (fixed_fields m ++ rest) ≡ m
 registers_back kind m rest same =

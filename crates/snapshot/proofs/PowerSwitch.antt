@@ -148,10 +148,6 @@ pub powered_kept : (m : MachineState) (rom : List ℕ) → m.processor.memory.ba
 unfolding powered
 powered_kept m rom is has = rw (is, has) refl
 
--- the RAM of a machine fits that of another one of the same cartridge
-pub same_fits : (old new : BusState) (ram : List ℕ) → IsSameCartridge old.banks new.banks → FitsRegion old CartRam ram → FitsRegion new CartRam ram
-same_fits old new ram same fits = (fits.0 ∙ sym same.ram_length, subst (λ k. IsLegalRam k ram) (sym same.kind) fits.1)
-
 pub powered_machine :
     (rom : List ℕ) (m : MachineState) → IsAccepted rom → IsSameCartridge m.processor.memory.banks (start rom).processor.memory.banks
     → IsLegalRam m.processor.memory.banks.state.kind m.processor.memory.banks.ram

@@ -49,7 +49,8 @@ pub fn decode_into(
 ) -> Result<(), SnapError>
     requires { IsOfImage cartridge.now machine.old }
     ensures ok { OnOk result (IsMachineOf cartridge.now machine.new × (encoded machine.new ≡ bytes.now)) }
-    ensures all { (m : MachineState) → IsMachineOf cartridge.now m → encoded m ≡ bytes.now → MatchResult result (λ done. machine.new ≡ m) (λ error. ⊥) }
+    ensures all { (m : MachineState) → IsMachineOf cartridge.now m → encoded m ≡ bytes.now →
+        MatchResult result (λ done. machine.new ≡ m) (λ error. ⊥) }
     ensures err { IfErr result (IsFault cartridge.now bytes.now) }
     ensures refused { OnErr result ((machine.new ≡ machine.old) × (¬ IsLegalSnapshot cartridge.now bytes.now)) }
 {
@@ -68,7 +69,8 @@ pub fn decode_into(
 fn fill_stores(machine: &mut Machine, bytes: &[u8])
     requires length { length bytes.now ≡ snapshot_length (length machine.old.processor.memory.banks.ram) }
     requires rows { length (picture_rows machine.old) ≡ 144 }
-    requires ram { FitsRegion machine.old.processor.memory Region.CartRam (slice_range bytes.now length_without_ram (length bytes.now)) }
+    requires ram { FitsRegion machine.old.processor.memory Region.CartRam
+        (slice_range bytes.now length_without_ram (length bytes.now)) }
     ensures { machine.new ≡ with_stores bytes.now machine.old }
 {
     machine.fill(

@@ -72,10 +72,6 @@ order_of states line =
     then (if bytes_eq line (codes "picture") then Some Picture else order_for states (order_by (option_map Make (move_of_line line)) line))
     else None
 
-abbrev pub order_list : Option Order → List Order
-order_list None = []
-order_list (Some order) = order ∷ []
-
 -- how many bytes an order asks for, and a line
 abbrev pub asked_by : Option Order → ℕ
 asked_by (Some (Restore n)) = n

@@ -48,7 +48,8 @@ fn take_line(unread: &mut Unread, states: bool) -> Next
 /// Reads the next line: first of what was read before, then of the input. A line of more than 64 bytes is
 /// wrong as soon as that many are read.
 pub fn read_next<R: Read>(unread: &mut Unread, input: &mut R, states: bool) -> Next
-    ensures { IsNext states result (left_of unread.old.items (R.remaining input.old)) (left_of unread.new.items (R.remaining input.new))
+    ensures { IsNext states result (left_of unread.old.items (R.remaining input.old))
+        (left_of unread.new.items (R.remaining input.new))
         (R.remaining input.new) }
 {
     match fill(unread, input, MOST_BYTES) {

@@ -67,8 +67,11 @@ pub(crate) enum Went {
 
 /// Writes the picture of the machine as it is.
 fn draw<G: Playable, W: Write>(game: &G, out: &mut W) -> Result<(), OutputFailed>
-    ensures ok { OnOk result (Appends (W.contents out.old) (W.contents out.new) (picture_text (picture_rows (G.machine game.now)))) }
-    ensures err { OnErr result (AppendsProperPrefix (W.contents out.old) (W.contents out.new) (picture_text (picture_rows (G.machine game.now)))) }
+    ensures ok { OnOk result
+        (Appends (W.contents out.old) (W.contents out.new) (picture_text (picture_rows (G.machine game.now)))) }
+    ensures err { OnErr result
+        (AppendsProperPrefix (W.contents out.old) (W.contents out.new)
+        (picture_text (picture_rows (G.machine game.now)))) }
 {
     game.machine().picture().write_pgm(out)
 }
@@ -86,10 +89,13 @@ fn obey_move<G: Playable, W: Write>(
     requires whole { G.whole game.old }
     requires few { G.unsaved game.old < most_unsaved }
     ensures obeyed { IfOk result (λ done. done ≡ true →
-        Obeys ⟦<G as Playable>⟧ game.old game.new (W.contents out.old) (W.contents out.new) (Does (Order.Make a_move) ∷ [])) }
-    ensures nothing { IfOk result (λ done. done ≡ false → (a_move ≡ Power) × (game.new ≡ game.old) × (out.new ≡ out.old)) }
+        Obeys ⟦<G as Playable>⟧ game.old game.new (W.contents out.old) (W.contents out.new) (Does (Order.Make a_move) ∷
+        [])) }
+    ensures nothing { IfOk result (λ done.
+        done ≡ false → (a_move ≡ Power) × (game.new ≡ game.old) × (out.new ≡ out.old)) }
     ensures stopped { IfErr result (λ why.
-        StopsAmong ⟦<G as Playable>⟧ game.old game.new (W.contents out.old) (W.contents out.new) (Does (Order.Make a_move) ∷ []) why) }
+        StopsAmong ⟦<G as Playable>⟧ game.old game.new (W.contents out.old) (W.contents out.new)
+        (Does (Order.Make a_move) ∷ []) why) }
     ensures whole { OnOk result (G.whole game.new × (G.unsaved game.new < most_unsaved)) }
 {
     make_move(game, alloc, cartridge, a_move, out)
@@ -97,9 +103,12 @@ fn obey_move<G: Playable, W: Write>(
 
 /// Writes a picture.
 fn obey_picture<G: Playable, W: Write>(game: &mut G, out: &mut W) -> Result<(), G::Fault>
-    ensures obeyed { OnOk result (Obeys ⟦<G as Playable>⟧ game.old game.new (W.contents out.old) (W.contents out.new) (Does Order.Picture ∷ [])) }
+    ensures obeyed { OnOk result
+        (Obeys ⟦<G as Playable>⟧ game.old game.new (W.contents out.old) (W.contents out.new) (Does Order.Picture ∷
+        [])) }
     ensures stopped { IfErr result (λ why.
-        StopsAmong ⟦<G as Playable>⟧ game.old game.new (W.contents out.old) (W.contents out.new) (Does Order.Picture ∷ []) why) }
+        StopsAmong ⟦<G as Playable>⟧ game.old game.new (W.contents out.old) (W.contents out.new) (Does Order.Picture ∷
+        []) why) }
     ensures same { game.new ≡ game.old }
 {
     game.draw_late();
@@ -116,9 +125,11 @@ fn obey_state<G: Playable, W: Write>(
     out: &mut W,
 ) -> Result<(), G::Fault>
     requires { length snapshot.old ≡ snapshot_length (ram_length_of (G.rom game.old)) }
-    ensures obeyed { OnOk result (Obeys ⟦<G as Playable>⟧ game.old game.new (W.contents out.old) (W.contents out.new) (Does Order.State ∷ [])) }
+    ensures obeyed { OnOk result
+        (Obeys ⟦<G as Playable>⟧ game.old game.new (W.contents out.old) (W.contents out.new) (Does Order.State ∷ [])) }
     ensures stopped { IfErr result (λ why.
-        StopsAmong ⟦<G as Playable>⟧ game.old game.new (W.contents out.old) (W.contents out.new) (Does Order.State ∷ []) why) }
+        StopsAmong ⟦<G as Playable>⟧ game.old game.new (W.contents out.old) (W.contents out.new) (Does Order.State ∷
+        []) why) }
     ensures same { game.new ≡ game.old }
     ensures room { length snapshot.new ≡ length snapshot.old }
 {
@@ -136,9 +147,12 @@ fn obey_memory<G: Playable, W: Write>(
     count: u32,
     out: &mut W,
 ) -> Result<(), G::Fault>
-    ensures obeyed { OnOk result (Obeys ⟦<G as Playable>⟧ game.old game.new (W.contents out.old) (W.contents out.new) (Does (Order.Memory address count) ∷ [])) }
+    ensures obeyed { OnOk result
+        (Obeys ⟦<G as Playable>⟧ game.old game.new (W.contents out.old) (W.contents out.new)
+        (Does (Order.Memory address count) ∷ [])) }
     ensures stopped { IfErr result (λ why.
-        StopsAmong ⟦<G as Playable>⟧ game.old game.new (W.contents out.old) (W.contents out.new) (Does (Order.Memory address count) ∷ []) why) }
+        StopsAmong ⟦<G as Playable>⟧ game.old game.new (W.contents out.old) (W.contents out.new)
+        (Does (Order.Memory address count) ∷ []) why) }
     ensures same { game.new ≡ game.old }
 {
     match write_memory(game.machine(), address, count, out) {
@@ -157,13 +171,17 @@ fn obey_keep<G: Playable, W: Write>(
 ) -> Result<bool, G::Fault>
     requires { slot < slots }
     ensures obeyed { IfOk result (λ done. done ≡ true →
-        Obeys ⟦<G as Playable>⟧ game.old game.new (W.contents out.old) (W.contents out.new) (Does (Order.Keep slot) ∷ [])) }
-    ensures kept { (machines : List KeptMachine) → AreKept (G.rom game.old) kept.old machines → IfOk result (λ done. done ≡ true →
+        Obeys ⟦<G as Playable>⟧ game.old game.new (W.contents out.old) (W.contents out.new) (Does (Order.Keep slot) ∷
+        [])) }
+    ensures kept { (machines : List KeptMachine) → AreKept (G.rom game.old) kept.old machines →
+        IfOk result (λ done. done ≡ true →
         AreKept (G.rom game.old) kept.new (record { number = slot; machine = G.machine game.old } ∷ machines)) }
-    ensures nothing { (machines : List KeptMachine) → AreKept (G.rom game.old) kept.old machines → IfOk result (λ done. done ≡ false →
+    ensures nothing { (machines : List KeptMachine) → AreKept (G.rom game.old) kept.old machines →
+        IfOk result (λ done. done ≡ false →
         (out.new ≡ out.old) × (kept_under slot machines ≡ NotThere)) }
     ensures stopped { IfErr result (λ why.
-        StopsAmong ⟦<G as Playable>⟧ game.old game.new (W.contents out.old) (W.contents out.new) (Does (Order.Keep slot) ∷ []) why) }
+        StopsAmong ⟦<G as Playable>⟧ game.old game.new (W.contents out.old) (W.contents out.new)
+        (Does (Order.Keep slot) ∷ []) why) }
     ensures same { game.new ≡ game.old }
 {
     game.draw_late();
@@ -192,11 +210,14 @@ fn go_on_with<G: Playable, W: Write>(
     requires whole { G.whole game.old }
     requires few { G.unsaved game.old < most_unsaved }
     ensures obeyed { IfOk result (λ done. done ≡ true →
-        Obeys ⟦<G as Playable>⟧ game.old game.new (W.contents out.old) (W.contents out.new) (GoesOnWith order (machine_in cartridge.now bytes.now) ∷ [])) }
+        Obeys ⟦<G as Playable>⟧ game.old game.new (W.contents out.old) (W.contents out.new)
+        (GoesOnWith order (machine_in cartridge.now bytes.now) ∷ [])) }
     ensures legal { IfOk result (λ done. done ≡ true → IsLegalSnapshot cartridge.now bytes.now) }
-    ensures nothing { IfOk result (λ done. done ≡ false → (game.new ≡ game.old) × (out.new ≡ out.old) × (¬ IsLegalSnapshot cartridge.now bytes.now)) }
+    ensures nothing { IfOk result (λ done.
+        done ≡ false → (game.new ≡ game.old) × (out.new ≡ out.old) × (¬ IsLegalSnapshot cartridge.now bytes.now)) }
     ensures stopped { IfErr result (λ why.
-        StopsAmong ⟦<G as Playable>⟧ game.old game.new (W.contents out.old) (W.contents out.new) (GoesOnWith order (machine_in cartridge.now bytes.now) ∷ []) why) }
+        StopsAmong ⟦<G as Playable>⟧ game.old game.new (W.contents out.old) (W.contents out.new)
+        (GoesOnWith order (machine_in cartridge.now bytes.now) ∷ []) why) }
     ensures whole { OnOk result (G.whole game.new × (G.unsaved game.new < most_unsaved)) }
 {
     match give_state(game, bytes, cartridge, out) {
@@ -233,11 +254,18 @@ fn obey_back<G: Playable, W: Write>(
     requires of { G.rom game.old ≡ cartridge.now }
     requires whole { G.whole game.old }
     requires few { G.unsaved game.old < most_unsaved }
-    ensures step { (machines : List KeptMachine) → AreKept cartridge.now kept.now machines → (left unread : Known (List ℕ)) → IfOk result
-        (IsStep ⟦<G as Playable>⟧ game.old game.new (W.contents out.old) (W.contents out.new) (record { before = left; since = left; unread = unread })
+    ensures step { (machines : List KeptMachine) → AreKept cartridge.now kept.now machines →
+        (left unread : Known (List ℕ)) → IfOk result
+        (IsStep ⟦<G as Playable>⟧ game.old game.new (W.contents out.old) (W.contents out.new) (record {
+          before = left;
+          since = left;
+          unread = unread;
+        })
         cartridge.now machines (Order.Back slot) kept.now) }
-    ensures refused { (machines : List KeptMachine) → AreKept cartridge.now kept.now machines → (left unread : Known (List ℕ)) → IfErr result
-        (IsRefused ⟦<G as Playable>⟧ game.old game.new (W.contents out.old) (W.contents out.new) (record { before = left; since = left; unread = unread })
+    ensures refused { (machines : List KeptMachine) → AreKept cartridge.now kept.now machines →
+        (left unread : Known (List ℕ)) → IfErr result
+        (IsRefused ⟦<G as Playable>⟧ game.old game.new (W.contents out.old) (W.contents out.new)
+        (record { before = left; since = left; unread = unread })
         cartridge.now machines (Order.Back slot)) }
     ensures whole { OnOk result (G.whole game.new × (G.unsaved game.new < most_unsaved)) }
 {
@@ -267,13 +295,22 @@ fn obey_restore<G: Playable, R: Read, W: Write>(
     requires of { G.rom game.old ≡ cartridge.now }
     requires whole { G.whole game.old }
     requires few { G.unsaved game.old < most_unsaved }
-    ensures step { (machines : List KeptMachine) (states : List (List ℕ)) → AreKept cartridge.now states machines → IfOk result
+    ensures step { (machines : List KeptMachine) (states : List (List ℕ)) → AreKept cartridge.now states machines →
+        IfOk result
         (IsStep ⟦<G as Playable>⟧ game.old game.new (W.contents out.old) (W.contents out.new)
-        (record { before = left_of unread.old.items (R.remaining input.old); since = left_of unread.new.items (R.remaining input.new); unread = R.remaining input.new })
+        (record {
+          before = left_of unread.old.items (R.remaining input.old);
+          since = left_of unread.new.items (R.remaining input.new);
+          unread = R.remaining input.new;
+        })
         cartridge.now machines (Order.Restore size) states) }
     ensures refused { (machines : List KeptMachine) → IfErr result
         (IsRefused ⟦<G as Playable>⟧ game.old game.new (W.contents out.old) (W.contents out.new)
-        (record { before = left_of unread.old.items (R.remaining input.old); since = left_of unread.new.items (R.remaining input.new); unread = R.remaining input.new })
+        (record {
+          before = left_of unread.old.items (R.remaining input.old);
+          since = left_of unread.new.items (R.remaining input.new);
+          unread = R.remaining input.new;
+        })
         cartridge.now machines (Order.Restore size)) }
     ensures whole { OnOk result (G.whole game.new × (G.unsaved game.new < most_unsaved)) }
     ensures room { length snapshot.new ≡ length snapshot.old }
@@ -314,11 +351,19 @@ fn obey<G: Playable, R: Read, W: Write>(
     requires few { G.unsaved game.old < most_unsaved }
     ensures step { (machines : List KeptMachine) → AreKept cartridge.now room.old.kept machines → IfOk result
         (IsStep ⟦<G as Playable>⟧ game.old game.new (W.contents out.old) (W.contents out.new)
-        (record { before = left_of unread.old.items (R.remaining input.old); since = left_of unread.new.items (R.remaining input.new); unread = R.remaining input.new })
+        (record {
+          before = left_of unread.old.items (R.remaining input.old);
+          since = left_of unread.new.items (R.remaining input.new);
+          unread = R.remaining input.new;
+        })
         cartridge.now machines order room.new.kept) }
     ensures refused { (machines : List KeptMachine) → AreKept cartridge.now room.old.kept machines → IfErr result
         (IsRefused ⟦<G as Playable>⟧ game.old game.new (W.contents out.old) (W.contents out.new)
-        (record { before = left_of unread.old.items (R.remaining input.old); since = left_of unread.new.items (R.remaining input.new); unread = R.remaining input.new })
+        (record {
+          before = left_of unread.old.items (R.remaining input.old);
+          since = left_of unread.new.items (R.remaining input.new);
+          unread = R.remaining input.new;
+        })
         cartridge.now machines order) }
     ensures whole { OnOk result (G.whole game.new × (G.unsaved game.new < most_unsaved)) }
     ensures room { length room.new.snapshot.items ≡ length room.old.snapshot.items }
@@ -406,9 +451,12 @@ fn obey_lines<G: Playable, R: Read, W: Write>(
 fn save_rest<G: Playable, W: Write>(game: &mut G, out: &mut W) -> Result<(), G::Fault>
     requires whole { G.whole game.old }
     requires few { G.unsaved game.old < most_unsaved }
-    ensures obeyed { OnOk result (Obeys ⟦<G as Playable>⟧ game.old game.new (W.contents out.old) (W.contents out.new) (last_deeds (G.unsaved game.old))) }
+    ensures obeyed { OnOk result
+        (Obeys ⟦<G as Playable>⟧ game.old game.new (W.contents out.old) (W.contents out.new)
+        (last_deeds (G.unsaved game.old))) }
     ensures stopped { IfErr result (λ why.
-        StopsAmong ⟦<G as Playable>⟧ game.old game.new (W.contents out.old) (W.contents out.new) (last_deeds (G.unsaved game.old)) why) }
+        StopsAmong ⟦<G as Playable>⟧ game.old game.new (W.contents out.old) (W.contents out.new)
+        (last_deeds (G.unsaved game.old)) why) }
     ensures saved { OnOk result (G.whole game.new × (G.unsaved game.new ≡ 0)) }
 {
     if game.counts().pending == 0 {

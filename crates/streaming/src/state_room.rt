@@ -19,7 +19,8 @@ pub struct StateRoom {
 impl StateRoom {
     /// Room for the states of this cartridge, of which none is kept.
     pub fn new(alloc: Global, cartridge: &Cartridge) -> Result<StateRoom, AllocError>
-        ensures snapshot { IfOk result (λ room. length room.snapshot.items ≡ snapshot_length (ram_length_of cartridge.now)) }
+        ensures snapshot { IfOk result (λ room.
+            length room.snapshot.items ≡ snapshot_length (ram_length_of cartridge.now)) }
         ensures kept { IfOk result (λ room. All (λ bytes. bytes ≡ []) room.kept) }
     {
         let snapshot = vec![in alloc; 0u8; length(cartridge.ram_length())]?;

@@ -45,13 +45,16 @@ pub fn stream<D: SectorDevice, R: Read, W: Write>(
     out: &mut W,
 ) -> Result<Session<D>, StreamRefused<D>>
     ensures streamed { IfOk result (λ s.
-        HasStreamedAll cartridge.now (D.disk device) (D.disk (device_of s)) (acknowledged_of s) (machine_of s) (R.remaining input.old)
+        HasStreamedAll cartridge.now (D.disk device) (D.disk (device_of s)) (acknowledged_of s) (machine_of s)
+        (R.remaining input.old)
         (R.remaining input.new) (W.contents out.old) (W.contents out.new)) }
     ensures whole { IfOk result (λ s. (pending_of s ≡ []) × (is_broken s ≡ false) × (rom_of s ≡ cartridge.now)) }
     ensures refused { IfErr result (λ refused.
-        IsStreamCause refused.why cartridge.now (D.disk device) (D.disk refused.device) (R.remaining input.old) (R.remaining input.new)
+        IsStreamCause refused.why cartridge.now (D.disk device) (D.disk refused.device) (R.remaining input.old)
+        (R.remaining input.new)
         (W.contents out.old) (W.contents out.new)) }
-    ensures answered { HasAnswered (λ refused. faults_after_stream refused.why) (D.disk device) (D.disk (left_by result)) result }
+    ensures answered { HasAnswered (λ refused. faults_after_stream refused.why) (D.disk device)
+        (D.disk (left_by result)) result }
 {
     let Ok(mut room) = StateRoom::new(alloc, cartridge) else {
         return Err(StreamRefused {

@@ -43,8 +43,11 @@ pub(crate) fn play_frame<W: Write>(
     told: &mut Told,
     out: &mut W,
 ) -> Result<PlayedFrame, OutputFailed>
-    ensures ok { IfOk result (λ played. HasPlayed (seen_in (begun_with buttons machine)) told.old told.new (W.contents out.old) (W.contents out.new) played) }
-    ensures err { OnErr result (AppendsProperPrefix (W.contents out.old) (W.contents out.new) (seen_in (begun_with buttons machine)).sent) }
+    ensures ok { IfOk result (λ played.
+        HasPlayed (seen_in (begun_with buttons machine)) told.old told.new (W.contents out.old) (W.contents out.new)
+        played) }
+    ensures err { OnErr result
+        (AppendsProperPrefix (W.contents out.old) (W.contents out.new) (seen_in (begun_with buttons machine)).sent) }
 {
     let mut frame = machine.begin_frame(buttons);
     'playing: while !frame.is_over() {

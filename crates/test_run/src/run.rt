@@ -92,8 +92,10 @@ fn test_frame<W: Write>(
     out: &mut W,
 ) -> Result<Went, OutputFailed>
     requires { progress.old.done ≤ limit }
-    ensures ok { IfOk result (HasReached limit (Frame buttons ∷ []) [] machine progress.old progress.new (W.contents out.old) (W.contents out.new)) }
-    ensures err { OnErr result (StopsIn limit (Frame buttons ∷ []) machine progress.old (W.contents out.old) (W.contents out.new)) }
+    ensures ok { IfOk result (HasReached limit (Frame buttons ∷
+        []) [] machine progress.old progress.new (W.contents out.old) (W.contents out.new)) }
+    ensures err { OnErr result (StopsIn limit (Frame buttons ∷
+        []) machine progress.old (W.contents out.old) (W.contents out.new)) }
     ensures kept { IfOk result (IsKeptBy machine) }
 {
     if progress.done >= limit {
@@ -125,8 +127,12 @@ fn test_frames<W: Write>(
     out: &mut W,
 ) -> Result<Went, OutputFailed>
     requires { progress.old.done ≤ limit }
-    ensures ok { IfOk result (HasReached limit (replicate times (Frame buttons)) [] machine progress.old progress.new (W.contents out.old) (W.contents out.new)) }
-    ensures err { OnErr result (StopsIn limit (replicate times (Frame buttons)) machine progress.old (W.contents out.old) (W.contents out.new)) }
+    ensures ok { IfOk result
+        (HasReached limit (replicate times (Frame buttons)) [] machine progress.old progress.new (W.contents out.old)
+        (W.contents out.new)) }
+    ensures err { OnErr result
+        (StopsIn limit (replicate times (Frame buttons)) machine progress.old (W.contents out.old)
+        (W.contents out.new)) }
     ensures kept { IfOk result (IsKeptBy machine) }
 {
     let mut machine = machine;
@@ -152,8 +158,11 @@ fn test_move<W: Write>(
 ) -> Result<Went, Stop>
     requires most { progress.old.done ≤ limit }
     requires of { IsSameCartridge machine.processor.memory.banks (start cartridge.now).processor.memory.banks }
-    ensures ok { IfOk result (HasReached limit (inputs_of_move a_move) [] machine progress.old progress.new (W.contents out.old) (W.contents out.new)) }
-    ensures err { IfErr result (IsMoveStop limit a_move machine progress.old (W.contents out.old) (W.contents out.new)) }
+    ensures ok { IfOk result
+        (HasReached limit (inputs_of_move a_move) [] machine progress.old progress.new (W.contents out.old)
+        (W.contents out.new)) }
+    ensures err { IfErr result
+        (IsMoveStop limit a_move machine progress.old (W.contents out.old) (W.contents out.new)) }
     ensures kept { IfOk result (IsKeptBy machine) }
 {
     match a_move {
@@ -188,8 +197,11 @@ fn test_moves<W: Write>(
 ) -> Result<Went, Stop>
     requires most { progress.old.done ≤ limit }
     requires of { IsSameCartridge machine.processor.memory.banks (start cartridge.now).processor.memory.banks }
-    ensures ok { IfOk result (HasReached limit (inputs_of_moves moves.now) [] machine progress.old progress.new (W.contents out.old) (W.contents out.new)) }
-    ensures err { IfErr result (IsMovesStop limit moves.now machine progress.old (W.contents out.old) (W.contents out.new)) }
+    ensures ok { IfOk result
+        (HasReached limit (inputs_of_moves moves.now) [] machine progress.old progress.new (W.contents out.old)
+        (W.contents out.new)) }
+    ensures err { IfErr result
+        (IsMovesStop limit moves.now machine progress.old (W.contents out.old) (W.contents out.new)) }
 {
     let mut machine = machine;
     for a_move in moves {
@@ -214,10 +226,12 @@ fn test_to_end<W: Write>(
 ) -> Result<Ended, Stop>
     requires most { progress.old.done ≤ limit }
     requires of { IsSameCartridge machine.processor.memory.banks (start cartridge.now).processor.memory.banks }
-    ensures ok { IfOk result (HasEnded (tested limit progress.old.done (inputs_of_moves moves.now ++ replicate limit (Frame 0)) machine)
+    ensures ok { IfOk result
+        (HasEnded (tested limit progress.old.done (inputs_of_moves moves.now ++ replicate limit (Frame 0)) machine)
         progress.old progress.new (W.contents out.old) (W.contents out.new)) }
     ensures err { IfErr result (IsTestStop limit progress.old.done moves.now machine
-        (tested limit progress.old.done (inputs_of_moves moves.now ++ replicate limit (Frame 0)) machine).sent (W.contents out.old) (W.contents out.new)) }
+        (tested limit progress.old.done (inputs_of_moves moves.now ++
+        replicate limit (Frame 0)) machine).sent (W.contents out.old) (W.contents out.new)) }
 {
     let machine = match test_moves(machine, alloc, cartridge, moves, limit, progress, out) {
         Ok(Went::On(machine)) => machine,
@@ -247,7 +261,8 @@ pub fn run_test<W: Write>(
     out: &mut W,
 ) -> Result<Verdict, TestError>
     ensures tested { IfOk result (IsTested rom.items script.now frames (W.contents out.old) (W.contents out.new)) }
-    ensures refused { IfErr result (IsTestRefused rom.items script.now frames (W.contents out.old) (W.contents out.new)) }
+    ensures refused { IfErr result
+        (IsTestRefused rom.items script.now frames (W.contents out.old) (W.contents out.new)) }
 {
     let cartridge = match Cartridge::read(rom) {
         Ok(cartridge) => cartridge,
@@ -280,9 +295,11 @@ fn test_machine<W: Write>(
     requires { IsSameCartridge machine.processor.memory.banks (start cartridge.now).processor.memory.banks }
     ensures written { OnOk result (Appends (W.contents out.old) (W.contents out.new)
         (test_text (tested frames 0 (inputs_of_moves moves.now ++ replicate frames (Frame 0)) machine))) }
-    ensures verdict { IfOk result (λ v. v ≡ verdict_of (tested frames 0 (inputs_of_moves moves.now ++ replicate frames (Frame 0)) machine)) }
+    ensures verdict { IfOk result (λ v.
+        v ≡ verdict_of (tested frames 0 (inputs_of_moves moves.now ++ replicate frames (Frame 0)) machine)) }
     ensures err { IfErr result (IsTestStop frames 0 moves.now machine
-        (test_text (tested frames 0 (inputs_of_moves moves.now ++ replicate frames (Frame 0)) machine)) (W.contents out.old) (W.contents out.new)) }
+        (test_text (tested frames 0 (inputs_of_moves moves.now ++ replicate frames (Frame 0)) machine))
+        (W.contents out.old) (W.contents out.new)) }
 {
     let mut progress = Progress {
         done: 0,

@@ -18,7 +18,8 @@ pub enum Verdict {
 }
 
 fn has_six(registers: &Registers, six: [u8; 6]) -> bool
-    ensures { result ≡ has_six (slice_index six 0) (slice_index six 1) (slice_index six 2) (slice_index six 3) (slice_index six 4) (slice_index six 5) registers.now }
+    ensures { result ≡ has_six (slice_index six 0) (slice_index six 1) (slice_index six 2) (slice_index six 3)
+        (slice_index six 4) (slice_index six 5) registers.now }
 {
     registers.b == six[0]
         && registers.c == six[1]

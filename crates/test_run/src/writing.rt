@@ -39,7 +39,8 @@ fn ended_text(why: End) -> &'static [u8]
 /// Writes a newline if a line has begun.
 fn write_line_end<W: Write>(told: &Told, out: &mut W) -> Result<(), OutputFailed>
     ensures ok { OnOk result (Appends (W.contents out.old) (W.contents out.new) (line_end_told told.now.last)) }
-    ensures err { OnErr result (AppendsProperPrefix (W.contents out.old) (W.contents out.new) (line_end_told told.now.last)) }
+    ensures err { OnErr result
+        (AppendsProperPrefix (W.contents out.old) (W.contents out.new) (line_end_told told.now.last)) }
 {
     if !told.is_in_line() {
         return Ok(());
@@ -84,9 +85,11 @@ pub(crate) fn write_end<W: Write>(
     out: &mut W,
 ) -> Result<(), OutputFailed>
     ensures ok { OnOk result (Appends (W.contents out.old) (W.contents out.new)
-        (line_end_told progress.now.told.last ++ (ended.now.line.bytes ++ (frames_line progress.now.done ++ ended_line ended.now.why)))) }
+        (line_end_told progress.now.told.last ++
+        (ended.now.line.bytes ++ (frames_line progress.now.done ++ ended_line ended.now.why)))) }
     ensures err { OnErr result (AppendsProperPrefix (W.contents out.old) (W.contents out.new)
-        (line_end_told progress.now.told.last ++ (ended.now.line.bytes ++ (frames_line progress.now.done ++ ended_line ended.now.why)))) }
+        (line_end_told progress.now.told.last ++
+        (ended.now.line.bytes ++ (frames_line progress.now.done ++ ended_line ended.now.why)))) }
 {
     if let Err(fault) = write_line_end(&progress.told, out) {
         return Err(fault);

@@ -176,9 +176,6 @@ is_due s n h on e =
     λ j b q. signal_falls-later j s h ∙ rw running q in
     (omega arith, at (n - 1) true ((law (n - 1) h.counter).1 last), λ j lt. at j false ((law j h.counter).0 (omega arith)))
 
-pub ticks-keep : (n : ℕ) (s : TimerAndRequest) → IsLegalTimer s.timer → IsLegalTimer (iterate tick n s).timer
-ticks-keep n s h = iterate-keeps (λ (s : TimerAndRequest). IsLegalTimer s.timer) tick tick-keeps n s h
-
 -- ---- the rate
 
 one_fall : (tac c : ℕ) → falls_of_bit (selected_bit tac) c (cycles_per_count tac) ≡ 1

@@ -202,7 +202,8 @@ impl Timer {
     /// The counter and TAC become these. Returns whether a fall of the signal requests the interrupt.
     fn change(&mut self, counter: u16, tac: u8) -> bool
         requires { tac < 8 }
-        ensures { record { timer = self.new; requested = result } ≡ with_counter_and_tac counter tac (unrequested self.old) }
+        ensures { record { timer = self.new; requested = result } ≡
+            with_counter_and_tac counter tac (unrequested self.old) }
     {
         let before = self.signal();
         self.state.counter = counter;

@@ -62,9 +62,6 @@ round_played rom old now from resumed acknowledged known inputs stood resumed_is
     }
 
 module _ (m : MemoryState) where
-  pub only : (image : List (List ℕ)) → (memory_disk m).since (memory_disk m).moment image → (memory_disk m).image image
-  only image since = only_last m.at_start m.recorded image since
-
   pub counts : (t : ℕ) (image : List (List ℕ)) → t ≤ (memory_disk m).moment → (memory_disk m).image image → (memory_disk m).since t image
   counts t image le now = counts_last m.at_start m.recorded t image le now
 
@@ -166,12 +163,6 @@ counts_refusal why first old new less fits is = record {
       ⊎_elim (λ above. inl (omega arith)) (λ top. inr top) more;
 }
 
-pub counts_later : (why : SessionError) (first old new : ℕ) → first ≤ old → CountsLifeFaults old new why → CountsLifeFaults first new why
-counts_later why first old new less counts = record {
-  kept = omega (arith, counts.kept);
-  counted = λ device. ⊎_elim (λ above. inl (omega arith)) (λ top. inr top) (counts.counted device);
-}
-
 -- ---- causes
 
 -- moves that were stopped refuse the round, where their report can't fail
@@ -258,6 +249,3 @@ no_memory_to_resume rom old left why is found kept =
 pub memory_moved : (rom : List ℕ) (first old new : MemoryDevice) → new ≡ old → ((memory old).recorded ≡ (memory first).recorded) ⊎ IsStanding rom (memory old)
     → ((memory new).recorded ≡ (memory first).recorded) ⊎ IsStanding rom (memory new)
 memory_moved rom first old new same held = subst (λ (d : MemoryDevice). ((memory d).recorded ≡ (memory first).recorded) ⊎ IsStanding rom (memory d)) (sym same) held
-
-pub no_memory_stops_moves : (why : SessionError) (all : ℕ) (now : DiskState) → IsStop why all now → why ≡ Memory → ⊥
-no_memory_stops_moves why all now stop is = subst (λ (w : SessionError). IsStop w all now) is stop

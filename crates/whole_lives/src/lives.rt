@@ -21,19 +21,24 @@ fn live_rounds(
     cartridge: &Cartridge,
     rounds: &[Round],
 ) -> Result<(MemoryDevice, Vec<RoundEnd>), Refused<MemoryDevice>>
-    ensures lived { IfOk result (λ r. LeavesLife cartridge.now (memory_disk (memory device)) (memory_disk (memory r.0)) rounds.now r.1.items) }
+    ensures lived { IfOk result (λ r.
+        LeavesLife cartridge.now (memory_disk (memory device)) (memory_disk (memory r.0)) rounds.now r.1.items) }
     ensures left { IfErr result (λ refused.
         LeavesSomeLife cartridge.now (memory_disk (memory device)) (memory_disk (memory refused.device)) rounds.now) }
     ensures cause { IfErr result (λ refused.
-        IsLifeStop cartridge.now (memory_disk (memory device)) rounds.now (memory_disk (memory refused.device)).sectors refused.why) }
+        IsLifeStop cartridge.now (memory_disk (memory device)) rounds.now (memory_disk (memory refused.device)).sectors
+        refused.why) }
     ensures memory { IfErr result (λ refused. refused.why ≡ SessionError.Memory →
         IsOutOfMemory cartridge.now (memory device) (memory refused.device)) }
-    ensures stand { IfOk result (λ r. EachStands cartridge.now (memory_disk (memory device)) → EachStands cartridge.now (memory_disk (memory r.0))) }
-    ensures sound { IfErr result (λ refused. EachStands cartridge.now (memory_disk (memory device)) → IsSoundStop refused.why) }
+    ensures stand { IfOk result (λ r.
+        EachStands cartridge.now (memory_disk (memory device)) → EachStands cartridge.now (memory_disk (memory r.0))) }
+    ensures sound { IfErr result (λ refused.
+        EachStands cartridge.now (memory_disk (memory device)) → IsSoundStop refused.why) }
     ensures kept { IfErr result (λ refused. EachStands cartridge.now (memory_disk (memory device)) →
         EachStands cartridge.now (memory_disk (memory refused.device))) }
     ensures faults_ok { IfOk result (λ r. (memory device).faults ≤ (memory r.0).faults) }
-    ensures faults { IfErr result (λ refused. CountsLifeFaults (memory device).faults (memory refused.device).faults refused.why) }
+    ensures faults { IfErr result (λ refused.
+        CountsLifeFaults (memory device).faults (memory refused.device).faults refused.why) }
     ensures last { IfOk result (λ r. IsLast rounds.now (memory device) (memory r.0)) }
     ensures fuse { IfErr result (λ refused. refused.why ≡ SessionError.Device → (memory refused.device).blown ≡ false) }
 {
@@ -87,15 +92,19 @@ pub fn live(
     ensures left { IfErr result (λ refused.
         LeavesSomeLife cartridge.now (memory_disk (memory device)) (memory_disk (memory refused.device)) rounds.now) }
     ensures cause { IfErr result (λ refused.
-        IsLifeStop cartridge.now (memory_disk (memory device)) rounds.now (memory_disk (memory refused.device)).sectors refused.why) }
+        IsLifeStop cartridge.now (memory_disk (memory device)) rounds.now (memory_disk (memory refused.device)).sectors
+        refused.why) }
     ensures memory { IfErr result (λ refused. refused.why ≡ SessionError.Memory →
         IsOutOfMemory cartridge.now (memory device) (memory refused.device)) }
-    ensures sound { IfErr result (λ refused. EachStands cartridge.now (memory_disk (memory device)) → IsSoundStop refused.why) }
+    ensures sound { IfErr result (λ refused.
+        EachStands cartridge.now (memory_disk (memory device)) → IsSoundStop refused.why) }
     ensures kept { IfErr result (λ refused. EachStands cartridge.now (memory_disk (memory device)) →
         EachStands cartridge.now (memory_disk (memory refused.device))) }
     ensures faults_ok { IfOk result (λ lived. (memory device).faults ≤ (memory (device_of lived.session)).faults) }
-    ensures faults { IfErr result (λ refused. CountsLifeFaults (memory device).faults (memory refused.device).faults refused.why) }
-    ensures fuse { IfErr result (λ refused. IsByNoFuse cartridge.now (memory device) (memory refused.device) rounds.now refused.why) }
+    ensures faults { IfErr result (λ refused.
+        CountsLifeFaults (memory device).faults (memory refused.device).faults refused.why) }
+    ensures fuse { IfErr result (λ refused.
+        IsByNoFuse cartridge.now (memory device) (memory refused.device) rounds.now refused.why) }
 {
     let (left, ends) = match live_rounds(alloc, device, cartridge, rounds) {
         Ok(lived) => lived,

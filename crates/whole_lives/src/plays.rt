@@ -48,8 +48,10 @@ fn take_state(
     requires of { rom_of session.old ≡ cartridge.now }
     requires whole { is_broken session.old ≡ false }
     requires few { length (pending_of session.old) < most_unsaved }
-    ensures made { OnOk result (Goes (place session.old) (place session.new) (inputs_of_state cartridge.now bytes.now)) }
-    ensures stopped { IfErr result (λ why. StopsPlays (place session.old) (place session.new) (inputs_of_state cartridge.now bytes.now) why) }
+    ensures made { OnOk result
+        (Goes (place session.old) (place session.new) (inputs_of_state cartridge.now bytes.now)) }
+    ensures stopped { IfErr result (λ why.
+        StopsPlays (place session.old) (place session.new) (inputs_of_state cartridge.now bytes.now) why) }
     ensures whole { OnOk result ((is_broken session.new ≡ false) × (length (pending_of session.new) < most_unsaved)) }
 {
     if !is_state(alloc, cartridge, bytes) {
@@ -72,7 +74,8 @@ fn take_move(
     requires whole { is_broken session.old ≡ false }
     requires few { length (pending_of session.old) < most_unsaved }
     ensures made { OnOk result (Goes (place session.old) (place session.new) (inputs_of_move a_move)) }
-    ensures stopped { IfErr result (λ why. StopsPlays (place session.old) (place session.new) (inputs_of_move a_move) why) }
+    ensures stopped { IfErr result (λ why.
+        StopsPlays (place session.old) (place session.new) (inputs_of_move a_move) why) }
     ensures whole { OnOk result ((is_broken session.new ≡ false) × (length (pending_of session.new) < most_unsaved)) }
 {
     match make_move(session, alloc, cartridge, a_move, &mut Silent) {
@@ -92,7 +95,8 @@ fn make_play(
     requires whole { is_broken session.old ≡ false }
     requires few { length (pending_of session.old) < most_unsaved }
     ensures made { OnOk result (Goes (place session.old) (place session.new) (inputs_of_play cartridge.now play.now)) }
-    ensures stopped { IfErr result (λ why. StopsPlays (place session.old) (place session.new) (inputs_of_play cartridge.now play.now) why) }
+    ensures stopped { IfErr result (λ why.
+        StopsPlays (place session.old) (place session.new) (inputs_of_play cartridge.now play.now) why) }
     ensures whole { OnOk result ((is_broken session.new ≡ false) × (length (pending_of session.new) < most_unsaved)) }
 {
     match play {
@@ -113,8 +117,10 @@ pub(crate) fn make_plays(
     requires of { rom_of session.old ≡ cartridge.now }
     requires whole { is_broken session.old ≡ false }
     requires few { length (pending_of session.old) < most_unsaved }
-    ensures made { OnOk result (Goes (place session.old) (place session.new) (inputs_of_plays cartridge.now plays.now)) }
-    ensures stopped { IfErr result (λ why. StopsPlays (place session.old) (place session.new) (inputs_of_plays cartridge.now plays.now) why) }
+    ensures made { OnOk result
+        (Goes (place session.old) (place session.new) (inputs_of_plays cartridge.now plays.now)) }
+    ensures stopped { IfErr result (λ why.
+        StopsPlays (place session.old) (place session.new) (inputs_of_plays cartridge.now plays.now) why) }
 {
     for play in plays {
         match make_play(session, alloc, cartridge, play) {

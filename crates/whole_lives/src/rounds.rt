@@ -78,21 +78,28 @@ fn play_until_blown(
     known: u64,
 ) -> Result<(MemoryDevice, RoundEnd), Refused<MemoryDevice>>
     ensures leaves { IfOk result (λ r.
-        LeavesRound cartridge.now (memory_disk (memory device)) (memory_disk (memory r.0)) (inputs_of_plays cartridge.now plays.now) r.1 known) }
+        LeavesRound cartridge.now (memory_disk (memory device)) (memory_disk (memory r.0))
+        (inputs_of_plays cartridge.now plays.now) r.1 known) }
     ensures refused { IfErr result (λ refused. (end : RoundEnd) ×
-        LeavesRound cartridge.now (memory_disk (memory device)) (memory_disk (memory refused.device)) (inputs_of_plays cartridge.now plays.now) end known) }
+        LeavesRound cartridge.now (memory_disk (memory device)) (memory_disk (memory refused.device))
+        (inputs_of_plays cartridge.now plays.now) end known) }
     ensures cause { IfErr result (λ refused.
-        IsRoundRefusal cartridge.now (memory_disk (memory device)) (inputs_of_plays cartridge.now plays.now) (memory_disk (memory refused.device)).sectors
+        IsRoundRefusal cartridge.now (memory_disk (memory device)) (inputs_of_plays cartridge.now plays.now)
+        (memory_disk (memory refused.device)).sectors
         refused.why) }
     ensures ended { IfOk result (λ r. ((memory r.0).blown ≡ true) ⊎ IsStanding cartridge.now (memory r.0)) }
     ensures memory { IfErr result (λ refused. refused.why ≡ SessionError.Memory →
-        ((memory refused.device).recorded ≡ (memory device).recorded) ⊎ IsStanding cartridge.now (memory refused.device)) }
-    ensures stand { IfOk result (λ r. EachStands cartridge.now (memory_disk (memory device)) → EachStands cartridge.now (memory_disk (memory r.0))) }
-    ensures sound { IfErr result (λ refused. EachStands cartridge.now (memory_disk (memory device)) → IsSoundStop refused.why) }
+        ((memory refused.device).recorded ≡ (memory device).recorded) ⊎
+        IsStanding cartridge.now (memory refused.device)) }
+    ensures stand { IfOk result (λ r.
+        EachStands cartridge.now (memory_disk (memory device)) → EachStands cartridge.now (memory_disk (memory r.0))) }
+    ensures sound { IfErr result (λ refused.
+        EachStands cartridge.now (memory_disk (memory device)) → IsSoundStop refused.why) }
     ensures kept { IfErr result (λ refused. EachStands cartridge.now (memory_disk (memory device)) →
         EachStands cartridge.now (memory_disk (memory refused.device))) }
     ensures faults_ok { IfOk result (λ r. (memory device).faults ≤ (memory r.0).faults) }
-    ensures faults { IfErr result (λ refused. CountsLifeFaults (memory device).faults (memory refused.device).faults refused.why) }
+    ensures faults { IfErr result (λ refused.
+        CountsLifeFaults (memory device).faults (memory refused.device).faults refused.why) }
     ensures fuse { IfErr result (λ refused. refused.why ≡ SessionError.Device → (memory refused.device).blown ≡ false) }
 {
     let mut session = match resume(alloc, device, cartridge) {
@@ -125,7 +132,8 @@ fn cut(
     device: MemoryDevice,
     kept: &[bool],
 ) -> Result<MemoryDevice, Refused<MemoryDevice>>
-    ensures image { IfOk result (λ d. IsNewMemory (image_of (memory device) kept.now) (memory device).room (memory device).faults d) }
+    ensures image { IfOk result (λ d.
+        IsNewMemory (image_of (memory device) kept.now) (memory device).room (memory device).faults d) }
     ensures refused { IfErr result (λ refused. (refused.why ≡ SessionError.Memory) × (refused.device ≡ device)) }
 {
     match device.image(alloc, kept) {
@@ -146,23 +154,30 @@ pub(crate) fn one_round(
     known: u64,
 ) -> Result<(MemoryDevice, RoundEnd), Refused<MemoryDevice>>
     ensures leaves { IfOk result (λ r.
-        LeavesRound cartridge.now (memory_disk (memory device)) (memory_disk (memory r.0)) (inputs_of_round cartridge.now round.now) r.1 known) }
+        LeavesRound cartridge.now (memory_disk (memory device)) (memory_disk (memory r.0))
+        (inputs_of_round cartridge.now round.now) r.1 known) }
     ensures refused { IfErr result (λ refused. (end : RoundEnd) ×
-        LeavesRound cartridge.now (memory_disk (memory device)) (memory_disk (memory refused.device)) (inputs_of_round cartridge.now round.now) end known) }
+        LeavesRound cartridge.now (memory_disk (memory device)) (memory_disk (memory refused.device))
+        (inputs_of_round cartridge.now round.now) end known) }
     ensures cut { IfOk result (λ r.
-        IsCutRound cartridge.now (memory_disk (memory device)) (round.now).kept.items (memory r.0) (inputs_of_round cartridge.now round.now) r.1 known) }
+        IsCutRound cartridge.now (memory_disk (memory device)) (round.now).kept.items (memory r.0)
+        (inputs_of_round cartridge.now round.now) r.1 known) }
     ensures fresh { IfOk result (λ r. IsFresh (memory r.0)) }
     ensures cause { IfErr result (λ refused.
-        IsRoundRefusal cartridge.now (memory_disk (memory device)) (inputs_of_round cartridge.now round.now) (memory_disk (memory refused.device)).sectors
+        IsRoundRefusal cartridge.now (memory_disk (memory device)) (inputs_of_round cartridge.now round.now)
+        (memory_disk (memory refused.device)).sectors
         refused.why) }
     ensures memory { IfErr result (λ refused. refused.why ≡ SessionError.Memory →
         IsOutOfMemory cartridge.now (memory device) (memory refused.device)) }
-    ensures stand { IfOk result (λ r. EachStands cartridge.now (memory_disk (memory device)) → EachStands cartridge.now (memory_disk (memory r.0))) }
-    ensures sound { IfErr result (λ refused. EachStands cartridge.now (memory_disk (memory device)) → IsSoundStop refused.why) }
+    ensures stand { IfOk result (λ r.
+        EachStands cartridge.now (memory_disk (memory device)) → EachStands cartridge.now (memory_disk (memory r.0))) }
+    ensures sound { IfErr result (λ refused.
+        EachStands cartridge.now (memory_disk (memory device)) → IsSoundStop refused.why) }
     ensures kept { IfErr result (λ refused. EachStands cartridge.now (memory_disk (memory device)) →
         EachStands cartridge.now (memory_disk (memory refused.device))) }
     ensures faults_ok { IfOk result (λ r. (memory device).faults ≤ (memory r.0).faults) }
-    ensures faults { IfErr result (λ refused. CountsLifeFaults (memory device).faults (memory refused.device).faults refused.why) }
+    ensures faults { IfErr result (λ refused.
+        CountsLifeFaults (memory device).faults (memory refused.device).faults refused.why) }
     ensures fuse { IfErr result (λ refused. refused.why ≡ SessionError.Device → (memory refused.device).blown ≡ false) }
 {
     let device = with_fuse(device, round.calls);

@@ -1,30 +1,24 @@
 use Rattle.std.proofs.Common.{rules, ◌≡◌, ◌<◌, ◌-◌, ◌++◌, ◌∷◌, [], length, take, drop, get_or, set, vec_capacity, length-append, length-take, ap, sym, ◌∙◌, arith}
-use Rattle.input_entries.specs.Inputs.{joins, longer, single, run_length}
-use Rattle.log_format.specs.Inputs.{with_input}
-use Rattle.log_format.proofs.Adding.{lengthens, adds_new, adds_first, last_short}
+use Rattle.input_entries.specs.Inputs.{longer, single, run_length}
+use Rattle.input_entries.specs.Growing.{lengthens, with_input}
+use Rattle.input_entries.proofs.MoreInputs.{lengthens_means}
+use Rattle.log_format.proofs.Adding.{last_longer, adds_new, adds_first}
 use Rattle.log_format.proofs.entries.add_input.Goals as goal
-use Rattle.log_format.proofs.entries.add_input.Goals.{then-count-sealed+else-joins, else-count-sealed}
+use Rattle.log_format.proofs.entries.add_input.Goals.{then-count-sealed+else-lengthens, else-count-sealed}
 
 pub longer-requires : goal.longer-requires
 longer-requires c =
-    let log = c.args.log.now.items in
-    let count : c.len-count.result ≡ length log = search rules in
-    let last : c.index.result.now ≡ get_or log (length log - 1) c.index.result.now = c.index.ensures ∙ ap (λ n. get_or log (n - 1) c.index.result.now) count in
-    let five : length c.args.input.now.code ≡ 5 = c.joins.ensures.five in
-    let short : run_length (get_or log (length log - 1) c.index.result.now) < 216000 =
-    last_short log c.args.sealed c.requires.sealed c.index.result.now (omega (arith, count, c.if-count-sealed.true)) c.args.input.now five c.requires.input c.requires.entries c.requires.few
-    (ap (λ x. joins x c.args.input.now) (sym last) ∙ sym c.joins.ensures.is ∙ c.if-joins.true) in
-    let mine : run_length c.index.result.now < 216000 = omega (arith, ap run_length last, short) in
-    omega (arith, mine)
+    let short : run_length c.index.result.now < 216000 = (lengthens_means c.index.result.now c.args.input.now (sym c.lengthens.ensures.is ∙ c.if-lengthens.true)).1 in
+    omega (arith, short)
 
-pub returns-then-joins-clause-items : goal.returns-then-joins-clause-items
-returns-then-joins-clause-items c =
+pub returns-then-lengthens-clause-items : goal.returns-then-lengthens-clause-items
+returns-then-lengthens-clause-items c =
     let log = c.args.log.now.items in
     let count : c.len-count.result ≡ length log = search rules in
     let last : c.index.result.now ≡ get_or log (length log - 1) c.index.result.now = c.index.ensures ∙ ap (λ n. get_or log (n - 1) c.index.result.now) count in
     (λ i. set log (count i - 1) ((c.longer.ensures ∙ ap longer last) i))
-    ∙ lengthens log c.args.sealed c.requires.sealed c.index.result.now (omega (arith, count, c.if-count-sealed.true)) c.args.input.now
-    (ap (λ x. joins x c.args.input.now) (sym last) ∙ sym c.joins.ensures.is ∙ c.if-joins.true)
+    ∙ last_longer log c.args.sealed c.requires.sealed c.index.result.now (omega (arith, count, c.if-count-sealed.true)) c.args.input.now
+    (ap (λ x. lengthens x c.args.input.now) (sym last) ∙ sym c.lengthens.ensures.is ∙ c.if-lengthens.true)
 
 pub push_reserved-requires : goal.push_reserved-requires
 push_reserved-requires c =
@@ -32,9 +26,9 @@ push_reserved-requires c =
     let count : c.len-count.result ≡ length log = search rules in
     let made : log ++ single c.args.input.now ∷ [] ≡ take c.args.sealed log ++ with_input (drop c.args.sealed log) c.args.input.now =
     elim c.if-count-sealed.branch [
-      | then-count-sealed+else-joins w ↦
+      | then-count-sealed+else-lengthens w ↦
           let last : w.index.result.now ≡ get_or log (length log - 1) w.index.result.now = w.index.ensures ∙ ap (λ n. get_or log (n - 1) w.index.result.now) count in
-          adds_new log c.args.sealed c.requires.sealed w.index.result.now (omega (arith, count, w.if-count-sealed.true)) c.args.input.now (ap (λ x. joins x c.args.input.now) (sym last) ∙ sym w.joins.ensures.is ∙ w.if-joins.false)
+          adds_new log c.args.sealed c.requires.sealed w.index.result.now (omega (arith, count, w.if-count-sealed.true)) c.args.input.now (ap (λ x. lengthens x c.args.input.now) (sym last) ∙ sym w.lengthens.ensures.is ∙ w.if-lengthens.false)
       | else-count-sealed w ↦ adds_first log c.args.sealed c.requires.sealed c.args.input.now (omega (arith, count, w.if-count-sealed.false, c.requires.sealed))
     ] in
     let room : length log < vec_capacity c.args.log.now = omega (
@@ -54,9 +48,9 @@ returns-clause-items c =
     let count : c.len-count.result ≡ length log = search rules in
     let made : log ++ single c.args.input.now ∷ [] ≡ take c.args.sealed log ++ with_input (drop c.args.sealed log) c.args.input.now =
     elim c.if-count-sealed.branch [
-      | then-count-sealed+else-joins w ↦
+      | then-count-sealed+else-lengthens w ↦
           let last : w.index.result.now ≡ get_or log (length log - 1) w.index.result.now = w.index.ensures ∙ ap (λ n. get_or log (n - 1) w.index.result.now) count in
-          adds_new log c.args.sealed c.requires.sealed w.index.result.now (omega (arith, count, w.if-count-sealed.true)) c.args.input.now (ap (λ x. joins x c.args.input.now) (sym last) ∙ sym w.joins.ensures.is ∙ w.if-joins.false)
+          adds_new log c.args.sealed c.requires.sealed w.index.result.now (omega (arith, count, w.if-count-sealed.true)) c.args.input.now (ap (λ x. lengthens x c.args.input.now) (sym last) ∙ sym w.lengthens.ensures.is ∙ w.if-lengthens.false)
       | else-count-sealed w ↦ adds_first log c.args.sealed c.requires.sealed c.args.input.now (omega (arith, count, w.if-count-sealed.false, c.requires.sealed))
     ] in
     c.push_reserved.ensures.items ∙ ap (λ s. log ++ s ∷ []) c.single.ensures.is ∙ made

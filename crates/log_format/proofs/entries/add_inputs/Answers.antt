@@ -1,9 +1,11 @@
-use Rattle.std.proofs.Common.{rules, ◌≡◌, ◌≤◌, ◌<◌, ◌+◌, ◌*◌, ◌/◌, ◌++◌, ◌∷◌, [], length, take, drop, get_or, vec_capacity, ap, sym, ◌∙◌, subst, arith}
-use Rattle.std.proofs.lemmas.List.{take_more, take_all}
+use Rattle.std.proofs.Common.{rules, ◌≡◌, ◌≤◌, ◌+◌, ◌*◌, ◌/◌, ◌++◌, [], length, take, drop, get_or, vec_capacity, ap, sym, ◌∙◌, subst, arith}
+use Rattle.std.proofs.lemmas.List.{take_all}
 use Rattle.input_entries.specs.declared.Entry.{Entry}
-use Rattle.input_entries.specs.Inputs.{AllFive, all_entries, inputs}
-use Rattle.log_format.specs.Inputs.{with_input, with_inputs, grown}
-use Rattle.log_format.proofs.Adding.{five-append, input_at, entries_here, few_here, within_here, room_here, next_here, grown_by}
+use Rattle.input_entries.specs.Inputs.{AllFive}
+use Rattle.input_entries.specs.Growing.{with_input, with_inputs}
+use Rattle.log_format.specs.Inputs.{grown}
+use Rattle.input_entries.proofs.MoreInputs.{five_more}
+use Rattle.log_format.proofs.Adding.{within_here, room_here, next_here, grown_by}
 use Rattle.log_format.proofs.entries.add_inputs.Goals as goal
 
 pub add_input-requires-clause-sealed : goal.add_input-requires-clause-sealed
@@ -12,7 +14,7 @@ add_input-requires-clause-sealed c =
     let n = c.len.result / 84 * 84 in
     let count : c.len.result ≡ length log = search rules in
     let within : n ≤ length log = omega (arith, count) in
-    omega (arith, ap length c.loop-input.invariant.items, within_here log c.args.more.now n within c.loop-input.input-index c.loop-input-test.true c.requires.entries c.requires.few c.requires.input c.loop-input.invariant.five)
+    omega (arith, ap length c.loop-input.invariant.items, within_here log c.args.more.now n within c.loop-input.input-index c.loop-input-test.true)
 
 pub add_input-requires-clause-room : goal.add_input-requires-clause-room
 add_input-requires-clause-room c =
@@ -22,28 +24,9 @@ add_input-requires-clause-room c =
     let within : n ≤ length log = omega (arith, count) in
     let e : Entry = get_or c.args.more.now c.loop-input.input-index (record { code = [] }) in
     let same : c.loop-input.log.items ≡ take n log ++ with_inputs (drop n log) (take c.loop-input.input-index c.args.more.now) = c.loop-input.invariant.items in
-    let room = room_here log c.args.more.now n within c.loop-input.input-index c.loop-input-test.true c.requires.entries c.requires.few c.requires.input c.loop-input.invariant.five (record { code = [] }) in
+    let room = room_here log c.args.more.now n within c.loop-input.input-index c.loop-input-test.true (record { code = [] }) in
     let all : length (take n log ++ with_inputs (drop n log) c.args.more.now) ≡ length (grown log c.args.more.now) = ap length (grown_by log c.args.more.now n (omega (arith, count))) in
     subst (λ l. length (with_input (drop n l) e) + n ≤ vec_capacity c.loop-input.log) (sym same) (omega (arith, room, all, c.requires.room, c.loop-input.invariant.capacity))
-
-pub add_input-requires-clause-entries : goal.add_input-requires-clause-entries
-add_input-requires-clause-entries c =
-    let log = c.args.log.now.items in
-    let n = c.len.result / 84 * 84 in
-    let count : c.len.result ≡ length log = search rules in
-    let within : n ≤ length log = omega (arith, count) in
-    subst all_entries (sym c.loop-input.invariant.items) (entries_here log c.args.more.now n within c.loop-input.input-index c.loop-input-test.true c.requires.entries c.requires.few c.requires.input c.loop-input.invariant.five)
-
-pub add_input-requires-clause-few : goal.add_input-requires-clause-few
-add_input-requires-clause-few c =
-    let log = c.args.log.now.items in
-    let n = c.len.result / 84 * 84 in
-    let count : c.len.result ≡ length log = search rules in
-    let within : n ≤ length log = omega (arith, count) in
-    subst (λ l. length (inputs l) < 216000) (sym c.loop-input.invariant.items) (few_here log c.args.more.now n within c.loop-input.input-index c.loop-input-test.true c.requires.entries c.requires.few c.requires.input c.loop-input.invariant.five)
-
-pub add_input-requires-clause-input : goal.add_input-requires-clause-input
-add_input-requires-clause-input c = input_at c.args.more.now c.loop-input.input-index (record { code = [] }) c.loop-input-test.true c.requires.input
 
 pub loop-input-preserved : goal.loop-input-preserved
 loop-input-preserved c =
@@ -55,12 +38,11 @@ loop-input-preserved c =
     let within : n ≤ length log = omega (arith, count) in
     let e : Entry = get_or es i (record { code = [] }) in
     let same : c.loop-input.log.items ≡ take n log ++ with_inputs (drop n log) (take i es) = c.loop-input.invariant.items in
-    let mine : AllFive (e ∷ []) = (c.add_input.ensures.five, tt) in
     record {
       items = c.add_input.ensures.items ∙ ap (λ l. take n l ++ with_input (drop n l) e) same
-          ∙ next_here log es n within i c.loop-input-test.true c.requires.entries c.requires.few c.requires.input c.loop-input.invariant.five (record { code = [] });
+          ∙ next_here log es n within i c.loop-input-test.true (record { code = [] });
       capacity = omega (arith, c.loop-input.invariant.capacity, c.add_input.ensures.capacity);
-      five = subst AllFive (sym (take_more es i (record { code = [] }) c.loop-input-test.true)) (five-append (take i es) (e ∷ []) c.loop-input.invariant.five mine);
+      five = five_more es i (record { code = [] }) c.loop-input-test.true c.loop-input.invariant.five c.add_input.ensures.five;
     }
 
 pub returns-clause-items : goal.returns-clause-items

@@ -1,6 +1,6 @@
 use Rattle.std.proofs.Common.{◌≡◌, ◌≤◌, ◌++◌, take, drop, vec_capacity}
 use Rattle.input_entries.specs.Inputs.{AllFive}
-use Rattle.log_format.specs.Inputs.{with_inputs}
+use Rattle.input_entries.specs.Growing.{with_inputs}
 use Rattle.log_format.proofs.entries.add_inputs.Given as goal
 
 abbrev pub invariant-loop-input : goal.invariant-loop-input

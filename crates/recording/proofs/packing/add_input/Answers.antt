@@ -1,8 +1,9 @@
 use Rattle.std.proofs.Common.{rules, ◌≡◌, ◌<◌, ◌-◌, ◌++◌, ◌∷◌, [], length, Some, set, refl, sym, ap, ◌∙◌, subst, arith, length-append}
 use Rattle.input_entries.specs.Inputs.{run_length}
-use Rattle.recording.specs.Growing.{with_input, last_of}
+use Rattle.input_entries.specs.Growing.{with_input, last_of}
 use Rattle.recording.specs.Keeping.{AreGood}
-use Rattle.recording.proofs.Growing.{lengthens_means, no_last, last_goes, last_stays, good_more}
+use Rattle.input_entries.proofs.MoreInputs.{lengthens_means, no_last, last_goes, last_stays}
+use Rattle.recording.proofs.ListBytes.{good_more}
 use Rattle.recording.proofs.packing.add_input.Goals as goal
 
 pub push_reserved-requires : goal.push_reserved-requires

@@ -2,8 +2,8 @@ use Rattle.std.proofs.Common.{◌≡◌, ◌<◌, ◌++◌, [], ℕ, zero, suc, 
 use Rattle.std.proofs.lemmas.List.{take_all}
 use Rattle.input_entries.specs.Inputs.{AllFive}
 use Rattle.input_entries.specs.declared.Entry.{Entry}
-use Rattle.recording.specs.Growing.{with_input, with_inputs}
-use Rattle.recording.proofs.Growing.{next_input, stops, input_at, five_more}
+use Rattle.input_entries.specs.Growing.{with_input, with_inputs}
+use Rattle.input_entries.proofs.MoreInputs.{next_input, stops, input_at, five_more}
 use Rattle.recording.proofs.packing.fill.Goals as goal
 
 pub add_input-requires-clause-short : goal.add_input-requires-clause-short

@@ -1,6 +1,6 @@
 use Rattle.std.proofs.Common.{◌≡◌, ◌≤◌, length, take, vec_capacity}
 use Rattle.input_entries.specs.Inputs.{AllFive}
-use Rattle.recording.specs.Growing.{with_inputs}
+use Rattle.input_entries.specs.Growing.{with_inputs}
 use Rattle.recording.specs.Keeping.{AreGood}
 use Rattle.recording.proofs.packing.fill.Given as goal
 

@@ -6,10 +6,10 @@ use Rattle.sector_device.specs.Runs.{Mixed, WrittenUpTo}
 use Rattle.sector_device.proofs.Runs.{both_then, begun, has_written, mixed_old, mixed_set, written_more, written_all}
 use Rattle.input_entries.specs.declared.StoredEntry.{StoredEntry}
 use Rattle.recording.specs.Format.{list_sector}
-use Rattle.recording.specs.Growing.{with_inputs}
+use Rattle.input_entries.specs.Growing.{with_inputs}
 use Rattle.recording.specs.Keeping.{grown_image}
 use Rattle.recording.specs.Sizes.{list_sectors_in, sectors_for}
-use Rattle.recording.proofs.Growing.{some-with_inputs, input_take, input_drop}
+use Rattle.input_entries.proofs.MoreInputs.{some-with_inputs, input_take, input_drop}
 use Rattle.recording.proofs.Images.{most_is, length-grown}
 use Rattle.recording.proofs.ListBytes.{good_of}
 use Rattle.recording.proofs.Turns.{GoesOn, Turned, chunk_is, room_left, sector_is, turned, written_to, none_written, packed, same_behind}

@@ -1,7 +1,7 @@
 use Rattle.std.proofs.Common.{◌≡◌, ◌↔◌, ◌≤◌, ◌<◌, ◌+◌, ◌-◌, ◌*◌, ◌++◌, min, length, take, drop, vec_capacity}
 use Rattle.sector_device.specs.DiskState.{Settled}
 use Rattle.sector_device.specs.Runs.{HoldsThroughout, Mixed, WrittenUpTo}
-use Rattle.recording.specs.Growing.{with_inputs}
+use Rattle.input_entries.specs.Growing.{with_inputs}
 use Rattle.recording.specs.Keeping.{AreGood, grown_image}
 use Rattle.recording.specs.Sizes.{sectors_for}
 use Rattle.recording.proofs.writes.write_inputs.Given as goal

@@ -1,7 +1,8 @@
 use Rattle.std.proofs.Common.{◌≡◌, ◌<◌, ◌+◌, ◌-◌, length, true, false, refl, sym, ap, ◌∙◌, subst, arith}
 use Rattle.std.proofs.lemmas.Bool.Decides.{nat_tests}
 use Rattle.sector_device.specs.Runs.{HoldsThroughout, Mixed}
-use Rattle.recording.specs.Growing.{with_inputs, fits}
+use Rattle.input_entries.specs.Growing.{with_inputs}
+use Rattle.recording.specs.Growing.{fits}
 use Rattle.recording.specs.Keeping.{BlankFrom, blanked, grown_image, Kept}
 use Rattle.recording.specs.Sizes.{list_sectors_in, sectors_for}
 use Rattle.recording.proofs.Appending.{fits_means, no_overflow, kept_after, clearing, clearing_keeps, writing, writing_keeps, blank_cleared, appended, stored'}

@@ -4,14 +4,12 @@ use Rattle.std.proofs.lemmas.List.{append-nil, take_at, take_all, take-append-dr
 use Rattle.std.proofs.Math.Seq.{drop-cons, set-append_seam, get_or-append_seam}
 use Rattle.std.proofs.lemmas.Bool.{cases_lt, cases_Bool, and_parts}
 use Rattle.std.proofs.lemmas.Bool.Decides.{nat_tests}
+use Rattle.input_entries.specs.Growing.{lengthens, with_input, with_inputs, last_of}
 use Rattle.input_entries.specs.Inputs.{AllFive, is_input, all_input, run_length, inputs_in, inputs, all_entries, single, joins, longer}
 use Rattle.input_entries.specs.declared.Entry.{Entry}
 use Rattle.input_entries.specs.declared.StoredEntry.{StoredEntry}
 use Rattle.input_entries.proofs.CodeLengths.{AreCodes, code_single, code_longer}
-use Rattle.input_entries.proofs.Runs.{single_inputs, single_entry, joined, longer_inputs, longer_entry}
-use Rattle.recording.specs.Keeping.{AreGood}
-use Rattle.recording.proofs.ListBytes.{codes_of_good, entries_of_good, good_of}
-use Rattle.recording.specs.Growing.{lengthens, with_input, with_inputs, last_of}
+use Rattle.input_entries.proofs.Runs.{single_inputs, single_entry, joined, longer_inputs, longer_entry, entries-take}
 
 -- the input joins the run, and the run is not the longest
 pub lengthens_means : (s : StoredEntry) (e : Entry) → lengthens s e ≡ true → (joins s e ≡ true) × (run_length s < 216000)
@@ -44,49 +42,56 @@ goes_else front s e fails = with_input-snoc front s e ∙ ap (λ (t : Bool). fro
 -- what one input more makes of a list
 pub record OneMore (list new : List StoredEntry) (e : Entry) : Type 0 where
   pub each : all_entries new
-  pub codes : AreCodes new
   pub stand : inputs new ≡ inputs list ++ e ∷ []
 
-pub one_more : (list : List StoredEntry) (e : Entry) → all_entries list → AreCodes list → length e.code ≡ 5 → is_input e ≡ true → OneMore list (with_input list e) e
-one_more [] e are codes size input = record { each = (single_entry e size input, tt); codes = (code_single e size, tt); stand = append-nil (inputs_in (single e)) ∙ single_inputs e size input }
-one_more (s ∷ []) e are codes size input = elim (cases_Bool (lengthens s e)) [
+pub one_more : (list : List StoredEntry) (e : Entry) → all_entries list → length e.code ≡ 5 → is_input e ≡ true → OneMore list (with_input list e) e
+one_more [] e are size input = record { each = (single_entry e size input, tt); stand = append-nil (inputs_in (single e)) ∙ single_inputs e size input }
+one_more (s ∷ []) e are size input = elim (cases_Bool (lengthens s e)) [
   | inl holds ↦
       let means = lengthens_means s e holds in
       let j = joined s e size are.0 input means.0 in
       let is : with_input (s ∷ []) e ≡ longer s ∷ [] = goes_then [] s e holds in
       subst (λ l. OneMore (s ∷ []) l e) (sym is) (record {
         each = (longer_entry s means.1, tt);
-        codes = (code_longer s, tt);
         stand = append-nil (inputs_in (longer s)) ∙ longer_inputs s e j means.1 ∙ ap (λ l. l ++ e ∷ []) (sym (append-nil (inputs_in s)));
       })
   | inr fails ↦
       let is : with_input (s ∷ []) e ≡ s ∷ single e ∷ [] = goes_else [] s e fails in
       subst (λ l. OneMore (s ∷ []) l e) (sym is) (record {
         each = (are.0, (single_entry e size input, tt));
-        codes = (codes.0, (code_single e size, tt));
         stand = (λ i. inputs_in s ++ (append-nil (inputs_in (single e)) ∙ single_inputs e size input) i) ∙ ap (λ l. l ++ e ∷ []) (sym (append-nil (inputs_in s)));
       })
 ]
-one_more (s ∷ t ∷ list) e are codes size input =
-    let later = one_more (t ∷ list) e are.1 codes.1 size input in
+one_more (s ∷ t ∷ list) e are size input =
+    let later = one_more (t ∷ list) e are.1 size input in
     record {
       each = (are.0, later.each);
-      codes = (codes.0, later.codes);
       stand = ap (λ l. inputs_in s ++ l) later.stand ∙ sym (append_assoc (inputs_in s) (inputs (t ∷ list)) (e ∷ []));
     }
 
 -- all of them were added
 pub record Whole (list now : List StoredEntry) (new : List Entry) : Type 0 where
   pub each : all_entries now
-  pub codes : AreCodes now
   pub stand : inputs now ≡ inputs list ++ new
 
-pub whole : (list : List StoredEntry) (new : List Entry) → all_entries list → AreCodes list → AllFive new → all_input new → Whole list (with_inputs list new) new
-whole list [] are codes fives input = record { each = are; codes = codes; stand = sym (append-nil (inputs list)) }
-whole list (e ∷ es) are codes fives input =
-    let next = one_more list e are codes fives.0 input.0 in
-    let later = whole (with_input list e) es next.each next.codes fives.1 input.1 in
-    record { each = later.each; codes = later.codes; stand = later.stand ∙ ap (λ l. l ++ es) next.stand ∙ append_assoc (inputs list) (e ∷ []) es }
+pub whole : (list : List StoredEntry) (new : List Entry) → all_entries list → AllFive new → all_input new → Whole list (with_inputs list new) new
+whole list [] are fives input = record { each = are; stand = sym (append-nil (inputs list)) }
+whole list (e ∷ es) are fives input =
+    let next = one_more list e are fives.0 input.0 in
+    let later = whole (with_input list e) es next.each fives.1 input.1 in
+    record { each = later.each; stand = later.stand ∙ ap (λ l. l ++ es) next.stand ∙ append_assoc (inputs list) (e ∷ []) es }
+
+pub codes-with_input : (list : List StoredEntry) (e : Entry) → AreCodes list → length e.code ≡ 5 → AreCodes (with_input list e)
+codes-with_input [] e codes size = (code_single e size, tt)
+codes-with_input (s ∷ []) e codes size = elim (cases_Bool (lengthens s e)) [
+  | inl holds ↦ subst AreCodes (sym (goes_then [] s e holds)) (code_longer s, tt)
+  | inr fails ↦ subst AreCodes (sym (goes_else [] s e fails)) (codes.0, (code_single e size, tt))
+]
+codes-with_input (s ∷ t ∷ list) e codes size = (codes.0, codes-with_input (t ∷ list) e codes.1 size)
+
+pub codes-with_inputs : (list : List StoredEntry) (es : List Entry) → AreCodes list → AllFive es → AreCodes (with_inputs list es)
+codes-with_inputs list [] codes fives = codes
+codes-with_inputs list (e ∷ es) codes fives = codes-with_inputs (with_input list e) es (codes-with_input list e codes fives.0) fives.1
 
 pub length-with_input : (list : List StoredEntry) (e : Entry) → length list ≤ length (with_input list e)
 length-with_input [] e = omega arith
@@ -128,22 +133,25 @@ behind front s (e ∷ es) = elim (cases_Bool (lengthens s e)) [
 pub record Prefix (list cut : List StoredEntry) (new : List Entry) : Type 0 where
   pub count : ℕ
   pub within : count ≤ length new
+  pub each : all_entries cut
   pub stand : inputs cut ≡ inputs list ++ take count new
 
-pub prefix : (list : List StoredEntry) (new : List Entry) → all_entries list → AreCodes list → AllFive new → all_input new → (m : ℕ) → length list ≤ m → Prefix list (take m (with_inputs list new)) new
-prefix list [] are codes fives input m long = record {
+pub prefix : (list : List StoredEntry) (new : List Entry) → all_entries list → AllFive new → all_input new → (m : ℕ) → length list ≤ m → Prefix list (take m (with_inputs list new)) new
+prefix list [] are fives input m long = record {
   count = 0;
   within = omega arith;
+  each = entries-take m list are;
   stand = ap inputs (take_all m list long) ∙ sym (append-nil (inputs list));
 }
-prefix list (e ∷ es) are codes fives input m long =
-    let next = one_more list e are codes fives.0 input.0 in
+prefix list (e ∷ es) are fives input m long =
+    let next = one_more list e are fives.0 input.0 in
     elim (cases_lt m (length (with_input list e))) [
       | inr enough ↦
-          let later = prefix (with_input list e) es next.each next.codes fives.1 input.1 m enough in
+          let later = prefix (with_input list e) es next.each fives.1 input.1 m enough in
           record {
             count = suc later.count;
             within = omega (arith, later.within);
+            each = later.each;
             stand = later.stand ∙ ap (λ l. l ++ take later.count es) next.stand ∙ append_assoc (inputs list) (e ∷ []) (take later.count es);
           }
       | inl short ↦
@@ -151,6 +159,7 @@ prefix list (e ∷ es) are codes fives input m long =
           record {
             count = 0;
             within = omega arith;
+            each = subst all_entries (sym is) are;
             stand = ap inputs is ∙ sym (append-nil (inputs list));
           }
     ]
@@ -270,8 +279,3 @@ five_more (e ∷ es) zero d le are one = (one, tt)
 five_more (e ∷ es) (suc k) d le are one =
     let next : suc (k + 1) ≡ suc k + 1 = omega arith in
     subst (λ n. AllFive (take n (e ∷ es))) next (are.0, five_more es k d (omega arith) are.1 one)
-
-pub good_more : (list : List StoredEntry) (e : Entry) → AreGood list → length e.code ≡ 5 → is_input e ≡ true → AreGood (with_input list e)
-good_more list e good size input =
-    let more = one_more list e (entries_of_good list good) (codes_of_good list good) size input in
-    good_of (with_input list e) more.codes more.each

@@ -1,7 +1,7 @@
 use Rattle.std.proofs.Common.{◌<◌, length, sym, arith}
 use Rattle.std.proofs.lemmas.Bool.Decides.{nat_tests}
-use Rattle.recording.proofs.Growing.{last_at}
-use Rattle.recording.proofs.packing.last_of.Goals as goal
+use Rattle.input_entries.proofs.MoreInputs.{last_at}
+use Rattle.input_entries.proofs.growing.last_of.Goals as goal
 
 pub returns : goal.returns
 returns c =

@@ -2,14 +2,15 @@ use Rattle.std.proofs.Common.{rules, ◌<◌, ◌^◌, [], length, take, ap, ◌
 use Rattle.std.proofs.lemmas.List.{take_all}
 use Rattle.input_entries.specs.declared.Entry.{Entry}
 use Rattle.input_entries.specs.Inputs.{AllFive}
-use Rattle.recording.specs.Growing.{with_inputs, last_of}
-use Rattle.recording.proofs.Growing.{next_input, five_more}
-use Rattle.recording.proofs.packing.grown_length.Goals as goal
+use Rattle.input_entries.specs.Growing.{with_inputs, last_of}
+use Rattle.input_entries.proofs.MoreInputs.{next_input, five_more}
+use Rattle.input_entries.proofs.growing.grown_length.Goals as goal
 
 pub overflow_add-count : goal.overflow_add-count
 overflow_add-count c =
     let long : length c.args.more.now < 2 ^ 63 = search rules in
-    omega (arith, long, c.loop-input.invariant.few, c.grow-count.ensures.few, c.loop-input-test.true)
+    let short : length c.args.entries.now < 2 ^ 63 = search rules in
+    omega (arith, long, short, c.loop-input.invariant.few, c.grow-count.ensures.few, c.loop-input-test.true)
 
 pub loop-input-preserved : goal.loop-input-preserved
 loop-input-preserved c =

@@ -1,7 +1,7 @@
 use Rattle.std.proofs.Common.{◌<◌, ap, ◌∙◌, sym, arith, Some}
 use Rattle.input_entries.specs.Inputs.{run_length}
-use Rattle.recording.proofs.Growing.{lengthens_means, grown_none, grown_then, grown_else}
-use Rattle.recording.proofs.packing.grow.Goals as goal
+use Rattle.input_entries.proofs.MoreInputs.{lengthens_means, grown_none, grown_then, grown_else}
+use Rattle.input_entries.proofs.growing.grow.Goals as goal
 
 pub longer-requires : goal.longer-requires
 longer-requires c =
