@@ -11,7 +11,7 @@ use Rattle.picture_unit.specs.declared.rows.LateLines.{LateLines}
 use Rattle.picture_unit.specs.declared.rows.Rows.{Rows}
 use Rattle.picture_unit.specs.declared.state.PictureState.{PictureState}
 use Rattle.picture_unit.specs.Picture.{IsWhole}
-use Rattle.picture_unit.specs.LateRows.{shown, with_late, rows_of, AreLines, AreKept, AreRight}
+use Rattle.picture_unit.specs.LateRows.{shown, with_late, rows_of, earlier_vram, AreLines, IsKept, AreKept, AreRight}
 
 pub length-shown : (are_late : List Bool) (drawn_by : List LineRegisters) (vram oam : List ℕ) (rows : List (List ℕ)) → length (shown are_late drawn_by vram oam rows) ≡ length rows
 unfolding shown
@@ -153,37 +153,56 @@ whole_aside p oam oam' rows rows' size same whole = record {
   shades = subst (λ (x : List (List ℕ)). All (λ row. All (λ shade. shade < 4) row) x) (sym same) whole.shades;
 }
 
-pub rows_count : (r : Rows) (vram oam : List ℕ) → AreRight r vram oam → length (rows_of r vram oam) ≡ 144
-rows_count r vram oam right =
-    length-shown r.late.are_late r.late.drawn_by vram oam (with_late r.earlier r.earlier_tiles r.earlier_oam.items r.drawn.items)
-    ∙ (length-shown r.earlier.are_late r.earlier.drawn_by r.earlier_tiles r.earlier_oam.items r.drawn.items ∙ right.row_count)
-
-clear_at : (flags : List Bool) (y : ℕ) → get_or (set flags y false) y false ≡ false
+pub clear_at : (flags : List Bool) (y : ℕ) → get_or (set flags y false) y false ≡ false
 clear_at [] y = refl
 clear_at (flag ∷ flags) zero = refl
 clear_at (flag ∷ flags) (suc y) = clear_at flags y
+
+-- what is set after a flag was cleared
+pub still_set : (flags : List Bool) (y j : ℕ) → get_or (set flags y false) j false ≡ true → get_or flags j false ≡ true
+still_set flags y j is_set = elim (cases_eq j y) [
+  | inl here ↦ absurd (let e : false ≡ true = sym (clear_at flags y) ∙ subst (λ (n : ℕ). get_or (set flags y false) n false ≡ true) here is_set in cc)
+  | inr other ↦ sym (get_or-set_other flags y j false false other) ∙ is_set
+]
 
 module _ (k : KeptRows) (rows : List (List ℕ)) (vram oam : List ℕ) (y : ℕ) where
   -- a row is set: it is no longer kept
   pub kept_set : (row : List ℕ) → AreKept k rows vram oam → AreKept (record k { are_marked = set k.are_marked y false }) (set rows y row) vram oam
   kept_set row kept = λ some j within marked by. elim (cases_eq j y) [
     | inl here ↦ absurd (let e : false ≡ true = sym (clear_at k.are_marked y) ∙ subst (λ (n : ℕ). get_or (set k.are_marked y false) n false ≡ true) here marked in cc)
-    | inr other ↦ get_or-set_other rows y j row [] other ∙ kept some j within (sym (get_or-set_other k.are_marked y j false false other) ∙ marked) by
+    | inr other ↦
+        let was : IsKept (get_or k.drawn_by j by) j (get_or rows j []) vram oam = kept some j within (sym (get_or-set_other k.are_marked y j false false other) ∙ marked) by in
+        record { place = was.place; row = get_or-set_other rows y j row [] other ∙ was.row }
   ]
 
-  -- a row is drawn: it is kept by its registers
-  pub kept_drawn : (s : LineRegisters) → y < length rows → y < length k.drawn_by → AreKept k rows vram oam → k.has_some ≡ true →
-      AreKept (record k { are_marked = set k.are_marked y true; drawn_by = set k.drawn_by y s }) (set rows y (drawn_row s vram oam)) vram oam
-  kept_drawn s in_rows in_lines kept some = λ _ j within marked by. elim (cases_eq j y) [
-    | inl here ↦ subst (λ (n : ℕ). get_or (set rows y (drawn_row s vram oam)) n [] ≡ drawn_row (get_or (set k.drawn_by y s) n by) vram oam) (sym here)
-        (get_or-set_same rows y (drawn_row s vram oam) [] in_rows ∙ ap (λ (l : LineRegisters). drawn_row l vram oam) (sym (get_or-set_same k.drawn_by y s by in_lines)))
+  -- a row is drawn: it is kept by its registers, if it is that of their line
+  pub kept_drawn : (s : LineRegisters) (is_placed : Bool) → (is_placed ≡ true → s.ly ≡ y) → y < length rows → y < length k.are_marked → y < length k.drawn_by → AreKept k rows vram oam → k.has_some ≡ true →
+      AreKept (record k { are_marked = set k.are_marked y is_placed; drawn_by = set k.drawn_by y s }) (set rows y (drawn_row s vram oam)) vram oam
+  kept_drawn s is_placed placed in_rows in_marks in_lines kept some = λ _ j within marked by. elim (cases_eq j y) [
+    | inl here ↦
+        let mark : is_placed ≡ true = sym (get_or-set_same k.are_marked y is_placed false in_marks) ∙ subst (λ (n : ℕ). get_or (set k.are_marked y is_placed) n false ≡ true) here marked in
+        let line : get_or (set k.drawn_by y s) y by ≡ s = get_or-set_same k.drawn_by y s by in_lines in
+        subst (λ (n : ℕ). IsKept (get_or (set k.drawn_by y s) n by) n (get_or (set rows y (drawn_row s vram oam)) n []) vram oam) (sym here)
+        (subst (λ (l : LineRegisters). IsKept l y (get_or (set rows y (drawn_row s vram oam)) y []) vram oam) (sym line)
+        (record { place = placed mark; row = get_or-set_same rows y (drawn_row s vram oam) [] in_rows }))
     | inr other ↦
-        get_or-set_other rows y j (drawn_row s vram oam) [] other ∙ kept some j within (sym (get_or-set_other k.are_marked y j true false other) ∙ marked) by
-        ∙ ap (λ (l : LineRegisters). drawn_row l vram oam) (sym (get_or-set_other k.drawn_by y j s by other))
+        let was : IsKept (get_or k.drawn_by j by) j (get_or rows j []) vram oam = kept some j within (sym (get_or-set_other k.are_marked y j is_placed false other) ∙ marked) by in
+        subst (λ (l : LineRegisters). IsKept l j (get_or (set rows y (drawn_row s vram oam)) j []) vram oam) (sym (get_or-set_other k.drawn_by y j s by other))
+        (record { place = was.place; row = get_or-set_other rows y j (drawn_row s vram oam) [] other ∙ was.row })
   ]
 
   -- A kept row is as its registers would draw it.
   pub kept_stays : (s : LineRegisters) → y < 144 → AreKept k rows vram oam → k.has_some ≡ true → get_or k.are_marked y false ≡ true → get_or k.drawn_by y s ≡ s → rows ≡ set rows y (drawn_row s vram oam)
   kept_stays s visible kept some marked same =
-      let here : get_or rows y [] ≡ drawn_row s vram oam = kept some y visible marked s ∙ ap (λ (l : LineRegisters). drawn_row l vram oam) same in
+      let here : get_or rows y [] ≡ drawn_row s vram oam = (kept some y visible marked s).row ∙ ap (λ (l : LineRegisters). drawn_row l vram oam) same in
       sym (subst (λ (row : List ℕ). set rows y row ≡ rows) here (set-get_or rows y []))
+
+-- Where no line is late, the rows stay while VRAM and OAM change, once the earlier lines are drawn by a copy of VRAM.
+pub rows_left : (a b : Rows) (vram oam vram' oam' : List ℕ) → a.late.are_late ≡ replicate 144 false → b.late ≡ a.late → b.earlier ≡ a.earlier → b.earlier_oam ≡ a.earlier_oam → b.drawn ≡ a.drawn → b.has_same_vram ≡ false →
+    ((rows : List (List ℕ)) → with_late a.earlier b.earlier_tiles a.earlier_oam.items rows ≡ with_late a.earlier (earlier_vram a vram) a.earlier_oam.items rows) →
+    rows_of b vram' oam' ≡ rows_of a vram oam
+rows_left a b vram oam vram' oam' none late earlier earlier_oam drawn copied same =
+    let none' : b.late.are_late ≡ replicate 144 false = ap (λ (lines : LateLines). lines.are_late) late ∙ none in
+    let below : with_late b.earlier (earlier_vram b vram') b.earlier_oam.items b.drawn.items ≡ with_late a.earlier b.earlier_tiles a.earlier_oam.items a.drawn.items = rw (copied, earlier, earlier_oam, drawn) refl in
+    shown_as_is b.late vram' oam' (with_late b.earlier (earlier_vram b vram') b.earlier_oam.items b.drawn.items) none'
+    ∙ (below ∙ (same a.drawn.items ∙ sym (shown_as_is a.late vram oam (with_late a.earlier (earlier_vram a vram) a.earlier_oam.items a.drawn.items) none)))

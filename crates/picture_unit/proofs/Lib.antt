@@ -4,6 +4,7 @@ pub mod PictureLaws
 pub mod Steady
 pub mod Kept
 pub mod LateLines
+pub mod Touched
 pub mod LatePictures
 pub mod SignalLaws
 pub mod WindowLaws

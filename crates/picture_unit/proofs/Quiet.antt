@@ -26,10 +26,6 @@ quiet_vblank : (p : PictureState) → begins_vblank (record p { m_cycle = p.m_cy
 unfolding begins_vblank
 quiet_vblank p = grind (arith, nat_tests)
 
-and_false : (b : Bool) → (b && false) ≡ false
-and_false true = refl
-and_false false = refl
-
 or_false : (b : Bool) → (b || false) ≡ b
 or_false true = refl
 or_false false = refl

@@ -36,10 +36,6 @@ tick_is_steady d =
       | inr off ↦ subst IsSteady (sym (stands d off)) (λ on. both_ways (is_on d.picture.state) on off)
     ]
 
-pub ticks_are_steady : (n : ℕ) (d : PictureAndRequests) → 0 < n → IsSteady (iterate tick n d)
-ticks_are_steady zero d pos = absurd (omega arith)
-ticks_are_steady (suc n) d pos = subst IsSteady (sym (iterate-suc tick n d)) (tick_is_steady (iterate tick n d))
-
 quiet_advance : (d : PictureAndRequests) → is_on d.picture.state ≡ true → is_entry d ≡ false →
     entered (advanced d.picture.state) ≡ record d.picture.state { m_cycle = d.picture.state.m_cycle + 1 }
 unfolding is_entry advanced entered

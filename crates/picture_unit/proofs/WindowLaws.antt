@@ -58,9 +58,6 @@ begins_at_zero d on ends = counter-tick d on ∙ rw (draws_none d.picture.state 
 
 -- ---- a write
 
-abbrev with_picture : PictureUnit → PictureAndRequests → PictureAndRequests
-with_picture s d = record d { picture = s }
-
 counter-lcdc : (lcdc : ℕ) (s : PictureUnit) → is_on s.state ≡ true → is_on (lcdc_written lcdc s).state ≡ true → (lcdc_written lcdc s).state.window_counter ≡ s.state.window_counter
 unfolding lcdc_written switched_off switched_on is_on
 counter-lcdc lcdc s on stays = grind (arith, nat_tests, on, stays)

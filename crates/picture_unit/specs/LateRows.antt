@@ -17,18 +17,27 @@ shown (is_late ∷ are_late) (by ∷ drawn_by) vram oam (row ∷ rows) =
 abbrev pub with_late : LateLines → (vram oam : List ℕ) → List (List ℕ) → List (List ℕ)
 with_late lines vram oam rows = shown lines.are_late lines.drawn_by vram oam rows
 
+-- the VRAM that the lines are drawn by that were noted earlier, while VRAM is this
+abbrev pub earlier_vram : Rows → (vram : List ℕ) → List ℕ
+earlier_vram r vram = if r.has_same_vram then vram else r.earlier_tiles
+
 -- the rows, of lines that were noted earlier, by the VRAM and OAM of then, and over these of lines noted since
 abbrev pub rows_of : Rows → (vram oam : List ℕ) → List (List ℕ)
-rows_of r vram oam = with_late r.late vram oam (with_late r.earlier r.earlier_tiles r.earlier_oam.items r.drawn.items)
+rows_of r vram oam = with_late r.late vram oam (with_late r.earlier (earlier_vram r vram) r.earlier_oam.items r.drawn.items)
 
 pub record AreLines (lines : LateLines) : Type 0 where
   pub visible : All (λ by. by.ly < 144) lines.drawn_by
   pub none : lines.has_some ≡ false → lines.are_late ≡ replicate 144 false
 
+-- the row of a line, as VRAM and OAM draw it by these registers
+pub record IsKept (by : LineRegisters) (y : ℕ) (shades vram oam : List ℕ) : Type 0 where
+  pub place : by.ly ≡ y
+  pub row : shades ≡ drawn_row by vram oam
+
 -- The marked rows are as VRAM and OAM draw them, by the registers that go with them.
 abbrev pub AreKept : KeptRows → List (List ℕ) → (vram oam : List ℕ) → Type 0
 AreKept k rows vram oam =
-    k.has_some ≡ true → (y : ℕ) → y < 144 → get_or k.are_marked y false ≡ true → (by : LineRegisters) → get_or rows y [] ≡ drawn_row (get_or k.drawn_by y by) vram oam
+    k.has_some ≡ true → (y : ℕ) → y < 144 → get_or k.are_marked y false ≡ true → (by : LineRegisters) → IsKept (get_or k.drawn_by y by) y (get_or rows y []) vram oam
 
 -- what is known of the rows while VRAM and OAM are these
 pub record AreRight (r : Rows) (vram oam : List ℕ) : Type 0 where
@@ -36,4 +45,5 @@ pub record AreRight (r : Rows) (vram oam : List ℕ) : Type 0 where
   pub earlier : AreLines r.earlier
   pub oam_size : length r.earlier_oam.items ≡ 160
   pub row_count : length r.drawn.items ≡ 144
-  pub kept : AreKept r.kept r.drawn.items vram oam
+  pub kept : AreKept r.kept r.drawn.items vram r.kept_oam
+  pub kept_oam : r.has_same_oam ≡ true → r.kept_oam ≡ oam

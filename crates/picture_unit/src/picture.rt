@@ -1,6 +1,6 @@
 //! The picture unit, which is given all its M-cycles as they pass.
 
-ghost use Rattle.std.specs.Prelude.{◌≡◌, false, not, ◌&&◌, IfOk};
+ghost use Rattle.std.specs.Prelude.{◌≡◌, ◌<◌, slice_set, false, not, ◌&&◌, IfOk};
 
 mod clock;
 mod contents;
@@ -89,8 +89,18 @@ impl Picture {
         if self.tiles.byte(offset as usize) == value {
             return;
         }
-        self.rows.set_late_aside(&self.tiles, &self.oam);
-        self.tiles.write(offset as usize, value);
+        self.set_vram(offset as usize, value);
+    }
+
+    // Sets a byte of VRAM, in every mode. It is no part of `write_vram`, so that a write of the byte that stands there costs no call.
+    #[inline(never)]
+    fn set_vram(&mut self, offset: usize, value: u8)
+        requires { offset < 8192 }
+        ensures { self.new ≡ record self.old { vram = slice_set self.old.vram offset value } }
+    {
+        self.rows
+            .set_late_aside(&mut self.tiles, &self.oam, &self.state);
+        self.tiles.write(offset, value);
     }
 
     /// A byte of OAM, in every mode.
@@ -127,7 +137,8 @@ impl Picture {
         if self.oam[offset as usize] == value {
             return;
         }
-        self.rows.set_late_aside(&self.tiles, &self.oam);
+        self.rows
+            .set_aside_for_objects(&mut self.tiles, &self.oam, &self.state);
         self.oam[offset as usize] = value;
     }
 

@@ -165,6 +165,20 @@ impl PictureState {
         }
     }
 
+    // The line that was due last: if one alone is late, then mostly this one.
+    pub(crate) fn line_before(&self) -> usize
+        ensures { result < 144 }
+    {
+        let line = usize::from(self.ly);
+        if self.m_cycle >= 20 {
+            line.min(143)
+        } else if line > 0 {
+            line.min(144) - 1
+        } else {
+            143
+        }
+    }
+
     #[tactic(auto, unfolding(crate::specs::Picture::begins_vblank))]
     pub(crate) fn begins_vblank(&self) -> bool
         ensures { result ≡ begins_vblank self.now }

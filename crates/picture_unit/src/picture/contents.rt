@@ -45,7 +45,8 @@ impl Picture {
         requires { length bytes.now ≡ region_length region }
         ensures { self.new ≡ region_filled self.old region bytes.now }
     {
-        self.rows.set_late_aside(&self.tiles, &self.oam);
+        self.rows
+            .set_late_aside(&mut self.tiles, &self.oam, &self.state);
         match region {
             PictureRegion::Vram => self.tiles.fill(bytes),
             PictureRegion::Oam => self.oam.copy_from_slice(bytes),

@@ -8,6 +8,6 @@ invariant_of-self c =
     let p = c.self.inside in
     let oam = set p.oam.items c.args.offset c.args.value in
     record {
-      whole = whole_aside p.state p.oam.items oam _ _ (length-set p.oam.items c.args.offset c.args.value ∙ c.self.invariant.whole.oam_size) (rw c.deref.ensures.value at (c.set_late_aside.ensures.rows p.tiles oam)) c.self.invariant.whole;
-      rows = c.set_late_aside.ensures.right p.tiles oam;
+      whole = whole_aside p.state p.oam.items oam _ _ (length-set p.oam.items c.args.offset c.args.value ∙ c.self.invariant.whole.oam_size) (rw c.deref.ensures.value at (c.set_aside_for_objects.ensures.rows oam)) c.self.invariant.whole;
+      rows = c.set_aside_for_objects.ensures.right oam;
     }

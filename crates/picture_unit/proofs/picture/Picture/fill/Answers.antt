@@ -18,6 +18,6 @@ invariant_of-self-in-Oam c =
     let p = c.self.inside in
     let oam = c.copy_from_slice.new.self.items in
     record {
-      whole = whole_aside p.state p.oam.items oam _ _ (ap length c.copy_from_slice.ensures.items ∙ c.requires ∙ ap (λ (region : PictureRegion). region_length region) c.in-Oam.is) (rw c.deref.ensures.value at (c.set_late_aside.ensures.rows p.tiles oam)) c.self.invariant.whole;
-      rows = c.set_late_aside.ensures.right p.tiles oam;
+      whole = whole_aside p.state p.oam.items oam _ _ (ap length c.copy_from_slice.ensures.items ∙ c.requires ∙ ap (λ (region : PictureRegion). region_length region) c.in-Oam.is) (rw c.deref.ensures.value at (c.set_late_aside.ensures.rows c.set_late_aside.new.tiles oam)) c.self.invariant.whole;
+      rows = c.set_late_aside.ensures.right c.set_late_aside.new.tiles oam;
     }

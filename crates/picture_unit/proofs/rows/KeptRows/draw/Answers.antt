@@ -1,4 +1,4 @@
-use Rattle.std.proofs.Common.{arith}
+use Rattle.std.proofs.Common.{arith, sym, ◌∙◌, eqb-true}
 use Rattle.picture_unit.proofs.LateLines.{kept_drawn, kept_stays}
 use Rattle.picture_unit.proofs.rows.KeptRows.draw.Goals as goal
 
@@ -9,4 +9,4 @@ returns-then-is_drawn_by-clause-rows c =
 
 pub returns-clause-kept : goal.returns-clause-kept
 returns-clause-kept c =
-    rw c.draw_with.ensures.row (kept_drawn c.args.self.now c.args.rows.now c.args.tiles.now c.args.oam.now c.args.y c.args.by.now (omega (arith, c.requires.y_in, c.requires.row_count)) (omega arith) c.requires.kept c.requires.some)
+    rw c.draw_with.ensures.row (kept_drawn c.args.self.now c.args.rows.now c.args.tiles.now c.args.oam.now c.args.y c.args.by.now _ (λ placed. sym c.from.ensures ∙ eqb-true c.from.result c.args.y placed) (omega (arith, c.requires.y_in, c.requires.row_count)) (omega arith) (omega arith) c.requires.kept c.requires.some)

@@ -1,5 +1,5 @@
 use Rattle.picture_unit.proofs.LateLines.{whole_aside}
-use Rattle.picture_unit.proofs.picture.Picture.write_vram.Goals as goal
+use Rattle.picture_unit.proofs.picture.Picture.set_vram.Goals as goal
 
 pub invariant_of-self : goal.invariant_of-self
 invariant_of-self c =
