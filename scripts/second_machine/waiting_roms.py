@@ -2,11 +2,12 @@
 
 usage: waiting_roms.py FOLDER COUNT     writes them as FOLDER/waits_0.gb and so on, the same at each run
 
-A program is one to six loops, one after the other, over and over. Each has a body of one to eight instructions, in which it asks a byte of HRAM or WRAM, by
-an address or by a pair of registers, or LY, STAT, DIV, TIMA, IF or P1. Now and then a body counts, writes or uses the stack. The interrupts that are
-enabled set the bytes or count them. The code runs in the lower half of ROM, the upper half, WRAM or HRAM."""
+A program is one to six loops, one after the other, over and over. Most have a body of one to eight instructions, in which it asks a byte of HRAM or WRAM, by
+an address or by a pair of registers, or LY, STAT, DIV, TIMA, IF or P1. Now and then a body counts, writes or uses the stack. Others only load such a byte,
+look at it by one or two instructions and jump back, or count a register or a pair down. Between them LCDC, STAT, TAC, TIMA or IE changes now and then. The
+interrupts that are enabled set the bytes or count them. The code runs in the lower half of ROM, the upper half, WRAM or HRAM."""
 import os, random, sys
-from scripts.second_machine.feature_roms import Emitter, DIV, HRAM_CODE, IE, IF, LY, LYC, P1, STAT, TAC, TIMA, TMA
+from scripts.second_machine.feature_roms import Emitter, DIV, HRAM_CODE, IE, IF, LY, LYC, LCDC, P1, STAT, TAC, TIMA, TMA
 
 HRAM_FLAGS, WRAM_FLAGS = 0xFFF0, 0xC120
 HANDLERS = 0x1000
@@ -35,7 +36,7 @@ class Program:
         code.label('again')
         for _ in range(choose.randrange(1, 7)):
             if code.at + 48 > self.offset + self.room: break
-            self.wait(code)
+            self.loop(code)
         code.jump('again')
         code.finish()
         total = 0
@@ -79,6 +80,60 @@ class Program:
         code.finish()
 
     # ---- a loop
+
+    def loop(self, code):
+        choose = self.random
+        kind = choose.random()
+        if kind < 0.1: code.give(*choose.choice([(LCDC, 0x11), (LCDC, 0x91), (LCDC, 0x91), (STAT, 0x40), (STAT, 0x08), (STAT, 0), (TAC, 0), (TAC, 5), (TAC, 7), (TIMA, 0xF0), (IE, 1), (IE, 7)]))
+        if kind < 0.45: self.wait(code)
+        elif kind < 0.8: self.ask(code)
+        else: self.count(code)
+
+    def ask(self, code):
+        """A load, one or two looks and a jump back."""
+        choose = self.random
+        asked = choose.choice([LY, LY, LY, STAT, STAT, STAT, DIV, TIMA, TIMA, IF, HRAM_FLAGS & 255])
+        for opcode in (0x06, 0x0E, 0x16, 0x1E): code.bytes(opcode, choose.choice([0, 1, 3, 100, 143, 144, choose.randrange(256)]))
+        name = code.fresh()
+        code.label(name)
+        if choose.random() < 0.7: code.take(asked)
+        else: code.load(0xFF00 + asked)
+        for _ in range(choose.choice([1, 1, 2])): self.look(code)
+        code.branch(name, choose.choice([0x28, 0x20, 0x20, 0x30, 0x38]))
+
+    def look(self, code):
+        choose = self.random
+        kind = choose.randrange(6)
+        if kind < 2: code.bytes(choose.choice([0xFE, 0xD6, 0xEE]), choose.choice([0, 1, 2, 3, 144, choose.randrange(256)]))
+        elif kind == 2: code.bytes(0xE6, choose.choice([1, 2, 3, 4, 7, 128]))
+        elif kind == 3: code.bytes(choose.choice([0xB8, 0xB9, 0xBA, 0xA0, 0xA7, 0xB7, 0xB3, 0xBC, 0xBE]))
+        elif kind == 4: code.bytes(0xCB, 0x47 + 8 * choose.randrange(8))
+        else: code.bytes(choose.choice([0xC6, 0xCE, 0xDE, 0xF6, 0x88, 0x98]), choose.randrange(256)) if choose.random() < 0.5 else code.bytes(0x98)
+
+    def count(self, code):
+        """A register or a pair is counted down, alone or within another loop."""
+        choose = self.random
+        outer = code.fresh()
+        nested = choose.random() < 0.3
+        if nested:
+            code.bytes(0x26, choose.randrange(1, 9))
+            code.label(outer)
+        kind = choose.random()
+        inner = code.fresh()
+        if kind < 0.6:
+            number = choose.choice([0, 1, 2, 3, 7])
+            code.bytes(0x06 + 8 * number, choose.choice([0, 1, 2, 3, 16, 17, choose.randrange(256)]))
+            code.label(inner)
+            code.bytes(0x05 + 8 * number)
+        else:
+            high, first = choose.choice([(0, 0x01), (2, 0x11)])
+            code.absolute(first, choose.choice([1, 2, 0x0100, 0x0101, choose.randrange(4000)]))
+            code.label(inner)
+            code.bytes(first + 0x0A, 0x78 + high, 0xB1 + high) if choose.random() < 0.8 else code.bytes(first + 0x0A, 0x79 + high, 0xB0 + high)
+        code.branch(inner, choose.choice([0x20] * 19 + [0x30]))
+        if nested:
+            code.bytes(0x25)
+            code.branch(outer, 0x20)
 
     def wait(self, code):
         choose = self.random

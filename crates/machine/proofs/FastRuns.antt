@@ -14,7 +14,7 @@ use Rattle.sm83_processor.specs.declared.step.StepKind.{StepKind}
 use Rattle.sm83_processor.specs.declared.step.StepKind.TheVariants.{Ran}
 use Rattle.sm83_processor.proofs.Runs.{after_steps-zero, after_steps-add_one}
 use Rattle.sm83_processor.proofs.FastSteps.{fast_step}
-use Rattle.machine.specs.FastRuns.{HasReported, IsReporting, instruction_in, instructions_in}
+use Rattle.machine.specs.FastRuns.{HasPassed, HasReported, IsPassing, IsReporting, instruction_in, instructions_in}
 
 pub no_instruction : {M : Type 0} (rules : Rules M) (p : Processor M) → instructions_in rules 0 p ≡ []
 unfolding instructions_in
@@ -54,6 +54,35 @@ one_reported breaks n p q t kept seen so_far room is made =
           below_more (λ j. 0 < j → ¬ (Contains breaks (after_steps bus_rules j p).registers.pc)) n
           (λ j less some. known.past j some less)
           (λ some met. so_far.here some (subst (λ (s : Processor BusState). Contains breaks s.registers.pc) (sym known.after) met))
+          k below some;
+    }
+
+-- ---- the same where a fact holds before each step but the first
+
+pub none_passed : (passes : Processor BusState → Type 0) (p : Processor BusState) (kept : List Executed) → IsPassing passes 0 p p kept
+none_passed passes p kept = record {
+  passed = record {
+    after = after_steps-zero bus_rules p;
+    ran = sym (no_instruction bus_rules p);
+    past = λ k some below. absurd (omega (arith, below));
+  };
+  here = λ some. absurd (omega (arith, some));
+}
+
+pub one_passed : (passes : Processor BusState → Type 0) (n : ℕ) (p q t : Processor BusState) (kept : List Executed) (seen : Executed) → IsPassing passes n p q kept → n < length kept
+    → (step_of bus_rules q).stepped.kind ≡ Ran seen → t ≡ (step_of bus_rules q).after → HasPassed passes (n + 1) p t (take (n + 1) (slice_set kept n seen))
+one_passed passes n p q t kept seen so_far room is made =
+    let known = so_far.passed in record {
+      after = made ∙ after_steps-add_one bus_rules n p q known.after;
+      ran = take_more_set kept n seen room
+          ∙ ap (λ (xs : List Executed). xs ++ seen ∷ []) known.ran
+          ∙ ap (λ (what : StepKind). instructions_in bus_rules n p ++ instruction_in what) (sym (ap (λ (s : Processor BusState). (step_of bus_rules s).stepped.kind) (sym known.after) ∙ is))
+          ∙ sym (instructions_more bus_rules n p)
+          ∙ ap (λ (k : ℕ). instructions_in bus_rules k p) (sym (add-one n));
+      past = λ k some below.
+          below_more (λ j. 0 < j → passes (after_steps bus_rules j p)) n
+          (λ j less some. known.past j some less)
+          (λ some. subst passes known.after (so_far.here some))
           k below some;
     }
 

@@ -9,4 +9,8 @@ pub mod WatchedLaws
 pub mod StepsLeft
 pub mod FastRuns
 pub mod WaitingLoop
+pub mod PollingLoop
+pub mod Forgetting
+pub mod CountingLoop
+pub mod WordCounting
 pub mod SameRegisters

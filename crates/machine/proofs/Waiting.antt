@@ -162,13 +162,6 @@ pub unshared_waits : (n many : ℕ) (p : Processor BusState) → p.state.locked 
 unshared_waits n many p locked stopped halted none le k lt =
     unlocked_step (passing bus_rules k p) locked ∙ halted_step (passing bus_rules k p) stopped halted (none k (omega (arith, le, lt)))
 
-pub none_waits : (p : Processor BusState) → Waits 0 p
-none_waits p k lt = absurd (omega (arith, lt))
-
-pub within_few : (due : Option ℕ) (left : ℕ) → within due left ≤ left
-within_few None left = omega arith
-within_few (Some d) left = omega arith
-
 -- ---- what a frame's loop does
 
 pub stepped_on : (passed cycles : ℕ) (p q : Processor BusState) → passed < 17556 → q ≡ (step_of bus_rules p).after → cycles ≡ (step_of bus_rules p).stepped.cycles →

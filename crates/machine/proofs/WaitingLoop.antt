@@ -57,12 +57,6 @@ pub record IsRun (calm passed took : ℕ) (p q : Processor BusState) : Type 0 wh
   pub memory : q.memory ≡ iterate tick took p.memory
   pub run : (k : ℕ) → k + took < calm → steps_until bus_rules 17556 (passed + k + took) (passing bus_rules k q) ≡ steps_until bus_rules 17556 (passed + k) (passing bus_rules k p)
 
-pub run_begins : (calm passed : ℕ) (p : Processor BusState) → IsRun calm passed 0 p p
-run_begins calm passed p = record {
-  memory = refl;
-  run = λ k within. let same : passed + k + 0 ≡ passed + k = omega arith in ap (λ (n : ℕ). steps_until bus_rules 17556 n (passing bus_rules k p)) same;
-}
-
 pub run_goes_on : (calm passed took cycles : ℕ) (p q t : Processor BusState) → passed + calm ≤ 17556 → IsCalm calm p.memory → IsRun calm passed took p q → IsStill q
     → t ≡ (step_of bus_rules q).after → cycles ≡ (step_of bus_rules q).stepped.cycles → IsRun calm passed (took + cycles) p t
 run_goes_on calm passed took cycles p q t le calm_before so_far still after count =
@@ -134,11 +128,3 @@ laps_pass calm passed took rest p q b run registers state whole within after =
     ap (λ (k : ℕ). steps_until bus_rules 17556 k (record q { memory = b })) on
     ∙ ap (steps_until bus_rules 17556 (passed + suc n * took)) there
     ∙ laps (suc n) calm passed took p q run back (omega (arith, all, more, within))
-
--- a run that is not repeated
-pub run_passes : (calm passed took : ℕ) (p q : Processor BusState) → IsRun calm passed took p q → took < calm
-    → steps_until bus_rules 17556 (passed + took) q ≡ steps_until bus_rules 17556 passed p
-run_passes calm passed took p q run within =
-    let same : passed + took ≡ passed + 0 + took = omega arith in
-    let start : passed + 0 ≡ passed = omega arith in
-    ap (λ (n : ℕ). steps_until bus_rules 17556 n q) same ∙ run.run 0 (omega (arith, within)) ∙ ap (λ (n : ℕ). steps_until bus_rules 17556 n p) start

@@ -1,4 +1,4 @@
--- Fast steps of which each instruction is told, up to a break.
+-- Fast steps of which each instruction is told, up to a break, or to one before which a watch ends them.
 use Rattle.std.specs.Prelude.{◌≡◌, ℕ, zero, suc, ◌<◌, ◌%◌, List, [], ◌∷◌, ◌++◌, Bool, true, slice_get, take, Some}
 use Rattle.std.specs.List.{Contains}
 use Rattle.memory_map.specs.State.{BusState}
@@ -35,3 +35,14 @@ AreMarked marks breaks = (at : ℕ) → Contains breaks at → slice_get marks (
 pub record IsReporting (breaks : List ℕ) (n : ℕ) (old new : Processor BusState) (kept : List Executed) : Type 0 where
   pub reported : HasReported breaks n old new (take n kept)
   pub here : 0 < n → ¬ (Contains breaks new.registers.pc)
+
+-- n steps led from one processor to another, these instructions ran in them, and a fact held before each of them but the first
+pub record HasPassed (passes : Processor BusState → Type 0) (n : ℕ) (old new : Processor BusState) (instructions : List Executed) : Type 0 where
+  pub after : new ≡ after_steps bus_rules n old
+  pub ran : instructions ≡ instructions_in bus_rules n old
+  pub past : (k : ℕ) → 0 < k → k < n → passes (after_steps bus_rules k old)
+
+-- so many steps passed, and the fact holds before the next one unless it is the first; for private functions alone
+pub record IsPassing (passes : Processor BusState → Type 0) (n : ℕ) (old new : Processor BusState) (kept : List Executed) : Type 0 where
+  pub passed : HasPassed passes n old new (take n kept)
+  pub here : 0 < n → passes new

@@ -9,4 +9,6 @@ pub mod FastRuns
 -- what only the code needs
 pub mod Waiting
 pub mod WaitingLoop
+pub mod PollingLoop
+pub mod CountingLoop
 pub mod Watching

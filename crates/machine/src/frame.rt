@@ -11,6 +11,8 @@ ghost use Rattle.memory_map.specs.Quiet.{IsCalm};
 ghost use Rattle.sm83_processor.specs.FastStep.{IsFast, IsUsual};
 ghost use Rattle.sm83_processor.specs.Steps.{passing, step_of};
 
+use crate::counting_loop::pass_count;
+use crate::polling_loop::pass_poll;
 use crate::waiting_loop::{may_wait, pass_laps};
 use memory_map::Bus;
 use sm83_processor::{FIRST_OWN_LOOP, Processor, StepKind};
@@ -23,6 +25,9 @@ const FIRST_PIECE: u32 = 128;
 
 /// The M-cycles of a piece.
 const PIECE: u32 = 1_024;
+
+/// The M-cycles of the piece after a loop that asks a byte or counts.
+const SHORT_PIECE: u32 = 16;
 
 /// How many times as long the next piece is if it was searched for laps, and none were found.
 const LONGER: u32 = 16;
@@ -59,6 +64,15 @@ pub(crate) const REPORTED_IN_UPPER_ROM: u8 = FIRST_OWN_LOOP + 9;
 
 /// The loop of reported steps above ROM.
 pub(crate) const REPORTED_ABOVE_ROM: u8 = FIRST_OWN_LOOP + 10;
+
+/// The loop of watching steps in the lower half of ROM.
+pub(crate) const WATCHING_IN_LOWER_ROM: u8 = FIRST_OWN_LOOP + 11;
+
+/// The loop of watching steps in the upper half of ROM.
+pub(crate) const WATCHING_IN_UPPER_ROM: u8 = FIRST_OWN_LOOP + 12;
+
+/// The loop of watching steps above ROM.
+pub(crate) const WATCHING_ABOVE_ROM: u8 = FIRST_OWN_LOOP + 13;
 
 /// The address of the joypad's register P1.
 const JOYPAD: u16 = 0xff00;
@@ -131,28 +145,47 @@ fn run_pieces(processor: &mut Processor<Bus>, passed: u32) -> u32
             return now;
         }
         if !may_wait(&before, &processor.registers) {
-            passed = now;
-            most = PIECE;
+            passed = pass_count(processor, now);
+            most = after_count(passed - now, most);
         } else {
-            passed = pass_laps(processor, now);
-            most = after_search(passed - now, most);
+            let searched = pass_laps(processor, now);
             if !processor.is_fast() {
-                return passed;
+                return searched;
+            }
+            if searched - now >= FIRST_PIECE {
+                passed = searched;
+                most = FIRST_PIECE;
+            } else {
+                passed = pass_poll(processor, searched);
+                most = after_search(passed - searched, most);
             }
         }
     }
 }
 
-/// The M-cycles of the piece that comes after a search for laps, by those that the search passed and
-/// those of the piece before it: many if it found no laps.
-fn after_search(found: u32, most: u32) -> u32
+/// The M-cycles of the piece that comes after one of which the registers are not of a loop that waits, by
+/// those of a loop that counts: longer ones if there was none.
+fn after_count(found: u32, most: u32) -> u32
     requires { 0 < most }
     ensures { 0 < result }
 {
-    if found < FIRST_PIECE {
-        most.saturating_mul(LONGER)
+    if found > 0 {
+        SHORT_PIECE
     } else {
-        FIRST_PIECE
+        most.saturating_mul(2).min(PIECE)
+    }
+}
+
+/// The M-cycles of the piece that comes after a search which found no laps, by those that were passed of a
+/// loop that asks a byte and those of the piece before it: many if there was none.
+fn after_search(asked: u32, most: u32) -> u32
+    requires { 0 < most }
+    ensures { 0 < result }
+{
+    if asked > 0 {
+        SHORT_PIECE
+    } else {
+        most.saturating_mul(LONGER)
     }
 }
 
@@ -210,11 +243,16 @@ fn run_fast_steps_here(processor: &mut Processor<Bus>, passed: u32, until: u32) 
 /// each byte.
 #[inline(always)]
 pub(crate) fn is_there<const LOOP: u8>(pc: u16) -> bool {
-    if LOOP == IN_LOWER_ROM || LOOP == COUNTED_IN_LOWER_ROM || LOOP == REPORTED_IN_LOWER_ROM {
+    if LOOP == IN_LOWER_ROM
+        || LOOP == COUNTED_IN_LOWER_ROM
+        || LOOP == REPORTED_IN_LOWER_ROM
+        || LOOP == WATCHING_IN_LOWER_ROM
+    {
         pc < 0x3ffe
     } else if LOOP == IN_UPPER_ROM
         || LOOP == COUNTED_IN_UPPER_ROM
         || LOOP == REPORTED_IN_UPPER_ROM
+        || LOOP == WATCHING_IN_UPPER_ROM
     {
         pc >= 0x4000 && pc < 0x7ffe
     } else if LOOP == IN_WRAM {

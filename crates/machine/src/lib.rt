@@ -4,15 +4,19 @@
 //! (`sm83_processor/specs/Steps.antt`) and the rules of the bus (`memory_map/specs/BusRules.antt`).
 #![tactic(auto)]
 
+mod counting_loop;
 mod frame;
 pub mod input;
 pub mod laws;
 pub mod machine;
 pub mod machine_without_memory;
+mod passing;
+mod polling_loop;
 mod reported;
 mod steps;
 mod untimed;
 mod waiting_loop;
+pub mod watch;
 pub mod watched;
 
 pub use input::Input;
@@ -20,4 +24,5 @@ pub use machine::Machine;
 pub use machine_without_memory::MachineWithoutMemory;
 pub use memory_map::{BusWithoutMemory, Region};
 pub use sm83_processor::{Executed, Memory, Processor, ProcessorState, StepKind, Stepped};
+pub use watch::Watch;
 pub use watched::{Watched, WatchedFrame, WatchedStep};

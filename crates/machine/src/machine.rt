@@ -4,13 +4,15 @@ ghost use Rattle.std.specs.Prelude.{◌≡◌, ◌<◌, ◌≤◌, IfOk, length,
 ghost use Rattle.memory_map.specs.BusRules.{bus_rules};
 ghost use Rattle.sm83_processor.specs.Steps.{step_of, after_steps};
 ghost use Rattle.sm83_processor.specs.FastStep.{IsFast};
-ghost use Rattle.machine.specs.FastRuns.{AreMarked, HasReported};
+ghost use Rattle.machine.specs.FastRuns.{AreMarked, HasPassed, HasReported};
 
 use crate::frame::run_frame;
 use crate::input::Input;
 use crate::machine_without_memory::MachineWithoutMemory;
+use crate::passing::run_watching;
 use crate::reported::run_reported;
 use crate::steps::run_steps;
+use crate::watch::Watch;
 use cartridge::Cartridge;
 use memory_map::{Bus, Region};
 use picture_unit::LatePicture;
@@ -158,6 +160,25 @@ impl Machine {
         run_reported(&mut self.processor, kept, most, marks, breaks)
     }
 
+    /// Fast steps, as `run_fast` makes them, but up to one before which a watch may end them: puts the
+    /// instructions that ran into `kept`, from its beginning. Makes one step, and then more until `most`
+    /// were made, or the next one may not be fast, or the watch does not let it pass. Returns how many
+    /// were made. Conditions: the next step is fast, as `is_fast` tells; `most` is not 0, and `kept` has
+    /// as many places.
+    pub fn run_watching<W: Watch>(&mut self, kept: &mut [Executed], most: usize, watch: &W) -> usize
+        requires some { 0 < most }
+        requires room { most ≤ length kept.old }
+        requires fast { IsFast bus_rules self.old.processor }
+        ensures machine { self.new ≡ record self.old { processor = after_steps bus_rules result self.old.processor } }
+        ensures run { HasPassed (W.passes watch.now) result self.old.processor self.new.processor
+            (take result kept.new) }
+        ensures room { length kept.new ≡ length kept.old }
+        ensures some { 0 < result }
+        ensures most { result ≤ most }
+    {
+        run_watching(&mut self.processor, kept, most, watch)
+    }
+
     /// Makes `count` steps.
     pub fn run_steps(&mut self, count: u32)
         ensures { self.new ≡ record self.old { processor = after_steps bus_rules count self.old.processor } }
@@ -217,7 +238,8 @@ impl Machine {
     /// Writes a byte to an address as an instruction does at this moment, but no M-cycle passes: a closed place ignores it, and a register
     /// has the effect of its write.
     pub fn write(&mut self, address: u16, byte: u8)
-        ensures { self.new ≡ record self.old { processor = record self.old.processor { memory = written address byte self.old.processor.memory } } }
+        ensures { self.new ≡ record self.old
+            { processor = record self.old.processor { memory = written address byte self.old.processor.memory } } }
     {
         Bus::write(&mut self.processor.memory, address, byte);
     }
@@ -269,7 +291,10 @@ impl Machine {
     pub fn fill(&mut self, region: Region, bytes: &[u8])
         requires { FitsRegion self.old.processor.memory region bytes.now }
         ensures { self.new ≡
-            record self.old { processor = record self.old.processor { memory = region_filled region bytes.now self.old.processor.memory } } }
+            record self.old {
+              processor = record self.old.processor
+                  { memory = region_filled region bytes.now self.old.processor.memory };
+            } }
     {
         self.processor.memory.fill(region, bytes);
     }

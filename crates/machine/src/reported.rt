@@ -184,7 +184,7 @@ fn run_calm_reported<const LOOP: u8>(
 
 /// Puts the instruction of the next step, which is fast, into `ran` before it runs. Returns its opcode.
 #[inline(always)]
-fn report(processor: &Processor<Bus>, ran: &mut Executed) -> u8
+pub(crate) fn report(processor: &Processor<Bus>, ran: &mut Executed) -> u8
     requires { IsFast bus_rules processor.now }
     ensures kind { (step_of bus_rules processor.now).stepped.kind ≡ StepKind.Ran ran.new }
     ensures here { result ≡ read_at processor.now.memory processor.now.registers.pc }

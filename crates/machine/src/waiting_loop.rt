@@ -76,7 +76,7 @@ fn is_back(processor: &Processor<Bus>, registers: &Registers, state: &ProcessorS
 }
 
 /// The M-cycles of as many laps as fit into those that are left.
-fn whole_laps(lap: u32, left: u32) -> u32
+pub(crate) fn whole_laps(lap: u32, left: u32) -> u32
     requires { 0 < lap }
     ensures few { result ≤ left }
     ensures whole { result % lap ≡ 0 }
@@ -100,7 +100,7 @@ fn is_still(processor: &Processor<Bus>) -> bool
 }
 
 /// Whether quiet M-cycles leave the three bytes from PC on.
-fn has_lasting_bytes(pc: u16) -> bool
+pub(crate) fn has_lasting_bytes(pc: u16) -> bool
     ensures first { result ≡ true → IsLasting pc }
     ensures second { result ≡ true → IsLasting (next_address pc) }
     ensures third { result ≡ true → IsLasting (next_address (next_address pc)) }

@@ -395,7 +395,8 @@ fn run_fast_unseen_here(processor: &mut Processor<Bus>, passed: u32) -> Went
     requires below { passed < cycles_per_frame }
     requires fast { IsFast bus_rules processor.old }
     requires silent { IsSilent processor.old.memory }
-    ensures run { seen_in (in_frame passed processor.old) ≡ seen_from result.breaks (in_frame result.passed processor.new) }
+    ensures run { seen_in (in_frame passed processor.old) ≡
+        seen_from result.breaks (in_frame result.passed processor.new) }
     ensures start { passed ≤ result.passed }
     ensures few { result.passed < cycles_per_frame + 6 }
     ensures broke { result.breaks ≡ true → passed < result.passed }
@@ -423,7 +424,8 @@ fn run_fast_unseen_by<const LOOP: u8>(processor: &mut Processor<Bus>, passed: u3
     requires below { passed < cycles_per_frame }
     requires fast { IsFast bus_rules processor.old }
     requires silent { IsSilent processor.old.memory }
-    ensures run { seen_in (in_frame passed processor.old) ≡ seen_from result.breaks (in_frame result.passed processor.new) }
+    ensures run { seen_in (in_frame passed processor.old) ≡
+        seen_from result.breaks (in_frame result.passed processor.new) }
     ensures start { passed ≤ result.passed }
     ensures few { result.passed < cycles_per_frame + 6 }
     ensures broke { result.breaks ≡ true → passed < result.passed }
@@ -466,7 +468,8 @@ fn run_calm_unseen<const LOOP: u8>(processor: &mut Processor<Bus>, passed: u32) 
     requires below { passed < cycles_per_frame }
     requires fast { IsFast bus_rules processor.old }
     requires silent { IsSilent processor.old.memory }
-    ensures run { seen_in (in_frame passed processor.old) ≡ seen_from result.breaks (in_frame result.passed processor.new) }
+    ensures run { seen_in (in_frame passed processor.old) ≡
+        seen_from result.breaks (in_frame result.passed processor.new) }
     ensures more { passed < result.passed }
     ensures few { result.passed < cycles_per_frame + 6 }
     ensures whole { result.goes_on ≡ true → result.breaks ≡ false }

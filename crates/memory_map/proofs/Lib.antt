@@ -10,3 +10,4 @@ pub mod CopyLaws
 pub mod LateTimers
 pub mod LateBus
 pub mod LastingBytes
+pub mod LastingFor

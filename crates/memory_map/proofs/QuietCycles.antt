@@ -56,9 +56,6 @@ requested_apart q n t le none =
     (left_none s.requested (timer.ticks (q - n) s.timer).requested whole, right_none s.requested (timer.ticks (q - n) s.timer).requested whole)
 
 -- n M-cycles of a timer that requests nothing in them
-abbrev timer_with : TimerState → Bool → timer.TimerAndRequest
-timer_with t r = record { timer = t; requested = r }
-
 pub still_requested : (n : ℕ) (s : timer.TimerAndRequest) → (timer.ticks n s.timer).requested ≡ false
     → (iterate timer.tick n s).requested ≡ s.requested
 still_requested n s none =
@@ -114,7 +111,7 @@ picture_goes_on q n d le quiet =
     ∙ ap (λ (l : Bool). with_picture (further n d.picture) d.vblank l) (or-false d.stat)
 
 -- the LCD is off
-stays_dark : (n : ℕ) (s : picture.PictureUnit) → picture.is_on s.state ≡ false → further n s ≡ s
+pub stays_dark : (n : ℕ) (s : picture.PictureUnit) → picture.is_on s.state ≡ false → further n s ≡ s
 unfolding picture.unrequested
 stays_dark n s off = ap (λ (d : picture.PictureAndRequests). d.picture) (stands_still n (picture.unrequested s) off)
 

@@ -11,4 +11,5 @@ pub mod Quiet
 pub mod Lasting
 -- what only the code needs
 pub mod LateTimer
+pub mod LastingFor
 pub mod Invariant

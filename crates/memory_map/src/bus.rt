@@ -160,7 +160,8 @@ impl Bus {
     #[inline(always)]
     pub fn read_three(&self, address: u16, bytes: &mut [u8; 3])
         ensures { bytes.new ≡
-            read_at self.now address ∷ read_at self.now (address_after address) ∷ read_at self.now (address_after (address_after address)) ∷ [] }
+            read_at self.now address ∷ read_at self.now (address_after address) ∷
+            read_at self.now (address_after (address_after address)) ∷ [] }
     {
         // Where all three lie in one half of ROM, none of them is looked up in the memory map.
         if address < 0x3ffe {
@@ -175,7 +176,8 @@ impl Bus {
     #[inline(always)]
     fn three_at(&self, address: u16) -> [u8; 3]
         ensures { result ≡
-            read_at self.now address ∷ read_at self.now (address_after address) ∷ read_at self.now (address_after (address_after address)) ∷ [] }
+            read_at self.now address ∷ read_at self.now (address_after address) ∷
+            read_at self.now (address_after (address_after address)) ∷ [] }
     {
         let second = address.wrapping_add(1);
         let third = second.wrapping_add(1);
@@ -185,7 +187,8 @@ impl Bus {
     #[inline(never)]
     fn three_out_of_line(&self, address: u16) -> [u8; 3]
         ensures { result ≡
-            read_at self.now address ∷ read_at self.now (address_after address) ∷ read_at self.now (address_after (address_after address)) ∷ [] }
+            read_at self.now address ∷ read_at self.now (address_after address) ∷
+            read_at self.now (address_after (address_after address)) ∷ [] }
     {
         self.three_at(address)
     }
@@ -307,7 +310,8 @@ impl Bus {
 
     #[tactic(auto, unfolding(picture_unit::specs::Stores::vram_written))]
     fn write_vram(&mut self, offset: u16, value: u8)
-        ensures { self.new ≡ (if is_closed self.old (Place.Vram offset) then self.old else stored_at (Place.Vram offset) value self.old) }
+        ensures { self.new ≡ (if is_closed self.old (Place.Vram offset) then self.old else stored_at (Place.Vram offset)
+            value self.old) }
     {
         self.picture.write_vram(offset, value);
     }
@@ -347,7 +351,8 @@ impl Bus {
 
     #[tactic(auto, unfolding(picture_unit::specs::Stores::byte_read))]
     fn oam_byte(&self, offset: u8) -> u8
-        ensures { result ≡ (if is_closed self.now (Place.Oam offset) then 255 else value_at self.now (Place.Oam offset)) }
+        ensures { result ≡ (if is_closed self.now (Place.Oam offset) then 255 else value_at self.now
+            (Place.Oam offset)) }
     {
         if self.control.dma_copied < 160 {
             return 0xff;
@@ -357,7 +362,8 @@ impl Bus {
 
     #[tactic(auto, unfolding(picture_unit::specs::Stores::oam_written, picture_unit::specs::Stores::oam_copied))]
     fn write_oam(&mut self, offset: u8, value: u8)
-        ensures { self.new ≡ (if is_closed self.old (Place.Oam offset) then self.old else stored_at (Place.Oam offset) value self.old) }
+        ensures { self.new ≡ (if is_closed self.old (Place.Oam offset) then self.old else stored_at (Place.Oam offset)
+            value self.old) }
     {
         if self.control.dma_copied < 160 {
             return;

@@ -91,7 +91,8 @@ impl LateTimer {
 
     /// A write to DIV at this M-cycle of the clock, which from now on is counted as `at`.
     pub(crate) fn write_div(&mut self, now: u16, at: u16)
-        ensures { self.new ≡ caught_up_at at (with_counter_and_tac 0 (up_to now self.old).timer.tac (up_to now self.old)) }
+        ensures { self.new ≡ caught_up_at at
+            (with_counter_and_tac 0 (up_to now self.old).timer.tac (up_to now self.old)) }
     {
         self.catch_up(now, at);
         let requests = self.timer.write_div();
@@ -100,7 +101,8 @@ impl LateTimer {
 
     /// A write to TIMA at this M-cycle of the clock.
     pub(crate) fn write_tima(&mut self, now: u16, value: u8)
-        ensures { self.new ≡ caught_up_at now (record (up_to now self.old) { timer = record (up_to now self.old).timer { tima = value } }) }
+        ensures { self.new ≡ caught_up_at now
+            (record (up_to now self.old) { timer = record (up_to now self.old).timer { tima = value } }) }
     {
         self.catch_up(now, now);
         self.timer.write_tima(value);
@@ -108,7 +110,8 @@ impl LateTimer {
 
     /// A write to TMA at this M-cycle of the clock.
     pub(crate) fn write_tma(&mut self, now: u16, value: u8)
-        ensures { self.new ≡ caught_up_at now (record (up_to now self.old) { timer = record (up_to now self.old).timer { tma = value } }) }
+        ensures { self.new ≡ caught_up_at now
+            (record (up_to now self.old) { timer = record (up_to now self.old).timer { tma = value } }) }
     {
         self.catch_up(now, now);
         self.timer.write_tma(value);
@@ -116,7 +119,8 @@ impl LateTimer {
 
     /// A write to TAC at this M-cycle of the clock.
     pub(crate) fn write_tac(&mut self, now: u16, value: u8)
-        ensures { self.new ≡ caught_up_at now (with_counter_and_tac (up_to now self.old).timer.counter (value % 8) (up_to now self.old)) }
+        ensures { self.new ≡ caught_up_at now
+            (with_counter_and_tac (up_to now self.old).timer.counter (value % 8) (up_to now self.old)) }
     {
         self.catch_up(now, now);
         let requests = self.timer.write_tac(value);

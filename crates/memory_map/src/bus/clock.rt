@@ -8,6 +8,8 @@ ghost use Rattle.picture_unit.specs.Laws.{frame_cycle};
 ghost use Rattle.repeated_steps.specs.NextEvent.{IsNextEvent, earlier};
 ghost use Rattle.memory_map.specs.Ticks.{tick, tick_timer, tick_serial, tick_dma_and_picture, tick_picture, copied_byte, happens};
 ghost use Rattle.memory_map.specs.Quiet.{AreQuietOn, IsCalm};
+ghost use Rattle.memory_map.specs.Lasting.{LastsFor};
+ghost use Rattle.memory_map.specs.LastingFor.{mode_lasts_from, before_fall};
 
 use super::{Bus, NOTHING_KNOWN};
 use picture_unit::LatePicture;
@@ -168,6 +170,35 @@ impl Bus {
         }
     }
 
+    /// For how many M-cycles LY stays the same, as long as they are quiet.
+    pub(crate) fn line_lasts_for(&self) -> u16
+        ensures { LastsFor result 0xff44 self.now }
+    {
+        113 - self.picture.frame_cycle() % 114
+    }
+
+    /// For how many M-cycles STAT stays the same, as long as they are quiet.
+    pub(crate) fn mode_lasts_for(&self) -> u16
+        ensures { LastsFor result 0xff41 self.now }
+    {
+        mode_lasts_from(self.picture.frame_cycle())
+    }
+
+    /// For how many M-cycles DIV stays the same, as long as they are quiet.
+    pub(crate) fn div_lasts_for(&self) -> u16
+        ensures { LastsFor result 0xff04 self.now }
+    {
+        let state = self.timer.copy_at(self.clock).state();
+        63 - state.counter / 4 % 64
+    }
+
+    /// For how many M-cycles TIMA stays the same, as long as they are quiet.
+    pub(crate) fn tima_lasts_for(&self) -> u16
+        ensures { LastsFor result 0xff05 self.now }
+    {
+        before_fall(self.timer.copy_at(self.clock).due())
+    }
+
     #[inline]
     fn pass_timer(&mut self, cycles: u32)
         ensures ticks { self.new ≡ iterate tick_timer cycles self.old }
@@ -256,6 +287,31 @@ pub(super) fn clock_of(picture: &LatePicture) -> u16
         picture.frame_cycle()
     } else {
         0
+    }
+}
+
+/// For how many M-cycles the mode and the line stay the same, from this M-cycle of the frame on.
+fn mode_lasts_from(now: u16) -> u16
+    requires { now < 17556 }
+    ensures { result ≡ mode_lasts_from now }
+{
+    let m_cycle = now % 114;
+    if now < 16_416 && m_cycle < 20 {
+        19 - m_cycle
+    } else if now < 16_416 && m_cycle < 63 {
+        62 - m_cycle
+    } else {
+        113 - m_cycle
+    }
+}
+
+/// How many M-cycles come before the one with which the timer's signal falls next, at most 65,535.
+fn before_fall(due: Option<u32>) -> u16
+    ensures { result ≡ before_fall due }
+{
+    match due {
+        None => 65_535,
+        Some(due) => due.saturating_sub(1).min(65_535) as u16,
     }
 }
 

@@ -145,7 +145,8 @@ impl Bus {
     }
 
     fn write_p1(&mut self, value: u8)
-        ensures { self.new ≡ record self.old { control = joypad_set (select_bits value) self.old.control.buttons self.old.control } }
+        ensures { self.new ≡ record self.old
+            { control = joypad_set (select_bits value) self.old.control.buttons self.old.control } }
     {
         self.calm_until = NOTHING_KNOWN;
         let buttons = self.control.buttons;
@@ -153,7 +154,8 @@ impl Bus {
     }
 
     fn write_div(&mut self)
-        ensures { self.new ≡ record self.old { timer = with_counter_and_tac 0 self.old.timer.timer.tac self.old.timer } }
+        ensures { self.new ≡ record self.old
+            { timer = with_counter_and_tac 0 self.old.timer.timer.tac self.old.timer } }
     {
         self.calm_until = NOTHING_KNOWN;
         self.quiet_until = NOTHING_KNOWN;
@@ -163,7 +165,8 @@ impl Bus {
     }
 
     fn write_tac(&mut self, value: u8)
-        ensures { self.new ≡ record self.old { timer = with_counter_and_tac self.old.timer.timer.counter (value % 8) self.old.timer } }
+        ensures { self.new ≡ record self.old
+            { timer = with_counter_and_tac self.old.timer.timer.counter (value % 8) self.old.timer } }
     {
         self.calm_until = NOTHING_KNOWN;
         self.quiet_until = NOTHING_KNOWN;
@@ -171,7 +174,8 @@ impl Bus {
     }
 
     fn write_tima(&mut self, value: u8)
-        ensures { self.new ≡ record self.old { timer = record self.old.timer { timer = record self.old.timer.timer { tima = value } } } }
+        ensures { self.new ≡ record self.old
+            { timer = record self.old.timer { timer = record self.old.timer.timer { tima = value } } } }
     {
         self.calm_until = NOTHING_KNOWN;
         self.quiet_until = NOTHING_KNOWN;
@@ -179,7 +183,8 @@ impl Bus {
     }
 
     fn write_tma(&mut self, value: u8)
-        ensures { self.new ≡ record self.old { timer = record self.old.timer { timer = record self.old.timer.timer { tma = value } } } }
+        ensures { self.new ≡ record self.old
+            { timer = record self.old.timer { timer = record self.old.timer.timer { tma = value } } } }
     {
         self.calm_until = NOTHING_KNOWN;
         self.quiet_until = NOTHING_KNOWN;
@@ -213,7 +218,8 @@ impl Bus {
         ensures { self.new ≡ record self.old {
           picture = record self.old.picture {
             picture =
-                record self.old.picture.picture { state = register_stored address value self.old.picture.picture.state };
+                record self.old.picture.picture
+                { state = register_stored address value self.old.picture.picture.state };
           };
         } }
     {

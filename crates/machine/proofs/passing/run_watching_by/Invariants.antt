@@ -1,0 +1,19 @@
+use Rattle.std.proofs.Common.{◌≡◌, ◌<◌, ◌≤◌, ◌-◌, length}
+use Rattle.memory_map.specs.State.{BusState}
+use Rattle.memory_map.specs.BusRules.{bus_rules}
+use Rattle.sm83_processor.specs.FastStep.{IsFast}
+use Rattle.sm83_processor.specs.declared.processor.Processor.{Processor}
+use Rattle.machine.specs.FastRuns.{IsPassing}
+use Rattle.machine.proofs.passing.run_watching_by.Given as goal
+
+abbrev pub invariant-loop-made : goal.invariant-loop-made
+invariant-loop-made g l = record {
+  run : (begun : Processor BusState) → IsPassing (g.W.Watch.passes l.watch) l.fn.made begun l.fn.processor l.fn.kept → IsPassing (g.W.Watch.passes l.watch) l.made begun l.processor l.kept;
+  room : length l.kept ≡ length l.fn.kept;
+  start : l.fn.made ≤ l.made;
+  due : l.made < l.most;
+  fast : IsFast bus_rules l.processor;
+}
+
+abbrev pub decreases-loop-made : goal.decreases-loop-made
+decreases-loop-made g l = l.most - l.made
