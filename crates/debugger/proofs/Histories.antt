@@ -7,7 +7,7 @@ use Rattle.std.specs.List.{Contains}
 use Rattle.circular_buffer.specs.Buffer.{Buffer, buffer, keep_last}
 use Rattle.memory_map.specs.BusRules.{bus_rules}
 use Rattle.machine.specs.Machine.{MachineState}
-use Rattle.machine.specs.FastRuns.{HasReported, instruction_in, instructions_in}
+use Rattle.machine.specs.FastRuns.{HasPassed as HasPassedTo, HasReported, instruction_in, instructions_in}
 use Rattle.machine.proofs.FastRuns.{no_instruction, instructions_more}
 use Rattle.sm83_processor.specs.Rules.{Rules}
 use Rattle.sm83_processor.specs.Steps.{step_of, after_steps}
@@ -17,7 +17,7 @@ use Rattle.sm83_processor.specs.declared.step.StepKind.{StepKind}
 use Rattle.sm83_processor.specs.declared.step.StepKind.TheVariants.{Dispatch, Wait, Ran}
 use Rattle.memory_map.specs.State.{BusState}
 use Rattle.sm83_processor.proofs.Runs.{after_steps-zero, after_steps-add_one}
-use Rattle.debugger.specs.Run.{HasRun, pc_after}
+use Rattle.debugger.specs.Run.{HasPassed, HasRun, pc_after}
 use Rattle.debugger.specs.History.{DebuggerState, HoldsAtMost, after_run}
 
 pub keep_last-all : {X : Type 0} (n : ℕ) (xs : List X) → length xs ≤ n → keep_last n xs ≡ xs
@@ -120,6 +120,14 @@ fast_steps_kept breaks n m t b k seen made reported kept = record {
   past = reported.past;
 }
 
+pub watched_steps_kept : (passes : Processor BusState → Type 0) (n : ℕ) (m t : MachineState) (b k : Buffer Executed) (seen : List Executed) →
+    t ≡ record m { processor = after_steps bus_rules n m.processor } → HasPassedTo passes n m.processor t.processor seen →
+    k ≡ buffer (keep_last b.capacity (b.items ++ seen)) b.capacity → HasPassed passes n (history_as m b) (history_as t k)
+watched_steps_kept passes n m t b k seen made passed kept = record {
+  run = ap (λ (x : MachineState). history_as x k) made ∙ steps_kept n m b k seen passed.ran kept;
+  past = passed.past;
+}
+
 -- n steps, and then k more
 pub runs : (k n : ℕ) (d : DebuggerState) → after_run k (after_run n d) ≡ after_run (n + k) d
 runs zero n d = sym (not_begun (after_run n d) (keep_last-most d.size _)) ∙ ap (λ (j : ℕ). after_run j d) (omega arith)
@@ -142,6 +150,27 @@ run_on breaks m n d e f first here next = record {
           (subst (Contains breaks) (sym (ap (λ (x : DebuggerState). pc_after (k - m) x) first.run
           ∙ ap (λ (x : DebuggerState). x.machine.processor.registers.pc) (runs (k - m) m d)
           ∙ ap (λ (j : ℕ). pc_after j d) (omega (arith, less)))) met)
+    ]
+  ];
+}
+
+-- the same where a fact held before each step
+pub pass_on : (passes : Processor BusState → Type 0) (m n : ℕ) (d e f : DebuggerState) → HasPassed passes m d e → (0 < m → passes e.machine.processor) →
+    HasPassed passes n e f → HasPassed passes (m + n) d f
+pass_on passes m n d e f first here next = record {
+  run = next.run ∙ ap (after_run n) first.run ∙ runs n m d;
+  past = λ k some below. elim (cases_lt k m) [
+    | inl less ↦ first.past k some less
+    | inr more ↦ elim (eq-or-lt_of_le more) [
+      | inl same ↦
+          subst (λ (j : ℕ). passes (after_steps bus_rules j d.machine.processor)) same
+          (subst passes (ap (λ (x : DebuggerState). x.machine.processor) first.run) (here (omega (arith, same, some))))
+      | inr less ↦
+          let whole : m + (k - m) ≡ k = omega (arith, less) in
+          subst (λ (j : ℕ). passes (after_steps bus_rules j d.machine.processor)) whole
+          (subst (λ (x : DebuggerState). passes x.machine.processor) (runs (k - m) m d)
+          (subst (λ (x : DebuggerState). passes (after_steps bus_rules (k - m) x.machine.processor)) first.run
+          (next.past (k - m) (omega (arith, less)) (omega (arith, less, below)))))
     ]
   ];
 }

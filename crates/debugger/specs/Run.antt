@@ -1,8 +1,10 @@
--- A run up to a break.
+-- A run up to a break, or to a step before which a watch ends it.
 use Rattle.std.specs.Prelude.{◌≡◌, ℕ, ◌<◌, List}
 use Rattle.std.specs.List.{Contains}
+use Rattle.memory_map.specs.State.{BusState}
 use Rattle.memory_map.specs.BusRules.{bus_rules}
 use Rattle.sm83_processor.specs.Steps.{after_steps}
+use Rattle.sm83_processor.specs.declared.processor.Processor.{Processor}
 use Rattle.debugger.specs.declared.stop.Stop.{Stop}
 use Rattle.debugger.specs.declared.stop.Stop.TheVariants.{Break, Limit}
 use Rattle.debugger.specs.History.{DebuggerState, after_run}
@@ -24,6 +26,11 @@ pub record HasMet (breaks : List ℕ) (limit pc : ℕ) (old new : DebuggerState)
   pub ran : HasRun breaks steps old new
   pub here : pc ≡ pc_after steps old
   pub met : Contains breaks pc
+
+-- this many steps were made, and a fact held before each of them but the first
+pub record HasPassed (passes : Processor BusState → Type 0) (steps : ℕ) (old new : DebuggerState) : Type 0 where
+  pub run : new ≡ after_run steps old
+  pub past : (k : ℕ) → 0 < k → k < steps → passes (after_steps bus_rules k old.machine.processor)
 
 -- why a run stopped
 abbrev pub IsStop : List ℕ → ℕ → DebuggerState → DebuggerState → Stop → Type 0

@@ -10,7 +10,7 @@ use crate::listing::write_lines;
 use crate::stop::Stop;
 use circular_buffer::HeapCircularBuffer;
 use exact_text::OutputFailed;
-use machine::{Executed, Machine, StepKind, Stepped};
+use machine::{Executed, Machine, StepKind, Stepped, Watch};
 use std::alloc::Global;
 use std::io::Write;
 use std::marker::Model;
@@ -78,7 +78,7 @@ impl Debugger {
     ghost use Rattle.sm83_processor.specs.FastStep.{IsFast};
     ghost use Rattle.debugger.specs.History.{after_run};
     ghost use Rattle.debugger.specs.Listing.{lines_from};
-    ghost use Rattle.debugger.specs.Run.{HasRun, IsStop};
+    ghost use Rattle.debugger.specs.Run.{HasPassed, HasRun, IsStop};
 
     /// A debugger for this machine, which keeps the last `size` instructions, 1 to 1,024. If there
     /// is no memory for them, it hands the machine back as it was.
@@ -187,6 +187,22 @@ impl Debugger {
         (made as u32, is_fast)
     }
 
+    /// Makes fast steps, at least one, until one that is not the first may not be fast, or a watch may end
+    /// the run before it; at most `limit`, and no more than are put into the history at once. Returns how
+    /// many. Conditions: the next step is fast, as `Machine::is_fast` tells, and `limit` is not 0.
+    pub fn run_watching<W: Watch>(&mut self, room: &mut RunRoom, watch: &W, limit: u32) -> u32
+        requires some { 0 < limit }
+        requires fast { IsFast bus_rules self.old.machine.processor }
+        ensures run { HasPassed (W.passes watch.now) result self.old self.new }
+        ensures some { 0 < result }
+        ensures most { result ≤ limit }
+    {
+        let most = KEPT.min(limit as usize);
+        let made = self.machine.run_watching(&mut room.kept, most, watch);
+        self.history.extend_from_slice(&room.kept[..made]);
+        made as u32
+    }
+
     /// How many instructions the history holds: at most `size`.
     pub fn history_len(&self) -> usize
         ensures len { result ≡ length self.now.history }
@@ -207,8 +223,11 @@ impl Debugger {
     /// instruction ended. Refused if a write fails or takes no byte: a proper prefix of the lines
     /// went out.
     pub fn list<W: Write>(&self, address: u16, count: u32, out: &mut W) -> Result<(), OutputFailed>
-        ensures ok { OnOk result (Appends (W.contents out.old) (W.contents out.new) (lines_from self.now.machine address count)) }
-        ensures err { OnErr result (AppendsProperPrefix (W.contents out.old) (W.contents out.new) (lines_from self.now.machine address count)) }
+        ensures ok { OnOk result
+            (Appends (W.contents out.old) (W.contents out.new) (lines_from self.now.machine address count)) }
+        ensures err { OnErr result
+            (AppendsProperPrefix (W.contents out.old) (W.contents out.new)
+            (lines_from self.now.machine address count)) }
     {
         write_lines(&self.machine, address, count, out)
     }

@@ -12,7 +12,8 @@ use std::io::Write;
 
 /// The three bytes from an address on; addresses wrap around.
 fn three_bytes(machine: &Machine, address: u16) -> [u8; 3]
-    ensures { result ≡ byte_after machine.now address 0 ∷ byte_after machine.now address 1 ∷ byte_after machine.now address 2 ∷ [] }
+    ensures { result ≡ byte_after machine.now address 0 ∷ byte_after machine.now address 1 ∷
+        byte_after machine.now address 2 ∷ [] }
 {
     [
         machine.peek(address),
@@ -41,8 +42,10 @@ pub(crate) fn write_lines<W: Write>(
     count: u32,
     out: &mut W,
 ) -> Result<(), OutputFailed>
-    ensures ok { OnOk result (Appends (W.contents out.old) (W.contents out.new) (lines_from machine.now address count)) }
-    ensures err { OnErr result (AppendsProperPrefix (W.contents out.old) (W.contents out.new) (lines_from machine.now address count)) }
+    ensures ok { OnOk result
+        (Appends (W.contents out.old) (W.contents out.new) (lines_from machine.now address count)) }
+    ensures err { OnErr result
+        (AppendsProperPrefix (W.contents out.old) (W.contents out.new) (lines_from machine.now address count)) }
 {
     for _i in 0..count {
         let text = line(machine, address);

@@ -43,7 +43,8 @@ fn interrupt_line(vector: u16) -> Line
 /// of the line went out.
 pub fn write_stepped<W: Write>(stepped: &Stepped, out: &mut W) -> Result<(), OutputFailed>
     ensures ok { OnOk result (Appends (W.contents out.old) (W.contents out.new) (line_of stepped.now.kind)) }
-    ensures err { OnErr result (AppendsProperPrefix (W.contents out.old) (W.contents out.new) (line_of stepped.now.kind)) }
+    ensures err { OnErr result
+        (AppendsProperPrefix (W.contents out.old) (W.contents out.new) (line_of stepped.now.kind)) }
 {
     let text = line(stepped.kind);
     write_whole(out, text.as_bytes())

@@ -162,12 +162,6 @@ pub record IsPlaying (buttons : ℕ) (r : RunState) (sent : List ℕ) (f : Frame
   pub bytes : keep_last most_sent (r.sent ++ (rest_in (begun_with buttons r.debugger.machine)).sent) ≡ keep_last most_sent (sent ++ (rest_in f).sent)
   pub end : (rest_in (begun_with buttons r.debugger.machine)).end ≡ (rest_in f).end
 
-pub playing_begun : (buttons : ℕ) (r : RunState) (f : FrameState) (sent : List ℕ) → f ≡ begun_with buttons r.debugger.machine → sent ≡ r.sent → IsPlaying buttons r sent f
-playing_begun buttons r f sent same none = record {
-  bytes = ap (λ (g : FrameState). keep_last most_sent (r.sent ++ (rest_in g).sent)) (sym same) ∙ ap (λ (bs : List ℕ). keep_last most_sent (bs ++ (rest_in f).sent)) (sym none);
-  end = ap (λ (g : FrameState). (rest_in g).end) (sym same);
-}
-
 pub playing_on : (buttons : ℕ) (r : RunState) (old new bytes : List ℕ) (capacity : ℕ) (breaks : Bool) (f g : FrameState) → IsPlaying buttons r old f → capacity ≡ most_sent
     → new ≡ keep_last capacity (old ++ bytes) → seen_in f ≡ sent_before bytes (seen_from breaks g) → IsPlaying buttons r new g
 playing_on buttons r old new bytes capacity breaks f g so_far room kept seen =

@@ -12,10 +12,6 @@ use Rattle.debugging.specs.NextGiven.{IsNextGiven, IsTakenAsked}
 use Rattle.debugging.specs.declared.given.NextGiven.{NextGiven}
 use Rattle.debugging.specs.declared.given.NextGiven.TheVariants.{Line, State, Wrong, Last, End, Failed}
 
--- where nothing is unread
-pub none_unread : (unread : List ℕ) (a : Option (List ℕ)) → unread ≡ [] → left_of unread a ≡ a
-none_unread unread a none = ap (λ (l : List ℕ). left_of l a) none ∙ prepend_known-nil a
-
 -- a line of more than 128 bytes is no `restore`
 pub long_asks_none : (line : List ℕ) → 128 < length line → restore_of line ≡ None
 long_asks_none line long = let test : nat_le (length line) 128 ≡ false = lt-leb (length line) 128 long in rw test refl

@@ -26,9 +26,6 @@ use Rattle.debugging.specs.Answers.{after_asked, after_line, after_order}
 abbrev pub ram_length : RunState → ℕ
 ram_length r = length (processor_of r).memory.banks.ram
 
-abbrev pub rom_length : RunState → ℕ
-rom_length r = length (processor_of r).memory.banks.rom
-
 -- the cartridge of another run is the same
 abbrev IsKept : RunState → RunState → Type 0
 IsKept old new = IsSameCartridge (processor_of old).memory.banks (processor_of new).memory.banks
@@ -105,9 +102,6 @@ pub steps_of_image : (rom : List ℕ) (n : ℕ) (old now : RunState) → now ≡
 steps_of_image rom n old now is of = subst (λ (x : RunState). IsOfImage rom x.debugger.machine) (sym is) (of_kept rom old (after_steps_of n old) (steps_keep n old) of)
 
 -- ---- the ROM
-
-pub rom_kept : (rom : ℕ) (old new : RunState) → HasRom rom (processor_of old).memory → rom_length new ≡ rom_length old → HasRom rom (processor_of new).memory
-rom_kept rom old new has same = record { size = has.size ∙ sym same; least = has.least }
 
 -- of a processor some steps on
 pub rom_after : (rom n : ℕ) (p q : Processor BusState) → HasRom rom p.memory → q ≡ after_steps bus_rules n p → HasRom rom q.memory

@@ -4,6 +4,8 @@ pub mod Copies
 pub mod Frames
 pub mod Places
 pub mod Opcodes
+pub mod PassedSteps
+pub mod AccessTables
 pub mod Runs
 pub mod Parts
 pub mod Kept

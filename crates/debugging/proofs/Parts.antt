@@ -28,12 +28,6 @@ module _ {X : Type 0} (f : X → List ℕ) where
   pub no_item_left : (xs : List X) (i : ℕ) → length xs ≤ i → flat_map f (drop i xs) ≡ []
   no_item_left xs i ended = ap (flat_map f) (drop_of_length-le xs ended)
 
-pub is_within : {X : Type 0} (xs : List X) (i : ℕ) (x : X) → slice_get xs i ≡ Some x → i < length xs
-is_within xs i x got = elim (slice_get_cases xs i).1 [
-  | inl p ↦ p.1
-  | inr p ↦ absurd (true≢false (sym (ap is_some (sym p.1 ∙ got))))
-]
-
 pub is_past : {X : Type 0} (xs : List X) (i : ℕ) → slice_get xs i ≡ None → length xs ≤ i
 is_past xs i none = elim (slice_get_cases xs i).1 [
   | inl p ↦ absurd (true≢false (ap is_some (sym p.2 ∙ none)))
@@ -55,9 +49,6 @@ module _ (count : ℕ) (first second sent : List ℕ) (size : count ≡ length f
   to_text : (F : List ℕ → Type 0) → F (text_of count first second) → F (serial_text sent)
   to_text F = subst F (text_is count first second sent size whole)
 
-  pub count_failed : AppendsProperPrefix a b (count_line (codes "serial") count) → AppendsProperPrefix a b (serial_text sent)
-  count_failed failed = to_text (AppendsProperPrefix a b) (part_failed _ _ _ _ a a b refl (none_written (text_of count first second) a) failed)
-
   module _ (c : Option (List ℕ)) (one : Appends a b (count_line (codes "serial") count)) where
     so_far_one : IsWrittenBut (first ++ (second ++ codes "\n")) (text_of count first second) a b
     so_far_one = one_more_written _ _ _ _ a a b refl (none_written (text_of count first second) a) one
@@ -78,9 +69,6 @@ module _ (count : ℕ) (first second sent : List ℕ) (size : count ≡ length f
 
         pub end_failed : AppendsProperPrefix d e (codes "\n") → AppendsProperPrefix a e (serial_text sent)
         end_failed failed = to_text (AppendsProperPrefix a e) (part_failed _ _ [] _ a d e refl so_far_three failed)
-
-        pub sent_written : Appends d e (codes "\n") → Appends a e (serial_text sent)
-        sent_written four = to_text (Appends a e) (all_written [] _ a e refl (one_more_written _ _ [] _ a d e refl so_far_three four))
 
 -- ---- the last instructions
 

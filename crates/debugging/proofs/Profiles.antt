@@ -17,16 +17,6 @@ use Rattle.sm83_processor.specs.declared.processor.Processor.{Processor}
 use Rattle.debugging.specs.Counting.{IsWithin}
 use Rattle.debugging.specs.Profile.{Cycles, cycles_line, cycles_lines, no_cycles, with_step, with_steps}
 
-pub one_counted : (rom : List ℕ) (at n most : ℕ) → at < length rom → n ≤ 255 → ((k : ℕ) → slice_index rom k ≤ most) → (k : ℕ) → slice_index (slice_set rom at (slice_index rom at + n)) k ≤ most + 255
-one_counted rom at n most inside few within k = elim (cases_eq k at) [
-  | inl e ↦
-      let here : slice_index (slice_set rom at (slice_index rom at + n)) k ≡ slice_index rom at + n = ap (slice_index (slice_set rom at (slice_index rom at + n))) e ∙ get_or-set_same rom at (slice_index rom at + n) 0 inside in
-      omega (arith, here, within at, few)
-  | inr ne ↦
-      let here : slice_index (slice_set rom at (slice_index rom at + n)) k ≡ slice_index rom k = get_or-set_other rom at k (slice_index rom at + n) 0 ne in
-      omega (arith, here, within k)
-]
-
 zero_at : (size at : ℕ) → slice_index (replicate size 0) at ≡ 0
 zero_at size at = elim (cases_lt at size) [
   | inl below ↦ get_or-replicate size at 0 0 below

@@ -109,10 +109,6 @@ at_none addresses p none = go (has_pc addresses p) refl
 
 -- ---- a run up to a place, in parts
 
-pos-from_ne : (n : ℕ) → (n ≡ 0 → ⊥) → 0 < n
-pos-from_ne zero some = absurd (some refl)
-pos-from_ne (suc n) some = omega arith
-
 pub one_made : (is_there : Processor BusState → Bool) (old new : RunState) → new ≡ after_steps_of 1 old → Makes is_there 1 old new
 one_made is_there old new run = record { some = omega arith; past = λ k some less. absurd (omega (arith, some, less)); run = run }
 
@@ -133,14 +129,6 @@ quiet_stops addresses limit k pc r d quiet m kept within few met = record {
   due = omega (arith, met.due, few);
   there = at_some addresses d.machine.processor (subst (Contains addresses) (met.here ∙ ap (λ (e : DebuggerState). e.machine.processor.registers.pc) (sym met.ran.run)) met.met);
 }
-
--- what is known of fewer steps
-pub quiet_for_less : (m n : ℕ) (p : Processor BusState) → m ≤ n → IsQuietFor n p → IsQuietFor m p
-quiet_for_less m n p less quiet = record { few = omega (arith, less, quiet.few); far = fewer quiet.far }
-  where
-    fewer : (p.memory.serial.serial.cycles_left ≡ 0) ⊎ (6 * n < p.memory.serial.serial.cycles_left) → (p.memory.serial.serial.cycles_left ≡ 0) ⊎ (6 * m < p.memory.serial.serial.cycles_left)
-    fewer (inl none) = inl none
-    fewer (inr more) = inr (omega (arith, more, less))
 
 pub stops_sooner : (is_there : Processor BusState → Bool) (m n : ℕ) (old new : RunState) → m ≤ n → StopsBefore is_there m old new → StopsBefore is_there n old new
 stops_sooner is_there m n old new less it = record { steps = it.steps; made = it.made; due = omega (arith, it.due, less); there = it.there }

@@ -17,28 +17,12 @@ abbrev pub onto : List Place → Option (List Place) → Option (List Place)
 onto first None = None
 onto first (Some rest) = Some (first ++ rest)
 
-pub onto_none : (rest : Option (List Place)) → onto [] rest ≡ rest
-onto_none None = refl
-onto_none (Some rest) = refl
-
-pub onto_more : (first : List Place) (place : Place) (rest : Option (List Place)) → onto first (both (Some place) rest) ≡ onto (first ++ place ∷ []) rest
-onto_more first place None = refl
-onto_more first place (Some rest) = ap Some (sym (append_assoc first (place ∷ []) rest))
-
-pub none_on : (first : List Place) (rest : Option (List Place)) → onto first (both None rest) ≡ None
-none_on first None = refl
-none_on first (Some rest) = refl
-
 pub onto_end : (first : List Place) → onto first (Some []) ≡ Some first
 onto_end first = ap Some (append-nil first)
 
 -- how a text is cut at its first space
 abbrev pub IsCutAt : List ℕ → List ℕ → Option (Bor (List ℕ)) → Type 0
 IsCutAt text word rest = MatchOption rest (words_of text ≡ word ∷ []) (λ after. words_of text ≡ word ∷ words_of after.now)
-
-pub words_cut : (text word : List ℕ) (rest : Option (Bor (List ℕ))) → IsCutAt text word rest → words_of text ≡ word ∷ words_after rest
-words_cut text word None cut = cut
-words_cut text word (Some after) cut = cut
 
 -- the bytes that are left
 abbrev pub bytes_left : Option (Bor (List ℕ)) → ℕ
@@ -60,53 +44,6 @@ all_read text None places has none most =
     let high : nat_le (length (words_of text)) 16 ≡ true = le-leb _ _ (omega (arith, same, most)) in
     rw (low, high) (sym (has.read ∙ onto_end places))
 all_read text (Some after) places has none most = absurd (cc)
-
-pub some_left : (text word : List ℕ) (rest after : Option (Bor (List ℕ))) (here : Bor (List ℕ)) (places : List Place) → HasRead text rest places → rest ≡ Some here
-    → IsCutAt here.now word after
-    → (all_places (words_of text) ≡ onto places (both (place_of word) (all_places (words_after after)))) × (length (words_of text) ≡ length places + 1 + length (words_after after))
-some_left text word None after here places has is cut = absurd (cc)
-some_left text word (Some other) after here places has is cut =
-    let same : other ≡ here = cc in
-    let words : words_of other.now ≡ word ∷ words_after after = ap (λ (t : Bor (List ℕ)). words_of t.now) same ∙ words_cut here.now word after cut in
-    (has.read ∙ ap (λ (ws : List (List ℕ)). onto places (all_places ws)) words, has.count ∙ ap (λ (ws : List (List ℕ)). length places + length ws) words ∙ omega arith)
-
-pub one_more : (text word : List ℕ) (rest after : Option (Bor (List ℕ))) (here : Bor (List ℕ)) (places more : List Place) (place : Place) → HasRead text rest places → rest ≡ Some here
-    → IsCutAt here.now word after → Some place ≡ place_of word → more ≡ places ++ place ∷ [] → HasRead text after more
-one_more text word rest after here places more place has is cut read added =
-    let left = some_left text word rest after here places has is cut in
-    record {
-      read = left.0 ∙ ap (λ (o : Option Place). onto places (both o (all_places (words_after after)))) (sym read) ∙ onto_more places place (all_places (words_after after))
-          ∙ ap (λ (xs : List Place). onto xs (all_places (words_after after))) (sym added);
-      count = left.1 ∙ ap (λ (n : ℕ). n + length (words_after after)) (sym (length-append places (place ∷ [])) ∙ ap length (sym added));
-      some = omega (arith, ap length added, length-append places (place ∷ []));
-    }
-
-none_of : (b : Bool) (o : Option (List Place)) → None ≡ (if b && false then o else None)
-none_of true o = refl
-none_of false o = refl
-
-none_placed : (b : Bool) (o : Option (List Place)) → o ≡ None → None ≡ (if b then o else None)
-none_placed true o none = sym none
-none_placed false o none = refl
-
--- a word that is no place
-pub none_read : (text word : List ℕ) (rest after : Option (Bor (List ℕ))) (here : Bor (List ℕ)) (places : List Place) → HasRead text rest places → rest ≡ Some here
-    → IsCutAt here.now word after → None ≡ place_of word → None ≡ places_of (words_of text)
-none_read text word rest after here places has is cut none =
-    none_placed _ _ ((some_left text word rest after here places has is cut).0
-    ∙ ap (λ (o : Option Place). onto places (both o (all_places (words_after after)))) (sym none) ∙ none_on places (all_places (words_after after)))
-
--- more than sixteen
-pub too_many : (text word : List ℕ) (rest after : Option (Bor (List ℕ))) (here : Bor (List ℕ)) (places : List Place) → HasRead text rest places → rest ≡ Some here
-    → IsCutAt here.now word after → 16 ≤ length places → None ≡ places_of (words_of text)
-too_many text word rest after here places has is cut full =
-    let left = some_left text word rest after here places has is cut in
-    let high : nat_le (length (words_of text)) 16 ≡ false = lt-leb _ _ (omega (arith, left.1, full)) in
-    rw high (none_of (nat_le 1 (length (words_of text))) (all_places (words_of text)))
-
-pub bytes_fall : (here : Bor (List ℕ)) (after : Option (Bor (List ℕ))) → IfSome after (λ rest. length rest.now < length here.now) → bytes_left after < bytes_left (Some here)
-bytes_fall here None less = omega arith
-bytes_fall here (Some rest) less = omega (arith, less)
 
 -- ---- a place of too many parts
 
@@ -155,14 +92,6 @@ state_too_many line name word a (Some y) x p ea q more differs =
     let rest = split_begins (λ byte. byte == 32) y.now in
     let words : words_of line ≡ name ∷ word ∷ rest.0 ∷ rest.1 = rw (one, q, rest.2) refl in
     rw (words, differs) refl
-
--- a line of a count and places
-pub profile_read : (line name word : List ℕ) (a b : Option (Bor (List ℕ))) (x : Bor (List ℕ)) → IsCutAt line name a → a ≡ Some x → IsCutAt x.now word b
-    → bytes_eq name (codes "profile") ≡ true → profile_order word (words_after b) ≡ state_order_of_words (words_of line)
-profile_read line name word a b x p ea q same =
-    let one = rw ea at p in
-    let words : words_of line ≡ name ∷ word ∷ words_after b = one ∙ ap (λ (ws : List (List ℕ)). name ∷ ws) (words_cut x.now word b q) in
-    rw (words, same) refl
 
 -- some words are one at least
 pub some_places : (text : List ℕ) → places_of (words_of text) ≡ any_places_of (words_of text)

@@ -12,6 +12,7 @@ pub mod Debugged
 -- what only the code needs
 pub mod Words
 pub mod Quiet
+pub mod Passing
 pub mod Counting
 pub mod NextGiven
 pub mod Switching

@@ -51,8 +51,10 @@ pub(crate) fn answer<W: Write>(
     requires rom { HasRom rom (processor_of run).memory }
     requires snapshot { length snapshot.old ≡ snapshot_length (length (processor_of run).memory.banks.ram) }
     ensures run { OnOk result.written (result.run ≡ after_line line.now run) }
-    ensures ok { OnOk result.written (Appends (W.contents out.old) (W.contents out.new) (answer_line line.now number run)) }
-    ensures err { OnErr result.written (AppendsProperPrefix (W.contents out.old) (W.contents out.new) (answer_line line.now number run)) }
+    ensures ok { OnOk result.written
+        (Appends (W.contents out.old) (W.contents out.new) (answer_line line.now number run)) }
+    ensures err { OnErr result.written
+        (AppendsProperPrefix (W.contents out.old) (W.contents out.new) (answer_line line.now number run)) }
     ensures room { length snapshot.new ≡ length snapshot.old }
 {
     if line.is_empty() {
@@ -81,8 +83,11 @@ pub(crate) fn restore<W: Write>(
     requires { IsOfImage cartridge.now run.debugger.machine }
     ensures of { IsOfImage cartridge.now result.run.debugger.machine }
     ensures run { OnOk result.written (result.run ≡ after_restore (length bytes.now) bytes.now run) }
-    ensures ok { OnOk result.written (Appends (W.contents out.old) (W.contents out.new) (answer_restore (length bytes.now) bytes.now number run)) }
-    ensures err { OnErr result.written (AppendsProperPrefix (W.contents out.old) (W.contents out.new) (answer_restore (length bytes.now) bytes.now number run)) }
+    ensures ok { OnOk result.written
+        (Appends (W.contents out.old) (W.contents out.new) (answer_restore (length bytes.now) bytes.now number run)) }
+    ensures err { OnErr result.written
+        (AppendsProperPrefix (W.contents out.old) (W.contents out.new)
+        (answer_restore (length bytes.now) bytes.now number run)) }
 {
     let RunRestored { run, is_restored } = run.restore(cartridge, bytes);
     let written = if is_restored {
@@ -120,7 +125,8 @@ fn obey<W: Write>(run: Run, order: Order, rom: usize, snapshot: &mut [u8], out: 
     requires snapshot { length snapshot.old ≡ snapshot_length (length (processor_of run).memory.banks.ram) }
     ensures run { OnOk result.written (result.run ≡ after_order order run) }
     ensures ok { OnOk result.written (Appends (W.contents out.old) (W.contents out.new) (answer_to order run)) }
-    ensures err { OnErr result.written (AppendsProperPrefix (W.contents out.old) (W.contents out.new) (answer_to order run)) }
+    ensures err { OnErr result.written
+        (AppendsProperPrefix (W.contents out.old) (W.contents out.new) (answer_to order run)) }
     ensures room { length snapshot.new ≡ length snapshot.old }
 {
     match order {
@@ -209,8 +215,10 @@ fn obey<W: Write>(run: Run, order: Order, rom: usize, snapshot: &mut [u8], out: 
 }
 
 fn write_registers<W: Write>(run: &Run, out: &mut W) -> Result<(), OutputFailed>
-    ensures ok { OnOk result (Appends (W.contents out.old) (W.contents out.new) (register_line (processor_of run.now))) }
-    ensures err { OnErr result (AppendsProperPrefix (W.contents out.old) (W.contents out.new) (register_line (processor_of run.now))) }
+    ensures ok { OnOk result
+        (Appends (W.contents out.old) (W.contents out.new) (register_line (processor_of run.now))) }
+    ensures err { OnErr result
+        (AppendsProperPrefix (W.contents out.old) (W.contents out.new) (register_line (processor_of run.now))) }
 {
     let text = register_line(run.processor());
     write_whole(out, text.as_bytes())
@@ -224,8 +232,12 @@ fn write_bank<W: Write>(
     out: &mut W,
 ) -> Result<(), OutputFailed>
     requires { HasRom rom (processor_of run.now).memory }
-    ensures ok { OnOk result (Appends (W.contents out.old) (W.contents out.new) (bank_line (bank_at (processor_of run.now).memory address))) }
-    ensures err { OnErr result (AppendsProperPrefix (W.contents out.old) (W.contents out.new) (bank_line (bank_at (processor_of run.now).memory address))) }
+    ensures ok { OnOk result
+        (Appends (W.contents out.old) (W.contents out.new)
+        (bank_line (bank_at (processor_of run.now).memory address))) }
+    ensures err { OnErr result
+        (AppendsProperPrefix (W.contents out.old) (W.contents out.new)
+        (bank_line (bank_at (processor_of run.now).memory address))) }
 {
     let text = bank_text(bank_at(&run.processor().memory, rom, address));
     write_whole(out, text.as_bytes())
@@ -244,8 +256,11 @@ fn bank_text(bank: u16) -> ArrayString<16>
 /// Makes so many steps, and writes the line of each.
 fn write_steps<W: Write>(run: Run, count: u32, out: &mut W) -> Answered
     ensures run { OnOk result.written (result.run ≡ after_steps_of count run) }
-    ensures ok { OnOk result.written (Appends (W.contents out.old) (W.contents out.new) (step_lines bus_rules count (processor_of run))) }
-    ensures err { OnErr result.written (AppendsProperPrefix (W.contents out.old) (W.contents out.new) (step_lines bus_rules count (processor_of run))) }
+    ensures ok { OnOk result.written
+        (Appends (W.contents out.old) (W.contents out.new) (step_lines bus_rules count (processor_of run))) }
+    ensures err { OnErr result.written
+        (AppendsProperPrefix (W.contents out.old) (W.contents out.new)
+        (step_lines bus_rules count (processor_of run))) }
 {
     run.no_step();
     let mut run = run;
@@ -272,7 +287,8 @@ pub(crate) fn write_place<W: Write>(
     out: &mut W,
 ) -> Result<(), OutputFailed>
     ensures ok { OnOk result (Appends (W.contents out.old) (W.contents out.new) (place_text is_there processor.now)) }
-    ensures err { OnErr result (AppendsProperPrefix (W.contents out.old) (W.contents out.new) (place_text is_there processor.now)) }
+    ensures err { OnErr result
+        (AppendsProperPrefix (W.contents out.old) (W.contents out.new) (place_text is_there processor.now)) }
 {
     let text = place_text(is_there, processor);
     write_whole(out, text.as_bytes())
@@ -290,8 +306,10 @@ fn place_text(is_there: bool, processor: &Processor<Bus>) -> ArrayString<16>
 
 /// Writes how many instructions follow, and then the last ones of the history, at most `most`.
 fn write_history<W: Write>(run: &Run, most: u32, out: &mut W) -> Result<(), OutputFailed>
-    ensures ok { OnOk result (Appends (W.contents out.old) (W.contents out.new) (history_text most run.now.debugger.history)) }
-    ensures err { OnErr result (AppendsProperPrefix (W.contents out.old) (W.contents out.new) (history_text most run.now.debugger.history)) }
+    ensures ok { OnOk result
+        (Appends (W.contents out.old) (W.contents out.new) (history_text most run.now.debugger.history)) }
+    ensures err { OnErr result
+        (AppendsProperPrefix (W.contents out.old) (W.contents out.new) (history_text most run.now.debugger.history)) }
 {
     let length = run.debugger().history_len();
     let first = length.saturating_sub(most as usize);
@@ -303,8 +321,11 @@ fn write_history<W: Write>(run: &Run, most: u32, out: &mut W) -> Result<(), Outp
 
 /// Writes the instructions of a history from an index on.
 fn write_seen<W: Write>(debugger: &Debugger, first: usize, out: &mut W) -> Result<(), OutputFailed>
-    ensures ok { OnOk result (Appends (W.contents out.old) (W.contents out.new) (flat_map line_seen (drop first debugger.now.history))) }
-    ensures err { OnErr result (AppendsProperPrefix (W.contents out.old) (W.contents out.new) (flat_map line_seen (drop first debugger.now.history))) }
+    ensures ok { OnOk result
+        (Appends (W.contents out.old) (W.contents out.new) (flat_map line_seen (drop first debugger.now.history))) }
+    ensures err { OnErr result
+        (AppendsProperPrefix (W.contents out.old) (W.contents out.new)
+        (flat_map line_seen (drop first debugger.now.history))) }
 {
     for index in first..debugger.history_len() {
         if let Some(executed) = debugger.history(index) {
@@ -324,7 +345,8 @@ fn write_seen<W: Write>(debugger: &Debugger, first: usize, out: &mut W) -> Resul
 fn write_serial<W: Write>(run: Run, out: &mut W) -> Answered
     ensures run { OnOk result.written (result.run ≡ record run { sent = [] }) }
     ensures ok { OnOk result.written (Appends (W.contents out.old) (W.contents out.new) (serial_text run.sent)) }
-    ensures err { OnErr result.written (AppendsProperPrefix (W.contents out.old) (W.contents out.new) (serial_text run.sent)) }
+    ensures err { OnErr result.written
+        (AppendsProperPrefix (W.contents out.old) (W.contents out.new) (serial_text run.sent)) }
 {
     let mut run = run;
     let written = write_sent(&run, out);
@@ -336,7 +358,8 @@ fn write_serial<W: Write>(run: Run, out: &mut W) -> Answered
 
 fn write_sent<W: Write>(run: &Run, out: &mut W) -> Result<(), OutputFailed>
     ensures ok { OnOk result (Appends (W.contents out.old) (W.contents out.new) (serial_text run.now.sent)) }
-    ensures err { OnErr result (AppendsProperPrefix (W.contents out.old) (W.contents out.new) (serial_text run.now.sent)) }
+    ensures err { OnErr result
+        (AppendsProperPrefix (W.contents out.old) (W.contents out.new) (serial_text run.now.sent)) }
 {
     let (first, second) = run.sent();
     if let Err(fault) = write_count("serial", first.len() + second.len(), out) {
@@ -359,7 +382,8 @@ fn write_digest<W: Write>(
 ) -> Result<(), OutputFailed>
     requires { length snapshot.old ≡ snapshot_length (length machine.now.processor.memory.banks.ram) }
     ensures ok { OnOk result (Appends (W.contents out.old) (W.contents out.new) (digest_text machine.now)) }
-    ensures err { OnErr result (AppendsProperPrefix (W.contents out.old) (W.contents out.new) (digest_text machine.now)) }
+    ensures err { OnErr result
+        (AppendsProperPrefix (W.contents out.old) (W.contents out.new) (digest_text machine.now)) }
     ensures room { length snapshot.new ≡ length snapshot.old }
 {
     encode(machine, snapshot);

@@ -62,7 +62,8 @@ impl CycleCounts {
     pub(crate) fn write<W: Write>(&self, out: &mut W) -> Result<(), OutputFailed>
         requires { length self.now.rom ≤ 2 ^ 30 }
         ensures ok { OnOk result (Appends (W.contents out.old) (W.contents out.new) (cycles_text self.now)) }
-        ensures err { OnErr result (AppendsProperPrefix (W.contents out.old) (W.contents out.new) (cycles_text self.now)) }
+        ensures err { OnErr result
+            (AppendsProperPrefix (W.contents out.old) (W.contents out.new) (cycles_text self.now)) }
     {
         if let Err(fault) = write_count("elsewhere", self.elsewhere as usize, out) {
             return Err(fault);
@@ -112,7 +113,8 @@ fn lines_of(rom: &[u64]) -> usize
 fn write_lines<W: Write>(rom: &[u64], out: &mut W) -> Result<(), OutputFailed>
     requires { length rom.now ≤ 2 ^ 30 }
     ensures ok { OnOk result (Appends (W.contents out.old) (W.contents out.new) (cycles_lines 0 rom.now)) }
-    ensures err { OnErr result (AppendsProperPrefix (W.contents out.old) (W.contents out.new) (cycles_lines 0 rom.now)) }
+    ensures err { OnErr result
+        (AppendsProperPrefix (W.contents out.old) (W.contents out.new) (cycles_lines 0 rom.now)) }
 {
     for offset in 0..rom.len() {
         let cycles = rom[offset];
@@ -129,7 +131,8 @@ fn write_lines<W: Write>(rom: &[u64], out: &mut W) -> Result<(), OutputFailed>
 fn write_line<W: Write>(offset: usize, cycles: u64, out: &mut W) -> Result<(), OutputFailed>
     requires { offset < 2 ^ 30 }
     ensures ok { OnOk result (Appends (W.contents out.old) (W.contents out.new) (cycles_line offset cycles)) }
-    ensures err { OnErr result (AppendsProperPrefix (W.contents out.old) (W.contents out.new) (cycles_line offset cycles)) }
+    ensures err { OnErr result
+        (AppendsProperPrefix (W.contents out.old) (W.contents out.new) (cycles_line offset cycles)) }
 {
     match cycles_line(offset, cycles) {
         Some(text) => write_whole(out, text.as_bytes()),

@@ -44,7 +44,8 @@ fn take_asked<R: Read>(
     snapshot: &mut [u8],
     size: usize,
 ) -> NextGiven
-    ensures taken { IsTakenAsked result size snapshot.new (left_of unread.old.items (R.remaining input.old)) (left_of unread.new.items (R.remaining input.new))
+    ensures taken { IsTakenAsked result size snapshot.new (left_of unread.old.items (R.remaining input.old))
+        (left_of unread.new.items (R.remaining input.new))
         (R.remaining input.new) }
     ensures room { length snapshot.new ≡ length snapshot.old }
 {
@@ -68,7 +69,8 @@ pub(crate) fn next_given<R: Read>(
     input: &mut R,
     snapshot: &mut [u8],
 ) -> NextGiven
-    ensures given { IsNextGiven result snapshot.new (left_of unread.old.items (R.remaining input.old)) (left_of unread.new.items (R.remaining input.new))
+    ensures given { IsNextGiven result snapshot.new (left_of unread.old.items (R.remaining input.old))
+        (left_of unread.new.items (R.remaining input.new))
         (R.remaining input.new) }
     ensures room { length snapshot.new ≡ length snapshot.old }
 {

@@ -11,6 +11,7 @@ pub mod error;
 mod given;
 mod obeying;
 pub mod order;
+mod passing;
 mod probe;
 mod profiling;
 pub mod registers;

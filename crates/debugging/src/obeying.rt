@@ -45,7 +45,8 @@ impl Model for LineDebugger {
 
     ghost view = { λ d. d.run };
 
-    ghost invariant = { λ d. HasRom d.rom (processor_of d.run).memory × (length d.snapshot.items ≡ snapshot_length (length (processor_of d.run).memory.banks.ram))
+    ghost invariant = { λ d. HasRom d.rom (processor_of d.run).memory ×
+        (length d.snapshot.items ≡ snapshot_length (length (processor_of d.run).memory.banks.ram))
         × All (λ bytes. bytes ≡ []) d.kept };
 }
 
@@ -117,9 +118,19 @@ impl LineDebugger {
     ) -> Result<(), DebugError>
         requires { IsOfImage cartridge.now self.debugger.machine }
         ensures answered { OnOk result (HasAnsweredAll self
-            (record { unread = R.remaining input.old; left = R.remaining input.new; before = W.contents out.old; since = W.contents out.new })) }
+            (record {
+              unread = R.remaining input.old;
+              left = R.remaining input.new;
+              before = W.contents out.old;
+              since = W.contents out.new;
+            })) }
         ensures refused { IfErr result (λ why. IsDebugCause why self
-            (record { unread = R.remaining input.old; left = R.remaining input.new; before = W.contents out.old; since = W.contents out.new })) }
+            (record {
+              unread = R.remaining input.old;
+              left = R.remaining input.new;
+              before = W.contents out.old;
+              since = W.contents out.new;
+            })) }
     {
         let LineDebugger {
             mut run,

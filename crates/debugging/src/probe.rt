@@ -13,13 +13,13 @@ use sm83_alu::{Flags, Registers};
 use std::marker::Model;
 
 /// The address of the register DMA.
-const DMA: u16 = 0xff46;
+pub(crate) const DMA: u16 = 0xff46;
 
 /// The address of OAM.
 const OAM: u16 = 0xfe00;
 
 /// The bytes of a copy.
-const COPIED: u8 = 160;
+pub(crate) const COPIED: u8 = 160;
 
 /// A bus that is only looked at: what a step accesses is noted.
 #[derive(Drop)]
@@ -94,7 +94,7 @@ impl<'a> Probe<'a> {
 }
 
 /// Whether an address is one of these.
-fn is_in(span: Span, address: u16) -> bool
+pub(crate) fn is_in(span: Span, address: u16) -> bool
     ensures { result ≡ is_in span address }
 {
     span.first <= address && address <= span.last
@@ -117,12 +117,20 @@ struct Access {
 }
 
 /// How many bytes of a copy are made; 160 where none runs. The bus mostly knows that none does, and its whole state is looked at else.
-fn copied_of(bus: &Bus) -> u8
+#[inline(always)]
+pub(crate) fn copied_of(bus: &Bus) -> u8
     ensures { result ≡ copied_of bus.now }
 {
     if bus.calm() > 1 {
         return COPIED;
     }
+    copied_in_state(bus)
+}
+
+#[inline(never)]
+fn copied_in_state(bus: &Bus) -> u8
+    ensures { result ≡ copied_of bus.now }
+{
     let copied = bus.state().dma_copied;
     if copied < COPIED { copied } else { COPIED }
 }
@@ -181,7 +189,7 @@ fn step_reads(kind: StepKind, registers: &Registers, span: Span) -> bool
     }
 }
 
-fn instruction_reads(instr: Instr, registers: &Registers, span: Span) -> bool
+pub(crate) fn instruction_reads(instr: Instr, registers: &Registers, span: Span) -> bool
     ensures { result ≡ list_any (is_in span) (instruction_reads instr registers.now) }
 {
     match instr {
@@ -205,7 +213,7 @@ fn instruction_reads(instr: Instr, registers: &Registers, span: Span) -> bool
 }
 
 /// Whether the byte at HL is an operand, and HL is one of these addresses.
-fn operand_reads(operand: Operand8, registers: &Registers, span: Span) -> bool
+pub(crate) fn operand_reads(operand: Operand8, registers: &Registers, span: Span) -> bool
     ensures { result ≡ list_any (is_in span) (operand_reads operand registers.now) }
 {
     match operand {
@@ -221,7 +229,7 @@ fn popped_reads(registers: &Registers, span: Span) -> bool
     is_in(span, registers.sp) || is_in(span, registers.sp.wrapping_add(1))
 }
 
-fn indirect(place: Indirect, registers: &Registers) -> u16
+pub(crate) fn indirect(place: Indirect, registers: &Registers) -> u16
     ensures { result ≡ indirect_address place registers.now }
 {
     match place {
@@ -231,7 +239,7 @@ fn indirect(place: Indirect, registers: &Registers) -> u16
     }
 }
 
-fn holds(condition: Condition, flags: Flags) -> bool
+pub(crate) fn holds(condition: Condition, flags: Flags) -> bool
     ensures { result ≡ condition_holds condition flags }
 {
     match condition {

@@ -43,7 +43,8 @@ pub(crate) fn run_counted(
     requires none { counts.old ≡ no_cycles rom }
     ensures run { result.run ≡ after_steps_of (steps_up_to (is_at places.now) limit (processor_of run)) run }
     ensures there { result.is_there ≡ nat_lt (steps_up_to (is_at places.now) limit (processor_of run)) limit }
-    ensures counted { counts.new ≡ with_steps (steps_up_to (is_at places.now) limit (processor_of run)) (processor_of run) counts.old }
+    ensures counted { counts.new ≡
+        with_steps (steps_up_to (is_at places.now) limit (processor_of run)) (processor_of run) counts.old }
     ensures size { length counts.new.rom ≡ rom }
 {
     run.no_step();

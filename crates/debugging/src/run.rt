@@ -180,14 +180,14 @@ impl Run {
     }
 
     /// The same up to an aim. Condition: the ROM has so many bytes.
-    fn quiet_up_to(&mut self, aim: &Aim, rom: usize, limit: u32) -> bool
+    fn quiet_up_to(&mut self, room: &mut RunRoom, aim: &Aim, rom: usize, limit: u32) -> bool
         requires rom { HasRom rom (processor_of self.old).memory }
         requires some { 0 < limit }
         requires quiet { IsQuietFor limit (processor_of self.old) }
         ensures made { result ≡ false → Makes (is_aim aim.now) limit self.old self.new }
         ensures there { result ≡ true → StopsBefore (is_aim aim.now) limit self.old self.new }
     {
-        step_up_to(&mut self.debugger, aim, rom, limit)
+        step_up_to(&mut self.debugger, room, aim, rom, limit)
     }
 
     /// Steps up to one of these places, but at most `limit`. The first step is made wherever it begins. Condition: the ROM has so many bytes.
@@ -296,6 +296,7 @@ impl Run {
         ensures there { result.is_there ≡ nat_lt (steps_up_to (is_aim aim.now) limit (processor_of self)) limit }
     {
         self.no_step();
+        let mut room = RunRoom::new();
         let mut run = self;
         let mut left = limit;
         while left > 0 {
@@ -311,7 +312,7 @@ impl Run {
                 }
                 continue;
             }
-            if run.quiet_up_to(aim, rom, quiet) {
+            if run.quiet_up_to(&mut room, aim, rom, quiet) {
                 return RunUntil {
                     run,
                     is_there: true,
@@ -482,7 +483,13 @@ fn note(sent: &mut HeapCircularBuffer<u8>, byte: Option<u8>)
 
 /// Steps up to an aim, but at most `limit`. The first is made wherever it begins. Returns whether it stopped before all were made.
 /// Conditions: `limit` is not 0, and the ROM has so many bytes.
-fn step_up_to(debugger: &mut Debugger, aim: &Aim, rom: usize, limit: u32) -> bool
+fn step_up_to(
+    debugger: &mut Debugger,
+    room: &mut RunRoom,
+    aim: &Aim,
+    rom: usize,
+    limit: u32,
+) -> bool
     requires rom { HasRom rom debugger.old.machine.processor.memory }
     requires some { 0 < limit }
     ensures made { result ≡ false → MakesIn (is_aim aim.now) limit debugger.old debugger.new }
@@ -490,14 +497,30 @@ fn step_up_to(debugger: &mut Debugger, aim: &Aim, rom: usize, limit: u32) -> boo
 {
     // the history is within its size, so a run of no step leaves it as it is
     let _held = debugger.history_len();
-    for _made in 0..limit - 1 {
-        let _ = debugger.step();
+    let mut made = 0;
+    loop {
+        made += step_on(debugger, room, aim, limit - made);
+        if made >= limit {
+            return false;
+        }
         if is_aim(aim, rom, debugger.machine().processor()) {
             return true;
         }
     }
+}
+
+/// Makes steps, one at least and at most `limit`, of which none but the first begins at an aim. Returns how many. Condition: `limit` is not
+/// 0.
+fn step_on(debugger: &mut Debugger, room: &mut RunRoom, aim: &Aim, limit: u32) -> u32
+    requires { 0 < limit }
+    ensures made { MakesIn (is_aim aim.now) result debugger.old debugger.new }
+    ensures most { result ≤ limit }
+{
+    if debugger.machine().is_fast() {
+        return debugger.run_watching(room, aim, limit);
+    }
     let _ = debugger.step();
-    false
+    1
 }
 
 /// For how many steps no transfer can end, 170 at most: each takes six M-cycles at most.

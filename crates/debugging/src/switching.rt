@@ -47,9 +47,17 @@ pub(crate) fn switch<W: Write>(
     requires numbered { IsNumbered order }
     ensures of { IfOk result (λ now. IsOfImage cartridge.now now.debugger.machine) }
     ensures done { (machines : List KeptMachine) → AreKept cartridge.now kept.old machines
-        → IfOk result (λ now. HasSwitched cartridge.now order number (record { run = run; kept = machines }) now kept.new (W.contents out.old) (W.contents out.new)) }
+        → IfOk result (λ now.
+        HasSwitched cartridge.now order number (record {
+          run = run;
+          kept = machines;
+        }) now kept.new (W.contents out.old) (W.contents out.new)) }
     ensures refused { (machines : List KeptMachine) → AreKept cartridge.now kept.old machines
-        → IfErr result (λ why. IsNotSwitched why order number (record { run = run; kept = machines }) (W.contents out.old) (W.contents out.new)) }
+        → IfErr result (λ why.
+        IsNotSwitched why order number (record {
+          run = run;
+          kept = machines;
+        }) (W.contents out.old) (W.contents out.new)) }
 {
     match order {
         StateOrder::Power => power(alloc, cartridge, run, out),
@@ -102,8 +110,12 @@ fn profile<W: Write>(
     requires { IsOfImage cartridge.now run.debugger.machine }
     ensures of { IfOk result (λ now. IsOfImage cartridge.now now.debugger.machine) }
     ensures run { IfOk result (λ now. now ≡ after_steps_of (until_steps steps places.now run) run) }
-    ensures ok { OnOk result (Appends (W.contents out.old) (W.contents out.new) (profile_text (until_steps steps places.now run) steps run)) }
-    ensures err { IfErr result (λ why. IsRefusedAnswer why (profile_text (until_steps steps places.now run) steps run) (W.contents out.old) (W.contents out.new)) }
+    ensures ok { OnOk result
+        (Appends (W.contents out.old) (W.contents out.new)
+        (profile_text (until_steps steps places.now run) steps run)) }
+    ensures err { IfErr result (λ why.
+        IsRefusedAnswer why (profile_text (until_steps steps places.now run) steps run) (W.contents out.old)
+        (W.contents out.new)) }
 {
     let rom = cartridge.rom().len();
     let Ok(mut counts) = CycleCounts::new(alloc, rom) else {
@@ -124,8 +136,11 @@ fn write_profile<W: Write>(
     out: &mut W,
 ) -> Result<(), OutputFailed>
     requires { length counts.now.rom ≤ 2 ^ 30 }
-    ensures ok { OnOk result (Appends (W.contents out.old) (W.contents out.new) (place_text is_there processor.now ++ cycles_text counts.now)) }
-    ensures err { OnErr result (AppendsProperPrefix (W.contents out.old) (W.contents out.new) (place_text is_there processor.now ++ cycles_text counts.now)) }
+    ensures ok { OnOk result (Appends (W.contents out.old) (W.contents out.new) (place_text is_there processor.now ++
+        cycles_text counts.now)) }
+    ensures err { OnErr result
+        (AppendsProperPrefix (W.contents out.old) (W.contents out.new) (place_text is_there processor.now ++
+        cycles_text counts.now)) }
 {
     if let Err(fault) = write_place(is_there, processor, out) {
         return Err(fault);
@@ -148,7 +163,9 @@ fn keep<W: Write>(
     ensures size { length kept.old ≡ slots }
     ensures ok { OnOk result (Appends (W.contents out.old) (W.contents out.new) (count_line (codes "kept") slot)) }
     ensures err { IfErr result (λ why. IsRefusedAnswer why (count_line (codes "kept") slot) (W.contents out.old) (W.contents out.new)) }
-    ensures memory { IfErr result (λ why. why ≡ DebugError.Memory → length (state_under kept.old slot) ≢ snapshot_length (length (processor_of run).memory.banks.ram)) }
+    ensures memory { IfErr result (λ why.
+        why ≡ DebugError.Memory →
+        length (state_under kept.old slot) ≢ snapshot_length (length (processor_of run).memory.banks.ram)) }
 {
     let run = run.draw_late();
     let machine = run.debugger().machine();
@@ -174,8 +191,12 @@ fn back<W: Write>(
     requires { IsOfImage cartridge.now run.debugger.machine }
     ensures of { IfOk result (λ now. IsOfImage cartridge.now now.debugger.machine) }
     ensures run { IfOk result (λ now. now ≡ after_restore (length bytes.now) bytes.now run) }
-    ensures ok { OnOk result (Appends (W.contents out.old) (W.contents out.new) (back_text (is_given (length bytes.now) bytes.now run) slot number)) }
-    ensures err { OnErr result (AppendsProperPrefix (W.contents out.old) (W.contents out.new) (back_text (is_given (length bytes.now) bytes.now run) slot number)) }
+    ensures ok { OnOk result
+        (Appends (W.contents out.old) (W.contents out.new)
+        (back_text (is_given (length bytes.now) bytes.now run) slot number)) }
+    ensures err { OnErr result
+        (AppendsProperPrefix (W.contents out.old) (W.contents out.new)
+        (back_text (is_given (length bytes.now) bytes.now run) slot number)) }
     ensures output { IfErr result (λ why. why ≡ DebugError.Output) }
 {
     let RunRestored { run, is_restored } = run.restore(cartridge, bytes);
@@ -193,7 +214,8 @@ fn write_back<W: Write>(
     out: &mut W,
 ) -> Result<(), OutputFailed>
     ensures ok { OnOk result (Appends (W.contents out.old) (W.contents out.new) (back_text is_restored slot number)) }
-    ensures err { OnErr result (AppendsProperPrefix (W.contents out.old) (W.contents out.new) (back_text is_restored slot number)) }
+    ensures err { OnErr result
+        (AppendsProperPrefix (W.contents out.old) (W.contents out.new) (back_text is_restored slot number)) }
 {
     if is_restored {
         return write_count("back", slot as usize, out);

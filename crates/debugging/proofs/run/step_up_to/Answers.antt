@@ -1,54 +1,67 @@
-use Rattle.std.proofs.Common.{◌≡◌, ◌∙◌, ◌+◌, ℕ, false, ap, sym, arith}
-use Rattle.memory_map.specs.BusRules.{bus_rules}
-use Rattle.sm83_processor.specs.Steps.{after_steps}
+use Rattle.std.proofs.Common.{◌≡◌, ◌∙◌, ◌+◌, ◌<◌, ℕ, false, ap, sym, subst, arith}
+use Rattle.memory_map.specs.State.{BusState}
 use Rattle.machine.specs.Machine.{MachineState}
-use Rattle.debugger.specs.History.{DebuggerState, after_run}
-use Rattle.debugger.proofs.Histories.{not_begun, one_more, past_more}
-use Rattle.debugging.specs.Quiet.{is_aim}
+use Rattle.sm83_processor.specs.declared.processor.Processor.{Processor}
+use Rattle.debugger.specs.History.{DebuggerState}
+use Rattle.debugger.specs.Run.{HasPassed}
+use Rattle.debugger.proofs.Histories.{not_begun, pass_on}
+use Rattle.debugging.specs.declared.run.Aim.{Aim}
+use Rattle.debugging.specs.Quiet.{MakesIn, is_aim}
 use Rattle.debugging.proofs.Kept.{rom_after}
 use Rattle.debugging.proofs.run.step_up_to.Goals as goal
 
 pub loop-made-init : goal.loop-made-init
 loop-made-init c = record {
-  run = not_begun c.args.debugger.now (omega (arith, c.history_len-held.ensures.len, c.history_len-held.ensures.most));
-  past = λ k some below. absurd (omega (arith, some, below));
+  run = record {
+    run = not_begun c.args.debugger.now (omega (arith, c.history_len-held.ensures.len, c.history_len-held.ensures.most));
+    past = λ k some below. absurd (omega (arith, some, below));
+  };
+  here = λ some. absurd (omega (arith, some));
+  due = c.requires.some;
 }
+
+abbrev Elsewhere : Aim → Processor BusState → Type 0
+Elsewhere aim p = is_aim aim p ≡ false
+
+-- the steps so far, and those that were made next
+more : (aim : Aim) (m n : ℕ) (d e f : DebuggerState) → HasPassed (Elsewhere aim) m d e → (0 < m → Elsewhere aim e.machine.processor) → MakesIn (is_aim aim) n e f
+    → HasPassed (Elsewhere aim) (m + n) d f
+more aim m n d e f so_far here next = pass_on (Elsewhere aim) m n d e f so_far here (record { run = next.run; past = next.past })
 
 pub loop-made-preserved : goal.loop-made-preserved
 loop-made-preserved c =
-    let run = one_more c.loop-made._made c.args.debugger.now c.loop-made.debugger c.step.new.self c.loop-made.invariant.run c.step.ensures.debugger in
+    let known = c.loop-made.invariant in
     record {
-      run = run;
-      past = past_more (λ (k : ℕ). is_aim c.args.aim.now (after_steps bus_rules k c.args.debugger.now.machine.processor) ≡ false) (c.loop-made._made + 1) c.loop-made.invariant.past
-          (λ some. ap (λ (d : DebuggerState). is_aim c.args.aim.now d.machine.processor) (sym run)
-          ∙ ap (is_aim c.args.aim.now) (sym (c.processor.ensures ∙ ap (λ (m : MachineState). m.processor) c.machine.ensures))
-          ∙ sym c.is_aim.ensures ∙ c.if-is_aim.false);
+      run = more c.args.aim.now c.loop-made.made c.step_on-made.result c.args.debugger.now c.loop-made.debugger c.step_on-made.new.debugger known.run known.here c.step_on-made.ensures.made;
+      here = λ some. ap (is_aim c.args.aim.now) (sym (c.processor.ensures ∙ ap (λ (m : MachineState). m.processor) c.machine.ensures)) ∙ sym c.is_aim.ensures ∙ c.if-is_aim.false;
+      due = c.if-made-limit.false;
     }
 
-pub returns-then-is_aim-clause-there : goal.returns-then-is_aim-clause-there
-returns-then-is_aim-clause-there c = λ is. record {
-  steps = c.loop-made._made + 1;
-  made = record {
-    some = omega arith;
-    past = c.loop-made.invariant.past;
-    run = one_more c.loop-made._made c.args.debugger.now c.loop-made.debugger c.step.new.self c.loop-made.invariant.run c.step.ensures.debugger;
-  };
-  due = omega (arith, c.loop-made-test.true);
-  there = ap (is_aim c.args.aim.now) (sym (c.processor.ensures ∙ ap (λ (m : MachineState). m.processor) c.machine.ensures)) ∙ sym c.is_aim.ensures ∙ c.if-is_aim.true;
-}
+pub returns-then-made-limit-clause-made : goal.returns-then-made-limit-clause-made
+returns-then-made-limit-clause-made c = λ _.
+    let known = c.loop-made.invariant in
+    let all : c.loop-made.made + c.step_on-made.result ≡ c.args.limit = omega (arith, known.due, c.step_on-made.ensures.most, c.if-made-limit.true) in
+    let passed =
+    more c.args.aim.now c.loop-made.made c.step_on-made.result c.args.debugger.now c.loop-made.debugger c.step_on-made.new.debugger known.run known.here c.step_on-made.ensures.made in
+    subst (λ (n : ℕ). MakesIn (is_aim c.args.aim.now) n c.args.debugger.now c.step_on-made.new.debugger) all
+    (record { some = omega (arith, all, c.requires.some); past = passed.past; run = passed.run })
 
-pub returns-clause-made : goal.returns-clause-made
-returns-clause-made c = λ is.
-    let last : c.loop-made._made + 1 ≡ c.args.limit = omega (arith, c.loop-made-test.false, c.loop-made.auto._made-end, c.requires.some) in
+pub returns-then-is_aim-clause-there : goal.returns-then-is_aim-clause-there
+returns-then-is_aim-clause-there c = λ _.
+    let known = c.loop-made.invariant in
+    let passed =
+    more c.args.aim.now c.loop-made.made c.step_on-made.result c.args.debugger.now c.loop-made.debugger c.step_on-made.new.debugger known.run known.here c.step_on-made.ensures.made in
     record {
-      some = c.requires.some;
-      past = λ k some below. c.loop-made.invariant.past k some (omega (arith, below, last));
-      run = one_more c.loop-made._made c.args.debugger.now c.loop-made.debugger c.step-2.new.self c.loop-made.invariant.run c.step-2.ensures.debugger
-          ∙ ap (λ (n : ℕ). after_run n c.args.debugger.now) last;
+      steps = c.loop-made.made + c.step_on-made.result;
+      made = record { some = omega (arith, c.step_on-made.ensures.made.some); past = passed.past; run = passed.run };
+      due = c.if-made-limit.false;
+      there = ap (is_aim c.args.aim.now) (sym (c.processor.ensures ∙ ap (λ (m : MachineState). m.processor) c.machine.ensures)) ∙ sym c.is_aim.ensures ∙ c.if-is_aim.true;
     }
 
 pub is_aim-requires : goal.is_aim-requires
 is_aim-requires c =
-    rom_after c.args.rom (c.loop-made._made + 1) c.args.debugger.now.machine.processor c.processor.result.now c.requires.rom
-    (c.processor.ensures ∙ ap (λ (m : MachineState). m.processor) c.machine.ensures
-    ∙ ap (λ (d : DebuggerState). d.machine.processor) (one_more c.loop-made._made c.args.debugger.now c.loop-made.debugger c.step.new.self c.loop-made.invariant.run c.step.ensures.debugger))
+    let known = c.loop-made.invariant in
+    let passed =
+    more c.args.aim.now c.loop-made.made c.step_on-made.result c.args.debugger.now c.loop-made.debugger c.step_on-made.new.debugger known.run known.here c.step_on-made.ensures.made in
+    rom_after c.args.rom (c.loop-made.made + c.step_on-made.result) c.args.debugger.now.machine.processor c.processor.result.now c.requires.rom
+    (c.processor.ensures ∙ ap (λ (m : MachineState). m.processor) c.machine.ensures ∙ ap (λ (d : DebuggerState). d.machine.processor) passed.run)
