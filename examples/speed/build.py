@@ -304,6 +304,7 @@ LYC_SUMS = 'org $48\n inc d\n reti\n' + low(set_to('lyc', 72) + set_to('stat', 0
 ASK_LY = 'again: ldh a, [ly]\n cp a, 144\n jr nz, again\nsame: ldh a, [ly]\n cp a, 144\n jr z, same\n inc b\n jr again\n'
 ASK_STAT = 'again: ldh a, [stat]\n and a, 3\n cp a, 1\n jr nz, again\nsame: ldh a, [stat]\n and a, 3\n cp a, 1\n jr z, same\n inc b\n jr again\n'
 ASK_DIV = 'again: ldh a, [div]\n and a, 128\n jr z, again\nsame: ldh a, [div]\n and a, 128\n jr nz, same\n inc b\n jr again\n'
+ASK_TIMA = set_to('tac', 4) + 'again: ldh a, [tima]\n and a, 128\n jr z, again\nsame: ldh a, [tima]\n and a, 128\n jr nz, same\n inc b\n jr again\n'
 ASK_JOYPAD = set_to('joypad', 16) + 'again: ldh a, [joypad]\n and a, 15\n cp a, 15\n jr z, again\n inc b\n jr again\n'
 ASK_REQUEST = set_to('request', 0) + 'again: ldh a, [request]\n and a, 1\n jr z, again\n' + set_to('request', 0) + 'inc b\n jr again\n'
 COUNT_BYTE = 'again: ld b, 0\ndown: dec b\n jr nz, down\n inc c\n jr again\n'
@@ -373,6 +374,7 @@ ROMS = {
     'ask_ly': ('waits for VBlank by reading LY', low(ASK_LY)),
     'ask_stat': ('by reading the mode in STAT', low(ASK_STAT)),
     'ask_div': ('waits for DIV', low(ASK_DIV)),
+    'ask_tima': ('waits for TIMA', low(ASK_TIMA)),
     'ask_joypad': ('waits for a button by reading P1', low(ASK_JOYPAD)),
     'ask_request': ('waits for VBlank by reading IF', low(ASK_REQUEST)),
     'count_byte': ('counts B down', low(COUNT_BYTE)),

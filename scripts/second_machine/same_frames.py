@@ -1,7 +1,7 @@
 """Compares frames that pass laps at once, as `stream` makes them, with frames of which each lap is made, as `debug` makes them: the digest of the machine's
 snapshot after each block of frames, on the ROMs of examples/speed, the feature ROMs and random programs that wait, of which each run makes others.
 
-usage: same_frames.py GBKEEP FRAMES [SEED]    at the top of the repository: so many frames in all, and prints how many ROMs and frames agreed"""
+usage: python3 -m scripts.second_machine.same_frames GBKEEP FRAMES [SEED]    at the top of the repository: so many frames in all, and prints how many ROMs and frames agreed"""
 import hashlib
 import random
 import subprocess
