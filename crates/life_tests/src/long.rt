@@ -8,7 +8,7 @@ use snapshot::decode;
 use std::alloc::Global;
 use std::process::Abort;
 use std::test::Fail;
-use whole_lives::{Play, Round, RoundEnd};
+use whole_lives::{Lived, Play, Round, RoundEnd};
 
 /// Marsaglia's xorshift with the shifts 13, 7 and 17.
 fn next(state: &mut u64) -> u64 {
@@ -256,33 +256,57 @@ fn give_survivors(
     had
 }
 
-/// Three states of the cartridge, and bytes that are none: the first half of a state, and one whose first byte is wrong.
-fn some_states(
+fn add(rt: &impl Abort, alloc: Global, states: &mut Vec<Vec<u8>>, machine: &Machine) {
+    states
+        .push(snapshot_of(alloc, machine).or_stop(rt))
+        .or_stop(rt);
+}
+
+fn play_on(machine: &mut Machine, i: u8) {
+    apply(machine, Input::Frame(i));
+    let seconds = u32::from(i).saturating_mul(5_000);
+    apply(machine, Input::Seconds(seconds));
+}
+
+/// The first half of a state.
+fn short_state(rt: &impl Abort, alloc: Global, machine: &Machine) -> Vec<u8> {
+    let mut short = snapshot_of(alloc, machine).or_stop(rt);
+    short.truncate(15_000);
+    short
+}
+
+fn is_no_state(alloc: Global, cartridge: &Cartridge, bytes: &[u8]) -> bool {
+    decode(alloc, bytes, cartridge).is_err()
+}
+
+/// A state with another kind of controller.
+fn wrong_state(
     rt: &impl Abort,
     alloc: Global,
     cartridge: &Cartridge,
-) -> Result<Vec<Vec<u8>>, Fail> {
-    let mut states = Vec::new(alloc);
-    let mut machine = Machine::power_on(alloc, cartridge)?;
-    for i in 0..3u8 {
-        apply(&mut machine, Input::Frame(i));
-        apply(
-            &mut machine,
-            Input::Seconds(u32::from(i).saturating_mul(5_000)),
-        );
-        states.push(snapshot_of(alloc, &machine)?)?;
-    }
-    let mut short = snapshot_of(alloc, &machine)?;
-    short.truncate(15_000);
-    states.push(short)?;
-    let mut wrong = snapshot_of(alloc, &machine)?;
-    // the kind of the controller is another
+    machine: &Machine,
+) -> Vec<u8> {
+    let mut wrong = snapshot_of(alloc, machine).or_stop(rt);
     if let Some(kind) = wrong.get_mut(51) {
         *kind = 5;
     }
-    holds!(rt; decode(alloc, &wrong, cartridge).is_err());
-    states.push(wrong)?;
-    Ok(states)
+    holds!(rt; is_no_state(alloc, cartridge, &wrong));
+    wrong
+}
+
+/// Three states of the cartridge, and bytes that are none.
+fn some_states(rt: &impl Abort, alloc: Global, cartridge: &Cartridge) -> Vec<Vec<u8>> {
+    let mut states = Vec::new(alloc);
+    let mut machine = Machine::power_on(alloc, cartridge).or_stop(rt);
+    for i in 0..3u8 {
+        play_on(&mut machine, i);
+        add(rt, alloc, &mut states, &machine);
+    }
+    let short = short_state(rt, alloc, &machine);
+    states.push(short).or_stop(rt);
+    let wrong = wrong_state(rt, alloc, cartridge, &machine);
+    states.push(wrong).or_stop(rt);
+    states
 }
 
 fn three_hundred(alloc: Global, states: &[Vec<u8>]) -> Result<Vec<Round>, Fail> {
@@ -308,31 +332,35 @@ fn are_same(rt: &impl Abort, alloc: Global, one: &Machine, other: &Machine) {
     holds!(rt; found == snapshot_of(alloc, other).or_stop(rt));
 }
 
-#[test]
-fn three_hundred_rounds(rt: HostRuntime) {
-    let alloc = rt.alloc();
-    let cartridge = cartridge(alloc).or_stop(&rt);
-    let states = some_states(&rt, alloc, &cartridge).or_stop(&rt);
-    let rounds = three_hundred(alloc, &states).or_stop(&rt);
-    let device = version_one(&rt, alloc, &cartridge);
-    let lived = lived(&rt, alloc, device, &cartridge, &rounds);
-    same!(rt; lived.rounds.len(), 300);
+/// The machine and the count of a life are those of the inputs that survived its rounds.
+fn is_what_survived(
+    rt: &impl Abort,
+    alloc: Global,
+    cartridge: &Cartridge,
+    rounds: &[Round],
+    lived: &Lived,
+) -> Had {
     let mut past = Past {
-        machine: first_machine(&rt, alloc, &cartridge),
+        machine: first_machine(rt, alloc, cartridge),
         given: 0,
         left: 0,
     };
     let last = lived.session.counts().all;
-    let had = give_survivors(
-        &rt,
-        alloc,
-        &cartridge,
-        &mut past,
-        7,
-        &rounds,
-        &lived.rounds,
-        last,
-    );
-    are_same(&rt, alloc, lived.session.machine(), &past.machine);
+    let ends = &lived.rounds;
+    let had = give_survivors(rt, alloc, cartridge, &mut past, 7, rounds, ends, last);
+    are_same(rt, alloc, lived.session.machine(), &past.machine);
+    had
+}
+
+#[test]
+fn three_hundred_rounds(rt: HostRuntime) {
+    let alloc = rt.alloc();
+    let cartridge = cartridge(alloc).or_stop(&rt);
+    let states = some_states(&rt, alloc, &cartridge);
+    let rounds = three_hundred(alloc, &states).or_stop(&rt);
+    let device = version_one(&rt, alloc, &cartridge);
+    let lived = lived(&rt, alloc, device, &cartridge, &rounds);
+    same!(rt; lived.rounds.len(), 300);
+    let had = is_what_survived(&rt, alloc, &cartridge, &rounds, &lived);
     holds!(rt; had.missed > 20 && had.lost > 50 && had.replaced > 3, "{had:?}");
 }

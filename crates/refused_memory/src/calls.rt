@@ -9,7 +9,7 @@ use playing::play;
 use script::{Move, ScriptError, read_script};
 use sector_device::{MemoryDevice, SectorDevice};
 use sector_log::{LogFault, open_log};
-use session::{SessionError, new_game, resume};
+use session::{Refused, Session, SessionError, new_game, resume};
 use snapshot::{SnapError, decode, encode, length};
 use std::alloc::Global;
 
@@ -71,101 +71,154 @@ fn snapshot_of(alloc: Global, machine: &Machine) -> Option<Vec<u8>> {
     Some(bytes)
 }
 
-/// A device with the game on it, all of it synced.
-fn game(alloc: Global, cartridge: &Cartridge) -> Option<MemoryDevice> {
-    let device = MemoryDevice::new(alloc, SECTORS, 1000).ok()?;
-    let mut session = new_game(alloc, device, cartridge).ok()?;
+fn play_on(session: &mut Session<MemoryDevice>) -> Option<()> {
     for i in 0..INPUTS {
         session.input(Input::Seconds(i)).ok()?;
     }
     session.save().ok()?;
+    Some(())
+}
+
+/// The device behind the game's inputs, all of it synced.
+fn settled(alloc: Global, session: Session<MemoryDevice>) -> Option<MemoryDevice> {
+    let mut session = session;
+    play_on(&mut session)?;
     session.into_device().image(alloc, &[]).ok()
+}
+
+/// A device with the game on it.
+fn game(alloc: Global, cartridge: &Cartridge) -> Option<MemoryDevice> {
+    let device = MemoryDevice::new(alloc, SECTORS, 1000).ok()?;
+    settled(alloc, new_game(alloc, device, cartridge).ok()?)
+}
+
+/// The snapshot of a session's machine, if it has the game's inputs.
+fn snapshot_in(alloc: Global, session: &Session<MemoryDevice>) -> Option<Vec<u8>> {
+    if session.counts().all == u64::from(INPUTS) {
+        snapshot_of(alloc, session.machine())
+    } else {
+        None
+    }
+}
+
+/// The snapshot of the machine that a resume finds, if it finds the game's inputs.
+fn found(alloc: Global, device: MemoryDevice, cartridge: &Cartridge) -> Option<Vec<u8>> {
+    match resume(alloc, device, cartridge) {
+        Ok(session) => snapshot_in(alloc, &session),
+        Err(_) => None,
+    }
+}
+
+/// The snapshot of the machine after the game's inputs.
+fn wanted(alloc: Global, cartridge: &Cartridge) -> Option<Vec<u8>> {
+    snapshot_of(alloc, &machine(alloc, cartridge)?)
 }
 
 /// Whether a resume finds the game's inputs and its machine.
 fn holds_the_game(alloc: Global, device: MemoryDevice, cartridge: &Cartridge) -> bool {
-    let Ok(session) = resume(alloc, device, cartridge) else {
-        return false;
-    };
-    let Some(machine) = machine(alloc, cartridge) else {
-        return false;
-    };
-    let Some(want) = snapshot_of(alloc, &machine) else {
-        return false;
-    };
-    let Some(found) = snapshot_of(alloc, session.machine()) else {
-        return false;
-    };
-    session.counts().all == u64::from(INPUTS) && found.as_slice() == want.as_slice()
+    match (found(alloc, device, cartridge), wanted(alloc, cartridge)) {
+        (Some(found), Some(wanted)) => found.as_slice() == wanted.as_slice(),
+        _ => false,
+    }
+}
+
+fn powered_on(alloc: Global, cartridge: &Cartridge) -> Answer {
+    match Machine::power_on(alloc, cartridge) {
+        Ok(_) => Answer::Done,
+        Err(_) => Answer::Refused,
+    }
 }
 
 pub(crate) fn power_on(alloc: Global) -> Option<Answer> {
-    let cartridge = cartridge(alloc)?;
-    Some(match Machine::power_on(alloc, &cartridge) {
+    Some(powered_on(alloc, &cartridge(alloc)?))
+}
+
+fn decoded_from(alloc: Global, bytes: &[u8], cartridge: &Cartridge) -> Answer {
+    match decode(alloc, bytes, cartridge) {
         Ok(_) => Answer::Done,
-        Err(_) => Answer::Refused,
-    })
+        Err(why) => refused(why == SnapError::Memory),
+    }
 }
 
 pub(crate) fn decoded(alloc: Global) -> Option<Answer> {
     let cartridge = cartridge(alloc)?;
-    let bytes = snapshot_of(alloc, &machine(alloc, &cartridge)?)?;
-    Some(match decode(alloc, &bytes, &cartridge) {
+    let bytes = wanted(alloc, &cartridge)?;
+    Some(decoded_from(alloc, &bytes, &cartridge))
+}
+
+/// Whether a machine has this snapshot.
+fn has_snapshot(alloc: Global, machine: &Machine, bytes: &[u8]) -> Answer {
+    match snapshot_of(alloc, machine) {
+        Some(found) => refused(found.as_slice() == bytes),
+        None => Answer::Wrong,
+    }
+}
+
+fn debugger_of(alloc: Global, machine: Machine, bytes: &[u8]) -> Answer {
+    match Debugger::new(alloc, machine, 100) {
         Ok(_) => Answer::Done,
-        Err(why) => refused(why == SnapError::Memory),
-    })
+        Err(machine) => has_snapshot(alloc, &machine, bytes),
+    }
 }
 
 pub(crate) fn debugger(alloc: Global) -> Option<Answer> {
     let cartridge = cartridge(alloc)?;
-    let machine = machine(alloc, &cartridge)?;
-    let before = snapshot_of(alloc, &machine)?;
-    Some(match Debugger::new(alloc, machine, 100) {
-        Ok(_) => Answer::Done,
-        Err(machine) => match snapshot_of(alloc, &machine) {
-            Some(after) => refused(before.as_slice() == after.as_slice()),
-            None => Answer::Wrong,
-        },
-    })
+    let bytes = wanted(alloc, &cartridge)?;
+    Some(debugger_of(alloc, machine(alloc, &cartridge)?, &bytes))
 }
 
-pub(crate) fn opened(alloc: Global) -> Option<Answer> {
-    let cartridge = cartridge(alloc)?;
-    let device = game(alloc, &cartridge)?;
-    Some(match open_log(alloc, device, 40_000) {
+fn opened_on(alloc: Global, device: MemoryDevice, cartridge: &Cartridge) -> Answer {
+    match open_log(alloc, device, 40_000) {
         Ok(_) => Answer::Done,
         Err(left) => refused(
             left.why == LogFault::Memory
                 && left.device.calls() == 0
-                && holds_the_game(alloc, left.device, &cartridge),
+                && holds_the_game(alloc, left.device, cartridge),
         ),
-    })
+    }
+}
+
+pub(crate) fn opened(alloc: Global) -> Option<Answer> {
+    let cartridge = cartridge(alloc)?;
+    Some(opened_on(alloc, game(alloc, &cartridge)?, &cartridge))
+}
+
+/// The game stands on the device of a call that memory refused after so many calls at most.
+fn left_the_game(
+    alloc: Global,
+    left: Refused<MemoryDevice>,
+    most: usize,
+    cartridge: &Cartridge,
+) -> Answer {
+    refused(
+        left.why == SessionError::Memory
+            && left.device.calls() <= most
+            && holds_the_game(alloc, left.device, cartridge),
+    )
+}
+
+fn begun_on(alloc: Global, device: MemoryDevice, cartridge: &Cartridge) -> Answer {
+    match new_game(alloc, device, cartridge) {
+        Ok(_) => Answer::Done,
+        Err(left) => left_the_game(alloc, left, 0, cartridge),
+    }
 }
 
 pub(crate) fn begun(alloc: Global) -> Option<Answer> {
     let cartridge = cartridge(alloc)?;
-    let device = game(alloc, &cartridge)?;
-    Some(match new_game(alloc, device, &cartridge) {
+    Some(begun_on(alloc, game(alloc, &cartridge)?, &cartridge))
+}
+
+fn resumed_on(alloc: Global, device: MemoryDevice, cartridge: &Cartridge) -> Answer {
+    match resume(alloc, device, cartridge) {
         Ok(_) => Answer::Done,
-        Err(left) => refused(
-            left.why == SessionError::Memory
-                && left.device.calls() == 0
-                && holds_the_game(alloc, left.device, &cartridge),
-        ),
-    })
+        Err(left) => left_the_game(alloc, left, 1, cartridge),
+    }
 }
 
 pub(crate) fn resumed(alloc: Global) -> Option<Answer> {
     let cartridge = cartridge(alloc)?;
-    let device = game(alloc, &cartridge)?;
-    Some(match resume(alloc, device, &cartridge) {
-        Ok(_) => Answer::Done,
-        Err(left) => refused(
-            left.why == SessionError::Memory
-                && left.device.calls() <= 1
-                && holds_the_game(alloc, left.device, &cartridge),
-        ),
-    })
+    Some(resumed_on(alloc, game(alloc, &cartridge)?, &cartridge))
 }
 
 pub(crate) fn script(alloc: Global) -> Option<Answer> {

@@ -1,11 +1,11 @@
 //! Resumes cut at any device call.
 use crate::asserting::{OrStop, same};
 use crate::common::{
-    begun, cartridge, clock_snapshot, fresh, game, give_input, has_bytes, image, into_device,
-    left_by_resume, put, resumed, resumes_at, settled, snapshot_of,
+    apply, cartridge, clock_snapshot, game, has_bytes, image, into_device, left_by_resume, put,
+    resumed, resumes_at, settled, snapshot_of,
 };
 use cartridge::Cartridge;
-use machine::Input;
+use machine::{Input, Machine};
 use sector_device::MemoryDevice;
 use session::SessionError;
 use std::alloc::Global;
@@ -68,25 +68,30 @@ fn version_one(rt: &impl Abort, alloc: Global, cartridge: &Cartridge) -> MemoryD
     settled(rt, alloc, device)
 }
 
+/// The snapshot of a machine after a frame with button 0 and an hour.
+fn behind_a_frame_and_an_hour(rt: &impl Abort, alloc: Global, cartridge: &Cartridge) -> Vec<u8> {
+    let mut machine = Machine::power_on(alloc, cartridge).or_stop(rt);
+    apply(&mut machine, Input::Frame(1));
+    apply(&mut machine, Input::Seconds(3600));
+    snapshot_of(alloc, &machine).or_stop(rt)
+}
+
+/// A device is taken up with 7 inputs, and then has a root of version 2, of the fourth generation.
+fn becomes_version_two(rt: &impl Abort, alloc: Global, old: MemoryDevice, cartridge: &Cartridge) {
+    let session = resumed(rt, alloc, old, cartridge);
+    same!(rt; session.counts().all, 7);
+    let mut device = into_device(session);
+    let root = b"GBKPROOT\x02\x00\x00\x00\x04\x00\x00\x00\x00\x00\x00\x00";
+    has_bytes(rt, &mut device, 0, 0, root);
+    has_bytes(rt, &mut device, 0, 52, b"\x07\x00\x00\x00\x00\x00\x00\x00");
+}
+
 #[test]
 fn version_one_is_taken_up(rt: HostRuntime) {
     let alloc = rt.alloc();
     let cartridge = cartridge(alloc).or_stop(&rt);
-    let mut session = begun(&rt, alloc, fresh(alloc, 188).or_stop(&rt), &cartridge);
-    give_input(&rt, &mut session, Input::Frame(1));
-    give_input(&rt, &mut session, Input::Seconds(3600));
-    let bytes = snapshot_of(alloc, session.machine()).or_stop(&rt);
+    let bytes = behind_a_frame_and_an_hour(&rt, alloc, &cartridge);
     let old = version_one(&rt, alloc, &cartridge);
-    let session = resumed(&rt, alloc, old.image(alloc, &[]).or_stop(&rt), &cartridge);
-    same!(rt; session.counts().all, 7);
-    let mut device = into_device(session);
-    has_bytes(
-        &rt,
-        &mut device,
-        0,
-        0,
-        b"GBKPROOT\x02\x00\x00\x00\x04\x00\x00\x00\x00\x00\x00\x00",
-    );
-    has_bytes(&rt, &mut device, 0, 52, b"\x07\x00\x00\x00\x00\x00\x00\x00");
+    becomes_version_two(&rt, alloc, old.image(alloc, &[]).or_stop(&rt), &cartridge);
     resume_cut_anywhere(&rt, alloc, &cartridge, &old, 7, &bytes);
 }

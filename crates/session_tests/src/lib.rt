@@ -17,5 +17,3 @@ mod plays;
 mod saves;
 #[cfg(test)]
 mod states;
-#[cfg(test)]
-mod streams;

@@ -1,12 +1,14 @@
 //! Whole plays of scripts, and what they report. One of them is cut before each of its device calls.
 use crate::asserting::{OrStop, holds, same};
-use crate::common::{apply, cartridge, fresh, game, has_bytes, resumed, seconds, snapshot_of};
+use crate::common::{
+    apply, cartridge, counts, fresh, game, has_bytes, resumed, seconds, snapshot_of,
+};
 use cartridge::Cartridge;
 use machine::{Input, Machine};
 use playing::play;
 use script::{Move, read_script};
 use sector_device::MemoryDevice;
-use session::SessionError;
+use session::{Session, SessionError};
 use std::alloc::Global;
 use std::process::Abort;
 use std::test::Fail;
@@ -73,31 +75,45 @@ fn give_frames(past: &mut Past, alloc: Global, buttons: u8, times: u32) -> Resul
     Ok(())
 }
 
+fn give_move(past: &mut Past, alloc: Global, one: Move) -> Result<(), Fail> {
+    match one {
+        Move::Frames { buttons, times } => give_frames(past, alloc, buttons, times),
+        Move::Seconds(count) => give(past, alloc, Input::Seconds(count)),
+        // no script of these tests has one
+        Move::Power | Move::Save => Ok(()),
+    }
+}
+
+fn give_all(past: &mut Past, alloc: Global, before: u32, moves: &[Move]) -> Result<(), Fail> {
+    for i in 0..before {
+        give(past, alloc, seconds(i))?;
+    }
+    for one in moves {
+        give_move(past, alloc, *one)?;
+    }
+    Ok(())
+}
+
+/// A machine at power-on, and its snapshot.
+fn at_power_on(rt: &impl Abort, alloc: Global, cartridge: &Cartridge) -> Past {
+    let machine = Machine::power_on(alloc, cartridge).or_stop(rt);
+    let first = snapshot_of(alloc, &machine).or_stop(rt);
+    let mut snapshots = Vec::new(alloc);
+    snapshots.push(first).or_stop(rt);
+    Past { machine, snapshots }
+}
+
 /// The snapshots of a machine that is given so many seconds, as the game before, and then the inputs of the moves.
 fn snapshots_of(
+    rt: &impl Abort,
     alloc: Global,
     cartridge: &Cartridge,
     before: u32,
     moves: &[Move],
-) -> Result<Vec<Vec<u8>>, Fail> {
-    let machine = Machine::power_on(alloc, cartridge)?;
-    let first = snapshot_of(alloc, &machine)?;
-    let mut past = Past {
-        machine,
-        snapshots: vec![in alloc; first]?,
-    };
-    for i in 0..before {
-        give(&mut past, alloc, seconds(i))?;
-    }
-    for one in moves {
-        match *one {
-            Move::Frames { buttons, times } => give_frames(&mut past, alloc, buttons, times)?,
-            Move::Seconds(count) => give(&mut past, alloc, Input::Seconds(count))?,
-            // no script of these tests has one
-            Move::Power | Move::Save => {}
-        }
-    }
-    Ok(past.snapshots)
+) -> Vec<Vec<u8>> {
+    let mut past = at_power_on(rt, alloc, cartridge);
+    give_all(&mut past, alloc, before, moves).or_stop(rt);
+    past.snapshots
 }
 
 /// What a play answers and leaves.
@@ -167,13 +183,34 @@ struct Known {
 
 fn make_known(rt: &impl Abort, alloc: Global, cartridge: &Cartridge) -> Known {
     let moves = moves_of(rt, alloc, &long_script(alloc).or_stop(rt));
-    let snapshots = snapshots_of(alloc, cartridge, 5, &moves).or_stop(rt);
+    let snapshots = snapshots_of(rt, alloc, cartridge, 5, &moves);
     Known {
         moves,
         snapshots,
         counts: counts_in(alloc, REPORT).or_stop(rt),
         choices: choices(alloc).or_stop(rt),
     }
+}
+
+/// The count of a session that has from `least` to `most` inputs, all of them saved.
+fn counted_between(rt: &impl Abort, session: &Session<MemoryDevice>, least: u64, most: u64) -> u64 {
+    let [all, _, pending] = counts(session);
+    holds!(rt; least <= all && all <= most);
+    same!(rt; pending, 0);
+    all
+}
+
+fn has_snapshot(
+    rt: &impl Abort,
+    alloc: Global,
+    session: &Session<MemoryDevice>,
+    want: Option<&Vec<u8>>,
+) {
+    let Some(want) = want else {
+        panic!(rt; "more inputs than there are");
+    };
+    let found = snapshot_of(alloc, session.machine()).or_stop(rt);
+    holds!(rt; found.as_slice() == want.as_slice());
 }
 
 /// A resume finds a count from `least` to `most`, which it answers, and the machine of so many inputs.
@@ -187,15 +224,9 @@ fn resumes_between(
     snapshots: &[Vec<u8>],
 ) -> u64 {
     let session = resumed(rt, alloc, device, cartridge);
-    let counts = session.counts();
-    holds!(rt; least <= counts.all && counts.all <= most);
-    same!(rt; counts.pending, 0);
-    let Some(want) = snapshots.get(counts.all as usize) else {
-        panic!(rt; "more inputs than there are");
-    };
-    let found = snapshot_of(alloc, session.machine()).or_stop(rt);
-    holds!(rt; found.as_slice() == want.as_slice());
-    counts.all
+    let all = counted_between(rt, &session, least, most);
+    has_snapshot(rt, alloc, &session, snapshots.get(all as usize));
+    all
 }
 
 /// What was seen of plays that were cut.

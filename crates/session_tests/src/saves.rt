@@ -24,25 +24,42 @@ fn cut(rt: &impl Abort, alloc: Global, cartridge: &Cartridge) -> Session<MemoryD
     session
 }
 
+/// An input and a save are refused, make no call, and leave the counts.
+fn is_broken(rt: &impl Abort, session: &mut Session<MemoryDevice>) {
+    let made = calls(session);
+    same!(rt; answer(session, Input::Frame(0)), Some(SessionError::Broken));
+    same!(rt; refused_save(rt, session), SessionError::Broken);
+    same!(rt; calls(session), made);
+    same!(rt; counts(session), [120, 40, 80]);
+}
+
+fn has_snapshot(rt: &impl Abort, alloc: Global, session: &Session<MemoryDevice>, bytes: &[u8]) {
+    holds!(rt; snapshot_of(alloc, session.machine()).or_stop(rt).as_slice() == bytes);
+}
+
 #[test]
 fn a_failed_save_breaks_the_session(rt: HostRuntime) {
     let alloc = rt.alloc();
     let cartridge = cartridge(alloc).or_stop(&rt);
     let mut session = cut(&rt, alloc, &cartridge);
     same!(rt; counts(&session), [120, 40, 80]);
-    let made = calls(&session);
-    same!(rt;
-        answer(&mut session, Input::Frame(0)),
-        Some(SessionError::Broken)
-    );
-    same!(rt; refused_save(&rt, &mut session), SessionError::Broken);
-    // Neither made a call, and both left the machine and the counts.
-    same!(rt; calls(&session), made);
-    same!(rt; counts(&session), [120, 40, 80]);
+    is_broken(&rt, &mut session);
     let bytes = frames_snapshot(alloc, &cartridge, 120).or_stop(&rt);
-    holds!(rt; snapshot_of(alloc, session.machine()).or_stop(&rt).as_slice() == bytes.as_slice());
+    has_snapshot(&rt, alloc, &session, &bytes);
     // The device goes on: its reads give all that was written.
     resumes_at(&rt, alloc, into_device(session), &cartridge, 120, &bytes);
+}
+
+/// One input more is refused, and changes nothing; behind a save it is taken.
+fn saves_first(rt: &impl Abort, alloc: Global, session: &mut Session<MemoryDevice>) {
+    let before = snapshot_of(alloc, session.machine()).or_stop(rt);
+    same!(rt; answer(session, Input::Frame(1)), Some(SessionError::SaveFirst));
+    same!(rt; counts(session), [3200, 0, 3200]);
+    has_snapshot(rt, alloc, session, &before);
+    save(rt, session, 3200);
+    give_input(rt, session, Input::Frame(1));
+    same!(rt; counts(session), [3201, 3200, 1]);
+    save(rt, session, 3201);
 }
 
 #[test]
@@ -51,17 +68,7 @@ fn save_first_at_3200(rt: HostRuntime) {
     let cartridge = cartridge(alloc).or_stop(&rt);
     let mut session = begun(&rt, alloc, fresh(alloc, 188).or_stop(&rt), &cartridge);
     give(&rt, &mut session, 0, 3200);
-    let before = snapshot_of(alloc, session.machine()).or_stop(&rt);
-    same!(rt;
-        answer(&mut session, Input::Frame(1)),
-        Some(SessionError::SaveFirst)
-    );
-    same!(rt; counts(&session), [3200, 0, 3200]);
-    holds!(rt; snapshot_of(alloc, session.machine()).or_stop(&rt).as_slice() == before.as_slice());
-    save(&rt, &mut session, 3200);
-    give_input(&rt, &mut session, Input::Frame(1));
-    same!(rt; counts(&session), [3201, 3200, 1]);
-    save(&rt, &mut session, 3201);
+    saves_first(&rt, alloc, &mut session);
     let bytes = snapshot_of(alloc, session.machine()).or_stop(&rt);
     resumes_at(&rt, alloc, into_device(session), &cartridge, 3201, &bytes);
 }

@@ -1,9 +1,10 @@
 //! Devices in memory and in files.
 use crate::asserting::{OrStop, holds, same};
 use sector_device::{DeviceFault, FileDevice, MemoryDevice, SectorDevice};
-use std::fs::{self, OpenOptions};
+use std::fs::{self, File, OpenOptions};
 use std::path::Path;
 use std::process::Abort;
+use std::rt::Files;
 
 /// The byte of a sector of which all bytes are the same.
 fn byte_at<D: SectorDevice>(rt: &impl Abort, device: &mut D, at: u64) -> Result<u8, DeviceFault> {
@@ -35,14 +36,34 @@ fn put<D: SectorDevice>(
     device.write(at, &[byte; 512])
 }
 
+/// Three sectors are of these bytes.
+fn has<D: SectorDevice>(rt: &impl Abort, device: &mut D, want: [u8; 3]) {
+    same!(rt; three(rt, device).or_stop(rt), want);
+}
+
+/// Writes a sector of one byte, which has to succeed.
+fn write<D: SectorDevice>(rt: &impl Abort, device: &mut D, at: u64, byte: u8) {
+    put(rt, device, at, byte).or_stop(rt);
+}
+
+fn sync<D: SectorDevice>(rt: &impl Abort, device: &mut D) {
+    device.sync().or_stop(rt);
+}
+
+/// A write and a sync fail.
+fn fails<D: SectorDevice>(rt: &impl Abort, device: &mut D, at: u64) {
+    same!(rt; put(rt, device, at, 2), Err(DeviceFault::Device));
+    same!(rt; device.sync(), Err(DeviceFault::Device));
+}
+
 #[test]
 fn images_keep_the_chosen_writes(rt: HostRuntime) {
     let mut device = MemoryDevice::new(rt.alloc(), 3, 4).or_stop(&rt);
-    same!(rt; three(&rt, &mut device).or_stop(&rt), [0, 0, 0]);
-    put(&rt, &mut device, 0, 1).or_stop(&rt);
-    device.sync().or_stop(&rt);
-    put(&rt, &mut device, 1, 2).or_stop(&rt);
-    put(&rt, &mut device, 2, 3).or_stop(&rt);
+    has(&rt, &mut device, [0, 0, 0]);
+    write(&rt, &mut device, 0, 1);
+    sync(&rt, &mut device);
+    write(&rt, &mut device, 1, 2);
+    write(&rt, &mut device, 2, 3);
     same!(rt; device.calls(), 4);
     for (kept, want) in [
         ([true].as_slice(), [1, 2, 0]),
@@ -51,104 +72,107 @@ fn images_keep_the_chosen_writes(rt: HostRuntime) {
         ([true, true].as_slice(), [1, 2, 3]),
     ] {
         let mut image = device.image(rt.alloc(), kept).or_stop(&rt);
-        same!(rt; three(&rt, &mut image).or_stop(&rt), want);
+        has(&rt, &mut image, want);
         same!(rt; image.calls(), 0);
         holds!(rt; !image.blown());
     }
-    same!(rt; three(&rt, &mut device).or_stop(&rt), [1, 2, 3]);
+    has(&rt, &mut device, [1, 2, 3]);
 }
 
 #[test]
 fn a_full_record_fails_the_call(rt: HostRuntime) {
     let mut device = MemoryDevice::new(rt.alloc(), 3, 2).or_stop(&rt);
-    put(&rt, &mut device, 0, 1).or_stop(&rt);
-    device.sync().or_stop(&rt);
+    write(&rt, &mut device, 0, 1);
+    sync(&rt, &mut device);
     same!(rt; device.calls(), 2);
-    same!(rt; three(&rt, &mut device).or_stop(&rt), [1, 0, 0]);
-    same!(rt; put(&rt, &mut device, 0, 2), Err(DeviceFault::Device));
-    same!(rt; device.sync(), Err(DeviceFault::Device));
+    fails(&rt, &mut device, 0);
     same!(rt; device.calls(), 2);
-    same!(rt; three(&rt, &mut device).or_stop(&rt), [1, 0, 0]);
+    has(&rt, &mut device, [1, 0, 0]);
 }
 
 #[test]
 fn a_fuse_fails_every_later_call(rt: HostRuntime) {
     let mut device = MemoryDevice::new(rt.alloc(), 3, 9).or_stop(&rt);
     device.fuse(2);
-    put(&rt, &mut device, 0, 1).or_stop(&rt);
-    device.sync().or_stop(&rt);
+    write(&rt, &mut device, 0, 1);
+    sync(&rt, &mut device);
     holds!(rt; !device.blown());
-    same!(rt; put(&rt, &mut device, 1, 2), Err(DeviceFault::Device));
+    fails(&rt, &mut device, 1);
     holds!(rt; device.blown());
-    same!(rt; device.sync(), Err(DeviceFault::Device));
     same!(rt; device.calls(), 4);
+    // the write that failed may have reached the medium
     let mut image = device.image(rt.alloc(), &[true]).or_stop(&rt);
-    same!(rt; three(&rt, &mut image).or_stop(&rt), [1, 2, 0]);
+    has(&rt, &mut image, [1, 2, 0]);
     device.fuse(9);
+    has(&rt, &mut device, [1, 0, 0]);
+}
+
+/// The second of three calls fails, and its write is kept or not.
+fn second_call_fails(rt: &impl Abort, device: &mut MemoryDevice, kept: bool, want: [u8; 3]) {
+    device.fail_at(2, kept);
+    sync(rt, device);
+    same!(rt; put(rt, device, 1, 2), Err(DeviceFault::Device));
+    has(rt, device, want);
     holds!(rt; !device.blown());
-    same!(rt; three(&rt, &mut device).or_stop(&rt), [1, 0, 0]);
+    same!(rt; device.calls(), 2);
 }
 
 #[test]
 fn one_call_fails(rt: HostRuntime) {
     for (kept, want) in [(false, [0, 0, 0]), (true, [0, 2, 0])] {
         let mut device = MemoryDevice::new(rt.alloc(), 3, 9).or_stop(&rt);
-        device.fail_at(2, kept);
-        device.sync().or_stop(&rt);
-        same!(rt; put(&rt, &mut device, 1, 2), Err(DeviceFault::Device));
-        same!(rt; three(&rt, &mut device).or_stop(&rt), want);
-        holds!(rt; !device.blown());
-        same!(rt; device.calls(), 2);
+        second_call_fails(&rt, &mut device, kept, want);
     }
+}
+
+#[test]
+fn a_call_behind_a_fuse_is_not_kept(rt: HostRuntime) {
     let mut device = MemoryDevice::new(rt.alloc(), 3, 9).or_stop(&rt);
     device.fuse(0);
     device.fail_at(1, true);
     same!(rt; put(&rt, &mut device, 1, 2), Err(DeviceFault::Device));
     device.fuse(9);
-    same!(rt; three(&rt, &mut device).or_stop(&rt), [0, 0, 0]);
+    has(&rt, &mut device, [0, 0, 0]);
+}
+
+/// A file that stands is not made anew, and keeps its length.
+fn is_not_made_anew<R: Files<File = File> + AllocGlobal + Abort>(rt: &R, path: &str) {
+    same!(rt; FileDevice::create(rt, Path::new(path), 3).err(), Some(DeviceFault::Device));
+    same!(rt; fs::metadata(rt, path).or_stop(rt).len(), 1536);
 }
 
 #[test]
 fn a_file_keeps_sectors(rt: HostRuntime) {
     let path = "kept.save";
     let mut device = FileDevice::create(&rt, Path::new(path), 3).or_stop(&rt);
-    same!(rt; three(&rt, &mut device).or_stop(&rt), [0, 0, 0]);
-    put(&rt, &mut device, 1, 7).or_stop(&rt);
-    device.sync().or_stop(&rt);
-    same!(rt; three(&rt, &mut device).or_stop(&rt), [0, 7, 0]);
-    same!(rt; fs::metadata(&rt, path).or_stop(&rt).len(), 1536);
+    has(&rt, &mut device, [0, 0, 0]);
+    write(&rt, &mut device, 1, 7);
+    sync(&rt, &mut device);
+    has(&rt, &mut device, [0, 7, 0]);
     drop(device);
     let mut again = FileDevice::attach(&rt, Path::new(path)).or_stop(&rt);
-    same!(rt; three(&rt, &mut again).or_stop(&rt), [0, 7, 0]);
-    match FileDevice::create(&rt, Path::new(path), 3) {
-        Ok(_) => holds!(rt; false, "made where a file stands"),
-        Err(fault) => same!(rt; fault, DeviceFault::Device),
-    }
-    same!(rt; fs::metadata(&rt, path).or_stop(&rt).len(), 1536);
+    has(&rt, &mut again, [0, 7, 0]);
+    drop(again);
+    is_not_made_anew(&rt, path);
     fs::remove_file(&rt, path).or_stop(&rt);
-    match FileDevice::attach(&rt, Path::new(path)) {
-        Ok(_) => holds!(rt; false, "attached to nothing"),
-        Err(fault) => same!(rt; fault, DeviceFault::Device),
-    }
+    same!(rt; FileDevice::attach(&rt, Path::new(path)).err(), Some(DeviceFault::Device));
+}
+
+fn is_held<R: Files<File = File> + AllocGlobal + Abort>(rt: &R, path: &str) {
+    same!(rt; FileDevice::attach(rt, Path::new(path)).err(), Some(DeviceFault::Device));
 }
 
 #[test]
 fn a_file_that_another_device_holds_is_refused(rt: HostRuntime) {
     let path = "held.save";
     let mut device = FileDevice::create(&rt, Path::new(path), 3).or_stop(&rt);
-    same!(rt;
-        FileDevice::attach(&rt, Path::new(path)).err(),
-        Some(DeviceFault::Device)
-    );
-    put(&rt, &mut device, 1, 7).or_stop(&rt);
-    device.sync().or_stop(&rt);
+    is_held(&rt, path);
+    write(&rt, &mut device, 1, 7);
+    sync(&rt, &mut device);
     drop(device);
     let mut device = FileDevice::attach(&rt, Path::new(path)).or_stop(&rt);
-    same!(rt;
-        FileDevice::attach(&rt, Path::new(path)).err(),
-        Some(DeviceFault::Device)
-    );
-    same!(rt; three(&rt, &mut device).or_stop(&rt), [0, 7, 0]);
+    is_held(&rt, path);
+    has(&rt, &mut device, [0, 7, 0]);
     fs::remove_file(&rt, path).or_stop(&rt);
 }
 
@@ -219,20 +243,29 @@ fn a_length_that_is_too_great_leaves_no_file(rt: HostRuntime) {
     holds!(rt; fs::metadata(&rt, path).is_err());
 }
 
+fn cut_short<R: Files<File = File> + AllocGlobal + Abort>(rt: &R, path: &str) {
+    let other = OpenOptions::new().write(true).open(rt, path).or_stop(rt);
+    other.set_len(700).or_stop(rt);
+}
+
+/// A sector of this byte can be read; None: it can't.
+fn reads<D: SectorDevice>(rt: &impl Abort, device: &mut D, at: u64, want: Option<u8>) {
+    same!(rt; byte_at(rt, device, at).ok(), want);
+}
+
 #[test]
 fn a_changed_file_gives_a_fault(rt: HostRuntime) {
     let path = "changed.save";
     let mut device = FileDevice::create(&rt, Path::new(path), 3).or_stop(&rt);
-    same!(rt; three(&rt, &mut device).or_stop(&rt), [0, 0, 0]);
-    let other = OpenOptions::new().write(true).open(&rt, path).or_stop(&rt);
-    other.set_len(700).or_stop(&rt);
-    same!(rt; byte_at(&rt, &mut device, 0).or_stop(&rt), 0);
-    same!(rt; byte_at(&rt, &mut device, 1), Err(DeviceFault::Device));
-    same!(rt; byte_at(&rt, &mut device, 2), Err(DeviceFault::Device));
+    has(&rt, &mut device, [0, 0, 0]);
+    cut_short(&rt, path);
+    reads(&rt, &mut device, 0, Some(0));
+    reads(&rt, &mut device, 1, None);
+    reads(&rt, &mut device, 2, None);
     fs::write(&rt, path, [5u8; 1536].as_slice()).or_stop(&rt);
-    same!(rt; byte_at(&rt, &mut device, 0), Err(DeviceFault::Device));
-    put(&rt, &mut device, 0, 6).or_stop(&rt);
-    same!(rt; byte_at(&rt, &mut device, 0).or_stop(&rt), 6);
+    reads(&rt, &mut device, 0, None);
+    write(&rt, &mut device, 0, 6);
+    reads(&rt, &mut device, 0, Some(6));
     fs::remove_file(&rt, path).or_stop(&rt);
 }
 

@@ -416,20 +416,21 @@ fn a_replace_cut_anywhere_leaves_old_or_new(rt: HostRuntime) {
     }
 }
 
+/// A device on which a first generation is begun, and the power goes in the call behind `k` more.
+fn begin_cut_after(rt: &impl Abort, alloc: Global, k: u64) -> MemoryDevice {
+    let mut device = MemoryDevice::new(alloc, 70, 100).or_stop(rt);
+    device.fuse(k.saturating_add(3));
+    match begin(rt, opened(rt, alloc, device), 5, b"blob") {
+        Ok(store) => store.into_device(),
+        Err(refused) => refused.device,
+    }
+}
+
 #[test]
 fn a_begin_cut_anywhere_leaves_nothing_or_the_new(rt: HostRuntime) {
     for k in 0..37 {
+        let device = begin_cut_after(&rt, rt.alloc(), k);
         for keeps in [[false, false], [true, true], [true, false], [false, true]] {
-            let mut device = MemoryDevice::new(rt.alloc(), 70, 100).or_stop(&rt);
-            device.fuse(k + 3);
-            let opened = opened(&rt, rt.alloc(), device);
-            let device = match begin(&rt, opened, 5, b"blob") {
-                Ok(store) => store.into_device(),
-                Err(refused) => {
-                    same!(rt; refused.why, LogFault::Device);
-                    refused.device
-                }
-            };
             let left = image_after(&rt, rt.alloc(), &device, keeps);
             same!(rt; left.inputs, 0);
             holds!(rt; left.generation < 2);
@@ -582,23 +583,6 @@ fn generations_are_used_up(rt: HostRuntime) {
     same!(rt; opened.generation(), u64::MAX);
     // One sync was made, and nothing was written.
     same!(rt; refusal(&rt, opened, 5, b"blob"), (LogFault::GenerationsUsedUp, 7));
-}
-
-#[test]
-fn a_store_is_replaced(rt: HostRuntime) {
-    let mut store = begun(&rt, rt.alloc());
-    append(&rt, &mut store, &[frame(1), frame(1)]);
-    same!(rt;
-        store.replace(7, &[1; 2000]),
-        Err(LogFault::TooSmall { need: 74 })
-    );
-    same!(rt; store.replace(7, b"later"), Ok(()));
-    append(&rt, &mut store, &[seconds(1)]);
-    let opened = opened(&rt, rt.alloc(), store.into_device());
-    same!(rt; opened.generation(), 2);
-    has_content(&rt, &opened, 7, b"later");
-    same!(rt; opened.entries().len(), 1);
-    has_entry(&rt, &opened, 0, [1, 1, 0, 0, 0, 0]);
 }
 
 #[test]

@@ -95,6 +95,16 @@ fn keeps_the_last_instructions(rt: HostRuntime) -> Result<(), Fail> {
     Ok(())
 }
 
+/// So many steps are told by these lines.
+fn tells(rt: &impl Abort, alloc: Global, debugger: &mut Debugger, steps: u32, lines: &str) {
+    let mut out = Vec::new(alloc);
+    for _step in 0..steps {
+        let stepped = step(debugger);
+        assert_eq!(rt; write_stepped(&stepped, &mut out), Ok(()));
+    }
+    assert!(rt; out.as_slice() == lines.as_bytes());
+}
+
 #[test]
 fn tells_each_step(rt: HostRuntime) -> Result<(), Fail> {
     let cases: [(&[u8], usize, u32, &str, &[u16]); 4] = [
@@ -124,15 +134,24 @@ fn tells_each_step(rt: HostRuntime) -> Result<(), Fail> {
     ];
     for (program, size, steps, lines, addresses) in cases {
         let mut debugger = debugger(rt.alloc(), program, size)?;
-        let mut out = Vec::new(rt.alloc());
-        for _step in 0..steps {
-            let stepped = step(&mut debugger);
-            assert_eq!(rt; write_stepped(&stepped, &mut out), Ok(()));
-        }
-        assert!(rt; out.as_slice() == lines.as_bytes());
+        tells(&rt, rt.alloc(), &mut debugger, steps, lines);
         has_history(&rt, &debugger, addresses);
     }
     Ok(())
+}
+
+/// A run stops so, with PC there.
+fn stops(
+    rt: &impl Abort,
+    mut debugger: Debugger,
+    breaks: &[u16],
+    limit: u32,
+    stop: Stop,
+    pc: u16,
+) -> Machine {
+    assert_eq!(rt; run_until(&mut debugger, breaks, limit), stop);
+    assert_eq!(rt; debugger.machine().registers().pc, pc);
+    debugger.into_machine()
 }
 
 #[test]
@@ -151,31 +170,42 @@ fn stops_at_a_break(rt: HostRuntime) -> Result<(), Fail> {
         (&SUM, &[0x0100], 0, Stop::Limit, 0x0100),
     ];
     for (program, breaks, limit, stop, pc) in cases {
-        let mut debugger = debugger(rt.alloc(), program, 2)?;
-        assert_eq!(rt; run_until(&mut debugger, breaks, limit), stop);
-        assert_eq!(rt; debugger.machine().registers().pc, pc);
-        assert_eq!(rt; debugger.into_machine().registers().pc, pc);
+        let debugger = debugger(rt.alloc(), program, 2)?;
+        let machine = stops(&rt, debugger, breaks, limit, stop, pc);
+        assert_eq!(rt; machine.registers().pc, pc);
     }
     Ok(())
+}
+
+fn lists(rt: &impl Abort, alloc: Global, debugger: &Debugger) {
+    let mut out = Vec::new(alloc);
+    assert_eq!(rt; debugger.list(0x0100, 2, &mut out), Ok(()));
+    assert!(rt; out.as_slice() == b"0100 00     NOP\n0101 C35001 JP 0150\n".as_slice());
+}
+
+fn lists_into(rt: &impl Abort, debugger: &Debugger, room: &mut [u8; 20]) {
+    let mut full: &mut [u8] = room;
+    assert_eq!(rt; debugger.list(0x0100, 2, &mut full), Err(OutputFailed));
+}
+
+fn waits_into(rt: &impl Abort, room: &mut [u8; 3]) {
+    let wait = Stepped {
+        kind: StepKind::Wait,
+        cycles: 1,
+    };
+    let mut full: &mut [u8] = room;
+    assert_eq!(rt; write_stepped(&wait, &mut full), Err(OutputFailed));
 }
 
 #[test]
 fn lists_instructions(rt: HostRuntime) -> Result<(), Fail> {
     let debugger = debugger(rt.alloc(), &[0x00, 0xc3, 0x50, 0x01], 1)?;
-    let mut out = Vec::new(rt.alloc());
-    assert_eq!(rt; debugger.list(0x0100, 2, &mut out), Ok(()));
-    assert!(rt; out.as_slice() == b"0100 00     NOP\n0101 C35001 JP 0150\n".as_slice());
-    let mut buffer = [0; 20];
-    let mut full: &mut [u8] = &mut buffer;
-    assert_eq!(rt; debugger.list(0x0100, 2, &mut full), Err(OutputFailed));
-    assert!(rt; buffer == *b"0100 00     NOP\n0101");
-    let wait = Stepped {
-        kind: StepKind::Wait,
-        cycles: 1,
-    };
-    let mut buffer = [0; 3];
-    let mut full: &mut [u8] = &mut buffer;
-    assert_eq!(rt; write_stepped(&wait, &mut full), Err(OutputFailed));
-    assert!(rt; buffer == *b"wai");
+    lists(&rt, rt.alloc(), &debugger);
+    let mut room = [0; 20];
+    lists_into(&rt, &debugger, &mut room);
+    assert!(rt; room == *b"0100 00     NOP\n0101");
+    let mut room = [0; 3];
+    waits_into(&rt, &mut room);
+    assert!(rt; room == *b"wai");
     Ok(())
 }
