@@ -4,6 +4,7 @@ use Rattle.std.specs.List.{All}
 use Rattle.std.specs.Prelude.{slice_get}
 use Rattle.std.proofs.Math.Seq.{take-suc}
 use Rattle.std.proofs.lemmas.List.{length-take-le, take_all}
+use Rattle.std.proofs.lemmas.Option.{slice_get-get_or}
 use Rattle.machine.specs.Machine.{MachineState, after}
 use Rattle.machine.specs.Machine.{Input}
 use Rattle.sector_device.specs.DiskState.{DiskState}
@@ -16,10 +17,10 @@ use Rattle.session.specs.Stands.{Position, stands}
 use Rattle.session.specs.declared.error.SessionError.{SessionError}
 use Rattle.session.specs.declared.error.SessionError.TheVariants.{Memory, Device, NoSession, TooSmall, OtherCartridge, Damaged, GenerationsUsedUp, Broken, SaveFirst, CountFull, Output}
 use Rattle.session.proofs.StandsLaws.{after_append, after_none}
-use Rattle.whole_lives.proofs.RoundLaws.{stood_before, stands_here}
+use Rattle.whole_lives.proofs.RoundLaws.{no_memory_yet, stood_before, stands_here}
 use Rattle.whole_lives.specs.Lives.{inputs_of_round, IsRoundBy, IsRound, IsLife, HasLived, LeavesLife, LeavesSomeLife}
 use Rattle.whole_lives.specs.Laws.{survivors_of, survivors, IsTakenUpFrom, NeverFalls, NoLifeLosesWhatWasSaved}
-use Rattle.whole_lives.specs.Refusals.{IsFresh, IsLast, IsLifeStop, IsOutOfMemory}
+use Rattle.whole_lives.specs.Refusals.{IsFresh, IsLast, IsLifeStop, IsOutOfMemory, NoMemoryInRound, NoMemoryToResume}
 use Rattle.whole_lives.specs.Rounds.{LeavesRound, IsRoundRefusal}
 use Rattle.whole_lives.specs.declared.rounds.Round.{Round}
 use Rattle.whole_lives.specs.declared.rounds.RoundEnd.{RoundEnd}
@@ -123,16 +124,37 @@ life_untaken rom old now rounds left Output refusal not = refusal
 pub resume_not_full : (rom : List ℕ) (sectors : List (List ℕ)) (why : SessionError) → IsResumeCause rom (generation_in sectors) (content sectors) why → why ≡ CountFull → ⊥
 resume_not_full rom sectors why cause is = subst (λ (w : SessionError). IsResumeCause rom (generation_in sectors) (content sectors) w) is cause
 
--- what was recorded before these rounds, or nothing
-recorded_at : (rounds : List Round) (first last : MemoryState) → IsLast rounds first last → (last.recorded ≡ first.recorded) ⊎ (last.recorded ≡ [])
-recorded_at [] first last is = inl (ap (λ (m : MemoryState). m.recorded) is)
-recorded_at (round ∷ rounds) first last is = inr is.recorded
+-- ---- no memory
 
--- memory was refused behind these rounds
-pub out_of_memory : (rom : List ℕ) (rounds : List Round) (first last left : MemoryState) → IsLast rounds first last → IsOutOfMemory rom last left → IsOutOfMemory rom first left
-out_of_memory rom rounds first last left is (inl same) =
-    ⊎_elim (λ first_is. inl (same ∙ first_is)) (λ none. inr (inl (same ∙ none))) (recorded_at rounds first last is)
-out_of_memory rom rounds first last left is (inr rest) = inr rest
+-- for the ends
+pub no_memory_for_ends : (rom : List ℕ) (first : MemoryState) (rounds : List Round) → IsOutOfMemory rom first first rounds
+no_memory_for_ends rom first rounds = record { done = 0; last = first; is_last = refl; ends = []; lived = lived_nothing rom (memory_disk first); refused = inl (no_memory_yet rom first) }
+
+module _ (rom : List ℕ) (first last left : MemoryState) (rounds : List Round) (ends : List RoundEnd) where
+  -- in the next round
+  pub no_memory_next : (i : ℕ) (d : Round) → i < length rounds → IsLast (take i rounds) first last → LeavesLife rom (memory_disk first) (memory_disk last) (take i rounds) ends
+      → NoMemoryToResume rom last left ⊎ NoMemoryInRound rom last left (get_or rounds i d) → IsOutOfMemory rom first left rounds
+  no_memory_next i d less is lived found = record {
+    done = i;
+    last = last;
+    is_last = is;
+    ends = ends;
+    lived = lived;
+    refused = ⊎_elim inl (λ here. inr (get_or rounds i d, slice_get-get_or rounds i d less, here)) found;
+  }
+
+  -- behind the last
+  pub no_memory_last : IsLast rounds first last → LeavesLife rom (memory_disk first) (memory_disk last) rounds ends → NoMemoryToResume rom last left → IsOutOfMemory rom first left rounds
+  no_memory_last is lived found =
+      let all : rounds ≡ take (length rounds) rounds = sym (take_all (length rounds) rounds (omega arith)) in
+      record {
+        done = length rounds;
+        last = last;
+        is_last = subst (λ (l : List Round). IsLast l first last) all is;
+        ends = ends;
+        lived = subst (λ (l : List Round). LeavesLife rom (memory_disk first) (memory_disk last) l ends) all lived;
+        refused = inl found;
+      }
 
 -- ---- what is kept in a life
 

@@ -1,29 +1,37 @@
 -- Plays, one after another.
-use Rattle.std.proofs.Common.{◌≡◌, inl, inr, ⊎_elim, ℕ, zero, suc, ◌+◌, ◌<◌, ◌≤◌, List, [], ◌∷◌, ◌++◌, length, take, drop, get_or, true, Bool, refl, sym, ap, ◌∙◌, subst, arith, append_assoc, append-nil, length-append}
-use Rattle.std.specs.Prelude.{if◌then◌else◌}
+use Rattle.std.proofs.Common.{◌≡◌, ◌⊎◌, inl, inr, ℕ, zero, suc, ◌+◌, ◌-◌, ◌^◌, ◌<◌, ◌≤◌, List, [], ◌∷◌, ◌++◌, length, take, drop, get_or, true, Bool, Some, Err, refl, sym, ap, ◌∙◌, subst, arith, append_assoc, append-nil}
+use Rattle.std.specs.Prelude.{if◌then◌else◌, slice_get}
 use Rattle.std.proofs.Math.Seq.{take-suc}
-use Rattle.std.proofs.lemmas.Bool.{and_parts, eqb-true, false_from_ne_true}
+use Rattle.std.proofs.lemmas.Bool.{and_parts, cases_lt, eqb-true, false_from_ne_true}
+use Rattle.std.proofs.lemmas.List.{take_all}
 use Rattle.std.proofs.lemmas.List.Sums.{AllPass-from_list_all}
+use Rattle.std.proofs.lemmas.Option.{slice_get-get_or}
 use Rattle.cartridge.specs.Header.{ram_length_of}
-use Rattle.machine.specs.Machine.{Input, State}
+use Rattle.machine.specs.Machine.{Input, MachineState, State, after}
+use Rattle.sector_device.specs.DiskState.{DiskState, HasAnswered}
+use Rattle.log_format.specs.Content.{content}
+use Rattle.input_entries.specs.declared.Entry.{Entry}
+use Rattle.script.specs.declared.moves.Move.TheVariants.{Save, Power}
 use Rattle.snapshot.specs.Encoding.{snapshot_length}
 use Rattle.snapshot.specs.Legal.{IsLegalSnapshot}
 use Rattle.snapshot.specs.Reading.{machine_in}
 use Rattle.snapshot.specs.Table.{is_legal, table_of}
 use Rattle.snapshot.specs.declared.field.SnapshotField.{SnapshotField}
-use Rattle.session.specs.Stands.{is_snapshot}
+use Rattle.session.specs.Calls.{faults_after}
+use Rattle.session.specs.Stands.{Position, is_snapshot, stands}
 use Rattle.session.specs.declared.error.SessionError.{SessionError}
 use Rattle.session.specs.declared.error.SessionError.TheVariants.{Memory, Output}
-use Rattle.session.proofs.Answering.{answered_refusal, answered_refused}
+use Rattle.session.proofs.Answering.{answered_otherwise}
 use Rattle.session.proofs.StandsLaws.{legal_is_snapshot}
-use Rattle.playing.specs.Going.{Place, all_of, Goes, GoesNoFurther}
-use Rattle.playing.specs.Played.{IsStop}
-use Rattle.playing.proofs.Going.{IsNow}
-use Rattle.playing.proofs.PlayLaws.{stopped_by, stopped_here, stopped_more, stopped_then}
-use Rattle.playing.proofs.Stops.{stops_among}
+use Rattle.playing.specs.Going.{Place, all_of, Goes, GoesNoFurther, IsPlayedAt}
+use Rattle.playing.specs.Played.{Going, IsStop, Stopped}
+use Rattle.playing.proofs.Going.{IsNow, goes_nowhere, goes_then, no_further_more, no_further_then}
+use Rattle.playing.proofs.PlayLaws.{reaches_here, stopped_by, stopped_more}
 use Rattle.whole_lives.specs.Lives.{inputs_of_play, inputs_of_plays, inputs_of_state}
-use Rattle.whole_lives.specs.Rounds.{StopsPlays}
+use Rattle.whole_lives.specs.Refusals.{IsPlayedToMemory}
+use Rattle.whole_lives.specs.Rounds.{MakesPlays, PlaysToSwitch, StopsPlays, StopsSilently}
 use Rattle.whole_lives.specs.declared.plays.Play.{Play}
+use Rattle.whole_lives.specs.declared.plays.Play.TheVariants.{Make}
 
 -- ---- a state
 
@@ -42,44 +50,6 @@ inputs_of_legal rom bytes legal = ap (λ (t : Bool). if t then State (machine_in
 pub inputs_of_wrong : (rom bytes : List ℕ) → (IsLegalSnapshot rom bytes → ⊥) → inputs_of_state rom bytes ≡ []
 unfolding inputs_of_state
 inputs_of_wrong rom bytes wrong = ap (λ (t : Bool). if t then State (machine_in rom bytes) ∷ [] else []) (false_from_ne_true (is_snapshot rom bytes) (λ is. wrong (snapshot_is_legal rom bytes is)))
-
--- ---- where plays stop
-
-pub stops_refused : (a b : Place) (inputs : List Input) (why : SessionError) → (why ≡ Output → ⊥) → GoesNoFurther a b inputs why → StopsPlays a b inputs why
-stops_refused a b inputs why silent stop = record {
-  stopped = stop.stopped;
-  cause = inr stop.cause;
-  stands_still = λ memory. absurd (subst (λ (w : SessionError). IsStop w (all_of a + length inputs) b.disk) memory stop.cause);
-  calls = stop.calls;
-  silent = silent;
-}
-
-pub stops_for_memory : (a : Place) (inputs : List Input) → IsNow a.disk → StopsPlays a a inputs Memory
-stops_for_memory a inputs only = record {
-  stopped = λ rom from given played.
-      stopped_more rom a.disk a.disk a.acknowledged from given inputs (stopped_here rom a.disk a.acknowledged a.pending a.machine from given played only);
-  cause = inl refl;
-  stands_still = λ memory rom from given played. (_, played.stands_is);
-  calls = answered_refusal (λ n. refl);
-  silent = λ is. absurd (cc);
-}
-
--- behind plays that were made, and before others
-pub stops_then : (a b c : Place) (first second more : List Input) (why : SessionError) → Goes a b first → StopsPlays b c second why → StopsPlays a c ((first ++ second) ++ more) why
-stops_then a b c first second more why one two =
-    let less : all_of b + length second ≤ all_of a + length ((first ++ second) ++ more) = omega (arith, one.all_is, length-append first second, length-append (first ++ second) more) in
-    record {
-      stopped = λ rom from given played.
-          let before = one.going rom from given played in
-          stopped_by
-          (append_assoc (given ++ first) second more ∙ append_assoc given first (second ++ more) ∙ ap (λ (l : List Input). given ++ l) (sym (append_assoc first second more)))
-          (stopped_more rom a.disk c.disk c.acknowledged from ((given ++ first) ++ second) more
-          (stopped_then rom a.disk b.disk c.disk c.acknowledged from (given ++ first) second before.moments (two.stopped rom from (given ++ first) before.played)));
-      cause = ⊎_elim inl (λ stop. inr (stops_among why (all_of b + length second) (all_of a + length ((first ++ second) ++ more)) c.disk less stop)) two.cause;
-      stands_still = λ memory rom from given played. two.stands_still memory rom from (given ++ first) (one.going rom from given played).played;
-      calls = answered_refused one.calls two.calls (λ n. refl);
-      silent = two.silent;
-    }
 
 -- ---- plays in a list
 
@@ -106,3 +76,132 @@ pub all_plays : (rom : List ℕ) (plays : List Play) (i : ℕ) (d : Play) → i 
 all_plays rom plays i d less =
     ap (λ (l : List Input). l ++ inputs_of_plays rom (drop (i + 1) plays)) (plays_so_far rom plays i d less)
     ∙ sym (plays_append rom (take (i + 1) plays) (drop (i + 1) plays)) ∙ ap (inputs_of_plays rom) (split plays (i + 1))
+
+-- ---- plays that are made
+
+pub makes_none : (rom : List ℕ) (a : Place) (plays : List Play) → IsNow a.disk → MakesPlays rom a a plays 0
+makes_none rom a plays only = record { goes = goes_nowhere a only; saves = λ k below is. absurd (omega (arith, below)) }
+
+some_same : (p q : Play) → Some p ≡ Some q → p ≡ q
+some_same p q same = cc
+
+-- the first so many, and the next one
+pub makes_next : (rom : List ℕ) (a b c : Place) (plays : List Play) (i : ℕ) (d : Play) → i < length plays → MakesPlays rom a b plays i
+    → Goes b c (inputs_of_play rom (get_or plays i d)) → (get_or plays i d ≡ Make Save → all_of b ≤ c.acknowledged) → MakesPlays rom a c plays (i + 1)
+makes_next rom a b c plays i d less before one saved = record {
+  goes = subst (λ (l : List Input). Goes a c l) (plays_so_far rom plays i d less) (goes_then a b c (inputs_of_plays rom (take i plays)) (inputs_of_play rom (get_or plays i d)) before.goes one);
+  saves = λ k below is.
+      elim (cases_lt k i) [
+        | inl lt ↦ let least = before.saves k lt is in omega (arith, least, one.later)
+        | inr le ↦
+            let here : k ≡ i = omega (arith, below, le) in
+            let next : get_or plays i d ≡ Make Save = some_same (get_or plays i d) (Make Save) (sym (slice_get-get_or plays i d less) ∙ ap (slice_get plays) (sym here) ∙ is) in
+            let size : length (inputs_of_plays rom (take k plays)) ≡ length (inputs_of_plays rom (take i plays)) = ap (λ (n : ℕ). length (inputs_of_plays rom (take n plays))) here in
+            let least = saved next in
+            omega (arith, least, before.goes.all_is, size)
+      ];
+}
+
+-- all of them
+pub makes_all : (rom : List ℕ) (a b : Place) (plays : List Play) (i : ℕ) → length plays ≤ i → MakesPlays rom a b plays i → MakesPlays rom a b plays (length plays)
+makes_all rom a b plays i all makes =
+    let same : take i plays ≡ take (length plays) plays = take_all i plays all ∙ sym (take_all (length plays) plays (omega arith)) in
+    record {
+      goes = subst (λ (l : List Play). Goes a b (inputs_of_plays rom l)) same makes.goes;
+      saves = λ k below is. makes.saves k (omega (arith, below, all)) is;
+    }
+
+pub goes_all_plays : (rom : List ℕ) (a b : Place) (plays : List Play) → MakesPlays rom a b plays (length plays) → Goes a b (inputs_of_plays rom plays)
+goes_all_plays rom a b plays makes = subst (λ (l : List Play). Goes a b (inputs_of_plays rom l)) (take_all (length plays) plays (omega arith)) makes.goes
+
+-- ---- where plays stop
+
+pub not_for_memory : (a b : Place) (inputs : List Input) (why : SessionError) → GoesNoFurther a b inputs why → why ≡ Memory → ⊥
+not_for_memory a b inputs why stop memory = subst (λ (w : SessionError). IsStop w (all_of a + length inputs) b.disk) memory stop.cause
+
+-- the next one is a power switch for which there was no memory
+pub stops_at_switch : (rom : List ℕ) (a b : Place) (plays : List Play) (i : ℕ) (d : Play) → i < length plays → MakesPlays rom a b plays i → get_or plays i d ≡ Make Power → (all_of b ≡ 2 ^ 64 - 1 → ⊥) → PlaysToSwitch rom a b plays
+stops_at_switch rom a b plays i d less before is room = record { made = i; switch = slice_get-get_or plays i d less ∙ ap Some is; makes = before; room = room }
+
+-- one of these inputs was refused, behind plays that were made and before others
+pub stops_then : (a b c : Place) (first second more : List Input) (why : SessionError) → Goes a b first → StopsSilently b c second why → StopsSilently a c ((first ++ second) ++ more) why
+stops_then a b c first second more why one two = record {
+  stops = no_further_more a c (first ++ second) more why (no_further_then a b c first second why one two.stops);
+  silent = two.silent;
+}
+
+stopped_going : (rom : List ℕ) (old now : DiskState) (acknowledged : ℕ) (pending : List Entry) (machine : MachineState) (from : Position) (given : List Input) → Going rom old now acknowledged pending machine from given → Stopped rom old now acknowledged from given
+stopped_going rom old now acknowledged pending machine from given going = record {
+  honest = going.played.honest;
+  moments = going.moments;
+  least = going.played.saved;
+  acknowledged_is = going.played.acknowledged_is;
+  images = reaches_here rom now acknowledged pending machine from given going.played;
+}
+
+-- what is left, be it by a refusal or for want of memory
+pub record PlaysStopped (old new : Place) (inputs : List Input) (why : SessionError) : Type 0 where
+  pub stopped : (rom : List ℕ) (from : Position) (given : List Input) → IsPlayedAt rom old from given → Stopped rom old.disk new.disk new.acknowledged from (given ++ inputs)
+  pub cause : (why ≡ Memory) ⊎ IsStop why (all_of old + length inputs) new.disk
+  pub calls : HasAnswered {T = Unit {0}} faults_after old.disk new.disk (Err why)
+  pub silent : why ≡ Output → ⊥
+
+pub plays_stopped : (rom : List ℕ) (a b : Place) (plays : List Play) (why : SessionError) → StopsPlays rom a b plays why → PlaysStopped a b (inputs_of_plays rom plays) why
+plays_stopped rom a b plays why (inr stop) = record { stopped = stop.stops.stopped; cause = inr stop.stops.cause; calls = stop.stops.calls; silent = stop.silent }
+plays_stopped rom a b plays why (inl found) =
+    let made = found.1.made in
+    let goes = found.1.makes.goes in
+    let done : List Input = inputs_of_plays rom (take made plays) in
+    let rest : List Input = inputs_of_plays rom (drop made plays) in
+    let both : done ++ rest ≡ inputs_of_plays rom plays = sym (plays_append rom (take made plays) (drop made plays)) ∙ ap (inputs_of_plays rom) (split plays made) in
+    record {
+      stopped = λ own from given played.
+          stopped_by (append_assoc given done rest ∙ ap (λ (l : List Input). given ++ l) both)
+          (stopped_more own a.disk b.disk b.acknowledged from (given ++ done) rest
+          (stopped_going own a.disk b.disk b.acknowledged b.pending b.machine from (given ++ done) (goes.going own from given played)));
+      cause = inl found.0;
+      calls = answered_otherwise goes.calls (λ n. ap (λ (w : SessionError). faults_after w n) found.0);
+      silent = λ output. let no : Memory ≡ Output = sym found.0 ∙ output in absurd (cc);
+    }
+
+pub switch_found : (rom : List ℕ) (a b : Place) (plays : List Play) (why : SessionError) → StopsPlays rom a b plays why → why ≡ Memory → PlaysToSwitch rom a b plays
+switch_found rom a b plays why (inl found) memory = found.1
+switch_found rom a b plays why (inr stop) memory = absurd (not_for_memory a b (inputs_of_plays rom plays) why stop.stops memory)
+
+-- ---- up to where a round takes memory
+
+module _ (rom : List ℕ) (old : DiskState) (a b : Place) (from : Position) (plays : List Play) (stood : stands rom (content old.sectors) ≡ Some from) (begun : IsPlayedAt rom a from []) (none : all_of a ≡ from.count) where
+  played_to : (made : ℕ) → MakesPlays rom a b plays made
+      → (made ≡ length plays) ⊎ ((slice_get plays made ≡ Some (Make Power)) × (from.count + length (inputs_of_plays rom (take made plays)) ≡ 2 ^ 64 - 1 → ⊥)) → IsPlayedToMemory rom old b.disk plays
+  played_to made makes takes =
+      let inputs : List Input = inputs_of_plays rom (take made plays) in
+      let there = (makes.goes.going rom from [] begun).played in
+      record {
+        first = from;
+        stood = stood;
+        settled = there.settled;
+        last = record { count = b.acknowledged; machine = after from.machine (take there.saved inputs) };
+        is = there.stands_is;
+        made = made;
+        takes = takes;
+        saved = b.acknowledged;
+        played = record {
+          resumed_is = refl;
+          given = length inputs;
+          were_given = omega arith;
+          saved_at_least = omega (arith, there.acknowledged_is);
+          saved_at_most = omega (arith, there.acknowledged_is, there.within);
+          survived = there.saved;
+          survivors_given = there.within;
+          keeps_saved = omega (arith, there.acknowledged_is);
+          count_is = there.acknowledged_is;
+          machine_is = refl;
+        };
+        saves = λ k below is. let least = makes.saves k below is in omega (arith, least, none);
+      }
+
+  pub played_to_cut : MakesPlays rom a b plays (length plays) → IsPlayedToMemory rom old b.disk plays
+  played_to_cut makes = played_to (length plays) makes (inl refl)
+
+  pub played_to_switch : PlaysToSwitch rom a b plays → IsPlayedToMemory rom old b.disk plays
+  played_to_switch found = played_to found.made found.makes (inr (found.switch, λ full. found.room (omega (arith, found.makes.goes.all_is, none, full))))

@@ -17,10 +17,12 @@ use Rattle.session.specs.declared.error.SessionError.{SessionError}
 use Rattle.session.specs.declared.error.SessionError.TheVariants.{Memory, Device, NoSession, TooSmall, OtherCartridge, Damaged, GenerationsUsedUp, Broken, SaveFirst, CountFull, Output}
 use Rattle.session.specs.Found.{IsResumeCause}
 use Rattle.playing.specs.Played.{IsPlayed, Stopped, IsStop}
+use Rattle.session.proofs.Beginnings.{since_now}
 use Rattle.playing.proofs.PlayLaws.{reaches_here}
 use Rattle.whole_lives.specs.Lives.{StandsFor, EachStands}
-use Rattle.whole_lives.specs.Refusals.{IsStanding, IsSoundStop, CountsLifeFaults}
+use Rattle.whole_lives.specs.Refusals.{IsPlayedToMemory, NoMemoryToResume, IsSoundStop, CountsLifeFaults}
 use Rattle.whole_lives.specs.Rounds.{Leaves, LeavesRound, IsRoundRefusal}
+use Rattle.whole_lives.specs.declared.plays.Play.{Play}
 use Rattle.whole_lives.specs.declared.rounds.RoundEnd.{RoundEnd}
 
 -- ---- moves
@@ -232,20 +234,39 @@ plays_sound_stop why all now other (inr stop) = moves_sound_stop why all now oth
 
 -- ---- memory
 
--- where memory was refused as a game was taken up: nothing was recorded, or what is left stands for a game
+-- it was refused before any call
+pub no_memory_yet : (rom : List ℕ) (m : MemoryState) → NoMemoryToResume rom m m
+no_memory_yet rom m = record { sectors = refl; images = since_now (memory_disk m) (only_last m.at_start m.recorded); found = inl refl }
+
+not_device : (why : SessionError) → why ≡ Memory → why ≡ Device → ⊥
+not_device why memory device = let no : Device ≡ Memory = sym device ∙ memory in cc
+
+-- it was refused as a game was taken up
 pub no_memory_to_resume : (rom : List ℕ) (old left : MemoryDevice) (why : SessionError) → why ≡ Memory
     → (why ≡ Memory → (left ≡ old) ⊎ ((memory_disk (memory old)).honest → CanBeTakenUp rom (memory_disk (memory old))))
     → (why ≡ Device) ⊎ ((memory_disk (memory old)).honest → (memory_disk (memory left)).sectors ≡ (memory_disk (memory old)).sectors)
-    → ((memory left).recorded ≡ (memory old).recorded) ⊎ IsStanding rom (memory left)
-no_memory_to_resume rom old left why is found kept =
-    let stays : (memory_disk (memory left)).sectors ≡ (memory_disk (memory old)).sectors =
-    ⊎_elim (λ (device : why ≡ Device). let no : Device ≡ Memory = sym device ∙ is in absurd (cc)) (λ same. same tt) kept in
-    ⊎_elim
-    (λ (same : left ≡ old). inl (ap (λ (d : MemoryDevice). (memory d).recorded) same))
-    (λ can. inr ((can tt).from, ap (λ (s : List (List ℕ)). stands rom (content s)) stays ∙ (can tt).stood))
-    (found is)
+    → (why ≡ Device) ⊎ ((memory_disk (memory old)).honest → HoldsSince (memory_disk (memory old)) (memory_disk (memory left)) (memory_disk (memory old)).image)
+    → NoMemoryToResume rom (memory old) (memory left)
+no_memory_to_resume rom old left why is found kept untouched = record {
+  sectors = ⊎_elim (λ (device : why ≡ Device). absurd (not_device why is device)) (λ same. same tt) kept;
+  images = ⊎_elim (λ (device : why ≡ Device). absurd (not_device why is device)) (λ held. held tt) untouched;
+  found = ⊎_elim (λ (same : left ≡ old). inl (ap (λ (d : MemoryDevice). (memory d).recorded) same)) (λ can. inr (can tt)) (found is);
+}
+
+-- a fuse changes no image, and nothing that is recorded
+pub no_memory_fused : (rom : List ℕ) (old fused left : MemoryState) → memory_disk fused ≡ memory_disk old → fused.recorded ≡ old.recorded → NoMemoryToResume rom fused left → NoMemoryToResume rom old left
+no_memory_fused rom old fused left same recorded refused = record {
+  sectors = subst (λ (d : DiskState). (memory_disk left).sectors ≡ d.sectors) same refused.sectors;
+  images = subst (λ (d : DiskState). HoldsSince d (memory_disk left) d.image) same refused.images;
+  found = ⊎_elim (λ none. inl (none ∙ recorded)) (λ can. inr (subst (λ (d : DiskState). CanBeTakenUp rom d) same can)) refused.found;
+}
 
 -- the same device
-pub memory_moved : (rom : List ℕ) (first old new : MemoryDevice) → new ≡ old → ((memory old).recorded ≡ (memory first).recorded) ⊎ IsStanding rom (memory old)
-    → ((memory new).recorded ≡ (memory first).recorded) ⊎ IsStanding rom (memory new)
-memory_moved rom first old new same held = subst (λ (d : MemoryDevice). ((memory d).recorded ≡ (memory first).recorded) ⊎ IsStanding rom (memory d)) (sym same) held
+pub no_memory_moved : (rom : List ℕ) (first : MemoryState) (old new : MemoryDevice) → new ≡ old → NoMemoryToResume rom first (memory old) → NoMemoryToResume rom first (memory new)
+no_memory_moved rom first old new same refused = subst (λ (d : MemoryDevice). NoMemoryToResume rom first (memory d)) (sym same) refused
+
+pub played_moved : (rom : List ℕ) (first : DiskState) (plays : List Play) (old new : MemoryDevice) → new ≡ old → IsPlayedToMemory rom first (memory_disk (memory old)) plays → IsPlayedToMemory rom first (memory_disk (memory new)) plays
+played_moved rom first plays old new same played = subst (λ (d : MemoryDevice). IsPlayedToMemory rom first (memory_disk (memory d)) plays) (sym same) played
+
+pub played_fused : (rom : List ℕ) (old fused : MemoryState) (left : DiskState) (plays : List Play) → memory_disk fused ≡ memory_disk old → IsPlayedToMemory rom (memory_disk fused) left plays → IsPlayedToMemory rom (memory_disk old) left plays
+played_fused rom old fused left plays same played = subst (λ (d : DiskState). IsPlayedToMemory rom d left plays) same played

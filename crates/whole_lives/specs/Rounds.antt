@@ -1,17 +1,19 @@
 -- What one round leaves on a device; a reader needs none of this.
-use Rattle.std.specs.Prelude.{◌≡◌, ◌⊎◌, ◌≤◌, ◌+◌, ◌-◌, ◌^◌, ℕ, List, [], ◌++◌, Bool, length, Some, Err, ⊤}
+use Rattle.std.specs.Prelude.{◌≡◌, ◌≢◌, ◌⊎◌, ◌≤◌, ◌<◌, ◌+◌, ◌-◌, ◌^◌, ℕ, List, [], Bool, length, take, slice_get, Some, ⊤}
 use Rattle.machine.specs.Machine.{Input}
-use Rattle.sector_device.specs.DiskState.{DiskState, HasAnswered}
+use Rattle.sector_device.specs.DiskState.{DiskState}
 use Rattle.sector_device.specs.Memory.{MemoryState, memory_disk, image_of}
 use Rattle.log_format.specs.Content.{content, generation_in}
-use Rattle.session.specs.Calls.{faults_after}
+use Rattle.script.specs.declared.moves.Move.TheVariants.{Save, Power}
 use Rattle.session.specs.Found.{IsResumeCause}
-use Rattle.session.specs.Stands.{Position, stands}
+use Rattle.session.specs.Stands.{Position}
 use Rattle.session.specs.declared.error.SessionError.{SessionError}
 use Rattle.session.specs.declared.error.SessionError.TheVariants.{Memory, Device, NoSession, TooSmall, OtherCartridge, Damaged, GenerationsUsedUp, CountFull, Output}
-use Rattle.playing.specs.Going.{Place, all_of, IsPlayedAt}
-use Rattle.playing.specs.Played.{Reaches, Stopped, IsStop}
-use Rattle.whole_lives.specs.Lives.{StandsFor, IsRound}
+use Rattle.playing.specs.Going.{Place, all_of, Goes, GoesNoFurther}
+use Rattle.playing.specs.Played.{Reaches}
+use Rattle.whole_lives.specs.Lives.{StandsFor, IsRound, inputs_of_plays}
+use Rattle.whole_lives.specs.declared.plays.Play.{Play}
+use Rattle.whole_lives.specs.declared.plays.Play.TheVariants.{Make}
 use Rattle.whole_lives.specs.declared.rounds.RoundEnd.{RoundEnd}
 
 -- each image that is left stands for the first so many of these inputs from there, at least for those that were acknowledged
@@ -42,7 +44,8 @@ pub record IsPastCounting (rom : List ℕ) (old : DiskState) (inputs : List Inpu
   pub stood : StandsFor rom old first
   pub past : 2 ^ 64 ≤ first.count + length inputs
 
--- why a round is refused, by the sectors that are left: what refuses the game that they hold, or what stopped the moves
+-- Why a round is refused, by the sectors that are left: what refuses the game that they hold, or what stopped the moves. Of running out of
+-- memory `NoMemoryToResume` and `NoMemoryInRound` speak.
 abbrev pub IsRoundRefusal : (rom : List ℕ) → (old : DiskState) → (inputs : List Input) → (left : List (List ℕ)) → SessionError → Type 0
 IsRoundRefusal rom old inputs left Memory = ⊤
 IsRoundRefusal rom old inputs left Device = ⊤
@@ -54,16 +57,26 @@ IsRoundRefusal rom old inputs left GenerationsUsedUp = generation_in left ≡ 2 
 IsRoundRefusal rom old inputs left CountFull = IsPastCounting rom old inputs
 IsRoundRefusal rom old inputs left why = ⊥
 
--- One of these inputs was refused, or a save among them, or there was no memory for it.
-pub record StopsPlays (old new : Place) (inputs : List Input) (why : SessionError) : Type 0 where
-  -- each image at each moment stands for some of the inputs before and of these, and each that is left at least for what is saved
-  pub stopped : (rom : List ℕ) (from : Position) (given : List Input) → IsPlayedAt rom old from given
-      → Stopped rom old.disk new.disk new.acknowledged from (given ++ inputs)
-  pub cause : (why ≡ Memory) ⊎ IsStop why (all_of old + length inputs) new.disk
-  -- where memory was refused, what reads give stands for a position
-  pub stands_still : why ≡ Memory → (rom : List ℕ) (from : Position) (given : List Input) → IsPlayedAt rom old from given
-      → (position : Position) × (stands rom (content new.disk.sectors) ≡ Some position)
-  -- a call of the device failed if that is the cause, and else none
-  pub calls : HasAnswered {T = Unit {0}} faults_after old.disk new.disk (Err why)
-  -- no line is written
-  pub silent : why ≡ Output → ⊥
+-- ---- plays
+
+-- the first so many of these plays were made, and each save among them
+pub record MakesPlays (rom : List ℕ) (old new : Place) (plays : List Play) (made : ℕ) : Type 0 where
+  pub goes : Goes old new (inputs_of_plays rom (take made plays))
+  pub saves : (k : ℕ) → k < made → slice_get plays k ≡ Some (Make Save) → all_of old + length (inputs_of_plays rom (take k plays)) ≤ new.acknowledged
+
+-- of these plays those before a power switch were made, and for it there was no memory: nothing else was done
+pub record PlaysToSwitch (rom : List ℕ) (old new : Place) (plays : List Play) : Type 0 where
+  pub made : ℕ
+  pub switch : slice_get plays made ≡ Some (Make Power)
+  pub makes : MakesPlays rom old new plays made
+  -- the switch could have been counted
+  pub room : all_of new ≢ 2 ^ 64 - 1
+
+-- one of these inputs, or a save among them, was refused; no line is written
+pub record StopsSilently (old new : Place) (inputs : List Input) (why : SessionError) : Type 0 where
+  pub stops : GoesNoFurther old new inputs why
+  pub silent : why ≢ Output
+
+-- these plays were stopped: only a power switch is told as no memory
+abbrev pub StopsPlays : (rom : List ℕ) → (old new : Place) → List Play → SessionError → Type 0
+StopsPlays rom old new plays why = ((why ≡ Memory) × PlaysToSwitch rom old new plays) ⊎ StopsSilently old new (inputs_of_plays rom plays) why

@@ -29,7 +29,7 @@ fn live_rounds(
         IsLifeStop cartridge.now (memory_disk (memory device)) rounds.now (memory_disk (memory refused.device)).sectors
         refused.why) }
     ensures memory { IfErr result (λ refused. refused.why ≡ SessionError.Memory →
-        IsOutOfMemory cartridge.now (memory device) (memory refused.device)) }
+        IsOutOfMemory cartridge.now (memory device) (memory refused.device) rounds.now) }
     ensures stand { IfOk result (λ r.
         EachStands cartridge.now (memory_disk (memory device)) → EachStands cartridge.now (memory_disk (memory r.0))) }
     ensures sound { IfErr result (λ refused.
@@ -95,7 +95,7 @@ pub fn live(
         IsLifeStop cartridge.now (memory_disk (memory device)) rounds.now (memory_disk (memory refused.device)).sectors
         refused.why) }
     ensures memory { IfErr result (λ refused. refused.why ≡ SessionError.Memory →
-        IsOutOfMemory cartridge.now (memory device) (memory refused.device)) }
+        IsOutOfMemory cartridge.now (memory device) (memory refused.device) rounds.now) }
     ensures sound { IfErr result (λ refused.
         EachStands cartridge.now (memory_disk (memory device)) → IsSoundStop refused.why) }
     ensures kept { IfErr result (λ refused. EachStands cartridge.now (memory_disk (memory device)) →

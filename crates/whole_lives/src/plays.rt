@@ -1,12 +1,12 @@
 //! What is played in a round.
-ghost use Rattle.std.specs.Prelude.{◌≡◌, ◌<◌, length, true, false, OnOk, IfErr};
+ghost use Rattle.std.specs.Prelude.{◌≡◌, ◌≢◌, ◌⊎◌, ◌<◌, ◌≤◌, ◌-◌, ◌^◌, length, true, false, OnOk, IfErr};
 ghost use Rattle.snapshot.specs.Legal.{IsLegalSnapshot};
-ghost use Rattle.session.specs.Accessors.{rom_of, pending_of, is_broken};
+ghost use Rattle.session.specs.Accessors.{rom_of, pending_of, acknowledged_of, is_broken};
 ghost use Rattle.session.specs.Calls.{most_unsaved};
-ghost use Rattle.playing.specs.Going.{place, Goes};
+ghost use Rattle.playing.specs.Going.{place, all_of, Goes};
 ghost use Rattle.playing.specs.Report.{inputs_of_move};
-ghost use Rattle.whole_lives.specs.Lives.{inputs_of_play, inputs_of_plays, inputs_of_state};
-ghost use Rattle.whole_lives.specs.Rounds.{StopsPlays};
+ghost use Rattle.whole_lives.specs.Lives.{inputs_of_play, inputs_of_state};
+ghost use Rattle.whole_lives.specs.Rounds.{MakesPlays, StopsSilently, StopsPlays};
 
 use cartridge::Cartridge;
 use playing::{Silent, give_state, make_move};
@@ -50,8 +50,9 @@ fn take_state(
     requires few { length (pending_of session.old) < most_unsaved }
     ensures made { OnOk result
         (Goes (place session.old) (place session.new) (inputs_of_state cartridge.now bytes.now)) }
+    ensures memory { IfErr result (λ why. why ≢ SessionError.Memory) }
     ensures stopped { IfErr result (λ why.
-        StopsPlays (place session.old) (place session.new) (inputs_of_state cartridge.now bytes.now) why) }
+        StopsSilently (place session.old) (place session.new) (inputs_of_state cartridge.now bytes.now) why) }
     ensures whole { OnOk result ((is_broken session.new ≡ false) × (length (pending_of session.new) < most_unsaved)) }
 {
     if !is_state(alloc, cartridge, bytes) {
@@ -64,6 +65,8 @@ fn take_state(
 }
 
 /// Makes a move, and saves when a save is due.
+///
+/// Refusals: those of `make_move`; `Memory` at a power switch alone, and then nothing changes.
 fn take_move(
     session: &mut Session<MemoryDevice>,
     alloc: Global,
@@ -74,8 +77,12 @@ fn take_move(
     requires whole { is_broken session.old ≡ false }
     requires few { length (pending_of session.old) < most_unsaved }
     ensures made { OnOk result (Goes (place session.old) (place session.new) (inputs_of_move a_move)) }
-    ensures stopped { IfErr result (λ why.
-        StopsPlays (place session.old) (place session.new) (inputs_of_move a_move) why) }
+    ensures saved { OnOk result
+        (a_move ≡ Move.Save → all_of (place session.old) ≤ acknowledged_of session.new) }
+    ensures memory { IfErr result (λ why. why ≡ SessionError.Memory → (a_move ≡ Move.Power) ×
+        (session.new ≡ session.old) × (all_of (place session.old) ≢ 2 ^ 64 - 1)) }
+    ensures stopped { IfErr result (λ why. (why ≡ SessionError.Memory) ⊎
+        StopsSilently (place session.old) (place session.new) (inputs_of_move a_move) why) }
     ensures whole { OnOk result ((is_broken session.new ≡ false) × (length (pending_of session.new) < most_unsaved)) }
 {
     match make_move(session, alloc, cartridge, a_move, &mut Silent) {
@@ -95,8 +102,12 @@ fn make_play(
     requires whole { is_broken session.old ≡ false }
     requires few { length (pending_of session.old) < most_unsaved }
     ensures made { OnOk result (Goes (place session.old) (place session.new) (inputs_of_play cartridge.now play.now)) }
-    ensures stopped { IfErr result (λ why.
-        StopsPlays (place session.old) (place session.new) (inputs_of_play cartridge.now play.now) why) }
+    ensures saved { OnOk result
+        (play.now ≡ Play.Make Move.Save → all_of (place session.old) ≤ acknowledged_of session.new) }
+    ensures memory { IfErr result (λ why. why ≡ SessionError.Memory → (play.now ≡ Play.Make Move.Power) ×
+        (session.new ≡ session.old) × (all_of (place session.old) ≢ 2 ^ 64 - 1)) }
+    ensures stopped { IfErr result (λ why. (why ≡ SessionError.Memory) ⊎
+        StopsSilently (place session.old) (place session.new) (inputs_of_play cartridge.now play.now) why) }
     ensures whole { OnOk result ((is_broken session.new ≡ false) × (length (pending_of session.new) < most_unsaved)) }
 {
     match play {
@@ -107,7 +118,8 @@ fn make_play(
 
 /// Plays one after another, with a save at each `Save` and right after the input that makes 3,200 unsaved.
 ///
-/// Refusals: those of an input and of a save; `Memory` at a power switch, for the machine at power-on.
+/// Refusals: those of an input and of a save; `Memory` at a power switch alone, for the machine at power-on: then the
+/// plays before it are made, and no other.
 pub(crate) fn make_plays(
     session: &mut Session<MemoryDevice>,
     alloc: Global,
@@ -118,9 +130,9 @@ pub(crate) fn make_plays(
     requires whole { is_broken session.old ≡ false }
     requires few { length (pending_of session.old) < most_unsaved }
     ensures made { OnOk result
-        (Goes (place session.old) (place session.new) (inputs_of_plays cartridge.now plays.now)) }
+        (MakesPlays cartridge.now (place session.old) (place session.new) plays.now (length plays.now)) }
     ensures stopped { IfErr result (λ why.
-        StopsPlays (place session.old) (place session.new) (inputs_of_plays cartridge.now plays.now) why) }
+        StopsPlays cartridge.now (place session.old) (place session.new) plays.now why) }
 {
     for play in plays {
         match make_play(session, alloc, cartridge, play) {

@@ -3,7 +3,7 @@ ghost use Rattle.std.specs.Prelude.{◌≡◌, ◌≤◌, ◌⊎◌, ◌<◌, �
 ghost use Rattle.sector_device.specs.Memory.{memory_disk, image_of};
 ghost use Rattle.sector_device.specs.MemoryDevice.{memory, IsNewMemory};
 ghost use Rattle.whole_lives.specs.Lives.{inputs_of_plays, inputs_of_round, EachStands};
-ghost use Rattle.whole_lives.specs.Refusals.{IsFresh, IsStanding, IsOutOfMemory, IsSoundStop, CountsLifeFaults};
+ghost use Rattle.whole_lives.specs.Refusals.{IsFresh, IsPlayedToMemory, NoMemoryToResume, NoMemoryInRound, IsSoundStop, CountsLifeFaults};
 ghost use Rattle.whole_lives.specs.Rounds.{LeavesRound, IsCutRound, IsRoundRefusal};
 ghost use Rattle.whole_lives.specs.declared.rounds.RoundEnd.{RoundEnd};
 
@@ -87,10 +87,11 @@ fn play_until_blown(
         IsRoundRefusal cartridge.now (memory_disk (memory device)) (inputs_of_plays cartridge.now plays.now)
         (memory_disk (memory refused.device)).sectors
         refused.why) }
-    ensures ended { IfOk result (λ r. ((memory r.0).blown ≡ true) ⊎ IsStanding cartridge.now (memory r.0)) }
+    ensures ended { IfOk result (λ r. ((memory r.0).blown ≡ true) ⊎
+        IsPlayedToMemory cartridge.now (memory_disk (memory device)) (memory_disk (memory r.0)) plays.now) }
     ensures memory { IfErr result (λ refused. refused.why ≡ SessionError.Memory →
-        ((memory refused.device).recorded ≡ (memory device).recorded) ⊎
-        IsStanding cartridge.now (memory refused.device)) }
+        NoMemoryToResume cartridge.now (memory device) (memory refused.device) ⊎
+        IsPlayedToMemory cartridge.now (memory_disk (memory device)) (memory_disk (memory refused.device)) plays.now) }
     ensures stand { IfOk result (λ r.
         EachStands cartridge.now (memory_disk (memory device)) → EachStands cartridge.now (memory_disk (memory r.0))) }
     ensures sound { IfErr result (λ refused.
@@ -168,7 +169,8 @@ pub(crate) fn one_round(
         (memory_disk (memory refused.device)).sectors
         refused.why) }
     ensures memory { IfErr result (λ refused. refused.why ≡ SessionError.Memory →
-        IsOutOfMemory cartridge.now (memory device) (memory refused.device)) }
+        NoMemoryToResume cartridge.now (memory device) (memory refused.device) ⊎
+        NoMemoryInRound cartridge.now (memory device) (memory refused.device) round.now) }
     ensures stand { IfOk result (λ r.
         EachStands cartridge.now (memory_disk (memory device)) → EachStands cartridge.now (memory_disk (memory r.0))) }
     ensures sound { IfErr result (λ refused.

@@ -7,7 +7,7 @@ use Rattle.session.specs.Accessors.{machine_of, acknowledged_of}
 use Rattle.session.specs.Calls.{faults_after}
 use Rattle.session.specs.declared.error.SessionError.{SessionError}
 use Rattle.whole_lives.proofs.CauseLaws.{sound_stop}
-use Rattle.whole_lives.proofs.LifeLaws.{lived_to, lived_until, life_untaken, resume_not_full, out_of_memory}
+use Rattle.whole_lives.proofs.LifeLaws.{lived_to, lived_until, life_untaken, resume_not_full, no_memory_last}
 use Rattle.whole_lives.proofs.RoundLaws.{reads, each_before, resume_refuses, no_memory_to_resume}
 use Rattle.whole_lives.proofs.lives.live.Goals as goal
 
@@ -62,6 +62,5 @@ returns-in-Err-resume-clause-fuse c = λ failed.
 pub returns-in-Err-resume-clause-memory : goal.returns-in-Err-resume-clause-memory
 returns-in-Err-resume-clause-memory c = λ memory_is.
     let rom = c.args.cartridge.now in
-    out_of_memory rom c.args.rounds.now (memory c.args.device) (memory c.in-Ok.lived.0) (memory c.in-Err-resume.refused.device) c.in-Ok.ensures.last
-    (⊎_elim inl (λ stands. inr (inr (inr stands)))
-    (no_memory_to_resume rom c.in-Ok.lived.0 c.in-Err-resume.refused.device c.in-Err-resume.refused.why memory_is c.in-Err-resume.ensures.memory c.in-Err-resume.ensures.kept))
+    no_memory_last rom (memory c.args.device) (memory c.in-Ok.lived.0) (memory c.in-Err-resume.refused.device) c.args.rounds.now c.in-Ok.lived.1.items c.in-Ok.ensures.last c.in-Ok.ensures.lived
+    (no_memory_to_resume rom c.in-Ok.lived.0 c.in-Err-resume.refused.device c.in-Err-resume.refused.why memory_is c.in-Err-resume.ensures.memory c.in-Err-resume.ensures.kept c.in-Err-resume.ensures.untouched)

@@ -1,14 +1,14 @@
-use Rattle.std.proofs.Common.{◌+◌, ◌++◌, ◌∷◌, [], List, length, take, get_or, sym, ap, ◌∙◌, subst, arith}
+use Rattle.std.proofs.Common.{◌⊎◌, ◌+◌, ◌++◌, ◌∷◌, [], List, length, take, get_or, sym, ap, ◌∙◌, subst, arith}
 use Rattle.std.proofs.lemmas.List.{take_all, length_push}
 use Rattle.std.proofs.lemmas.Option.{slice_get-get_or}
 use Rattle.sector_device.specs.Memory.{memory_disk}
 use Rattle.sector_device.specs.MemoryDevice.{memory}
 use Rattle.whole_lives.specs.Lives.{inputs_of_round, HasLived, LeavesLife}
-use Rattle.whole_lives.specs.Refusals.{IsLast}
+use Rattle.whole_lives.specs.Refusals.{IsLast, NoMemoryInRound, NoMemoryToResume}
 use Rattle.whole_lives.specs.Rounds.{LeavesRound, IsRoundRefusal}
 use Rattle.whole_lives.specs.declared.rounds.Round.{Round}
 use Rattle.whole_lives.specs.declared.rounds.RoundEnd.{RoundEnd}
-use Rattle.whole_lives.proofs.LifeLaws.{known_behind, known_push, last_behind, lived_nothing, lived_next, life_refused, out_of_memory}
+use Rattle.whole_lives.proofs.LifeLaws.{known_behind, known_push, last_behind, lived_nothing, lived_next, life_refused, no_memory_for_ends, no_memory_next}
 use Rattle.whole_lives.proofs.lives.live_rounds.Goals as goal
 
 pub returns-in_default-clause-left : goal.returns-in_default-clause-left
@@ -76,7 +76,15 @@ returns-in-Err-clause-cause c =
     life_refused rom (memory_disk (memory c.args.device)) before rounds i (get_or rounds i c.round-item.result) c.loop-round.ends.items left c.in-Err.refused.why (slice_get-get_or rounds i c.round-item.result c.loop-round-test.true) c.loop-round.invariant.lived
     (subst (λ (round : Round). IsRoundRefusal rom before (inputs_of_round rom round) left c.in-Err.refused.why) c.round-item.is c.in-Err.ensures.cause)
 
+pub returns-in_default-clause-memory : goal.returns-in_default-clause-memory
+returns-in_default-clause-memory c = λ memory_is. no_memory_for_ends c.args.cartridge.now (memory c.args.device) c.args.rounds.now
+
 pub returns-in-Err-clause-memory : goal.returns-in-Err-clause-memory
 returns-in-Err-clause-memory c = λ memory_is.
-    out_of_memory c.args.cartridge.now (take c.loop-round.round-index c.args.rounds.now) (memory c.args.device) (memory c.loop-round.left) (memory c.in-Err.refused.device) c.loop-round.invariant.last
-    (c.in-Err.ensures.memory memory_is)
+    let rom = c.args.cartridge.now in
+    let rounds = c.args.rounds.now in
+    let i = c.loop-round.round-index in
+    let before = memory c.loop-round.left in
+    let left = memory c.in-Err.refused.device in
+    no_memory_next rom (memory c.args.device) before left rounds c.loop-round.ends.items i c.round-item.result c.loop-round-test.true c.loop-round.invariant.last c.loop-round.invariant.lived
+    (subst (λ (round : Round). NoMemoryToResume rom before left ⊎ NoMemoryInRound rom before left round) c.round-item.is (c.in-Err.ensures.memory memory_is))

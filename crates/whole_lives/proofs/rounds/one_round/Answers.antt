@@ -1,12 +1,12 @@
-use Rattle.std.proofs.Common.{inl, inr, ⊎_elim, List, sym, ap, ◌∙◌, subst}
+use Rattle.std.proofs.Common.{◌⊎◌, inl, inr, ⊎_elim, List, sym, ap, ◌∙◌, subst}
 use Rattle.sector_device.specs.Memory.{memory_disk, image_of}
 use Rattle.sector_device.specs.MemoryDevice.{memory}
 use Rattle.sector_device.specs.declared.memory.MemoryDevice.{MemoryDevice}
 use Rattle.whole_lives.specs.Lives.{inputs_of_plays, inputs_of_round}
-use Rattle.whole_lives.specs.Refusals.{IsOutOfMemory}
+use Rattle.whole_lives.specs.Refusals.{IsPlayedToMemory, NoMemoryInRound, NoMemoryToResume}
 use Rattle.whole_lives.specs.Rounds.{LeavesRound, IsRoundRefusal}
 use Rattle.whole_lives.specs.declared.plays.Play.{Play}
-use Rattle.whole_lives.proofs.RoundLaws.{round_fused, round_cut, cut_image, each_moved, each_fused, refusal_fused}
+use Rattle.whole_lives.proofs.RoundLaws.{round_fused, round_cut, cut_image, each_moved, each_fused, no_memory_fused, played_fused, refusal_fused}
 use Rattle.whole_lives.proofs.rounds.one_round.Goals as goal
 
 pub returns-in-Err-clause-refused : goal.returns-in-Err-clause-refused
@@ -94,10 +94,24 @@ returns-in-Ok-cut-clause-fresh c = record {
 
 pub returns-in-Err-clause-memory : goal.returns-in-Err-clause-memory
 returns-in-Err-clause-memory c = λ memory_is.
-    ⊎_elim (λ same. inl (same ∙ ap (λ m. m.recorded) c.with_fuse-device.ensures)) (λ stands. inr (inr (inr stands))) (c.in-Err.ensures.memory memory_is)
+    let rom = c.args.cartridge.now in
+    let old = memory c.args.device in
+    let fused = memory c.with_fuse-device.result in
+    let left = memory c.in-Err.refused.device in
+    ⊎_elim
+    (λ refused. inl (no_memory_fused rom old fused left (ap memory_disk c.with_fuse-device.ensures) (ap (λ m. m.recorded) c.with_fuse-device.ensures) refused))
+    (λ played. inr (inr (played_fused rom old fused (memory_disk left) c.args.round.now.plays.items (ap memory_disk c.with_fuse-device.ensures)
+    (subst (λ (plays : List Play). IsPlayedToMemory rom (memory_disk fused) (memory_disk left) plays) c.deref.ensures.value played))))
+    (c.in-Err.ensures.memory memory_is)
 
 pub returns-in-Err-cut-clause-memory : goal.returns-in-Err-cut-clause-memory
 returns-in-Err-cut-clause-memory c = λ memory_is.
     let rom = c.args.cartridge.now in
-    subst (λ (d : MemoryDevice). IsOutOfMemory rom (memory c.args.device) (memory d)) (sym c.in-Err-cut.ensures.refused.1)
-    (⊎_elim (λ blown. inr (inr (inl blown))) (λ stands. inr (inr (inr stands))) c.in-Ok.ensures.ended)
+    let old = memory c.args.device in
+    let fused = memory c.with_fuse-device.result in
+    let played = c.in-Ok.ended.0 in
+    subst (λ (d : MemoryDevice). NoMemoryToResume rom old (memory d) ⊎ NoMemoryInRound rom old (memory d) c.args.round.now) (sym c.in-Err-cut.ensures.refused.1)
+    (inr (⊎_elim inl
+    (λ to_end. inr (played_fused rom old fused (memory_disk (memory played)) c.args.round.now.plays.items (ap memory_disk c.with_fuse-device.ensures)
+    (subst (λ (plays : List Play). IsPlayedToMemory rom (memory_disk fused) (memory_disk (memory played)) plays) c.deref.ensures.value to_end)))
+    c.in-Ok.ensures.ended))

@@ -8,14 +8,16 @@ use Rattle.session.specs.Accessors.{device_of, machine_of, pending_of, acknowled
 use Rattle.session.specs.declared.error.SessionError.{SessionError}
 use Rattle.session.specs.declared.error.SessionError.TheVariants.{Device}
 use Rattle.session.proofs.Beginnings.{if_ok, if_err}
+use Rattle.playing.specs.Going.{place}
 use Rattle.playing.specs.Played.{IsPlayed}
 use Rattle.playing.proofs.PlayLaws.{begun_played}
 use Rattle.whole_lives.specs.Lives.{inputs_of_plays}
-use Rattle.whole_lives.specs.Refusals.{IsStanding, IsSoundStop, CountsLifeFaults}
+use Rattle.whole_lives.specs.Refusals.{IsSoundStop, CountsLifeFaults}
 use Rattle.whole_lives.specs.Rounds.{Leaves, LeavesRound, IsRoundRefusal}
 use Rattle.whole_lives.specs.declared.rounds.RoundEnd.{RoundEnd}
 use Rattle.whole_lives.proofs.CauseLaws.{sound_stop}
-use Rattle.whole_lives.proofs.RoundLaws.{round_missed, round_moved, round_ended, each_before, each_left, each_moved, leaves_played, leaves_stopped, least_after, counts_refusal, plays_refuse, resume_refuses, plays_sound_stop, no_memory_to_resume, memory_moved, stands_here, reads}
+use Rattle.whole_lives.proofs.PlayLaws.{goes_all_plays, played_to_cut, played_to_switch, plays_stopped, switch_found}
+use Rattle.whole_lives.proofs.RoundLaws.{round_missed, round_moved, round_ended, each_before, each_left, each_moved, leaves_played, leaves_stopped, least_after, counts_refusal, plays_refuse, resume_refuses, plays_sound_stop, no_memory_moved, no_memory_to_resume, played_moved, stands_here, reads}
 use Rattle.whole_lives.proofs.rounds.play_until_blown.Goals as goal
 
 -- ---- not taken up
@@ -60,7 +62,7 @@ returns-in-Err-clause-sound c =
 
 pub returns-in-Ok-made-clause-leaves : goal.returns-in-Ok-made-clause-leaves
 returns-in-Ok-made-clause-leaves c =
-    let goes = c.in-Ok-made.ensures.made in
+    let goes = goes_all_plays c.args.cartridge.now (place c.in-Ok.session) (place c.make_plays-made.new.session) c.args.plays.now c.in-Ok-made.ensures.made in
     let rom = c.args.cartridge.now in
     let s = c.in-Ok.session in
     let now = c.make_plays-made.new.session in
@@ -78,7 +80,7 @@ returns-in-Ok-made-clause-leaves c =
 
 pub returns-in-Ok-made-clause-stand : goal.returns-in-Ok-made-clause-stand
 returns-in-Ok-made-clause-stand c = λ each.
-    let goes = c.in-Ok-made.ensures.made in
+    let goes = goes_all_plays c.args.cartridge.now (place c.in-Ok.session) (place c.make_plays-made.new.session) c.args.plays.now c.in-Ok-made.ensures.made in
     let rom = c.args.cartridge.now in
     let s = c.in-Ok.session in
     let now = c.make_plays-made.new.session in
@@ -92,20 +94,22 @@ returns-in-Ok-made-clause-stand c = λ each.
 
 pub returns-in-Ok-made-clause-ended : goal.returns-in-Ok-made-clause-ended
 returns-in-Ok-made-clause-ended c =
-    let goes = c.in-Ok-made.ensures.made in
     let rom = c.args.cartridge.now in
     let s = c.in-Ok.session in
+    let now = c.make_plays-made.new.session in
     let from : Position = record { count = acknowledged_of s; machine = machine_of s } in
     let begun : IsPlayed rom (memory_disk (memory (device_of s))) (acknowledged_of s) (pending_of s) (machine_of s) from [] =
     begun_played rom (memory_disk (memory (device_of s))) (acknowledged_of s) (pending_of s) (machine_of s) tt c.in-Ok.ensures.begun.2 c.in-Ok.ensures.begun.0 (c.in-Ok.ensures.rests tt) in
-    let played = (goes.going rom from [] begun).played in
-    inr (subst (λ (d : MemoryDevice). IsStanding rom (memory d)) (sym c.into_device-device.ensures.device) (_, played.stands_is))
+    let none = ap length c.in-Ok.ensures.begun.0 in
+    let all : acknowledged_of s + length (pending_of s) ≡ from.count = omega (arith, none) in
+    inr (played_moved rom (memory_disk (memory c.args.device)) c.args.plays.now (device_of now) c.into_device-device.result c.into_device-device.ensures.device
+    (played_to_cut rom (memory_disk (memory c.args.device)) (place s) (place now) from c.args.plays.now (c.in-Ok.ensures.stands tt) begun all c.in-Ok-made.ensures.made))
 
 -- ---- stopped
 
 pub returns-in-Err-made-clause-leaves : goal.returns-in-Err-made-clause-leaves
 returns-in-Err-made-clause-leaves c =
-    let stop = c.in-Err-made.ensures.stopped in
+    let stop = plays_stopped c.args.cartridge.now (place c.in-Ok.session) (place c.make_plays-made.new.session) c.args.plays.now c.in-Err-made.why c.in-Err-made.ensures.stopped in
     let rom = c.args.cartridge.now in
     let s = c.in-Ok.session in
     let now = c.make_plays-made.new.session in
@@ -127,7 +131,7 @@ returns-in-Err-made-clause-leaves c =
 
 pub returns-in-Err-made-clause-refused : goal.returns-in-Err-made-clause-refused
 returns-in-Err-made-clause-refused c =
-    let stop = c.in-Err-made.ensures.stopped in
+    let stop = plays_stopped c.args.cartridge.now (place c.in-Ok.session) (place c.make_plays-made.new.session) c.args.plays.now c.in-Err-made.why c.in-Err-made.ensures.stopped in
     let rom = c.args.cartridge.now in
     let s = c.in-Ok.session in
     let now = c.make_plays-made.new.session in
@@ -149,7 +153,7 @@ returns-in-Err-made-clause-refused c =
 
 pub returns-in-Err-made-clause-cause : goal.returns-in-Err-made-clause-cause
 returns-in-Err-made-clause-cause c =
-    let stop = c.in-Err-made.ensures.stopped in
+    let stop = plays_stopped c.args.cartridge.now (place c.in-Ok.session) (place c.make_plays-made.new.session) c.args.plays.now c.in-Err-made.why c.in-Err-made.ensures.stopped in
     let rom = c.args.cartridge.now in
     let s = c.in-Ok.session in
     let now = c.make_plays-made.new.session in
@@ -178,7 +182,7 @@ returns-in-Err-clause-cause c =
 
 pub returns-in-Err-made-clause-stand : goal.returns-in-Err-made-clause-stand
 returns-in-Err-made-clause-stand c =
-    let stop = c.in-Err-made.ensures.stopped in
+    let stop = plays_stopped c.args.cartridge.now (place c.in-Ok.session) (place c.make_plays-made.new.session) c.args.plays.now c.in-Err-made.why c.in-Err-made.ensures.stopped in
     let rom = c.args.cartridge.now in
     let s = c.in-Ok.session in
     let now = c.make_plays-made.new.session in
@@ -193,13 +197,13 @@ returns-in-Err-made-clause-stand c =
 
 pub returns-in-Err-made-clause-sound : goal.returns-in-Err-made-clause-sound
 returns-in-Err-made-clause-sound c =
-    let stop = c.in-Err-made.ensures.stopped in
+    let stop = plays_stopped c.args.cartridge.now (place c.in-Ok.session) (place c.make_plays-made.new.session) c.args.plays.now c.in-Err-made.why c.in-Err-made.ensures.stopped in
     if_err c.ended_by-in-Err-made.result c.ended_by-in-Err-made.ensures.refused
     (λ r is each. subst (λ (why : SessionError). IsSoundStop why) (sym is.1) (plays_sound_stop c.in-Err-made.why (acknowledged_of c.in-Ok.session + length (pending_of c.in-Ok.session) + length (inputs_of_plays c.args.cartridge.now c.args.plays.now)) (memory_disk (memory (device_of c.make_plays-made.new.session))) stop.silent stop.cause))
 
 pub returns-in-Err-made-clause-faults_ok : goal.returns-in-Err-made-clause-faults_ok
 returns-in-Err-made-clause-faults_ok c =
-    let stop = c.in-Err-made.ensures.stopped in
+    let stop = plays_stopped c.args.cartridge.now (place c.in-Ok.session) (place c.make_plays-made.new.session) c.args.plays.now c.in-Err-made.why c.in-Err-made.ensures.stopped in
     let s = c.in-Ok.session in
     let now = c.make_plays-made.new.session in
     let grown : (device_of s).faults ≤ (device_of now).faults = least_after c.in-Err-made.why (device_of s).faults (device_of now).faults (device_of s).faults_fit stop.calls.faults in
@@ -210,7 +214,7 @@ returns-in-Err-made-clause-faults_ok c =
 
 pub returns-in-Err-made-clause-faults : goal.returns-in-Err-made-clause-faults
 returns-in-Err-made-clause-faults c =
-    let stop = c.in-Err-made.ensures.stopped in
+    let stop = plays_stopped c.args.cartridge.now (place c.in-Ok.session) (place c.make_plays-made.new.session) c.args.plays.now c.in-Err-made.why c.in-Err-made.ensures.stopped in
     let s = c.in-Ok.session in
     let now = c.make_plays-made.new.session in
     let first = c.args.device.faults in
@@ -229,7 +233,7 @@ returns-in-Err-clause-kept c =
 
 pub returns-in-Err-made-clause-kept : goal.returns-in-Err-made-clause-kept
 returns-in-Err-made-clause-kept c =
-    let stop = c.in-Err-made.ensures.stopped in
+    let stop = plays_stopped c.args.cartridge.now (place c.in-Ok.session) (place c.make_plays-made.new.session) c.args.plays.now c.in-Err-made.why c.in-Err-made.ensures.stopped in
     let rom = c.args.cartridge.now in
     let s = c.in-Ok.session in
     let now = c.make_plays-made.new.session in
@@ -253,23 +257,28 @@ pub returns-in-Err-clause-memory : goal.returns-in-Err-clause-memory
 returns-in-Err-clause-memory c =
     let rom = c.args.cartridge.now in
     if_err c.ended_by.result c.ended_by.ensures.refused
-    (λ r is memory.
-    memory_moved rom c.args.device c.in-Err.refused.device r.device is.0
-    (no_memory_to_resume rom c.args.device c.in-Err.refused.device c.in-Err.refused.why (sym is.1 ∙ memory) c.in-Err.ensures.memory c.in-Err.ensures.kept))
+    (λ r is memory_is.
+    inl (no_memory_moved rom (memory c.args.device) c.in-Err.refused.device r.device is.0
+    (no_memory_to_resume rom c.args.device c.in-Err.refused.device c.in-Err.refused.why (sym is.1 ∙ memory_is) c.in-Err.ensures.memory c.in-Err.ensures.kept c.in-Err.ensures.untouched)))
 
 pub returns-in-Err-made-clause-memory : goal.returns-in-Err-made-clause-memory
 returns-in-Err-made-clause-memory c =
-    let stop = c.in-Err-made.ensures.stopped in
     let rom = c.args.cartridge.now in
     let s = c.in-Ok.session in
     let now = c.make_plays-made.new.session in
+    let plays = c.args.plays.now in
     let from : Position = record { count = acknowledged_of s; machine = machine_of s } in
     let begun : IsPlayed rom (memory_disk (memory (device_of s))) (acknowledged_of s) (pending_of s) (machine_of s) from [] =
     begun_played rom (memory_disk (memory (device_of s))) (acknowledged_of s) (pending_of s) (machine_of s) tt c.in-Ok.ensures.begun.2 c.in-Ok.ensures.begun.0 (c.in-Ok.ensures.rests tt) in
+    let none = ap length c.in-Ok.ensures.begun.0 in
+    let all : acknowledged_of s + length (pending_of s) ≡ from.count = omega (arith, none) in
     if_err c.ended_by-in-Err-made.result c.ended_by-in-Err-made.ensures.refused
-    (λ r is memory_is. inr (subst (λ (d : MemoryDevice). IsStanding rom (memory d)) (sym (is.0 ∙ c.into_device-device.ensures.device)) (stop.stands_still (sym is.1 ∙ memory_is) rom from [] begun)))
+    (λ r is memory_is.
+    inr (played_moved rom (memory_disk (memory c.args.device)) plays (device_of now) r.device (is.0 ∙ c.into_device-device.ensures.device)
+    (played_to_switch rom (memory_disk (memory c.args.device)) (place s) (place now) from plays (c.in-Ok.ensures.stands tt) begun all
+    (switch_found rom (place s) (place now) plays c.in-Err-made.why c.in-Err-made.ensures.stopped (sym is.1 ∙ memory_is)))))
 
 pub returns-in-Ok-made-clause-faults_ok : goal.returns-in-Ok-made-clause-faults_ok
 returns-in-Ok-made-clause-faults_ok c =
-    let goes = c.in-Ok-made.ensures.made in
+    let goes = goes_all_plays c.args.cartridge.now (place c.in-Ok.session) (place c.make_plays-made.new.session) c.args.plays.now c.in-Ok-made.ensures.made in
     omega (arith, c.in-Ok.ensures.answered.faults_ok, goes.calls.faults_ok, ap (λ (d : MemoryDevice). d.faults) c.into_device-device.ensures.device)
