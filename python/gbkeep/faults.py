@@ -47,6 +47,7 @@ FAULTS = [
     ('test undecided', '', 'the test ROM says neither that it has passed nor that it has failed', 'give it more frames; [TESTING_ROMS.md](TESTING_ROMS.md) has the rule'),
     ('script line 0', '', 'the script is longer than 1,048,576 bytes; nothing was played', 'give it to `gbkeep-script play`, which takes 1,000,000 lines'),
     ('script line N', 'stream', 'line N of the input is wrong; what was given before it is saved', 'correct the line, and give what comes from it on'),
+    ('script line N', 'record', 'line N of the input is wrong; what was given before it is saved', 'correct the line, and give what comes from it on'),
     ('script line N', '', 'line N of the script is wrong; nothing was played', '`gbkeep-script check` says what is wrong with it'),
     ('input failed', 'debug', "standard input can't be read; what was given before is answered", 'check where it comes from'),
     ('input failed', '', "standard input can't be read; what was given before is saved", 'check where it comes from'),
