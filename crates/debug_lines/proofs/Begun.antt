@@ -5,8 +5,7 @@ use Rattle.machine.specs.Machine.{MachineState}
 use Rattle.snapshot.specs.Legal.{IsMachineOf}
 use Rattle.sector_device.specs.DiskState.{DiskState}
 use Rattle.log_format.specs.Content.{content}
-use Rattle.session.specs.Calls.{IsAtRest}
-use Rattle.session.specs.Stands.{Position, stands}
+use Rattle.session.specs.Stands.{IsAtRest, Position, stands}
 use Rattle.session.specs.declared.error.SessionError.{SessionError}
 use Rattle.playing.specs.Played.{IsNotTakenUp}
 use Rattle.debugging.specs.Debugged.{Exchange}

@@ -7,8 +7,8 @@ use Rattle.machine.specs.Machine.{MachineState, start}
 use Rattle.snapshot.specs.Legal.{IsMachineOf}
 use Rattle.sector_device.specs.DiskState.{DiskState}
 use Rattle.log_format.specs.Content.{content}
-use Rattle.session.specs.Calls.{IsAtRest, faults_after}
-use Rattle.session.specs.Stands.{Position, stands}
+use Rattle.session.specs.Calls.{faults_after}
+use Rattle.session.specs.Stands.{IsAtRest, Position, stands}
 use Rattle.playing.specs.Played.{IsNotTakenUp}
 use Rattle.playing.specs.Report.{resumed_line}
 use Rattle.debugging.specs.Run.{begun}

@@ -5,7 +5,7 @@ ghost use Rattle.cartridge.specs.Accepted.{IsAccepted};
 ghost use Rattle.snapshot.specs.Legal.{IsMachineOf};
 ghost use Rattle.sector_device.specs.DiskState.{HasAnswered};
 ghost use Rattle.sector_device.specs.Runs.{HoldsSince};
-ghost use Rattle.session.specs.Calls.{StandsAsBefore};
+ghost use Rattle.session.specs.Stands.{StandsAsBefore};
 ghost use Rattle.session.specs.Resting.{IsOfItsRom};
 ghost use Rattle.debug_lines.specs.Debugging.{HasDebugged, IsBegunAndDebugged, IsDebugGameCause, IsNotDebugged, faults_after_debug, left_by};
 

@@ -7,7 +7,7 @@ use Rattle.machine.specs.Machine.{MachineState}
 use Rattle.sector_device.specs.DiskState.{DiskState, sector_at}
 use Rattle.sector_device.specs.FileDevice.{file_disk}
 use Rattle.sector_device.specs.declared.file.FileDevice.{FileDevice}
-use Rattle.session.specs.Calls.{IsAtRest}
+use Rattle.session.specs.Stands.{IsAtRest}
 use Rattle.recording.specs.Calls.{IsBlank, IsCreateCause}
 use Rattle.recording.specs.declared.fault.RecordingFault.{RecordingFault}
 use Rattle.recording.specs.declared.fault.RecordingFault.TheVariants.{Memory, Device, TooSmall, NotBlank, NoRecording, OtherCartridge, Full, Broken}

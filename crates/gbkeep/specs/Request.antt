@@ -28,7 +28,7 @@ use Rattle.recording_lines.specs.Script.{HasWrittenScript, IsScriptCause}
 use Rattle.recording_lines.specs.Verifying.{HasAgreed, IsLineCause}
 use Rattle.recording_lines.specs.declared.error.ScriptLinesError.TheVariants.{Recording as ScriptRecording, Output as ScriptOutput}
 use Rattle.recording_lines.specs.declared.error.VerifyLineError.TheVariants.{Verify as Compared, Output as VerifyOutput}
-use Rattle.session.specs.Calls.{IsAtRest}
+use Rattle.session.specs.Stands.{IsAtRest}
 use Rattle.session.specs.declared.error.SessionError.{SessionError}
 use Rattle.session.specs.Found.{IsNewGameCause}
 use Rattle.streaming.specs.Streamed.{HasStreamed}

@@ -8,7 +8,7 @@ ghost use Rattle.memory_map.specs.BusRules.{bus_rules};
 ghost use Rattle.snapshot.specs.Legal.{IsMachineOf};
 ghost use Rattle.sector_device.specs.DiskState.{HasAnswered};
 ghost use Rattle.sector_device.specs.Runs.{HoldsSince};
-ghost use Rattle.session.specs.Calls.{StandsAsBefore};
+ghost use Rattle.session.specs.Stands.{StandsAsBefore};
 ghost use Rattle.session.specs.Resting.{IsOfItsRom};
 ghost use Rattle.debugger.specs.Report.{step_lines};
 ghost use Rattle.gbkeep.specs.Tracing.{HasTraced, IsTraceCause, IsUntraced, faults_after_trace, left_by, trace_text};

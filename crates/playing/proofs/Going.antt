@@ -6,9 +6,9 @@ use Rattle.sector_device.specs.Runs.{HoldsSince}
 use Rattle.sector_device.specs.declared.device.SectorDevice.{Ghosts as Disks}
 use Rattle.log_format.specs.Content.{content, generation_in}
 use Rattle.session.specs.Accessors.{device_of}
-use Rattle.session.specs.Calls.{IsAtRest, IsSaveCause, faults_after, input_answer}
+use Rattle.session.specs.Calls.{IsSaveCause, faults_after, input_answer}
+use Rattle.session.specs.Stands.{IsAtRest, stands, StandsBetween}
 use Rattle.session.specs.Inputs.{can_be_logged, inputs_of}
-use Rattle.session.specs.Stands.{stands, StandsBetween}
 use Rattle.session.specs.declared.error.SessionError.{SessionError}
 use Rattle.session.specs.declared.error.SessionError.TheVariants.{GenerationsUsedUp, Output}
 use Rattle.session.specs.declared.session.Session.{Session}

@@ -9,9 +9,8 @@ use Rattle.sector_device.specs.Runs.{HoldsSince}
 use Rattle.sector_device.proofs.Runs.{holds_since}
 use Rattle.log_format.specs.Content.{content}
 use Rattle.input_entries.specs.declared.Entry.{Entry}
-use Rattle.session.specs.Calls.{IsAtRest}
+use Rattle.session.specs.Stands.{IsAtRest, Position, stands, further, StandsWithin, StandsBetween}
 use Rattle.session.specs.Inputs.{can_be_logged, entry_of, inputs_of}
-use Rattle.session.specs.Stands.{Position, stands, further, StandsWithin, StandsBetween}
 use Rattle.session.proofs.StandsLaws.{after_append, after_none, after_one}
 use Rattle.input_entries.specs.Inputs.{is_input}
 use Rattle.session.proofs.Saving.{leading, not_logged}

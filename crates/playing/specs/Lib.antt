@@ -1,3 +1,4 @@
+pub mod Inputs
 pub mod Report
 pub mod Played
 pub mod Going

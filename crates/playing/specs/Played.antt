@@ -10,13 +10,13 @@ use Rattle.log_format.specs.Content.{content, generation_in}
 use Rattle.input_entries.specs.declared.Entry.{Entry}
 use Rattle.script.specs.declared.moves.Move.{Move}
 use Rattle.script.specs.declared.moves.Move.TheVariants.{Power}
-use Rattle.session.specs.Calls.{CanBeTakenUp, IsAtRest, StandsAsBefore}
+use Rattle.session.specs.Stands.{IsAtRest, CanBeTakenUp, StandsAsBefore, Position, stands}
 use Rattle.session.specs.Found.{IsResumeCause}
 use Rattle.session.specs.Inputs.{can_be_logged, inputs_of}
 use Rattle.session.specs.declared.error.SessionError.{SessionError}
 use Rattle.session.specs.declared.error.SessionError.TheVariants.{Memory, Device, GenerationsUsedUp, CountFull, Output}
-use Rattle.session.specs.Stands.{Position, stands}
-use Rattle.playing.specs.Report.{inputs_of_moves, lines_of_moves, report_lines, resumed_line, texts, unsaved_behind_moves, HasTold}
+use Rattle.playing.specs.Report.{lines_of_moves, report_lines, resumed_line, texts, unsaved_behind_moves, HasTold}
+use Rattle.playing.specs.Inputs.{inputs_of_moves}
 
 -- the image stands for the first so many of these inputs from there, at least for `least` of them
 pub record Reaches (rom : List ℕ) (from : Position) (least : ℕ) (given : List Input) (image : List (List ℕ)) : Type 0 where

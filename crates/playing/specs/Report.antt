@@ -1,23 +1,14 @@
--- The inputs of moves, and the report of a play.
+-- The report of a play.
 use Rattle.std.specs.Prelude.{◌≡◌, ◌==◌, ◌<◌, ◌≤◌, ◌+◌, ℕ, List, [], ◌∷◌, ◌++◌, length, take, replicate, codes, decimal, if◌then◌else◌, Option, All}
 use Rattle.std.specs.Io.KnownBytes.{Appends}
 use Rattle.machine.specs.Machine.{Input}
-use Rattle.machine.specs.Machine.{Frame, Seconds as PassSeconds, Power as SwitchPower}
+use Rattle.machine.specs.Machine.{Frame}
 use Rattle.script.specs.declared.moves.Move.{Move}
 use Rattle.script.specs.declared.moves.Move.TheVariants.{Frames, Seconds, Save, Power}
+use Rattle.playing.specs.Inputs.{inputs_of_move, inputs_of_moves}
 use Rattle.session.specs.Calls.{most_unsaved}
 use Rattle.session.specs.declared.error.SessionError.{SessionError}
 use Rattle.session.specs.declared.error.SessionError.TheVariants.{Output}
-
-abbrev pub inputs_of_move : Move → List Input
-inputs_of_move (Frames buttons times) = replicate times (Frame buttons)
-inputs_of_move (Seconds n) = PassSeconds n ∷ []
-inputs_of_move Save = []
-inputs_of_move Power = SwitchPower ∷ []
-
-abbrev pub inputs_of_moves : List Move → List Input
-inputs_of_moves [] = []
-inputs_of_moves (m ∷ moves) = inputs_of_move m ++ inputs_of_moves moves
 
 -- ---- lines
 

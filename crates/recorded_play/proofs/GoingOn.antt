@@ -5,10 +5,9 @@ use Rattle.sector_device.specs.DiskState.{DiskState}
 use Rattle.sector_device.specs.Runs.{HoldsSince}
 use Rattle.sector_device.proofs.Looking.{looked_self}
 use Rattle.log_format.specs.Content.{generation_in}
-use Rattle.session.specs.Calls.{IsAtRest, StandsAsBefore}
+use Rattle.session.specs.Stands.{IsAtRest, StandsAsBefore, Position}
 use Rattle.session.specs.Found.{IsTakeUpCause}
 use Rattle.session.specs.declared.error.SessionError.{SessionError}
-use Rattle.session.specs.Stands.{Position}
 use Rattle.session.proofs.Writes.{since_weaker}
 use Rattle.session.proofs.Beginnings.{since_then}
 use Rattle.playing.proofs.PlayLaws.{begun_played, all_saved}

@@ -17,12 +17,11 @@ use Rattle.recording.specs.Calls.{IsOpenCause}
 use Rattle.recording.specs.Recorded.{recorded, entries}
 use Rattle.recording.specs.declared.fault.RecordingFault.{RecordingFault}
 use Rattle.recording.specs.declared.fault.RecordingFault.TheVariants.{NoRecording, OtherCartridge}
-use Rattle.session.specs.Calls.{IsAtRest, StandsAsBefore}
+use Rattle.session.specs.Stands.{IsAtRest, StandsAsBefore, Position, stands}
 use Rattle.session.specs.Found.{IsResumeCause, IsLookCause}
 use Rattle.session.specs.Inputs.{input_of, inputs_of}
 use Rattle.session.specs.declared.error.SessionError.{SessionError}
 use Rattle.session.specs.declared.error.SessionError.TheVariants.{Memory, Device, NoSession, TooSmall, OtherCartridge as SessionOtherCartridge, Damaged, GenerationsUsedUp, Broken as SessionBroken, SaveFirst, CountFull, Output}
-use Rattle.session.specs.Stands.{Position, stands}
 use Rattle.snapshot.specs.Legal.{IsMachineOf}
 use Rattle.session.proofs.Writes.{since_weaker}
 use Rattle.session.proofs.Beginnings.{since_then}

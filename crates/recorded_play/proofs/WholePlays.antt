@@ -7,9 +7,8 @@ use Rattle.machine.specs.Machine.{Input}
 use Rattle.sector_device.specs.DiskState.{DiskState}
 use Rattle.sector_device.specs.Runs.{HoldsSince}
 use Rattle.recording.specs.declared.fault.RecordingFault.TheVariants.{Full}
-use Rattle.session.specs.Calls.{IsAtRest}
+use Rattle.session.specs.Stands.{IsAtRest, Position}
 use Rattle.session.specs.Inputs.{inputs_of}
-use Rattle.session.specs.Stands.{Position}
 use Rattle.session.proofs.StandsLaws.{after_append}
 use Rattle.session.proofs.Writes.{since_weaker}
 use Rattle.session.proofs.Beginnings.{since_then}

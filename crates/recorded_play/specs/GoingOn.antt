@@ -5,8 +5,7 @@ use Rattle.machine.specs.Machine.{Input}
 use Rattle.sector_device.specs.DiskState.{DiskState}
 use Rattle.sector_device.specs.Looking.{LooksOnly}
 use Rattle.sector_device.specs.Runs.{HoldsSince}
-use Rattle.session.specs.Calls.{IsAtRest, StandsAsBefore}
-use Rattle.session.specs.Stands.{Position}
+use Rattle.session.specs.Stands.{IsAtRest, StandsAsBefore, Position}
 use Rattle.playing.specs.Played.{Reaches}
 use Rattle.session.specs.declared.error.SessionError.TheVariants.{Memory}
 use Rattle.recorded_play.specs.CatchingUp.{recorded_in, IsCatchUpStop}

@@ -13,9 +13,8 @@ use Rattle.log_format.specs.Content.{content, generation_in}
 use Rattle.recording.specs.Calls.{IsOpenCause}
 use Rattle.recording.specs.Accessors.{device_of as device_of_recording}
 use Rattle.recording.specs.declared.fault.RecordingFault.TheVariants.{NoRecording, OtherCartridge, Full}
-use Rattle.session.specs.Calls.{IsAtRest, StandsAsBefore}
+use Rattle.session.specs.Stands.{IsAtRest, StandsAsBefore, Position, stands}
 use Rattle.session.specs.Found.{IsResumeCause}
-use Rattle.session.specs.Stands.{Position, stands}
 use Rattle.session.specs.Accessors.{device_of}
 use Rattle.session.specs.declared.error.SessionError.{SessionError}
 use Rattle.session.specs.declared.error.SessionError.TheVariants.{Output}

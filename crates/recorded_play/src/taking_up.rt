@@ -3,7 +3,8 @@ ghost use Rattle.std.specs.Prelude.{◌≡◌, [], length, false, Ok, Err, IfOk,
 ghost use Rattle.snapshot.specs.Legal.{IsMachineOf};
 ghost use Rattle.sector_device.specs.DiskState.{HasAnswered};
 ghost use Rattle.recording.specs.Accessors.{device_of as device_of_recording, is_broken as is_broken_recording};
-ghost use Rattle.session.specs.Accessors.{device_of, machine_of, rom_of, pending_of, acknowledged_of, is_broken, device_of_look, machine_of_look, rom_of_look, count_of_look, generation_of_look};
+ghost use Rattle.session.specs.Accessors.{device_of, machine_of, rom_of, pending_of, acknowledged_of, is_broken};
+ghost use Rattle.session.specs.LookAccessors.{device_of_look, machine_of_look, rom_of_look, count_of_look, generation_of_look};
 ghost use Rattle.log_format.specs.Content.{generation_in};
 ghost use Rattle.recorded_play.specs.Agreeing.{AllAgree};
 ghost use Rattle.recorded_play.specs.GoingOn.{GoesOn, StopsGoingOn};

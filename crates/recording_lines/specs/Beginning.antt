@@ -4,7 +4,7 @@ use Rattle.sha2.specs.Sha256.{sha256}
 use Rattle.machine.specs.Machine.{start}
 use Rattle.sector_device.specs.DiskState.{DiskState, Settled}
 use Rattle.recording.specs.Recorded.{recorded}
-use Rattle.session.specs.Calls.{IsAtRest}
+use Rattle.session.specs.Stands.{IsAtRest}
 
 -- one image is left, which stands for a new game of this ROM, with the machine at power-on
 abbrev pub IsNewGame : (rom : List ℕ) → DiskState → Type 0

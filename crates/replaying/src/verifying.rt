@@ -12,7 +12,7 @@ ghost use Rattle.recording.specs.Recorded.{entries};
 ghost use Rattle.recording.specs.Accessors.{device_of, is_broken, count_of};
 ghost use Rattle.session.specs.Inputs.{inputs_of};
 ghost use Rattle.session.specs.Resting.{IsOfItsRom};
-ghost use Rattle.session.specs.Accessors.{machine_of_look, count_of_look};
+ghost use Rattle.session.specs.LookAccessors.{machine_of_look, count_of_look};
 ghost use Rattle.replaying.specs.Replayed.{LeadsTo, LeadsWithin, IsCompareCause, IsCompareCauseWithin, IsOfComparing};
 ghost use Rattle.replaying.specs.Verifying.{IsVerifiedWithin, IsVerifyCause, IsOfVerifying, save_faults_after, recording_faults_after};
 

@@ -16,7 +16,7 @@ use Rattle.log_format.specs.Found.{log_of}
 use Rattle.session.specs.Calls.{faults_after}
 use Rattle.session.specs.Found.{IsLookCause}
 use Rattle.session.specs.Stands.{stands}
-use Rattle.session.specs.Accessors.{count_of_look, logged_of_look, generation_of_look, machine_of_look}
+use Rattle.session.specs.LookAccessors.{count_of_look, logged_of_look, generation_of_look, machine_of_look}
 use Rattle.session.specs.declared.look.Look.{Look}
 use Rattle.save_lines.specs.declared.error.ShowError.{ShowError}
 use Rattle.save_lines.specs.declared.error.ShowError.TheVariants.{Cart, Session, Output}

@@ -7,7 +7,7 @@ ghost use Rattle.exact_text.specs.Written.{AppendsProperPrefix};
 ghost use Rattle.sector_device.specs.DiskState.{HasAnswered};
 ghost use Rattle.sector_device.specs.Looking.{HasLooked};
 ghost use Rattle.session.specs.Calls.{CanBeLookedAt};
-ghost use Rattle.session.specs.Accessors.{device_of_look};
+ghost use Rattle.session.specs.LookAccessors.{device_of_look};
 ghost use Rattle.session.specs.declared.error.SessionError.TheVariants.{Memory};
 ghost use Rattle.save_lines.specs.Shown.{HasShown, IsShowCause, faults_after_show, left_by, seen_by, shown_text};
 ghost use Rattle.save_lines.specs.declared.error.ShowError.TheVariants.{Session};

@@ -28,11 +28,11 @@ use Rattle.sector_log.specs.declared.fault.LogFault.TheVariants.{Memory as LogMe
 use Rattle.session.specs.Beginning.{session_fault}
 use Rattle.session.specs.declared.error.SessionError.{SessionError}
 use Rattle.session.specs.declared.error.SessionError.TheVariants.{Memory, Device, GenerationsUsedUp}
-use Rattle.session.specs.Calls.{IsAtRest, HasOldContentOrGame, StandsAsBefore, faults_after}
+use Rattle.session.specs.Calls.{HasOldContentOrGame, faults_after}
+use Rattle.session.specs.Stands.{IsAtRest, StandsAsBefore, stands, further}
 use Rattle.session.specs.Found.{IsNewGameCause}
 use Rattle.session.specs.Inputs.{input_of, inputs_of}
 use Rattle.session.specs.Resting.{IsOfItsRom, Rests}
-use Rattle.session.specs.Stands.{stands, further}
 use Rattle.session.proofs.StandsLaws.{after_none, new_stands}
 use Rattle.session.proofs.Writes.{since_weaker}
 

@@ -16,11 +16,10 @@ use Rattle.log_format.specs.Found.{Seen, seen_in, log_of}
 use Rattle.log_format.specs.declared.content.Header.{Header}
 use Rattle.log_format.specs.declared.content.Found.TheVariants.{Intact}
 use Rattle.session.specs.Beginning.{IsBeginRefusal}
-use Rattle.session.specs.Calls.{IsAtRest, StandsAsBefore}
+use Rattle.session.specs.Stands.{IsAtRest, StandsAsBefore, Position, stands, further}
 use Rattle.session.specs.Found.{IsResumeCause, IsLookCause, IsTakeUpCause}
 use Rattle.session.specs.Recovery.{IsRecovered}
 use Rattle.session.specs.Resting.{IsLookedAt}
-use Rattle.session.specs.Stands.{Position, stands, further}
 use Rattle.session.specs.declared.error.SessionError.{SessionError}
 use Rattle.session.specs.declared.error.SessionError.TheVariants.{Memory, Device, NoSession, TooSmall, OtherCartridge, Damaged, GenerationsUsedUp, Broken, SaveFirst, CountFull, Output}
 use Rattle.session.proofs.Beginnings.{since_now, resume_images}

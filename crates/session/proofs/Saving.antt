@@ -22,10 +22,10 @@ use Rattle.input_entries.specs.Inputs.{is_input, all_input}
 use Rattle.log_format.specs.Inputs.{fits, grown}
 use Rattle.input_entries.specs.declared.Entry.{Entry}
 use Rattle.input_entries.specs.declared.StoredEntry.{StoredEntry}
-use Rattle.session.specs.Calls.{IsAtRest, IsSaved}
+use Rattle.session.specs.Calls.{IsSaved}
+use Rattle.session.specs.Stands.{IsAtRest, Position, stands, further, StandsWithin, StandsBetween}
 use Rattle.session.specs.Inputs.{can_be_logged, fits_log, input_of, inputs_of, no_input}
 use Rattle.session.specs.Resting.{Rests}
-use Rattle.session.specs.Stands.{Position, stands, further, StandsWithin, StandsBetween}
 use Rattle.session.specs.Writing.{HoldsWritten, IsWritten}
 use Rattle.session.proofs.StandsLaws.{after_append, after_none, after_one, logged_append, more_stands}
 use Rattle.session.proofs.Beginnings.{begun_stands, begun_rests}

@@ -5,7 +5,7 @@ use Rattle.machine.specs.Machine.{MachineState, start}
 use Rattle.cartridge.specs.Header.{ram_length_of}
 use Rattle.snapshot.specs.Encoding.{encoded, snapshot_length}
 use Rattle.snapshot.specs.Legal.{IsLegalSnapshot, IsFault}
-use Rattle.sector_device.specs.DiskState.{DiskState, Settled, next_count}
+use Rattle.sector_device.specs.DiskState.{DiskState, next_count}
 use Rattle.log_format.specs.Content.{ImageContent, content, generation_in, need, new_generation}
 use Rattle.log_format.specs.Appends.{Adds}
 use Rattle.log_format.specs.Found.{log_of}
@@ -14,15 +14,7 @@ use Rattle.input_entries.specs.declared.Entry.{Entry}
 use Rattle.session.specs.declared.error.Damage.TheVariants.{Snapshot}
 use Rattle.session.specs.declared.error.SessionError.{SessionError}
 use Rattle.session.specs.declared.error.SessionError.TheVariants.{Memory, Device, NoSession, TooSmall, OtherCartridge, Damaged, GenerationsUsedUp, Broken, SaveFirst, CountFull, Output}
-use Rattle.session.specs.Inputs.{inputs_of}
-use Rattle.session.specs.Stands.{Position, stands, further}
-
--- ---- at rest
-
--- One image is left; what it stands for, the pending inputs further, is this count and this machine.
-pub record IsAtRest (rom : List ℕ) (now : DiskState) (acknowledged : ℕ) (pending : List Entry) (machine : MachineState) : Type 0 where
-  pub settled : Settled now
-  pub leads : further (inputs_of pending) (stands rom (content now.sectors)) ≡ Some (record { count = acknowledged + length pending; machine = machine })
+use Rattle.session.specs.Stands.{Position, stands}
 
 -- ---- a new game
 
@@ -55,20 +47,6 @@ pub record CanBeginGame (rom : List ℕ) (old : DiskState) : Type 0 where
 pub record CanBeLookedAt (rom : List ℕ) (old : DiskState) : Type 0 where
   pub from : Position
   pub stood : stands rom (content old.sectors) ≡ Some from
-
--- ---- a game taken up
-
--- what reads give stands for a position, and its generation has a next one: only memory or a failed call refuses it
-pub record CanBeTakenUp (rom : List ℕ) (old : DiskState) : Type 0 where
-  pub from : Position
-  pub stood : stands rom (content old.sectors) ≡ Some from
-  pub unworn : generation_in old.sectors < 2 ^ 64 - 1
-
--- the image stands for what one stood for before
-pub record StandsAsBefore (rom : List ℕ) (old : DiskState) (image : List (List ℕ)) : Type 0 where
-  pub before : List (List ℕ)
-  pub stood : old.image before
-  pub is : stands rom (content image) ≡ stands rom (content before)
 
 -- ---- a save
 

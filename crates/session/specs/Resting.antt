@@ -11,7 +11,7 @@ use Rattle.log_format.specs.Found.{log_of}
 use Rattle.input_entries.specs.Inputs.{inputs}
 use Rattle.input_entries.specs.declared.Entry.{Entry}
 use Rattle.input_entries.specs.declared.StoredEntry.{StoredEntry}
-use Rattle.session.specs.Calls.{IsAtRest}
+use Rattle.session.specs.Stands.{IsAtRest}
 use Rattle.session.specs.Inputs.{can_be_logged}
 
 -- kind, motor and length of RAM are those that its ROM asks for

@@ -1,5 +1,5 @@
 -- What an image stands for: a count of inputs, and the machine after them.
-use Rattle.std.specs.Prelude.{◌≡◌, ◌⊎◌, ◌==◌, ◌&&◌, ◌≤◌, ◌+◌, ◌^◌, ℕ, List, length, take, Bool, true, false, if◌then◌else◌, nat_lt, Option, Some, None, is_none}
+use Rattle.std.specs.Prelude.{◌≡◌, ◌⊎◌, ◌==◌, ◌&&◌, ◌≤◌, ◌<◌, ◌+◌, ◌-◌, ◌^◌, ℕ, List, length, take, Bool, true, false, if◌then◌else◌, nat_lt, Option, Some, None, is_none}
 use Rattle.std.specs.List.{list_all}
 use Rattle.std.specs.Str.{bytes_eq}
 use Rattle.sha2.specs.Sha256.{sha256}
@@ -9,11 +9,13 @@ use Rattle.machine.specs.Machine.{MachineState, after}
 use Rattle.snapshot.specs.Encoding.{snapshot_length}
 use Rattle.snapshot.specs.Table.{is_legal, table_of}
 use Rattle.snapshot.specs.Reading.{machine_in}
-use Rattle.log_format.specs.Content.{ImageContent, Body, content}
+use Rattle.sector_device.specs.DiskState.{DiskState, Settled}
+use Rattle.log_format.specs.Content.{ImageContent, Body, content, generation_in}
+use Rattle.input_entries.specs.declared.Entry.{Entry}
 use Rattle.input_entries.specs.Inputs.{inputs}
 use Rattle.log_format.specs.Inputs.{counted, first_wrong}
 use Rattle.log_format.specs.declared.content.Header.{Header}
-use Rattle.session.specs.Inputs.{logged}
+use Rattle.session.specs.Inputs.{logged, inputs_of}
 
 -- a machine, and how many inputs brought it there
 pub record Position : Type 0 where
@@ -61,3 +63,24 @@ pub record StandsWithin (rom : List ℕ) (from : Option Position) (more : List I
 abbrev pub StandsBetween : (logged : Bool) → (rom : List ℕ) → (from : Option Position) → (more : List Input) → (behind : Position) → (image : List (List ℕ)) → Type 0
 StandsBetween true rom from more behind image = StandsWithin rom from more image
 StandsBetween false rom from more behind image = (stands rom (content image) ≡ from) ⊎ (stands rom (content image) ≡ Some behind)
+
+-- ---- at rest
+
+-- One image is left; what it stands for, the pending inputs further, is this count and this machine.
+pub record IsAtRest (rom : List ℕ) (now : DiskState) (acknowledged : ℕ) (pending : List Entry) (machine : MachineState) : Type 0 where
+  pub settled : Settled now
+  pub leads : further (inputs_of pending) (stands rom (content now.sectors)) ≡ Some (record { count = acknowledged + length pending; machine = machine })
+
+-- ---- a game taken up
+
+-- what reads give stands for a position, and its generation has a next one: only memory or a failed call refuses it
+pub record CanBeTakenUp (rom : List ℕ) (old : DiskState) : Type 0 where
+  pub from : Position
+  pub stood : stands rom (content old.sectors) ≡ Some from
+  pub unworn : generation_in old.sectors < 2 ^ 64 - 1
+
+-- the image stands for what one stood for before
+pub record StandsAsBefore (rom : List ℕ) (old : DiskState) (image : List (List ℕ)) : Type 0 where
+  pub before : List (List ℕ)
+  pub stood : old.image before
+  pub is : stands rom (content image) ≡ stands rom (content before)

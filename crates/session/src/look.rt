@@ -7,7 +7,8 @@ ghost use Rattle.sector_device.specs.DiskState.{HasAnswered};
 ghost use Rattle.sector_device.specs.Runs.{HoldsSince};
 ghost use Rattle.input_entries.specs.Inputs.{inputs};
 ghost use Rattle.sector_log.specs.Accessors.{device_under, found_generation, seen};
-ghost use Rattle.session.specs.Calls.{IsAtRest, StandsAsBefore, faults_after};
+ghost use Rattle.session.specs.Calls.{faults_after};
+ghost use Rattle.session.specs.Stands.{IsAtRest, StandsAsBefore};
 ghost use Rattle.session.specs.Found.{IsTakeUpCause};
 ghost use Rattle.session.specs.Recovery.{IsRecovered};
 ghost use Rattle.session.specs.Resting.{IsOfItsRom, own_prop, LooksAt, looks_prop};
@@ -51,7 +52,8 @@ fn logged_of<D: SectorDevice>(opened: &Opened<D>, count: u64, machine: &Machine)
 }
 
 impl<D: SectorDevice> Look<D> {
-    ghost use Rattle.session.specs.Accessors.{device_of, machine_of, rom_of, pending_of, acknowledged_of, is_broken, left_by, device_of_look, machine_of_look, rom_of_look, count_of_look, logged_of_look, generation_of_look};
+    ghost use Rattle.session.specs.Accessors.{device_of, machine_of, rom_of, pending_of, acknowledged_of, is_broken, left_by};
+    ghost use Rattle.session.specs.LookAccessors.{device_of_look, machine_of_look, rom_of_look, count_of_look, logged_of_look, generation_of_look};
 
     /// A look at what was opened, with the machine that was rebuilt, and room for its snapshot.
     pub(crate) fn at(opened: Opened<D>, count: u64, machine: Machine, mut room: Vec<u8>) -> Self

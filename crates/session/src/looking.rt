@@ -6,10 +6,10 @@ ghost use Rattle.sector_device.specs.Looking.{HasLooked};
 ghost use Rattle.input_entries.specs.Inputs.{inputs};
 ghost use Rattle.log_format.specs.Content.{content, generation_in};
 ghost use Rattle.log_format.specs.Found.{log_of};
-ghost use Rattle.session.specs.Calls.{IsAtRest, CanBeLookedAt, faults_after};
+ghost use Rattle.session.specs.Calls.{CanBeLookedAt, faults_after};
+ghost use Rattle.session.specs.Stands.{IsAtRest, stands};
 ghost use Rattle.session.specs.Found.{IsLookCause};
-ghost use Rattle.session.specs.Stands.{stands};
-ghost use Rattle.session.specs.Accessors.{device_of_look, machine_of_look, count_of_look, logged_of_look, generation_of_look, left_by_look};
+ghost use Rattle.session.specs.LookAccessors.{device_of_look, machine_of_look, count_of_look, logged_of_look, generation_of_look, left_by_look};
 ghost use Rattle.session.specs.declared.error.SessionError.TheVariants.{Memory, Device};
 
 use crate::begin::{blank_snapshot, fault_of, snapshot_length};

@@ -5,9 +5,9 @@ ghost use Rattle.sector_device.specs.DiskState.{HasAnswered};
 ghost use Rattle.sector_device.specs.Looking.{HasLooked};
 ghost use Rattle.sector_device.specs.Runs.{HoldsSince};
 ghost use Rattle.log_format.specs.Content.{content, generation_in};
-ghost use Rattle.session.specs.Calls.{IsAtRest, CanBeTakenUp, StandsAsBefore, faults_after};
+ghost use Rattle.session.specs.Calls.{faults_after};
+ghost use Rattle.session.specs.Stands.{IsAtRest, CanBeTakenUp, StandsAsBefore, stands};
 ghost use Rattle.session.specs.Found.{IsResumeCause};
-ghost use Rattle.session.specs.Stands.{stands};
 ghost use Rattle.session.specs.Accessors.{device_of, machine_of, rom_of, pending_of, acknowledged_of, is_broken, left_by};
 ghost use Rattle.session.specs.declared.error.SessionError.TheVariants.{Memory, Device};
 

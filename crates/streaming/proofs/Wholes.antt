@@ -8,8 +8,7 @@ use Rattle.snapshot.specs.Legal.{IsMachineOf}
 use Rattle.sector_device.specs.DiskState.{DiskState}
 use Rattle.sector_device.specs.Runs.{HoldsSince}
 use Rattle.log_format.specs.Content.{content}
-use Rattle.session.specs.Calls.{IsAtRest, StandsAsBefore}
-use Rattle.session.specs.Stands.{Position, stands}
+use Rattle.session.specs.Stands.{IsAtRest, StandsAsBefore, Position, stands}
 use Rattle.session.specs.declared.error.SessionError.{SessionError}
 use Rattle.session.proofs.Writes.{since_weaker}
 use Rattle.session.proofs.Beginnings.{since_then}

@@ -6,8 +6,8 @@ use Rattle.snapshot.specs.Legal.{IsMachineOf}
 use Rattle.sector_device.specs.DiskState.{DiskState}
 use Rattle.sector_device.specs.Runs.{HoldsSince}
 use Rattle.log_format.specs.Content.{content}
-use Rattle.session.specs.Calls.{IsAtRest, faults_after}
-use Rattle.session.specs.Stands.{Position, stands}
+use Rattle.session.specs.Calls.{faults_after}
+use Rattle.session.specs.Stands.{IsAtRest, Position, stands}
 use Rattle.session.specs.declared.error.SessionError.{SessionError}
 use Rattle.playing.specs.Played.{IsNotTakenUp, IsStop, PlayImage, Reaches}
 use Rattle.playing.specs.Report.{texts, HasTold}

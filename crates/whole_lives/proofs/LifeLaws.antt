@@ -11,9 +11,8 @@ use Rattle.sector_device.specs.DiskState.{DiskState}
 use Rattle.sector_device.specs.Memory.{MemoryState, memory_disk}
 use Rattle.sector_device.specs.Runs.{HoldsSince}
 use Rattle.log_format.specs.Content.{content, generation_in}
-use Rattle.session.specs.Calls.{StandsAsBefore}
+use Rattle.session.specs.Stands.{StandsAsBefore, Position, stands}
 use Rattle.session.specs.Found.{IsResumeCause}
-use Rattle.session.specs.Stands.{Position, stands}
 use Rattle.session.specs.declared.error.SessionError.{SessionError}
 use Rattle.session.specs.declared.error.SessionError.TheVariants.{Memory, Device, NoSession, TooSmall, OtherCartridge, Damaged, GenerationsUsedUp, Broken, SaveFirst, CountFull, Output}
 use Rattle.session.proofs.StandsLaws.{after_append, after_none}

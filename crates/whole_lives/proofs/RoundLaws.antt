@@ -11,8 +11,8 @@ use Rattle.sector_device.specs.Runs.{HoldsSince}
 use Rattle.sector_device.specs.declared.memory.MemoryDevice.{MemoryDevice}
 use Rattle.log_format.specs.Content.{content, generation_in}
 use Rattle.input_entries.specs.declared.Entry.{Entry}
-use Rattle.session.specs.Calls.{CanBeTakenUp, StandsAsBefore, faults_after}
-use Rattle.session.specs.Stands.{Position, stands}
+use Rattle.session.specs.Calls.{faults_after}
+use Rattle.session.specs.Stands.{CanBeTakenUp, StandsAsBefore, Position, stands}
 use Rattle.session.specs.declared.error.SessionError.{SessionError}
 use Rattle.session.specs.declared.error.SessionError.TheVariants.{Memory, Device, NoSession, TooSmall, OtherCartridge, Damaged, GenerationsUsedUp, Broken, SaveFirst, CountFull, Output}
 use Rattle.session.specs.Found.{IsResumeCause}

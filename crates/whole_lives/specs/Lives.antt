@@ -6,7 +6,7 @@ use Rattle.snapshot.specs.Reading.{machine_in}
 use Rattle.sector_device.specs.DiskState.{DiskState}
 use Rattle.log_format.specs.Content.{content}
 use Rattle.session.specs.Stands.{Position, is_snapshot, stands}
-use Rattle.playing.specs.Report.{inputs_of_move}
+use Rattle.playing.specs.Inputs.{inputs_of_move}
 use Rattle.whole_lives.specs.declared.plays.Play.{Play}
 use Rattle.whole_lives.specs.declared.plays.Play.TheVariants.{Make, Restore}
 use Rattle.whole_lives.specs.declared.rounds.Round.{Round}

@@ -6,9 +6,8 @@ use Rattle.sector_device.specs.Memory.{MemoryState, memory_disk}
 use Rattle.sector_device.specs.Runs.{HoldsSince}
 use Rattle.log_format.specs.Content.{content, generation_in}
 use Rattle.script.specs.declared.moves.Move.TheVariants.{Save, Power}
-use Rattle.session.specs.Calls.{CanBeTakenUp, StandsAsBefore}
+use Rattle.session.specs.Stands.{CanBeTakenUp, StandsAsBefore, Position, stands}
 use Rattle.session.specs.Found.{IsResumeCause}
-use Rattle.session.specs.Stands.{Position, stands}
 use Rattle.session.specs.declared.error.SessionError.{SessionError}
 use Rattle.session.specs.declared.error.SessionError.TheVariants.{Memory, Device, NoSession, TooSmall, OtherCartridge, Damaged, GenerationsUsedUp, CountFull}
 use Rattle.whole_lives.specs.Lives.{HasLived, IsPlayedRound, LeavesLife, inputs_of_plays, inputs_of_round}

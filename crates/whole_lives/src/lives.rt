@@ -2,7 +2,7 @@
 ghost use Rattle.std.specs.Prelude.{◌≡◌, ◌≤◌, [], false, IfOk, IfErr};
 ghost use Rattle.sector_device.specs.Memory.{memory_disk};
 ghost use Rattle.sector_device.specs.MemoryDevice.{memory};
-ghost use Rattle.session.specs.Calls.{IsAtRest};
+ghost use Rattle.session.specs.Stands.{IsAtRest};
 ghost use Rattle.session.specs.Accessors.{device_of, machine_of, rom_of, pending_of, acknowledged_of, is_broken};
 ghost use Rattle.whole_lives.specs.Lives.{HasLived, LeavesLife, LeavesSomeLife, EachStands};
 ghost use Rattle.whole_lives.specs.Refusals.{IsByNoFuse, IsLast, IsLifeStop, IsOutOfMemory, IsSoundStop, CountsLifeFaults};

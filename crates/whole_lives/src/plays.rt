@@ -4,7 +4,7 @@ ghost use Rattle.snapshot.specs.Legal.{IsLegalSnapshot};
 ghost use Rattle.session.specs.Accessors.{rom_of, pending_of, acknowledged_of, is_broken};
 ghost use Rattle.session.specs.Calls.{most_unsaved};
 ghost use Rattle.playing.specs.Going.{place, all_of, Goes};
-ghost use Rattle.playing.specs.Report.{inputs_of_move};
+ghost use Rattle.playing.specs.Inputs.{inputs_of_move};
 ghost use Rattle.whole_lives.specs.Lives.{inputs_of_play, inputs_of_state};
 ghost use Rattle.whole_lives.specs.Rounds.{MakesPlays, StopsSilently, StopsPlays};
 

@@ -3,7 +3,7 @@ use Rattle.sector_device.specs.Looking.{HasLooked}
 use Rattle.log_format.specs.Content.{content}
 use Rattle.session.specs.Calls.{CanBeLookedAt}
 use Rattle.session.specs.Stands.{Position, stands}
-use Rattle.session.specs.Accessors.{machine_of_look, count_of_look}
+use Rattle.session.specs.LookAccessors.{machine_of_look, count_of_look}
 use Rattle.session.specs.declared.error.SessionError.TheVariants.{Memory}
 use Rattle.battery_files.specs.Battery.{battery_of}
 use Rattle.battery_files.proofs.exporting.export_battery.Goals as goal

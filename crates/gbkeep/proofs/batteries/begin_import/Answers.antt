@@ -2,7 +2,7 @@ use Rattle.std.proofs.Common.{[], subst}
 use Rattle.machine.specs.Machine.{MachineState}
 use Rattle.sector_device.specs.FileDevice.{file_disk}
 use Rattle.session.specs.Accessors.{device_of}
-use Rattle.session.specs.Calls.{IsAtRest}
+use Rattle.session.specs.Stands.{IsAtRest}
 use Rattle.gbkeep.proofs.batteries.begin_import.Goals as goal
 
 pub returns-in-Ok-new_game_from-clause-begun : goal.returns-in-Ok-new_game_from-clause-begun

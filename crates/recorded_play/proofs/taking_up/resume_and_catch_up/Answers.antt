@@ -3,7 +3,8 @@ use Rattle.sector_device.specs.DiskState.{HasAnswered}
 use Rattle.log_format.specs.Content.{generation_in}
 use Rattle.recording.specs.Accessors.{device_of as device_of_recording}
 use Rattle.session.specs.Stands.{Position}
-use Rattle.session.specs.Accessors.{device_of, machine_of, acknowledged_of, device_of_look, machine_of_look, count_of_look, generation_of_look}
+use Rattle.session.specs.Accessors.{device_of, machine_of, acknowledged_of}
+use Rattle.session.specs.LookAccessors.{device_of_look, machine_of_look, count_of_look, generation_of_look}
 use Rattle.session.proofs.Answering.{answered_both, answered_error, answered_refusal, answered_refused, answered_value}
 use Rattle.playing.specs.Going.{place}
 use Rattle.recorded_play.specs.CatchingUp.{recorded_in}

@@ -6,7 +6,8 @@ use Rattle.recording.specs.Calls.{IsOpenCause}
 use Rattle.recording.specs.Recorded.{recorded, entries}
 use Rattle.recording.specs.Accessors.{device_of as device_of_recording}
 use Rattle.session.specs.Stands.{Position}
-use Rattle.session.specs.Accessors.{device_of, machine_of, acknowledged_of, device_of_look, machine_of_look, count_of_look}
+use Rattle.session.specs.Accessors.{device_of, machine_of, acknowledged_of}
+use Rattle.session.specs.LookAccessors.{device_of_look, machine_of_look, count_of_look}
 use Rattle.session.proofs.Answering.{answered_error, answered_refusal, answered_then, answered_otherwise}
 use Rattle.playing.proofs.Stops.{if_err}
 use Rattle.recorded_play.specs.Agreeing.{AllAgree}

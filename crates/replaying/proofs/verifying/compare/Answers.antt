@@ -6,7 +6,7 @@ use Rattle.input_entries.specs.Inputs.{inputs}
 use Rattle.recording.specs.Recorded.{entries}
 use Rattle.recording.specs.Accessors.{device_of}
 use Rattle.session.specs.Inputs.{inputs_of}
-use Rattle.session.specs.Accessors.{machine_of_look, count_of_look}
+use Rattle.session.specs.LookAccessors.{machine_of_look, count_of_look}
 use Rattle.session.proofs.Beginnings.{machine_of_rom}
 use Rattle.replaying.proofs.verifying.compare.Goals as goal
 

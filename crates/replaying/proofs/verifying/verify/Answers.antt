@@ -8,7 +8,7 @@ use Rattle.recording.specs.Calls.{IsOpenCause}
 use Rattle.recording.specs.Recorded.{entries, recorded}
 use Rattle.recording.specs.Accessors.{device_of}
 use Rattle.session.specs.Stands.{Position}
-use Rattle.session.specs.Accessors.{device_of_look, machine_of_look, count_of_look}
+use Rattle.session.specs.LookAccessors.{device_of_look, machine_of_look, count_of_look}
 use Rattle.session.proofs.Answering.{answered_then}
 use Rattle.session.proofs.Beginnings.{if_ok_both, if_err}
 use Rattle.replaying.specs.Replayed.{LeadsWithin, IsCompareCauseWithin}

@@ -3,7 +3,7 @@ use Rattle.std.proofs.lemmas.Fmt.{contents_after_writes}
 use Rattle.arrayvec.specs.ArrayString.{ArrayString}
 use Rattle.sha2.specs.Sha256.{sha256}
 use Rattle.snapshot.specs.Encoding.{encoded}
-use Rattle.session.specs.Accessors.{machine_of_look, count_of_look, logged_of_look, generation_of_look}
+use Rattle.session.specs.LookAccessors.{machine_of_look, count_of_look, logged_of_look, generation_of_look}
 use Rattle.save_lines.specs.Shown.{inputs_line, logged_line, generation_line, sectors_line, rom_line, state_line, shown_text}
 use Rattle.save_lines.proofs.Lines.{five_texts}
 use Rattle.save_lines.proofs.showing.shown_text.Goals as goal

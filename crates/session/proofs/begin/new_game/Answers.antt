@@ -1,7 +1,8 @@
 use Rattle.std.proofs.Common.{[], inl, refl, subst}
 use Rattle.machine.specs.Machine.{MachineState}
 use Rattle.sector_device.specs.Runs.{HoldsSince}
-use Rattle.session.specs.Calls.{HasOldContentOrGame, IsAtRest}
+use Rattle.session.specs.Calls.{HasOldContentOrGame}
+use Rattle.session.specs.Stands.{IsAtRest}
 use Rattle.session.specs.Accessors.{device_of, left_by}
 use Rattle.session.proofs.Beginnings.{if_ok, since_now}
 use Rattle.session.proofs.Writes.{since_weaker}

@@ -7,10 +7,9 @@ use Rattle.input_entries.specs.Inputs.{inputs}
 use Rattle.log_format.specs.Content.{content}
 use Rattle.log_format.specs.Found.{Seen}
 use Rattle.sector_log.specs.Accessors.{device_under, found_generation, seen}
-use Rattle.session.specs.Calls.{IsAtRest}
+use Rattle.session.specs.Stands.{IsAtRest, stands}
 use Rattle.session.specs.Recovery.{IsRecovered, IsRecoveryCause}
-use Rattle.session.specs.Stands.{stands}
-use Rattle.session.specs.Accessors.{machine_of_look, count_of_look}
+use Rattle.session.specs.LookAccessors.{machine_of_look, count_of_look}
 use Rattle.session.proofs.Finding.{cause_found, memory_found, recovered_machine, recovered_stands}
 use Rattle.session.proofs.Looks.{at_rest_by, look_cause, looks_by}
 use Rattle.session.proofs.looking.look_at.Goals as goal

@@ -8,7 +8,7 @@ use Rattle.log_format.specs.Content.{content, generation_in, need}
 use Rattle.sector_log.specs.Accessors.{device_under, found_generation, seen}
 use Rattle.snapshot.specs.Legal.{IsMachineOf}
 use Rattle.sector_device.specs.Looking.{HasLooked}
-use Rattle.session.specs.Calls.{IsAtRest, StandsAsBefore}
+use Rattle.session.specs.Stands.{IsAtRest, StandsAsBefore}
 use Rattle.session.specs.Found.{IsResumeCause}
 use Rattle.session.specs.Beginning.{IsBeginRefusal}
 use Rattle.session.specs.Recovery.{IsRecoveryCause}

@@ -4,7 +4,8 @@ use Rattle.script.specs.declared.moves.Move.{Move}
 use Rattle.sector_device.specs.RecordLaws.{only_last}
 use Rattle.session.specs.Accessors.{pending_of}
 use Rattle.playing.specs.Going.{place, Goes, GoesNoFurther}
-use Rattle.playing.specs.Report.{inputs_of_move, unsaved_behind_moves}
+use Rattle.playing.specs.Report.{unsaved_behind_moves}
+use Rattle.playing.specs.Inputs.{inputs_of_move}
 use Rattle.playing.proofs.Going.{goes_all, no_further_at_all}
 use Rattle.whole_lives.proofs.PlayLaws.{not_for_memory}
 use Rattle.whole_lives.proofs.plays.take_move.Goals as goal

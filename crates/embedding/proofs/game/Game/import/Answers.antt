@@ -2,7 +2,7 @@ use Rattle.std.proofs.Common.{◌≡◌, ◌∙◌, ℕ, List, [], length, true,
 use Rattle.cartridge.specs.Header.{has_battery}
 use Rattle.machine.specs.Machine.{MachineState}
 use Rattle.session.specs.Accessors.{device_of, machine_of, rom_of, pending_of, acknowledged_of, is_broken}
-use Rattle.session.specs.Calls.{IsAtRest}
+use Rattle.session.specs.Stands.{IsAtRest}
 use Rattle.session.proofs.Beginnings.{if_err, if_ok}
 use Rattle.battery_files.specs.Importing.{IsImportCause as IsFileCause, is_taken_length, start_with}
 use Rattle.embedding.specs.Games.{IsImportCause}

@@ -3,8 +3,7 @@ use Rattle.std.specs.Prelude.{Some}
 use Rattle.sector_device.specs.DiskState.{sector_at}
 use Rattle.log_format.specs.Content.{content}
 use Rattle.session.specs.Accessors.{device_of, machine_of, rom_of, pending_of, acknowledged_of, is_broken}
-use Rattle.session.specs.Calls.{IsAtRest}
-use Rattle.session.specs.Stands.{stands}
+use Rattle.session.specs.Stands.{IsAtRest, stands}
 use Rattle.session.proofs.Beginnings.{if_ok}
 use Rattle.embedding.specs.Games.{IsFrom}
 use Rattle.embedding.specs.HostDevices.{count_of, host_disk}

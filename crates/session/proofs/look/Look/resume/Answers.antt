@@ -6,8 +6,9 @@ use Rattle.snapshot.specs.Encoding.{encoded, snapshot_length}
 use Rattle.sector_device.specs.Runs.{HoldsSince}
 use Rattle.log_format.specs.Content.{need}
 use Rattle.sector_log.specs.Accessors.{found_generation}
-use Rattle.session.specs.Calls.{IsAtRest, StandsAsBefore}
-use Rattle.session.specs.Accessors.{device_of, machine_of, device_of_look, left_by}
+use Rattle.session.specs.Stands.{IsAtRest, StandsAsBefore}
+use Rattle.session.specs.Accessors.{device_of, machine_of, left_by}
+use Rattle.session.specs.LookAccessors.{device_of_look}
 use Rattle.session.proofs.Beginnings.{if_ok_both, if_err, begun_at_rest, looked_resume}
 use Rattle.session.proofs.Looks.{looked_nothing, stood_at_rest, take_up_cause, taken_up_images}
 use Rattle.session.proofs.look.Look.resume.Goals as goal
