@@ -224,6 +224,11 @@ test:
 	CC="$(CC)" LIBRETRO="$(LIBRETRO)" python3 -B players/libretro/test_garbage.py 10; else echo 'there is no libretro.h: the core was not tried'; fi
 	python3 -B scripts/second_storage/hostile.py $(PROGRAM)/out/gbkeep_program 4 1
 	python3 -B scripts/second_machine/compare.py $(PROGRAM)/out/gbkeep_program tests 1 5
+	python3 -B scripts/second_machine/compare.py $(PROGRAM)/out/gbkeep_program refuse 1 3
+	python3 -B scripts/second_machine/compare.py $(PROGRAM)/out/gbkeep_program list 1 3
+	python3 -B scripts/second_machine/compare.py $(PROGRAM)/out/gbkeep_program frames 1 6
+	python3 -B scripts/second_machine/compare.py $(PROGRAM)/out/gbkeep_program features 1 25
+	python3 -B scripts/second_machine/compare.py $(PROGRAM)/out/gbkeep_program debug 1 5
 	python3 -B scripts/second_storage/traced.py $(PROGRAM)/out/gbkeep_program 2 1 crates/failed_syncs/out/failed_syncs
 	python3 -B examples/demo/check.py $(PROGRAM)/out/gbkeep_program
 	python3 -B examples/test_roms/check.py

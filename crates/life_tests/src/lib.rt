@@ -6,6 +6,4 @@ mod asserting;
 #[cfg(test)]
 mod common;
 #[cfg(test)]
-mod long;
-#[cfg(test)]
 mod rounds;

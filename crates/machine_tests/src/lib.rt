@@ -1,11 +1,9 @@
-//! Worked values on the bus, the whole machine and its snapshots, through their public calls.
+//! The bus at power-on, and snapshots that are refused, through public calls. Values of the machine are compared with the second one.
 #![tactic(auto)]
 
 #[cfg(test)]
 mod asserting;
 #[cfg(test)]
 mod buses;
-#[cfg(test)]
-mod machines;
 #[cfg(test)]
 mod snapshots;

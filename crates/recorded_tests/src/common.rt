@@ -3,7 +3,7 @@ use crate::asserting::{OrStop, holds, same};
 use cartridge::Cartridge;
 use input_entries::Logged;
 use machine::{Input, Machine, Region};
-use recorded_play::{RecordError, RecordedGame, record};
+use recorded_play::{RecordedGame, record};
 use recording::{Recording, create_recording, open_recording};
 use sector_device::{MemoryDevice, SectorDevice};
 use session::{Look, look_at, new_game};
@@ -86,51 +86,12 @@ pub(crate) struct Pair {
     pub(crate) recording: MemoryDevice,
 }
 
-/// What a recorded play answers, what it writes, and the devices that it leaves.
-pub(crate) fn records(
-    alloc: Global,
-    pair: Pair,
-    cartridge: &Cartridge,
-    lines: &[u8],
-    out: &mut Vec<u8>,
-) -> (Option<RecordError>, Pair) {
-    let Pair { save, recording } = pair;
-    let mut input = lines;
-    match record(alloc, save, recording, cartridge, &mut input, out) {
-        Ok(game) => (None, devices(game)),
-        Err(refused) => {
-            let pair = Pair {
-                save: refused.save,
-                recording: refused.recording,
-            };
-            (Some(refused.why), pair)
-        }
-    }
-}
-
 fn devices(game: RecordedGame<MemoryDevice, MemoryDevice>) -> Pair {
     let RecordedGame { session, recording } = game;
     Pair {
         save: session.into_device(),
         recording: recording.into_device(),
     }
-}
-
-/// A recorded play of copies of these devices answers and writes this.
-pub(crate) fn plays(
-    rt: &impl Abort,
-    alloc: Global,
-    pair: &Pair,
-    cartridge: &Cartridge,
-    lines: &[u8],
-    want: Option<RecordError>,
-    text: &[u8],
-) -> Pair {
-    let mut out = Vec::new(alloc);
-    let (why, left) = records(alloc, both(rt, alloc, pair), cartridge, lines, &mut out);
-    same!(rt; why, want);
-    holds!(rt; out.as_slice() == text);
-    left
 }
 
 pub(crate) fn both(rt: &impl Abort, alloc: Global, pair: &Pair) -> Pair {
@@ -230,22 +191,4 @@ pub(crate) fn agree(
     let found = snapshot_of(alloc, look.machine()).or_stop(rt);
     holds!(rt; found == want);
     (count, recording.input_count())
-}
-
-/// The greatest count that a report tells.
-pub(crate) fn told(text: &[u8]) -> u64 {
-    let mut most = 0;
-    let mut number: u64 = 0;
-    for byte in text {
-        if byte.is_ascii_digit() {
-            number = number
-                .saturating_mul(10)
-                .saturating_add(u64::from(*byte - b'0'));
-        }
-        if *byte == b'\n' {
-            most = number;
-            number = 0;
-        }
-    }
-    most
 }

@@ -1,9 +1,8 @@
 //! New games.
 use crate::asserting::{OrStop, holds, same};
 use crate::common::{
-    begun, begun_from, cartridge, cartridge_of, clock_snapshot, count, counts, frames_snapshot,
-    fresh, game, has_bytes, image, into_device, is_blank_from, left_by_game_from, left_by_new_game,
-    looks_at, resumes_at,
+    begun, cartridge, cartridge_of, clock_snapshot, counts, fresh, game, has_bytes, into_device,
+    is_blank_from, left_by_game_from, left_by_new_game, resumes_at,
 };
 use cartridge::Cartridge;
 use sector_device::MemoryDevice;
@@ -78,95 +77,6 @@ fn a_new_game_is_the_first_generation(rt: HostRuntime) {
     same!(rt; device.calls(), 97);
     let bytes = clock_snapshot(alloc, &cartridge, 0).or_stop(&rt);
     is_first_generation(&rt, &mut device, &cartridge, &bytes);
-}
-
-#[test]
-fn a_new_game_needs_room_for_its_last_call(rt: HostRuntime) {
-    let alloc = rt.alloc();
-    let cartridge = cartridge(alloc).or_stop(&rt);
-    let device = MemoryDevice::new(alloc, 188, 96).or_stop(&rt);
-    let (why, device) = left_by_new_game(alloc, device, &cartridge);
-    same!(rt; why, Some(SessionError::Device));
-    same!(rt; device.calls(), 96);
-}
-
-/// Each image that a new game leaves has the old game's 120 inputs, or none, and none alone if it was begun.
-fn leaves_old_or_new(
-    rt: &impl Abort,
-    alloc: Global,
-    cartridge: &Cartridge,
-    device: &MemoryDevice,
-    is_begun: bool,
-) {
-    for keeps in [[false, false], [true, true], [true, false]] {
-        let left = image(alloc, device, keeps).or_stop(rt);
-        let inputs = count(rt, alloc, left, cartridge);
-        holds!(rt; inputs == 0 || (inputs == 120 && !is_begun));
-    }
-}
-
-/// Whether a new game is begun that is cut behind so many calls.
-fn begins_before_the_cut(
-    rt: &impl Abort,
-    alloc: Global,
-    cartridge: &Cartridge,
-    old: &MemoryDevice,
-    calls: u64,
-) -> bool {
-    let mut device = old.image(alloc, &[]).or_stop(rt);
-    device.fuse(calls);
-    let (why, device) = left_by_new_game(alloc, device, cartridge);
-    holds!(rt; why.is_none() || why == Some(SessionError::Device));
-    leaves_old_or_new(rt, alloc, cartridge, &device, why.is_none());
-    why.is_none()
-}
-
-/// Of a new game over one of 120 inputs, cut at any call, the old game or the new one is left; once it was begun only the new one.
-#[test]
-fn a_new_game_cut_anywhere_leaves_old_or_new(rt: HostRuntime) {
-    let alloc = rt.alloc();
-    let cartridge = cartridge(alloc).or_stop(&rt);
-    let old = game(&rt, alloc, &cartridge, 120);
-    let mut begun_after = None;
-    for k in 0..103 {
-        let is_begun = begins_before_the_cut(&rt, alloc, &cartridge, &old, k);
-        if is_begun && begun_after.is_none() {
-            begun_after = Some(k);
-        }
-    }
-    // A sync, two roots, two log sectors; 93 sectors, a sync, the root and a sync.
-    same!(rt; begun_after, Some(101));
-}
-
-/// The device of a game begun with the machine of this snapshot.
-fn begins_with(
-    rt: &impl Abort,
-    alloc: Global,
-    old: MemoryDevice,
-    cartridge: &Cartridge,
-    bytes: &[u8],
-) -> MemoryDevice {
-    let session = begun_from(rt, alloc, old, cartridge, bytes);
-    same!(rt; counts(&session), [0, 0, 0]);
-    into_device(session)
-}
-
-fn is_not_power_on(rt: &impl Abort, alloc: Global, cartridge: &Cartridge, bytes: &[u8]) {
-    let start = frames_snapshot(alloc, cartridge, 0).or_stop(rt);
-    holds!(rt; bytes != start.as_slice());
-}
-
-/// A game begun with a machine that has run some frames counts none of them, and replaces what was there.
-#[test]
-fn a_game_begins_with_a_given_machine(rt: HostRuntime) {
-    let alloc = rt.alloc();
-    let cartridge = cartridge(alloc).or_stop(&rt);
-    let bytes = frames_snapshot(alloc, &cartridge, 3).or_stop(&rt);
-    is_not_power_on(&rt, alloc, &cartridge, &bytes);
-    let old = game(&rt, alloc, &cartridge, 5);
-    let device = begins_with(&rt, alloc, old, &cartridge, &bytes);
-    let device = looks_at(&rt, alloc, device, &cartridge, 0, &bytes);
-    resumes_at(&rt, alloc, device, &cartridge, 0, &bytes);
 }
 
 #[test]

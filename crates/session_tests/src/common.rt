@@ -3,7 +3,7 @@ use crate::asserting::{OrStop, holds, same};
 use cartridge::Cartridge;
 use machine::{Input, Machine, Region};
 use sector_device::{MemoryDevice, SectorDevice};
-use session::{Counts, Refused, Session, SessionError, look_at, new_game, new_game_from, resume};
+use session::{Counts, Refused, Session, SessionError, new_game, new_game_from, resume};
 use snapshot::{decode, encode, length};
 use std::alloc::Global;
 use std::process::Abort;
@@ -133,23 +133,6 @@ pub(crate) fn left_by_new_game(
     }
 }
 
-/// A game begun with the machine of this snapshot.
-pub(crate) fn begun_from(
-    rt: &impl Abort,
-    alloc: Global,
-    device: MemoryDevice,
-    cartridge: &Cartridge,
-    bytes: &[u8],
-) -> Session<MemoryDevice> {
-    let Ok(machine) = decode(alloc, bytes, cartridge) else {
-        panic!(rt; "no machine");
-    };
-    let Ok(session) = new_game_from(alloc, device, cartridge, machine) else {
-        panic!(rt; "not begun");
-    };
-    session
-}
-
 /// The device that a game with the machine of this snapshot leaves, whether it was begun or refused.
 pub(crate) fn left_by_game_from(
     rt: &impl Abort,
@@ -167,23 +150,6 @@ pub(crate) fn left_by_game_from(
     }
 }
 
-/// A look finds so many inputs, and the machine with this snapshot. The device that it leaves.
-pub(crate) fn looks_at(
-    rt: &impl Abort,
-    alloc: Global,
-    device: MemoryDevice,
-    cartridge: &Cartridge,
-    inputs: u64,
-    bytes: &[u8],
-) -> MemoryDevice {
-    let Ok(look) = look_at(alloc, device, cartridge) else {
-        panic!(rt; "not looked at");
-    };
-    same!(rt; look.count(), inputs);
-    holds!(rt; look.snapshot() == bytes);
-    look.into_device()
-}
-
 pub(crate) fn resumed(
     rt: &impl Abort,
     alloc: Global,
@@ -194,18 +160,6 @@ pub(crate) fn resumed(
         panic!(rt; "not resumed");
     };
     session
-}
-
-/// The device that a resume leaves, whether the game was taken up or refused.
-pub(crate) fn left_by_resume(
-    alloc: Global,
-    device: MemoryDevice,
-    cartridge: &Cartridge,
-) -> (Option<SessionError>, MemoryDevice) {
-    match resume(alloc, device, cartridge) {
-        Ok(session) => (None, session.into_device()),
-        Err(refused) => (Some(refused.why), refused.device),
-    }
 }
 
 /// A resume that is refused.

@@ -1,4 +1,4 @@
-//! Worked values on sessions, through their public calls: games begun, saved, cut at any device call and taken up again.
+//! Worked values on sessions, through their public calls: games begun, saved, refused and taken up again.
 #![tactic(auto)]
 
 #[cfg(test)]
@@ -8,11 +8,7 @@ mod beginnings;
 #[cfg(test)]
 mod common;
 #[cfg(test)]
-mod cuts;
-#[cfg(test)]
 mod found;
-#[cfg(test)]
-mod plays;
 #[cfg(test)]
 mod saves;
 #[cfg(test)]

@@ -4,7 +4,6 @@ use crate::common::{
     alternating, cartridge, counts, fresh, image, into_device, resumes_at, seconds, snapshot_of,
 };
 use cartridge::Cartridge;
-use machine::Input;
 use sector_device::MemoryDevice;
 use session::{Damage, Session, SessionError, new_game};
 use snapshot::SnapError;

@@ -268,16 +268,3 @@ fn a_changed_file_gives_a_fault(rt: HostRuntime) {
     reads(&rt, &mut device, 0, Some(6));
     fs::remove_file(&rt, path).or_stop(&rt);
 }
-
-#[test]
-fn faults_have_texts(rt: HostRuntime) {
-    let alloc = rt.alloc();
-    same!(rt;
-        format!(in alloc; "{}", DeviceFault::Device).or_stop(&rt).as_str(),
-        "device failed"
-    );
-    same!(rt;
-        format!(in alloc; "{}", DeviceFault::SizeNotSectors(1000)).or_stop(&rt).as_str(),
-        "device size 1000"
-    );
-}

@@ -1,4 +1,4 @@
-//! Worked values on devices and logs, through their public calls: real files, written bytes, and images after a power cut.
+//! Worked values on devices, logs and recordings, through their public calls: real files, written bytes, and refusals.
 #![tactic(auto)]
 
 #[cfg(test)]

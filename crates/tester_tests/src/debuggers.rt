@@ -1,7 +1,7 @@
 //! Steps of a debugger.
 use crate::roms::rom;
 use cartridge::Cartridge;
-use debugger::{Debugger, OutputFailed, Stop, write_stepped};
+use debugger::{Debugger, OutputFailed, write_stepped};
 use machine::{Machine, StepKind, Stepped};
 use std::alloc::Global;
 use std::process::Abort;
@@ -30,10 +30,6 @@ fn debugger(alloc: Global, program: &[u8], size: usize) -> Result<Debugger, Fail
 
 fn step(debugger: &mut Debugger) -> Stepped {
     debugger.step()
-}
-
-fn run_until(debugger: &mut Debugger, breaks: &[u16], limit: u32) -> Stop {
-    debugger.run_until(breaks, limit)
 }
 
 fn has_history(rt: &impl Abort, debugger: &Debugger, addresses: &[u16]) {
@@ -136,43 +132,6 @@ fn tells_each_step(rt: HostRuntime) -> Result<(), Fail> {
         let mut debugger = debugger(rt.alloc(), program, size)?;
         tells(&rt, rt.alloc(), &mut debugger, steps, lines);
         has_history(&rt, &debugger, addresses);
-    }
-    Ok(())
-}
-
-/// A run stops so, with PC there.
-fn stops(
-    rt: &impl Abort,
-    mut debugger: Debugger,
-    breaks: &[u16],
-    limit: u32,
-    stop: Stop,
-    pc: u16,
-) -> Machine {
-    assert_eq!(rt; run_until(&mut debugger, breaks, limit), stop);
-    assert_eq!(rt; debugger.machine().registers().pc, pc);
-    debugger.into_machine()
-}
-
-#[test]
-fn stops_at_a_break(rt: HostRuntime) -> Result<(), Fail> {
-    let cases: [(&[u8], &[u16], u32, Stop, u16); 9] = [
-        (&SUM, &[0x0104], 9, Stop::Break(0x0104), 0x0104),
-        (&SUM, &[0x0104, 0x0102], 9, Stop::Break(0x0102), 0x0102),
-        // the first step is not tested
-        (&SUM, &[0x0100], 3, Stop::Limit, 0x0105),
-        (&[0x18, 0xfe], &[0x0100], 3, Stop::Break(0x0100), 0x0100),
-        // nor is what follows the last
-        (&SUM, &[0x0104], 2, Stop::Limit, 0x0104),
-        (&SUM, &[0x0104], 3, Stop::Break(0x0104), 0x0104),
-        (&SUM, &[0x0103], 4, Stop::Limit, 0x0106),
-        (&SUM, &[], 1, Stop::Limit, 0x0102),
-        (&SUM, &[0x0100], 0, Stop::Limit, 0x0100),
-    ];
-    for (program, breaks, limit, stop, pc) in cases {
-        let debugger = debugger(rt.alloc(), program, 2)?;
-        let machine = stops(&rt, debugger, breaks, limit, stop, pc);
-        assert_eq!(rt; machine.registers().pc, pc);
     }
     Ok(())
 }

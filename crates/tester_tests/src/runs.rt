@@ -1,13 +1,12 @@
 //! Whole tests, with their text and verdict.
 
 use crate::asserting::{OrStop, same};
-use crate::roms::{FAILS, PASSES, PRINTS, rom};
+use crate::roms::{PASSES, PRINTS, rom};
 use cartridge::CartError;
 use script::ScriptError;
 use std::alloc::{AllocError, Global};
 use std::io::{self, Write};
 use std::process::Abort;
-use std::str;
 use test_run::{TestError, Verdict, run_test};
 
 /// Runs a test, and gives what it wrote. It has no contract, so that a test's proof does not follow the machine.
@@ -22,60 +21,6 @@ fn run(
         return Err(TestError::Memory);
     };
     run_test(alloc, rom, script, frames, out)
-}
-
-fn is_run(
-    rt: &impl Abort,
-    alloc: Global,
-    code: &[u8],
-    script: &[u8],
-    frames: u32,
-    verdict: Verdict,
-    text: &str,
-) {
-    let mut out = Vec::new(alloc);
-    let found = run(alloc, code, script, frames, &mut out);
-    same!(*rt; str::from_utf8(&out), Ok(text));
-    same!(*rt; found, Ok(verdict));
-}
-
-#[test]
-fn one_passes_by_registers(rt: HostRuntime) {
-    is_run(
-        &rt,
-        rt.alloc(),
-        &PASSES,
-        b"",
-        60,
-        Verdict::Passed,
-        "A=00 F=80 B=03 C=05 D=08 E=0D H=15 L=22 SP=FFFE PC=0185 IME=0\nframes 0\nended breakpoint\n",
-    );
-}
-
-#[test]
-fn one_fails_by_registers(rt: HostRuntime) {
-    is_run(
-        &rt,
-        rt.alloc(),
-        &FAILS,
-        b"",
-        60,
-        Verdict::Failed,
-        "A=00 F=A0 B=42 C=42 D=42 E=42 H=42 L=42 SP=FFFE PC=0171 IME=0\nframes 0\nended breakpoint\n",
-    );
-}
-
-#[test]
-fn one_prints_that_it_passed(rt: HostRuntime) {
-    is_run(
-        &rt,
-        rt.alloc(),
-        &PRINTS,
-        b"frames 80 3\nseconds 5\nsave\n",
-        60,
-        Verdict::Passed,
-        "timer: Passed\nA=00 F=80 B=00 C=13 D=00 E=D8 H=01 L=9D SP=FFFE PC=017B IME=0\nframes 1\nended loop\n",
-    );
 }
 
 /// A program that writes 41 to SB and 81 to SC, after which 20 M-cycles of the 1,024 are left when its loop has ended, and as many
@@ -133,144 +78,6 @@ fn what_is_sent_is_in_sb_as_the_last_cycle_begins(rt: HostRuntime) {
     begins_with(&rt, alloc, 14, &PUSHED, b"AB\nA=");
 }
 
-/// Each word counts wherever it stands, and `Failed` more; `LD B,B` after `EI` and `HALT` is one too.
-#[test]
-fn verdicts(rt: HostRuntime) {
-    let alloc = rt.alloc();
-    is_run(
-        &rt,
-        alloc,
-        &[0x40],
-        b"",
-        0,
-        Verdict::Undecided,
-        "A=01 F=80 B=00 C=13 D=00 E=D8 H=01 L=4D SP=FFFE PC=0100 IME=0\nframes 0\nended frames\n",
-    );
-    is_run(
-        &rt,
-        alloc,
-        &[0xfb, 0x40],
-        b"",
-        9,
-        Verdict::Undecided,
-        "A=01 F=80 B=00 C=13 D=00 E=D8 H=01 L=4D SP=FFFE PC=0102 IME=1\nframes 0\nended breakpoint\n",
-    );
-    is_run(
-        &rt,
-        alloc,
-        &[0xd3],
-        b"frames 00 7\n",
-        9,
-        Verdict::Undecided,
-        "A=01 F=80 B=00 C=13 D=00 E=D8 H=01 L=4D SP=FFFE PC=0101 IME=0\nframes 1\nended locked\n",
-    );
-    is_run(
-        &rt,
-        alloc,
-        &[0xc3, 0x00, 0x01],
-        b"",
-        9,
-        Verdict::Undecided,
-        "A=01 F=80 B=00 C=13 D=00 E=D8 H=01 L=4D SP=FFFE PC=0100 IME=0\nframes 1\nended loop\n",
-    );
-    is_run(
-        &rt,
-        alloc,
-        &[0xfb, 0x18, 0xfe],
-        b"frames 00 7\nseconds 9\n",
-        9,
-        Verdict::Undecided,
-        "A=01 F=80 B=00 C=13 D=00 E=D8 H=01 L=4D SP=FFFE PC=0101 IME=1\nframes 9\nended frames\n",
-    );
-    is_run(
-        &rt,
-        alloc,
-        &[0xfb, 0x18, 0xfe],
-        b"frames 00 70\n",
-        9,
-        Verdict::Undecided,
-        "A=01 F=80 B=00 C=13 D=00 E=D8 H=01 L=4D SP=FFFE PC=0101 IME=1\nframes 9\nended frames\n",
-    );
-}
-
-/// A program that writes a status to A000 and three bytes behind it, into RAM of the cartridge, and stays at a jump to itself.
-fn leaving(alloc: Global, status: u8, signature: [u8; 3]) -> Result<Vec<u8>, AllocError> {
-    let mut code = vec![in alloc; 0u8; 0x50]?;
-    // JP 0150; and in the header a controller with RAM, and its size
-    for (place, byte) in [(0, 0xc3), (1, 0x50), (2, 0x01), (0x47, 0x03), (0x49, 0x02)] {
-        if let Some(held) = code.get_mut(place) {
-            *held = byte;
-        }
-    }
-    let [first, second, third] = signature;
-    // RAM is opened by 0A
-    let writes = [
-        (0x0a, 0x00, 0x00),
-        (status, 0x00, 0xa0),
-        (first, 0x01, 0xa0),
-        (second, 0x02, 0xa0),
-        (third, 0x03, 0xa0),
-    ];
-    for (value, low, high) in writes {
-        // LD A,value; LD (address),A
-        code.extend_from_slice(&[0x3e, value, 0xea, low, high])?;
-    }
-    // LD A,00; JR -2
-    code.extend_from_slice(&[0x3e, 0x00, 0x18, 0xfe])?;
-    Ok(code)
-}
-
-fn leaves(
-    rt: &impl Abort,
-    alloc: Global,
-    status: u8,
-    signature: [u8; 3],
-    wanted: Verdict,
-    ended: &str,
-) {
-    let code = leaving(alloc, status, signature).or_stop(rt);
-    let mut out = Vec::new(alloc);
-    let found = run(alloc, &code, b"", 9, &mut out);
-    same!(*rt; found, Ok(wanted), "status {status}");
-    same!(*rt; str::from_utf8(&out).ok().and_then(|text| text.get(62..)), Some(ended));
-}
-
-/// A result in the memory counts where the whole signature stands behind it; from 80 on it is none.
-#[test]
-fn results_in_the_memory(rt: HostRuntime) {
-    let (alloc, signature) = (rt.alloc(), [0xde, 0xb0, 0x61]);
-    let (memory, still) = ("frames 1\nended memory\n", "frames 1\nended loop\n");
-    leaves(&rt, alloc, 0x00, signature, Verdict::Passed, memory);
-    leaves(&rt, alloc, 0x01, signature, Verdict::Failed, memory);
-    leaves(&rt, alloc, 0x7f, signature, Verdict::Failed, memory);
-    leaves(&rt, alloc, 0x80, signature, Verdict::Undecided, still);
-    leaves(&rt, alloc, 0xff, signature, Verdict::Undecided, still);
-    leaves(
-        &rt,
-        alloc,
-        0x00,
-        [0xdf, 0xb0, 0x61],
-        Verdict::Undecided,
-        still,
-    );
-    leaves(
-        &rt,
-        alloc,
-        0x00,
-        [0xde, 0xb1, 0x61],
-        Verdict::Undecided,
-        still,
-    );
-    leaves(
-        &rt,
-        alloc,
-        0x00,
-        [0xde, 0xb0, 0x60],
-        Verdict::Undecided,
-        still,
-    );
-}
-
 /// A program that sends these letters, waiting for each, and then runs D3. It stands after the header.
 fn saying(alloc: Global, word: &[u8]) -> Result<Vec<u8>, AllocError> {
     let mut code = vec![in alloc; 0u8; 0x50]?;
@@ -293,17 +100,6 @@ fn says(rt: &impl Abort, alloc: Global, word: &[u8], wanted: Verdict) {
     let found = run(alloc, &code, b"", 9, &mut out);
     same!(*rt; found, Ok(wanted));
     same!(*rt; out.get(..word.len()).unwrap_or(b""), word);
-}
-
-#[test]
-fn words_count_wherever_they_stand(rt: HostRuntime) {
-    let alloc = rt.alloc();
-    says(&rt, alloc, b"Passed", Verdict::Passed);
-    says(&rt, alloc, b"PassPassedP", Verdict::Passed);
-    says(&rt, alloc, b"PassFailed", Verdict::Failed);
-    says(&rt, alloc, b"FailedPassed", Verdict::Failed);
-    says(&rt, alloc, b"Passe", Verdict::Undecided);
-    says(&rt, alloc, b"passed failed", Verdict::Undecided);
 }
 
 /// Takes so many bytes, one in each write, and then none.

@@ -44,56 +44,6 @@ fn has(
     same!(rt; cartridge.title(), title);
 }
 
-#[test]
-fn reads_an_image_of_zeros(rt: HostRuntime) {
-    let cartridge = Cartridge::read(image(rt.alloc(), 32768, 0, 0).or_stop(&rt)).or_stop(&rt);
-    let wanted = [32768, 0, 0, 0, 2, 0, 0, 0, 0xE7];
-    has(&rt, &cartridge, wanted, Controller::NoMbc, b"");
-    // `head -c 32768 /dev/zero | sha256sum`
-    let digest = [
-        0xC3, 0x50, 0x20, 0x47, 0x3A, 0xED, 0x1B, 0x46, 0x42, 0xCD, 0x72, 0x6C, 0xAD, 0x72, 0x7B,
-        0x63, 0xFF, 0xF2, 0x82, 0x4A, 0xD6, 0x8C, 0xED, 0xD7, 0xFF, 0xB7, 0x3C, 0x7C, 0xBD, 0x89,
-        0x04, 0x79,
-    ];
-    same!(rt; digest_of(&cartridge), digest);
-}
-
-/// `digest` behind a function without a contract: a proof would follow SHA-256.
-fn digest_of(cartridge: &Cartridge) -> [u8; 32] {
-    cartridge.digest()
-}
-
-#[test]
-fn reads_a_header(rt: HostRuntime) {
-    let mut bytes = image(rt.alloc(), 65536, 0x1C, 0x03).or_stop(&rt);
-    assert_eq!(rt; bytes.len(), 65536);
-    bytes[0x134..0x13A].copy_from_slice(b"TETRIS");
-    bytes[0x148] = 0x01;
-    bytes[0x14D] = 0x99;
-    let cartridge = Cartridge::read(bytes).or_stop(&rt);
-    let wanted = [65536, 0x1C, 1, 0x01, 4, 0x03, 32768, 0x99, 0xEC];
-    has(&rt, &cartridge, wanted, Controller::Mbc5, b"TETRIS");
-}
-
-/// The cartridge of an image of zeros with these bytes from 0134 on. It has no contract: a proof would follow each byte.
-fn titled(rt: &impl Abort, alloc: Global, title: &[u8]) -> Cartridge {
-    let mut bytes = image(alloc, 32768, 0, 0).or_stop(rt);
-    for (place, byte) in bytes.iter_mut().skip(0x134).zip(title) {
-        *place = *byte;
-    }
-    Cartridge::read(bytes).or_stop(rt)
-}
-
-fn has_title(cartridge: &Cartridge, title: &[u8]) -> bool {
-    cartridge.title() == title
-}
-
-#[test]
-fn a_title_of_sixteen_bytes_has_no_end(rt: HostRuntime) {
-    let cartridge = titled(&rt, rt.alloc(), b"ABCDEFGHIJKLMNOP");
-    holds!(rt; has_title(&cartridge, b"ABCDEFGHIJKLMNOP"));
-}
-
 /// The outcome of reading an image of zeros with this length, type and RAM code.
 fn refused(rt: &impl Abort, alloc: Global, length: usize, kind: u8, ram_code: u8, text: &str) {
     let said = match Cartridge::read(image(alloc, length, kind, ram_code).or_stop(rt)) {
@@ -125,25 +75,5 @@ fn names_the_first_broken_rule(rt: HostRuntime) {
         (4194304, 0x13, 0x03, "too many banks 256"),
     ] {
         refused(&rt, rt.alloc(), length, kind, ram_code, text);
-    }
-}
-
-#[test]
-fn gives_each_type_its_controller_and_ram(rt: HostRuntime) {
-    for (length, kind, ram_code, controller, ram) in [
-        (32768, 0x08, 0x02, Controller::NoMbc, 8192),
-        (2097152, 0x03, 0x03, Controller::Mbc1, 32768),
-        (262144, 0x05, 0xFF, Controller::Mbc2, 512),
-        (2097152, 0x0F, 0x00, Controller::Mbc3Clock, 0),
-        (32768, 0x10, 0x05, Controller::Mbc3Clock, 65536),
-        (65536, 0x12, 0x03, Controller::Mbc3, 32768),
-        (8388608, 0x1B, 0x04, Controller::Mbc5, 131072),
-    ] {
-        let cartridge = Cartridge::read(image(rt.alloc(), length, kind, ram_code).or_stop(
-            &rt,
-        )).or_stop(&rt);
-        same!(rt; cartridge.controller(), controller);
-        same!(rt; cartridge.ram_length(), ram);
-        same!(rt; usize::from(cartridge.banks()), length / 16384);
     }
 }

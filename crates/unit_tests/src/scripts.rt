@@ -17,51 +17,6 @@ fn accepts(rt: &impl Abort, alloc: Global, script: &[u8], moves: &[Move]) {
     }
 }
 
-#[test]
-fn reads_moves(rt: HostRuntime) {
-    let alloc = rt.alloc();
-    accepts(&rt, alloc, b"", &[]);
-    accepts(&rt, alloc, b"\n\n", &[]);
-    accepts(
-        &rt,
-        alloc,
-        b"frames 00 3\nseconds 60\nsave\n",
-        &[frames(0, 3), Move::Seconds(60), Move::Save],
-    );
-    accepts(
-        &rt,
-        alloc,
-        b"\nsave\n\nframe 01",
-        &[Move::Save, frames(1, 1)],
-    );
-    accepts(
-        &rt,
-        alloc,
-        b"power\npower\nsave",
-        &[Move::Power, Move::Power, Move::Save],
-    );
-    accepts(
-        &rt,
-        alloc,
-        b"frame aF\nframe Fa",
-        &[frames(0xAF, 1), frames(0xFA, 1)],
-    );
-    accepts(
-        &rt,
-        alloc,
-        b"frames 80 1\nframes 10 1000000\n",
-        &[frames(0x80, 1), frames(0x10, 1_000_000)],
-    );
-    accepts(&rt, alloc, b"frames 09 0000000007", &[frames(9, 7)]);
-    accepts(
-        &rt,
-        alloc,
-        b"seconds 0\nseconds 4294967295",
-        &[Move::Seconds(0), Move::Seconds(u32::MAX)],
-    );
-    accepts(&rt, alloc, b"seconds 0000000000", &[Move::Seconds(0)]);
-}
-
 static WRONG_LINES: [(&[u8], u32); 35] = [
     (b"save\nframe 1G\n", 2),
     (b"\nwait", 2),
@@ -135,12 +90,4 @@ fn has_a_most_of_bytes(rt: HostRuntime) {
             "{first} and {newlines}"
         );
     }
-}
-
-#[test]
-fn says_what_is_wrong(rt: HostRuntime) {
-    let line = format!(in rt.alloc(); "{}", ScriptError::Script(12)).or_stop(&rt);
-    same!(rt; line.as_str(), "script line 12");
-    let memory = format!(in rt.alloc(); "{}", ScriptError::Memory).or_stop(&rt);
-    same!(rt; memory.as_str(), "no memory");
 }

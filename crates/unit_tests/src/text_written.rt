@@ -116,9 +116,3 @@ fn gives_digits(rt: HostRuntime) {
     same!(rt; word_digits(0xC0F9).as_str(), "C0F9");
     same!(rt; word_digits(0).as_str(), "0000");
 }
-
-#[test]
-fn says_what_failed(rt: HostRuntime) {
-    let text = format!(in rt.alloc(); "{OutputFailed}").or_stop(&rt);
-    same!(rt; text.as_str(), "output failed");
-}
