@@ -1,5 +1,0 @@
-use Rattle.std.proofs.Common.{[]}
-use Rattle.storage_tests.proofs.devices.a_file_of_other_size_is_refused.Given as goal
-
-abbrev pub ghost-attach : goal.ghost-attach
-ghost-attach g a = []

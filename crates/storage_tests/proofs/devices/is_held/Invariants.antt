@@ -1,5 +1,0 @@
-use Rattle.std.proofs.Common.{replicate}
-use Rattle.storage_tests.proofs.devices.is_held.Given as goal
-
-abbrev pub ghost-attach : goal.ghost-attach
-ghost-attach g a = replicate 3 (replicate 512 0)
