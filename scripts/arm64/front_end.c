@@ -1,16 +1,29 @@
-/* A front end of few lines, to try the libretro core for another processor: usage: front_end CORE CART SAVES FRAMES. It prints what the core tells, and a sum
- * of all pictures. */
+/* A front end of few lines, to try the libretro core for another processor: usage: front_end CORE CART SAVES FRAMES SECONDS. It prints what the core tells,
+ * and a sum of all pictures. The time of day is SECONDS since 1970 for as long as it runs: a game with a clock then shows the same in each run. */
+#define _GNU_SOURCE
 #include <dlfcn.h>
 #include <stdarg.h>
 #include <stdint.h>
 #include <stdio.h>
 #include <stdlib.h>
 #include <string.h>
+#include <sys/syscall.h>
+#include <time.h>
+#include <unistd.h>
 #include "libretro.h"
 
 static const char *saves;
+static time_t seconds;
 static uint64_t sum;
 static unsigned frame;
+
+/* The core calls this one, not the C library's, since the program exports it. */
+int clock_gettime(clockid_t clock, struct timespec *now) {
+    if (clock != CLOCK_REALTIME)
+        return (int)syscall(SYS_clock_gettime, clock, now);
+    *now = (struct timespec){seconds, 0};
+    return 0;
+}
 
 static bool environment(unsigned what, void *data) {
     switch (what) {
@@ -47,12 +60,13 @@ static int16_t pressed(unsigned port, unsigned device, unsigned index, unsigned 
 }
 
 int main(int count, char **words) {
-    void *core = count == 5 ? dlopen(words[1], RTLD_NOW) : NULL;
+    void *core = count == 6 ? dlopen(words[1], RTLD_NOW) : NULL;
     if (!core) {
-        fprintf(stderr, "front_end: %s\n", count == 5 ? dlerror() : "front_end CORE CART SAVES FRAMES");
+        fprintf(stderr, "front_end: %s\n", count == 6 ? dlerror() : "front_end CORE CART SAVES FRAMES SECONDS");
         return 1;
     }
     saves = words[3];
+    seconds = atoll(words[5]);
 #define CALL(name) ((__typeof__(&retro_##name))dlsym(core, "retro_" #name))
     struct retro_game_info info = {words[2], NULL, 0, NULL};
     CALL(set_environment)(environment);

@@ -22,6 +22,8 @@ DEMO = ROOT / 'examples/demo/demo.gb'
 # what an aarch64 program takes from the C library beyond the other: the heap, and its own start
 OF_ITS_OWN = {'malloc', 'realloc', 'free', '__libc_start_main'}
 LINES = 60
+# a time of day, in seconds since 1970
+TIME = 1_700_000_000
 # the kinds of hostile.py; not those that look at system calls, which are qemu's here, or at a folder in which there is no qemu
 KINDS = ('saves', 'scripts', 'bytes', 'kills', 'holds', 'places', 'pipes', 'shrinks', 'names', 'streams', 'recordings', 'batteries', 'debugs')
 
@@ -120,15 +122,16 @@ def test_core(gbkeep, folder, program, room):
     for name, compiler, before, used in (('here', os.environ.get('CC', 'cc'), [], gbkeep), ('there', target.compiler(), [EMULATOR, '-L', LIBRARIES], program)):
         front, saves = room / f'front-{name}', room / f'saves-{name}'
         saves.mkdir()
-        subprocess.run([compiler, '-std=gnu11', '-O1', '-Wall', '-Wextra', f'-I{headers}', '-o', front, ROOT / 'scripts/arm64/front_end.c', '-ldl'], check=True)
-        for cart in (DEMO, clock, DEMO):
-            done = subprocess.run([*before, front, cores[name], cart, saves, '200'], env=dict(os.environ, GBKEEP=str(used)), capture_output=True, text=True)
+        subprocess.run([compiler, '-std=gnu11', '-O1', '-Wall', '-Wextra', '-rdynamic', f'-I{headers}', '-o', front, ROOT / 'scripts/arm64/front_end.c', '-ldl'], check=True)
+        for cart, seconds in ((DEMO, TIME), (clock, TIME), (DEMO, TIME), (clock, TIME + 100_000)):
+            done = subprocess.run([*before, front, cores[name], cart, saves, '200', str(seconds)], env=dict(os.environ, GBKEEP=str(used)), capture_output=True, text=True)
             expect(f'the core {name}', done.returncode, 0)
             told.setdefault(name, []).append(done.stdout)
         with_count = subprocess.run([gbkeep, 'frame', DEMO, saves / 'demo.gbkeep', room / f'{name}.pgm'], capture_output=True, text=True, check=True).stdout
         told[name] += [with_count, (room / f'{name}.pgm').read_text()]
     expect('what the core shows and keeps', told['there'], told['here'])
-    expect('its inputs', told['there'][3], 'resumed 400\n')
+    expect('its clock', told['there'][1] == told['there'][3], False)
+    expect('its inputs', told['there'][4], 'resumed 400\n')
     print('the core: the same pictures and the same game', flush=True)
 
 

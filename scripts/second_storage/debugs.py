@@ -40,7 +40,7 @@ def given(rnd, words, text):
             debug.stdin.write(text[at:at + size])
             debug.stdin.flush()
             at += size
-        out, err = debug.communicate(text[at:], timeout=10)
+        out, err = debug.communicate(text[at:], timeout=hostile.LONGEST)
     except BrokenPipeError:
         out, err = debug.communicate()
     return debug.returncode, out, err
@@ -99,7 +99,7 @@ def line_by_line(rnd, seed, rom, image, cart, count, machine):
         debug.communicate()
         status, rest, err = 0, b'', b''
     else:
-        rest, err = debug.communicate(timeout=10)
+        rest, err = debug.communicate(timeout=hostile.LONGEST)
         status = debug.returncode
     is_as(seed, 'the end of lines one by one', (status, rest, err), (0, b'', b''))
     is_as(seed, 'the game after lines one by one', hostile.count_of(get(SAVE), cart), count)

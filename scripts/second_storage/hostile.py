@@ -13,7 +13,8 @@ stream is closed, also in a root without /dev), streams (lines as they come, who
 system call fails, is cut short, or is the last; needs strace), recordings (a game with its recording, damaged, full, of another ROM, ahead, behind,
 killed), batteries (battery files that are taken and written, and what `show` prints), debugs (lines of `debug`, right and wrong, from power-on and over
 games, sound and damaged), hosts (a host that plays by libgbkeep, with its disk cut behind each call that it was handed out; needs bin/libgbkeep.so, or the
-one that GBKEEP_LIBRARY names). The status is 1 where anything differs, where gbkeep dies by a signal, or where it takes longer than 10 seconds."""
+one that GBKEEP_LIBRARY names). The status is 1 where anything differs, where gbkeep dies by a signal, or where it takes longer than 10
+seconds, or 60 where GBKEEP_EMULATED is set: where another processor is emulated."""
 import fcntl, os, random, re, resource, shutil, signal, subprocess, sys, tempfile, threading, time
 from gbkeep import save_files as ref
 from gbkeep.save_files import get, put
@@ -22,6 +23,7 @@ GB = os.path.abspath(sys.argv[1]) if len(sys.argv) > 1 else ''
 ROOM = tempfile.mkdtemp(prefix='hostile-')
 CART, SAVE, SCRIPT, OUT = (os.path.join(ROOM, name) for name in ('rom.gb', 'game.gbkeep', 'moves.script', 'out.pgm'))
 TYPES = {0x00: 2, 0x08: 2, 0x09: 2, 0x01: 4, 0x03: 4, 0x06: 4, 0x10: 4, 0x0F: 2, 0x13: 4, 0x1B: 4, 0x1E: 4}
+LONGEST = 60 if 'GBKEEP_EMULATED' in os.environ else 10
 differences = 0
 
 
@@ -33,7 +35,7 @@ def differs(kind, seed, what):
 
 def gbkeep(*words, **how):
     """Status, output and errors; a status below 0 is a signal."""
-    done = subprocess.run([GB] + list(words), capture_output=True, timeout=10, **how)
+    done = subprocess.run([GB] + list(words), capture_output=True, timeout=LONGEST, **how)
     return done.returncode, done.stdout, done.stderr
 
 
@@ -538,7 +540,7 @@ def small_disk(seed, image):
     disk = os.path.join(ROOM, 'disk')
     os.makedirs(disk, exist_ok=True)
     text = 'mount -t tmpfs -o size=%d none "$1" || exit 9; "$2" new "$3" "$1/game.gbkeep" %d; echo "$?" "$(ls -A "$1")"' % (len(image) * 7 // 8 // 4096 * 4096, len(image) // 512)
-    done = subprocess.run(['unshare', '--mount', 'sh', '-c', text, 'sh', disk, GB, CART], capture_output=True, timeout=10)
+    done = subprocess.run(['unshare', '--mount', 'sh', '-c', text, 'sh', disk, GB, CART], capture_output=True, timeout=LONGEST)
     if done.returncode == 0 and (done.stdout, done.stderr) != (b'1 \n', line('device failed')):
         differs('places', seed, 'new on a small disk: %r' % ((done.stdout, done.stderr),))
 
@@ -591,7 +593,7 @@ def pipes(rnd, seed):
         with open('/dev/full', 'wb') as full:
             for out in (writer, full):
                 gone(other)
-                done = subprocess.run([GB] + list(words), stdout=out, stderr=subprocess.PIPE, timeout=10)
+                done = subprocess.run([GB] + list(words), stdout=out, stderr=subprocess.PIPE, timeout=LONGEST)
                 if (done.returncode, done.stderr) != (1, line('output failed')):
                     differs('pipes', seed, '%s: %r' % (words, (done.returncode, done.stderr)))
         os.close(writer)
@@ -619,7 +621,7 @@ def shrinks(rnd, seed):
     play = subprocess.Popen([GB, 'play', CART, SAVE, SCRIPT], stdout=subprocess.PIPE, stderr=subprocess.PIPE)
     play.stdout.readline()
     os.truncate(SAVE, rnd.choice([0, 512, 1024, len(image) - 512, rnd.randrange(len(image))]))
-    out, err = play.communicate(timeout=10)
+    out, err = play.communicate(timeout=LONGEST)
     if (play.returncode, err) not in ((0, b''), (1, line('device failed'))):
         differs('shrinks', seed, 'the play: %r' % ((play.returncode, err),))
     put(SCRIPT, b'')
@@ -649,7 +651,7 @@ def no_longer_named(rnd, seed):
         os.rename(SAVE, aside)
     else:
         os.truncate(SAVE, len(image) + (512 if how == 'lengthened' else -512))
-    out, err = play.communicate(b'frames 02 %d\nsave\n' % rnd.choice([1, 60, 3199]), timeout=10)
+    out, err = play.communicate(b'frames 02 %d\nsave\n' % rnd.choice([1, 60, 3199]), timeout=LONGEST)
     want = (0, b'') if how == 'moved' else (1, line('device failed'))
     if (play.returncode, err) != want or (out != b'') != (how == 'moved'):
         differs('shrinks', seed, 'a save file that is %s: %r' % (how, (play.returncode, out, err)))
@@ -744,7 +746,7 @@ def closed(rnd, seed):
                 put(SAVE, image)
                 gone(OUT)
                 without = {'preexec_fn': lambda: [os.close(stream) for stream in streams], 'stdin': subprocess.DEVNULL}
-                done = subprocess.run([GB] + list(words), stdout=subprocess.DEVNULL, stderr=subprocess.DEVNULL, timeout=10, **without)
+                done = subprocess.run([GB] + list(words), stdout=subprocess.DEVNULL, stderr=subprocess.DEVNULL, timeout=LONGEST, **without)
                 left = get(SAVE)
                 roots = [left[at:at + 8] for at in (0, 512)]
                 whole = all(root in (bytes(8), b'GBKPROOT') for root in roots) and count_of(left, cart) in (before, before + 1)
@@ -787,7 +789,7 @@ def bare(rnd, seed):
         os.chmod(root, mode)
         for _ in range(3):
             done = subprocess.run(['/gbkeep', 'play', '/rom.gb', '/game.gbkeep', '/moves.script'], executable='/gbkeep', stdin=subprocess.DEVNULL,
-                                  stdout=subprocess.DEVNULL, stderr=subprocess.DEVNULL, preexec_fn=enter, timeout=10)
+                                  stdout=subprocess.DEVNULL, stderr=subprocess.DEVNULL, preexec_fn=enter, timeout=LONGEST)
         left = get(root + '/game.gbkeep')
         roots = [left[at:at + 8] for at in (0, 512)]
         if done.returncode not in (0, 1) or any(root not in (bytes(8), b'GBKPROOT') for root in roots) or mode == 0o711 and left != image:
@@ -874,9 +876,9 @@ def streams(rnd, seed):
         put(SAVE, image)
         with open(SCRIPT, 'rb') as file:
             stream = subprocess.Popen([GB, 'stream', CART, SAVE], stdin=file, stdout=subprocess.PIPE, stderr=subprocess.PIPE)
-            out, err = stream.communicate(timeout=10)
+            out, err = stream.communicate(timeout=LONGEST)
     else:
-        out, err = stream.communicate(text, timeout=10)
+        out, err = stream.communicate(text, timeout=LONGEST)
     told, pictures = without_pictures(out)
     if (stream.returncode, told, err) != want[:3] or not same_file(get(SAVE), want[3]) or any(len(one) != 46093 for one in pictures):
         return differs('streams', seed, 'wanted %r got %r' % ((want[0], want[1][-60:], want[2]), (stream.returncode, told[-60:], err)))
@@ -911,7 +913,7 @@ def streams(rnd, seed):
         if not told <= count_of(get(SAVE), cart) <= told + 1:
             return differs('streams', seed, 'killed: %d inputs, %d told' % (count_of(get(SAVE), cart), told))
         return
-    rest, err = stream.communicate(timeout=10)
+    rest, err = stream.communicate(timeout=LONGEST)
     want = streamed(image, cart, right)
     if (stream.returncode, report + rest, err) != want[:3] or not same_file(get(SAVE), want[3]):
         return differs('streams', seed, 'line by line: wanted %r got %r' % (want[:3], (stream.returncode, report + rest, err)))
@@ -973,7 +975,7 @@ def run(kind, seconds, first):
         try:
             KINDS[kind](random.Random('%s-%d' % (kind, seed)), seed)
         except subprocess.TimeoutExpired:
-            differs(kind, seed, 'takes longer than 10 seconds')
+            differs(kind, seed, 'takes longer than %d seconds' % LONGEST)
         seed += 1
     print('kind=%s seeds %d..%d differences=%d' % (kind, first, seed - 1, differences - before), flush=True)
 

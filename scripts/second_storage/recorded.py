@@ -41,7 +41,7 @@ def compare_record(seed, cart, lines, note, agree=True):
     """Records the lines in both; says whether they agree."""
     image, recording = get(SAVE), get(RECORDING)
     want = recorded(image, recording, cart, lines, agree)
-    done = subprocess.run([hostile.GB, 'record', CART, SAVE, RECORDING], input=b'\n'.join(lines), capture_output=True, timeout=10)
+    done = subprocess.run([hostile.GB, 'record', CART, SAVE, RECORDING], input=b'\n'.join(lines), capture_output=True, timeout=hostile.LONGEST)
     if wrong_size():
         is_as('recordings', seed, note, (done.returncode, done.stdout, done.stderr), wrong_size())
         return is_as('recordings', seed, note + ', files', (get(SAVE), get(RECORDING)), (image, recording))
@@ -153,7 +153,7 @@ def same_again(seed, cart):
     if os.path.exists(other):
         os.remove(other)
     gbkeep('new', CART, other)
-    done = subprocess.run([hostile.GB, 'stream', CART, other], input=script, capture_output=True, timeout=10)
+    done = subprocess.run([hostile.GB, 'stream', CART, other], input=script, capture_output=True, timeout=hostile.LONGEST)
     first, second = gbkeep('frame', CART, SAVE, OUT), None
     drawn = get(OUT)
     second = gbkeep('frame', CART, other, OUT)
