@@ -1,6 +1,6 @@
 //! A debugger over a game.
 
-ghost use Rattle.std.specs.Prelude.{◌≡◌, IfErr, OnOk};
+ghost use Rattle.std.specs.Prelude.{◌≡◌, true, IfErr, OnOk};
 ghost use Rattle.cartridge.specs.Accepted.{IsAccepted};
 ghost use Rattle.snapshot.specs.Legal.{IsMachineOf};
 ghost use Rattle.sector_device.specs.DiskState.{HasAnswered};
@@ -13,19 +13,20 @@ use crate::copy::copy_of;
 use crate::error::{DebugGameError, DebugGameRefused};
 use cartridge::Cartridge;
 use debugging::{DebugError, LineDebugger};
+use exact_text::Output;
+use input_lines::LineInput;
 use machine::Machine;
 use playing::write_resumed;
 use sector_device::SectorDevice;
 use session::resume;
 use std::alloc::Global;
-use std::io::{Read, Write};
 
 /// Takes up the game that a device holds, writes `resumed N`, N the count of its inputs, and debugs its machine, as `LineDebugger` obeys its
 /// lines. Nothing of that is saved: the device is left as taking the game up leaves it.
 ///
 /// Refusals, in this order, each of which hands the device back: what is wrong with the image; why the game can't be taken up; no memory for
 /// the debugger, all with nothing read and nothing written; why the debugger stopped.
-pub fn debug_game<D: SectorDevice, R: Read, W: Write>(
+pub fn debug_game<D: SectorDevice, R: LineInput, W: Output>(
     alloc: Global,
     device: D,
     rom: Vec<u8>,
@@ -50,6 +51,10 @@ pub fn debug_game<D: SectorDevice, R: Read, W: Write>(
           since = W.contents out.new;
         })
         refused.why) }
+    ensures input { IfErr result (λ refused.
+        refused.why ≡ DebugGameError.Debug DebugError.Input → R.has_failed input.new ≡ true) }
+    ensures output { IfErr result (λ refused.
+        refused.why ≡ DebugGameError.Debug DebugError.Output → W.has_failed out.new ≡ true) }
     ensures untouched { IfErr result (λ refused.
         (fault : _) → refused.why ≡ DebugGameError.Cart fault → refused.device ≡ device) }
     ensures answered { HasAnswered (λ refused. faults_after_debug refused.why) (D.disk device) (D.disk (left_by result))
@@ -79,7 +84,7 @@ pub fn debug_game<D: SectorDevice, R: Read, W: Write>(
 }
 
 /// Writes the line of the game and debugs its machine. `Err`: `Memory`, with nothing read and nothing written, or `Debug`.
-fn debug_machine<R: Read, W: Write>(
+fn debug_machine<R: LineInput, W: Output>(
     alloc: Global,
     inputs: u64,
     machine: &Machine,
@@ -103,6 +108,8 @@ fn debug_machine<R: Read, W: Write>(
           before = W.contents out.old;
           since = W.contents out.new;
         })) }
+    ensures input { IfErr result (λ why. why ≡ DebugGameError.Debug DebugError.Input → R.has_failed input.new ≡ true) }
+    ensures output { IfErr result (λ why. why ≡ DebugGameError.Debug DebugError.Output → W.has_failed out.new ≡ true) }
 {
     let Some(copy) = copy_of(alloc, machine, cartridge) else {
         return Err(DebugGameError::Memory);

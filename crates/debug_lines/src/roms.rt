@@ -1,6 +1,6 @@
 //! A debugger from power-on.
 
-ghost use Rattle.std.specs.Prelude.{IfErr, OnOk};
+ghost use Rattle.std.specs.Prelude.{◌≡◌, true, IfErr, OnOk};
 ghost use Rattle.cartridge.specs.Accepted.{IsAccepted};
 ghost use Rattle.machine.specs.Machine.{start};
 ghost use Rattle.debugging.specs.Debugged.{HasAnsweredAll};
@@ -9,16 +9,17 @@ ghost use Rattle.debug_lines.specs.Debugging.{IsDebugRomCause};
 
 use crate::error::DebugRomError;
 use cartridge::Cartridge;
-use debugging::LineDebugger;
+use debugging::{DebugError, LineDebugger};
+use exact_text::Output;
+use input_lines::LineInput;
 use machine::Machine;
 use std::alloc::Global;
-use std::io::{Read, Write};
 
 /// Debugs a cartridge from power-on, as `LineDebugger` obeys its lines.
 ///
 /// Refusals, in this order: what is wrong with the image; no memory, both with nothing read and nothing written; why the debugger stopped.
 #[tactic(auto, unfolding(bank_controllers::specs::CartridgeState::cartridge_at_power_on))]
-pub fn debug_rom<R: Read, W: Write>(
+pub fn debug_rom<R: LineInput, W: Output>(
     alloc: Global,
     rom: Vec<u8>,
     input: &mut R,
@@ -39,6 +40,8 @@ pub fn debug_rom<R: Read, W: Write>(
           before = W.contents out.old;
           since = W.contents out.new;
         }) why) }
+    ensures input { IfErr result (λ why. why ≡ DebugRomError.Debug DebugError.Input → R.has_failed input.new ≡ true) }
+    ensures output { IfErr result (λ why. why ≡ DebugRomError.Debug DebugError.Output → W.has_failed out.new ≡ true) }
 {
     let cartridge = match Cartridge::read(rom) {
         Ok(cartridge) => cartridge,

@@ -9,10 +9,9 @@ ghost use Rattle.machine.specs.FastRuns.{AreMarked};
 use crate::listing::write_lines;
 use crate::stop::Stop;
 use circular_buffer::HeapCircularBuffer;
-use exact_text::OutputFailed;
+use exact_text::{Output, OutputFailed};
 use machine::{Executed, Machine, StepKind, Stepped, Watch};
 use std::alloc::Global;
-use std::io::Write;
 use std::marker::Model;
 
 /// How many fast steps are put into the history at once: more than most histories hold, so that of a
@@ -220,14 +219,14 @@ impl Debugger {
 
     /// Writes the lines of `count` instructions as the machine sees them now, the first at
     /// `address`. Addresses wrap around after FFFF, and each line begins where the last one's
-    /// instruction ended. Refused if a write fails or takes no byte: a proper prefix of the lines
-    /// went out.
-    pub fn list<W: Write>(&self, address: u16, count: u32, out: &mut W) -> Result<(), OutputFailed>
+    /// instruction ended. Refused if a write fails: a proper prefix of the lines went out.
+    pub fn list<W: Output>(&self, address: u16, count: u32, out: &mut W) -> Result<(), OutputFailed>
         ensures ok { OnOk result
             (Appends (W.contents out.old) (W.contents out.new) (lines_from self.now.machine address count)) }
         ensures err { OnErr result
             (AppendsProperPrefix (W.contents out.old) (W.contents out.new)
             (lines_from self.now.machine address count)) }
+        ensures failed { OnErr result (W.has_failed out.new ≡ true) }
     {
         write_lines(&self.machine, address, count, out)
     }

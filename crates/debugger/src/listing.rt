@@ -1,14 +1,13 @@
 //! Instructions as a machine sees them.
 
-ghost use Rattle.std.specs.Prelude.{◌≡◌, [], ◌∷◌, OnOk, OnErr};
+ghost use Rattle.std.specs.Prelude.{◌≡◌, [], ◌∷◌, true, OnOk, OnErr};
 ghost use Rattle.std.specs.Io.KnownBytes.{Appends};
 ghost use Rattle.exact_text.specs.Written.{AppendsProperPrefix};
 ghost use Rattle.debugger.specs.Listing.{byte_after, line_at, address_after, lines_from};
 
-use exact_text::{OutputFailed, write_whole};
+use exact_text::{Output, OutputFailed, write_whole};
 use machine::Machine;
 use opcode_table::{Line, decode, list_line};
-use std::io::Write;
 
 /// The three bytes from an address on; addresses wrap around.
 fn three_bytes(machine: &Machine, address: u16) -> [u8; 3]
@@ -36,7 +35,7 @@ fn address_after(machine: &Machine, address: u16) -> u16
 }
 
 /// Writes the lines of `count` instructions.
-pub(crate) fn write_lines<W: Write>(
+pub(crate) fn write_lines<W: Output>(
     machine: &Machine,
     mut address: u16,
     count: u32,
@@ -46,6 +45,7 @@ pub(crate) fn write_lines<W: Write>(
         (Appends (W.contents out.old) (W.contents out.new) (lines_from machine.now address count)) }
     ensures err { OnErr result
         (AppendsProperPrefix (W.contents out.old) (W.contents out.new) (lines_from machine.now address count)) }
+    ensures failed { OnErr result (W.has_failed out.new ≡ true) }
 {
     for _i in 0..count {
         let text = line(machine, address);

@@ -1,14 +1,13 @@
 //! The line of a step.
 
-ghost use Rattle.std.specs.Prelude.{◌≡◌, codes, OnErr, OnOk};
+ghost use Rattle.std.specs.Prelude.{◌≡◌, codes, true, OnErr, OnOk};
 ghost use Rattle.std.specs.Io.KnownBytes.{Appends};
 ghost use Rattle.exact_text.specs.Written.{AppendsProperPrefix};
 ghost use Rattle.debugger.specs.Report.{interrupt_line, line_of};
 
-use exact_text::{OutputFailed, byte_digits, write_whole};
+use exact_text::{Output, OutputFailed, byte_digits, write_whole};
 use machine::{StepKind, Stepped};
 use opcode_table::{Line, list_line};
-use std::io::Write;
 
 fn line(kind: StepKind) -> Line
     ensures { result.bytes ≡ line_of kind }
@@ -39,12 +38,13 @@ fn interrupt_line(vector: u16) -> Line
 }
 
 /// Writes the line of a step: that of the instruction as in a listing, `wait`, or `interrupt` and
-/// the vector in two hexadecimal digits. Refused if a write fails or takes no byte: a proper prefix
-/// of the line went out.
-pub fn write_stepped<W: Write>(stepped: &Stepped, out: &mut W) -> Result<(), OutputFailed>
+/// the vector in two hexadecimal digits. Refused if a write fails: a proper prefix of the line
+/// went out.
+pub fn write_stepped<W: Output>(stepped: &Stepped, out: &mut W) -> Result<(), OutputFailed>
     ensures ok { OnOk result (Appends (W.contents out.old) (W.contents out.new) (line_of stepped.now.kind)) }
     ensures err { OnErr result
         (AppendsProperPrefix (W.contents out.old) (W.contents out.new) (line_of stepped.now.kind)) }
+    ensures failed { OnErr result (W.has_failed out.new ≡ true) }
 {
     let text = line(stepped.kind);
     write_whole(out, text.as_bytes())

@@ -1,6 +1,6 @@
 //! What is answered to a line.
 
-ghost use Rattle.std.specs.Prelude.{◌≡◌, [], drop, length, IfSome, OnErr, OnOk};
+ghost use Rattle.std.specs.Prelude.{◌≡◌, [], drop, length, true, OnErr, OnOk};
 ghost use Rattle.std.specs.Io.KnownBytes.{Appends};
 ghost use Rattle.exact_text.specs.Written.{AppendsProperPrefix};
 ghost use Rattle.memory_map.specs.BusRules.{bus_rules};
@@ -23,14 +23,12 @@ use arrayvec::ArrayString;
 use cartridge::Cartridge;
 use debugger::{Debugger, register_line, write_stepped};
 use digest_text::digest_digits;
-use exact_text::{OutputFailed, word_digits, write_whole};
+use exact_text::{Output, OutputFailed, number_digits, word_digits, write_whole};
 use machine::{Machine, Processor, StepKind, Stepped};
 use machine_lines::{write_count, write_memory, write_state};
 use memory_map::Bus;
 use sha2::{Digest, Sha256};
 use snapshot::encode;
-use std::fmt::Write as FormatWrite;
-use std::io::Write;
 
 /// A run after a line was obeyed, and whether its answer was written.
 #[derive(Drop)]
@@ -40,7 +38,7 @@ pub(crate) struct Answered {
 }
 
 /// Does what a line asks for, and answers it. Conditions: the ROM has `rom` bytes, and `snapshot` has room for the machine's.
-pub(crate) fn answer<W: Write>(
+pub(crate) fn answer<W: Output>(
     run: Run,
     line: &[u8],
     number: u64,
@@ -55,6 +53,7 @@ pub(crate) fn answer<W: Write>(
         (Appends (W.contents out.old) (W.contents out.new) (answer_line line.now number run)) }
     ensures err { OnErr result.written
         (AppendsProperPrefix (W.contents out.old) (W.contents out.new) (answer_line line.now number run)) }
+    ensures failed { OnErr result.written (W.has_failed out.new ≡ true) }
     ensures room { length snapshot.new ≡ length snapshot.old }
 {
     if line.is_empty() {
@@ -73,7 +72,7 @@ pub(crate) fn answer<W: Write>(
 }
 
 /// Makes the machine the one of these bytes, if they are a snapshot of the cartridge, and answers it. Condition: the machine is one of it.
-pub(crate) fn restore<W: Write>(
+pub(crate) fn restore<W: Output>(
     run: Run,
     cartridge: &Cartridge,
     bytes: &[u8],
@@ -88,6 +87,7 @@ pub(crate) fn restore<W: Write>(
     ensures err { OnErr result.written
         (AppendsProperPrefix (W.contents out.old) (W.contents out.new)
         (answer_restore (length bytes.now) bytes.now number run)) }
+    ensures failed { OnErr result.written (W.has_failed out.new ≡ true) }
 {
     let RunRestored { run, is_restored } = run.restore(cartridge, bytes);
     let written = if is_restored {
@@ -99,34 +99,34 @@ pub(crate) fn restore<W: Write>(
 }
 
 /// The line about a wrong line.
-pub(crate) fn write_wrong<W: Write>(number: u64, out: &mut W) -> Result<(), OutputFailed>
+pub(crate) fn write_wrong<W: Output>(number: u64, out: &mut W) -> Result<(), OutputFailed>
     ensures ok { OnOk result (Appends (W.contents out.old) (W.contents out.new) (wrong_line number)) }
     ensures err { OnErr result (AppendsProperPrefix (W.contents out.old) (W.contents out.new) (wrong_line number)) }
+    ensures failed { OnErr result (W.has_failed out.new ≡ true) }
 {
-    match wrong_text(number) {
-        Some(text) => write_whole(out, text.as_bytes()),
-        None => Err(OutputFailed),
-    }
+    let text = wrong_text(number);
+    write_whole(out, text.as_bytes())
 }
 
-fn wrong_text(number: u64) -> Option<ArrayString<32>>
-    ensures { IfSome result (λ text. text.bytes ≡ wrong_line number) }
+fn wrong_text(number: u64) -> ArrayString<32>
+    ensures { result.bytes ≡ wrong_line number }
 {
     let mut text = ArrayString::new();
-    match writeln!(text, "wrong {number}") {
-        Ok(()) => Some(text),
-        Err(_) => None,
-    }
+    text.push_str("wrong ");
+    text.push_str(number_digits(number).as_str());
+    text.push_str("\n");
+    text
 }
 
 /// Does what an order asks for, and answers it.
-fn obey<W: Write>(run: Run, order: Order, rom: usize, snapshot: &mut [u8], out: &mut W) -> Answered
+fn obey<W: Output>(run: Run, order: Order, rom: usize, snapshot: &mut [u8], out: &mut W) -> Answered
     requires rom { HasRom rom (processor_of run).memory }
     requires snapshot { length snapshot.old ≡ snapshot_length (length (processor_of run).memory.banks.ram) }
     ensures run { OnOk result.written (result.run ≡ after_order order run) }
     ensures ok { OnOk result.written (Appends (W.contents out.old) (W.contents out.new) (answer_to order run)) }
     ensures err { OnErr result.written
         (AppendsProperPrefix (W.contents out.old) (W.contents out.new) (answer_to order run)) }
+    ensures failed { OnErr result.written (W.has_failed out.new ≡ true) }
     ensures room { length snapshot.new ≡ length snapshot.old }
 {
     match order {
@@ -214,18 +214,19 @@ fn obey<W: Write>(run: Run, order: Order, rom: usize, snapshot: &mut [u8], out: 
     }
 }
 
-fn write_registers<W: Write>(run: &Run, out: &mut W) -> Result<(), OutputFailed>
+fn write_registers<W: Output>(run: &Run, out: &mut W) -> Result<(), OutputFailed>
     ensures ok { OnOk result
         (Appends (W.contents out.old) (W.contents out.new) (register_line (processor_of run.now))) }
     ensures err { OnErr result
         (AppendsProperPrefix (W.contents out.old) (W.contents out.new) (register_line (processor_of run.now))) }
+    ensures failed { OnErr result (W.has_failed out.new ≡ true) }
 {
     let text = register_line(run.processor());
     write_whole(out, text.as_bytes())
 }
 
 /// Writes which bank is mapped at an address. Condition: the ROM has `rom` bytes.
-fn write_bank<W: Write>(
+fn write_bank<W: Output>(
     run: &Run,
     rom: usize,
     address: u16,
@@ -238,6 +239,7 @@ fn write_bank<W: Write>(
     ensures err { OnErr result
         (AppendsProperPrefix (W.contents out.old) (W.contents out.new)
         (bank_line (bank_at (processor_of run.now).memory address))) }
+    ensures failed { OnErr result (W.has_failed out.new ≡ true) }
 {
     let text = bank_text(bank_at(&run.processor().memory, rom, address));
     write_whole(out, text.as_bytes())
@@ -254,13 +256,14 @@ fn bank_text(bank: u16) -> ArrayString<16>
 }
 
 /// Makes so many steps, and writes the line of each.
-fn write_steps<W: Write>(run: Run, count: u32, out: &mut W) -> Answered
+fn write_steps<W: Output>(run: Run, count: u32, out: &mut W) -> Answered
     ensures run { OnOk result.written (result.run ≡ after_steps_of count run) }
     ensures ok { OnOk result.written
         (Appends (W.contents out.old) (W.contents out.new) (step_lines bus_rules count (processor_of run))) }
     ensures err { OnErr result.written
         (AppendsProperPrefix (W.contents out.old) (W.contents out.new)
         (step_lines bus_rules count (processor_of run))) }
+    ensures failed { OnErr result.written (W.has_failed out.new ≡ true) }
 {
     run.no_step();
     let mut run = run;
@@ -281,7 +284,7 @@ fn write_steps<W: Write>(run: Run, count: u32, out: &mut W) -> Answered
 }
 
 /// Writes where a run is, and whether it stopped there.
-pub(crate) fn write_place<W: Write>(
+pub(crate) fn write_place<W: Output>(
     is_there: bool,
     processor: &Processor<Bus>,
     out: &mut W,
@@ -289,6 +292,7 @@ pub(crate) fn write_place<W: Write>(
     ensures ok { OnOk result (Appends (W.contents out.old) (W.contents out.new) (place_text is_there processor.now)) }
     ensures err { OnErr result
         (AppendsProperPrefix (W.contents out.old) (W.contents out.new) (place_text is_there processor.now)) }
+    ensures failed { OnErr result (W.has_failed out.new ≡ true) }
 {
     let text = place_text(is_there, processor);
     write_whole(out, text.as_bytes())
@@ -305,11 +309,12 @@ fn place_text(is_there: bool, processor: &Processor<Bus>) -> ArrayString<16>
 }
 
 /// Writes how many instructions follow, and then the last ones of the history, at most `most`.
-fn write_history<W: Write>(run: &Run, most: u32, out: &mut W) -> Result<(), OutputFailed>
+fn write_history<W: Output>(run: &Run, most: u32, out: &mut W) -> Result<(), OutputFailed>
     ensures ok { OnOk result
         (Appends (W.contents out.old) (W.contents out.new) (history_text most run.now.debugger.history)) }
     ensures err { OnErr result
         (AppendsProperPrefix (W.contents out.old) (W.contents out.new) (history_text most run.now.debugger.history)) }
+    ensures failed { OnErr result (W.has_failed out.new ≡ true) }
 {
     let length = run.debugger().history_len();
     let first = length.saturating_sub(most as usize);
@@ -320,12 +325,13 @@ fn write_history<W: Write>(run: &Run, most: u32, out: &mut W) -> Result<(), Outp
 }
 
 /// Writes the instructions of a history from an index on.
-fn write_seen<W: Write>(debugger: &Debugger, first: usize, out: &mut W) -> Result<(), OutputFailed>
+fn write_seen<W: Output>(debugger: &Debugger, first: usize, out: &mut W) -> Result<(), OutputFailed>
     ensures ok { OnOk result
         (Appends (W.contents out.old) (W.contents out.new) (flat_map line_seen (drop first debugger.now.history))) }
     ensures err { OnErr result
         (AppendsProperPrefix (W.contents out.old) (W.contents out.new)
         (flat_map line_seen (drop first debugger.now.history))) }
+    ensures failed { OnErr result (W.has_failed out.new ≡ true) }
 {
     for index in first..debugger.history_len() {
         if let Some(executed) = debugger.history(index) {
@@ -342,11 +348,12 @@ fn write_seen<W: Write>(debugger: &Debugger, first: usize, out: &mut W) -> Resul
 }
 
 /// Writes how many bytes follow, and then the bytes that were not told yet, which are told then.
-fn write_serial<W: Write>(run: Run, out: &mut W) -> Answered
+fn write_serial<W: Output>(run: Run, out: &mut W) -> Answered
     ensures run { OnOk result.written (result.run ≡ record run { sent = [] }) }
     ensures ok { OnOk result.written (Appends (W.contents out.old) (W.contents out.new) (serial_text run.sent)) }
     ensures err { OnErr result.written
         (AppendsProperPrefix (W.contents out.old) (W.contents out.new) (serial_text run.sent)) }
+    ensures failed { OnErr result.written (W.has_failed out.new ≡ true) }
 {
     let mut run = run;
     let written = write_sent(&run, out);
@@ -356,10 +363,11 @@ fn write_serial<W: Write>(run: Run, out: &mut W) -> Answered
     Answered { run, written }
 }
 
-fn write_sent<W: Write>(run: &Run, out: &mut W) -> Result<(), OutputFailed>
+fn write_sent<W: Output>(run: &Run, out: &mut W) -> Result<(), OutputFailed>
     ensures ok { OnOk result (Appends (W.contents out.old) (W.contents out.new) (serial_text run.now.sent)) }
     ensures err { OnErr result
         (AppendsProperPrefix (W.contents out.old) (W.contents out.new) (serial_text run.now.sent)) }
+    ensures failed { OnErr result (W.has_failed out.new ≡ true) }
 {
     let (first, second) = run.sent();
     if let Err(fault) = write_count("serial", first.len() + second.len(), out) {
@@ -375,7 +383,7 @@ fn write_sent<W: Write>(run: &Run, out: &mut W) -> Result<(), OutputFailed>
 }
 
 /// Writes the digest of the machine's snapshot, for which there is room.
-fn write_digest<W: Write>(
+fn write_digest<W: Output>(
     machine: &Machine,
     snapshot: &mut [u8],
     out: &mut W,
@@ -384,23 +392,20 @@ fn write_digest<W: Write>(
     ensures ok { OnOk result (Appends (W.contents out.old) (W.contents out.new) (digest_text machine.now)) }
     ensures err { OnErr result
         (AppendsProperPrefix (W.contents out.old) (W.contents out.new) (digest_text machine.now)) }
+    ensures failed { OnErr result (W.has_failed out.new ≡ true) }
     ensures room { length snapshot.new ≡ length snapshot.old }
 {
     encode(machine, snapshot);
-    match digest_text(Sha256::digest(snapshot)) {
-        Some(text) => write_whole(out, text.as_bytes()),
-        None => Err(OutputFailed),
-    }
+    let text = digest_text(Sha256::digest(snapshot));
+    write_whole(out, text.as_bytes())
 }
 
-fn digest_text(digest: [u8; 32]) -> Option<ArrayString<80>>
-    ensures { IfSome result (λ text. text.bytes ≡ digest_line digest) }
+fn digest_text(digest: [u8; 32]) -> ArrayString<80>
+    ensures { result.bytes ≡ digest_line digest }
 {
-    let digits = digest_digits(digest);
-    let digits = digits.as_str();
     let mut text = ArrayString::new();
-    match writeln!(text, "digest {digits}") {
-        Ok(()) => Some(text),
-        Err(_) => None,
-    }
+    text.push_str("digest ");
+    text.push_str(digest_digits(digest).as_str());
+    text.push_str("\n");
+    text
 }

@@ -1,6 +1,6 @@
 //! How long the instructions of a run took, by the byte of ROM with which each begins.
 
-ghost use Rattle.std.specs.Prelude.{◌≡◌, ◌≤◌, ◌<◌, ◌+◌, ◌^◌, ℕ, drop, length, IfOk, IfSome, OnErr, OnOk};
+ghost use Rattle.std.specs.Prelude.{◌≡◌, ◌≤◌, ◌<◌, ◌+◌, ◌^◌, ℕ, drop, length, true, IfOk, IfSome, OnErr, OnOk};
 ghost use Rattle.std.specs.Io.KnownBytes.{Appends};
 ghost use Rattle.std.specs.List.{count_by};
 ghost use Rattle.exact_text.specs.Written.{AppendsProperPrefix};
@@ -8,12 +8,10 @@ ghost use Rattle.debugging.specs.Counting.{IsWithin};
 ghost use Rattle.debugging.specs.Profile.{address_of_offset, begins_at, cycles_line, cycles_lines, cycles_text, is_some_cycle, no_cycles, rom_text, with_cycles};
 
 use arrayvec::ArrayString;
-use exact_text::{OutputFailed, word_digits, write_whole};
+use exact_text::{Output, OutputFailed, number_digits, word_digits, write_whole};
 use machine::StepKind;
 use machine_lines::write_count;
 use std::alloc::{AllocError, Global};
-use std::fmt::Write as FormatWrite;
-use std::io::Write;
 use std::marker::Model;
 
 /// The bytes of a bank of ROM.
@@ -59,11 +57,12 @@ impl CycleCounts {
 
     /// Writes the M-cycles of other steps, and then a line for each byte of ROM with which an instruction began. Condition: it has 2^30 bytes at
     /// most.
-    pub(crate) fn write<W: Write>(&self, out: &mut W) -> Result<(), OutputFailed>
+    pub(crate) fn write<W: Output>(&self, out: &mut W) -> Result<(), OutputFailed>
         requires { length self.now.rom ≤ 2 ^ 30 }
         ensures ok { OnOk result (Appends (W.contents out.old) (W.contents out.new) (cycles_text self.now)) }
         ensures err { OnErr result
             (AppendsProperPrefix (W.contents out.old) (W.contents out.new) (cycles_text self.now)) }
+        ensures failed { OnErr result (W.has_failed out.new ≡ true) }
     {
         if let Err(fault) = write_count("elsewhere", self.elsewhere as usize, out) {
             return Err(fault);
@@ -73,10 +72,11 @@ impl CycleCounts {
 }
 
 /// Writes how many lines follow, and then they. Condition: there are 2^30 bytes at most.
-fn write_rom<W: Write>(rom: &[u64], out: &mut W) -> Result<(), OutputFailed>
+fn write_rom<W: Output>(rom: &[u64], out: &mut W) -> Result<(), OutputFailed>
     requires { length rom.now ≤ 2 ^ 30 }
     ensures ok { OnOk result (Appends (W.contents out.old) (W.contents out.new) (rom_text rom.now)) }
     ensures err { OnErr result (AppendsProperPrefix (W.contents out.old) (W.contents out.new) (rom_text rom.now)) }
+    ensures failed { OnErr result (W.has_failed out.new ≡ true) }
 {
     if let Err(fault) = write_count("profile", lines_of(rom), out) {
         return Err(fault);
@@ -110,11 +110,12 @@ fn lines_of(rom: &[u64]) -> usize
 }
 
 /// Writes the line of each byte that has M-cycles. Condition: there are 2^30 bytes at most.
-fn write_lines<W: Write>(rom: &[u64], out: &mut W) -> Result<(), OutputFailed>
+fn write_lines<W: Output>(rom: &[u64], out: &mut W) -> Result<(), OutputFailed>
     requires { length rom.now ≤ 2 ^ 30 }
     ensures ok { OnOk result (Appends (W.contents out.old) (W.contents out.new) (cycles_lines 0 rom.now)) }
     ensures err { OnErr result
         (AppendsProperPrefix (W.contents out.old) (W.contents out.new) (cycles_lines 0 rom.now)) }
+    ensures failed { OnErr result (W.has_failed out.new ≡ true) }
 {
     for offset in 0..rom.len() {
         let cycles = rom[offset];
@@ -128,31 +129,29 @@ fn write_lines<W: Write>(rom: &[u64], out: &mut W) -> Result<(), OutputFailed>
     Ok(())
 }
 
-fn write_line<W: Write>(offset: usize, cycles: u64, out: &mut W) -> Result<(), OutputFailed>
+fn write_line<W: Output>(offset: usize, cycles: u64, out: &mut W) -> Result<(), OutputFailed>
     requires { offset < 2 ^ 30 }
     ensures ok { OnOk result (Appends (W.contents out.old) (W.contents out.new) (cycles_line offset cycles)) }
     ensures err { OnErr result
         (AppendsProperPrefix (W.contents out.old) (W.contents out.new) (cycles_line offset cycles)) }
+    ensures failed { OnErr result (W.has_failed out.new ≡ true) }
 {
-    match cycles_line(offset, cycles) {
-        Some(text) => write_whole(out, text.as_bytes()),
-        None => Err(OutputFailed),
-    }
+    let text = cycles_line(offset, cycles);
+    write_whole(out, text.as_bytes())
 }
 
-fn cycles_line(offset: usize, cycles: u64) -> Option<ArrayString<40>>
+fn cycles_line(offset: usize, cycles: u64) -> ArrayString<40>
     requires { offset < 2 ^ 30 }
-    ensures { IfSome result (λ text. text.bytes ≡ cycles_line offset cycles) }
+    ensures { result.bytes ≡ cycles_line offset cycles }
 {
-    let bank = word_digits((offset / ROM_BANK) as u16);
-    let bank = bank.as_str();
-    let address = word_digits(address_of(offset));
-    let address = address.as_str();
     let mut text = ArrayString::new();
-    match writeln!(text, "{bank}:{address} {cycles}") {
-        Ok(()) => Some(text),
-        Err(_) => None,
-    }
+    text.push_str(word_digits((offset / ROM_BANK) as u16).as_str());
+    text.push_str(":");
+    text.push_str(word_digits(address_of(offset)).as_str());
+    text.push_str(" ");
+    text.push_str(number_digits(cycles).as_str());
+    text.push_str("\n");
+    text
 }
 
 /// The address at which a byte of ROM is seen: the first 16 KiB at 0000, each other bank at 4000.

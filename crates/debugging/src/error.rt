@@ -8,7 +8,7 @@ pub enum DebugError {
     /// A read of the input failed.
     #[error("input failed")]
     Input,
-    /// A write failed or took no byte: a proper prefix of the answers went out.
+    /// A write failed: a proper prefix of the answers went out.
     #[error("output failed")]
     Output,
     /// There is no memory for a line that takes some: `power`, `profile`, or the first `keep` of a number.

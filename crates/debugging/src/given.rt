@@ -1,14 +1,13 @@
 //! The next line of an input, with the bytes that it asks for.
 
-ghost use Rattle.std.specs.Prelude.{◌≡◌, length};
+ghost use Rattle.std.specs.Prelude.{◌≡◌, length, true};
 ghost use Rattle.input_lines.specs.Reading.{left_of};
 ghost use Rattle.debugging.specs.Orders.{asked};
 ghost use Rattle.debugging.specs.NextGiven.{IsNextGiven, IsTakenAsked};
 
 use crate::order::read_restore;
 use arrayvec::ArrayVec;
-use input_lines::{NextLine, Taken, Unread, next_line, skip_bytes, take_bytes};
-use std::io::Read;
+use input_lines::{LineInput, NextLine, Taken, Unread, next_line, skip_bytes, take_bytes};
 
 /// What comes next.
 #[derive(Clone, Debug, PartialEq, Eq, Drop)]
@@ -38,7 +37,7 @@ fn asked(line: &[u8]) -> u32
 }
 
 /// Takes the bytes that a line asks for: as many as a snapshot has into `snapshot`.
-fn take_asked<R: Read>(
+fn take_asked<R: LineInput>(
     unread: &mut Unread,
     input: &mut R,
     snapshot: &mut [u8],
@@ -48,6 +47,7 @@ fn take_asked<R: Read>(
         (left_of unread.new.items (R.remaining input.new))
         (R.remaining input.new) }
     ensures room { length snapshot.new ≡ length snapshot.old }
+    ensures failed { result ≡ NextGiven.Failed → R.has_failed input.new ≡ true }
 {
     if size == snapshot.len() {
         return match take_bytes(unread, input, snapshot) {
@@ -64,7 +64,7 @@ fn take_asked<R: Read>(
 }
 
 /// Reads the next line, and the bytes that it asks for: those of `State` stand in `snapshot` then.
-pub(crate) fn next_given<R: Read>(
+pub(crate) fn next_given<R: LineInput>(
     unread: &mut Unread,
     input: &mut R,
     snapshot: &mut [u8],
@@ -73,6 +73,7 @@ pub(crate) fn next_given<R: Read>(
         (left_of unread.new.items (R.remaining input.new))
         (R.remaining input.new) }
     ensures room { length snapshot.new ≡ length snapshot.old }
+    ensures failed { result ≡ NextGiven.Failed → R.has_failed input.new ≡ true }
 {
     match next_line(unread, input) {
         NextLine::Line(line) => {

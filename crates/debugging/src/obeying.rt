@@ -1,6 +1,6 @@
 //! A debugger that obeys lines.
 
-ghost use Rattle.std.specs.Prelude.{◌≡◌, IfErr, IfOk, OnOk};
+ghost use Rattle.std.specs.Prelude.{◌≡◌, true, IfErr, IfOk, OnOk};
 ghost use Rattle.machine.specs.Machine.{MachineState};
 ghost use Rattle.snapshot.specs.Legal.{IsOfImage};
 ghost use Rattle.debugging.specs.Run.{begun};
@@ -14,12 +14,13 @@ use crate::run::Run;
 use crate::switching::switch;
 use arrayvec::ArrayVec;
 use cartridge::Cartridge;
+use exact_text::Output;
+use input_lines::LineInput;
 use machine::Machine;
 use machine_lines::KeptStates;
 use memory_map::Region;
 use snapshot::length;
 use std::alloc::{AllocError, Global};
-use std::io::{Read, Write};
 use std::marker::Model;
 
 /// A machine that is run and looked at by lines.
@@ -109,7 +110,7 @@ impl LineDebugger {
     ///
     /// Refusals: input failed, once every line that is whole, with its bytes, is answered; output failed, where a proper prefix of the answers went
     /// out; no memory for a line, where every line before it is answered. Such a line is `power`, `profile`, or the first `keep` of a number.
-    pub fn obey<R: Read, W: Write>(
+    pub fn obey<R: LineInput, W: Output>(
         self,
         alloc: Global,
         cartridge: &Cartridge,
@@ -131,6 +132,8 @@ impl LineDebugger {
               before = W.contents out.old;
               since = W.contents out.new;
             })) }
+        ensures input { IfErr result (λ why. why ≡ DebugError.Input → R.has_failed input.new ≡ true) }
+        ensures output { IfErr result (λ why. why ≡ DebugError.Output → W.has_failed out.new ≡ true) }
     {
         let LineDebugger {
             mut run,

@@ -1,6 +1,6 @@
 //! The power switch, states that are kept and taken up again, and runs that are measured.
 
-ghost use Rattle.std.specs.Prelude.{◌≡◌, ◌≢◌, ◌<◌, ◌≤◌, ◌++◌, ◌^◌, List, codes, length, slice_set, IfErr, IfOk, OnErr, OnOk};
+ghost use Rattle.std.specs.Prelude.{◌≡◌, ◌≢◌, ◌<◌, ◌≤◌, ◌++◌, ◌^◌, List, codes, length, slice_set, true, IfErr, IfOk, OnErr, OnOk};
 ghost use Rattle.std.specs.Io.KnownBytes.{Appends};
 ghost use Rattle.exact_text.specs.Written.{AppendsProperPrefix};
 ghost use Rattle.machine.specs.Legal.{IsLegalMachine};
@@ -23,18 +23,17 @@ use crate::order::{Place, StateOrder};
 use crate::profiling::run_counted;
 use crate::run::{Run, RunRestored, RunUntil};
 use cartridge::Cartridge;
-use exact_text::{OutputFailed, write_whole};
+use exact_text::{Output, OutputFailed, write_whole};
 use machine::{Processor, Region};
 use machine_lines::{KeptStates, write_count};
 use memory_map::Bus;
 use snapshot::length;
 use std::alloc::Global;
-use std::io::Write;
 
 /// Does what such an order asks for, and answers it. Conditions: the machine is one of the cartridge, and the number is one of those.
 ///
 /// Refusals: output failed, where a proper prefix of the answer went out; no memory, with nothing written.
-pub(crate) fn switch<W: Write>(
+pub(crate) fn switch<W: Output>(
     alloc: Global,
     cartridge: &Cartridge,
     run: Run,
@@ -58,6 +57,7 @@ pub(crate) fn switch<W: Write>(
           run = run;
           kept = machines;
         }) (W.contents out.old) (W.contents out.new)) }
+    ensures output { IfErr result (λ why. why ≡ DebugError.Output → W.has_failed out.new ≡ true) }
 {
     match order {
         StateOrder::Power => power(alloc, cartridge, run, out),
@@ -77,7 +77,7 @@ pub(crate) fn switch<W: Write>(
 }
 
 /// Switches the power off and on, and answers it. Condition: the machine is one of the cartridge.
-fn power<W: Write>(
+fn power<W: Output>(
     alloc: Global,
     cartridge: &Cartridge,
     run: Run,
@@ -88,6 +88,7 @@ fn power<W: Write>(
     ensures run { IfOk result (λ now. now ≡ after_power run) }
     ensures ok { OnOk result (Appends (W.contents out.old) (W.contents out.new) (codes "done\n")) }
     ensures err { IfErr result (λ why. IsRefusedAnswer why (codes "done\n") (W.contents out.old) (W.contents out.new)) }
+    ensures output { IfErr result (λ why. why ≡ DebugError.Output → W.has_failed out.new ≡ true) }
 {
     let Ok(run) = run.power(alloc, cartridge) else {
         return Err(DebugError::Memory);
@@ -99,7 +100,7 @@ fn power<W: Write>(
 }
 
 /// Makes steps whose M-cycles are counted, and tells them. Condition: the machine is one of the cartridge.
-fn profile<W: Write>(
+fn profile<W: Output>(
     alloc: Global,
     cartridge: &Cartridge,
     run: Run,
@@ -116,6 +117,7 @@ fn profile<W: Write>(
     ensures err { IfErr result (λ why.
         IsRefusedAnswer why (profile_text (until_steps steps places.now run) steps run) (W.contents out.old)
         (W.contents out.new)) }
+    ensures output { IfErr result (λ why. why ≡ DebugError.Output → W.has_failed out.new ≡ true) }
 {
     let rom = cartridge.rom().len();
     let Ok(mut counts) = CycleCounts::new(alloc, rom) else {
@@ -129,7 +131,7 @@ fn profile<W: Write>(
 }
 
 /// Writes where a run is, and the M-cycles that it took. Condition: the ROM has 2^30 bytes at most.
-fn write_profile<W: Write>(
+fn write_profile<W: Output>(
     is_there: bool,
     processor: &Processor<Bus>,
     counts: &CycleCounts,
@@ -141,6 +143,7 @@ fn write_profile<W: Write>(
     ensures err { OnErr result
         (AppendsProperPrefix (W.contents out.old) (W.contents out.new) (place_text is_there processor.now ++
         cycles_text counts.now)) }
+    ensures failed { OnErr result (W.has_failed out.new ≡ true) }
 {
     if let Err(fault) = write_place(is_there, processor, out) {
         return Err(fault);
@@ -149,7 +152,7 @@ fn write_profile<W: Write>(
 }
 
 /// Keeps the machine under a number, and answers it. Condition: it is one of the numbers.
-fn keep<W: Write>(
+fn keep<W: Output>(
     alloc: Global,
     run: Run,
     kept: &mut KeptStates,
@@ -163,6 +166,7 @@ fn keep<W: Write>(
     ensures size { length kept.old ≡ slots }
     ensures ok { OnOk result (Appends (W.contents out.old) (W.contents out.new) (count_line (codes "kept") slot)) }
     ensures err { IfErr result (λ why. IsRefusedAnswer why (count_line (codes "kept") slot) (W.contents out.old) (W.contents out.new)) }
+    ensures output { IfErr result (λ why. why ≡ DebugError.Output → W.has_failed out.new ≡ true) }
     ensures memory { IfErr result (λ why.
         why ≡ DebugError.Memory →
         length (state_under kept.old slot) ≢ snapshot_length (length (processor_of run).memory.banks.ram)) }
@@ -180,7 +184,7 @@ fn keep<W: Write>(
 }
 
 /// Makes the machine the one of a kept snapshot, if it is one of the cartridge, and answers it. Condition: the machine is one of it.
-fn back<W: Write>(
+fn back<W: Output>(
     cartridge: &Cartridge,
     run: Run,
     bytes: &[u8],
@@ -198,6 +202,7 @@ fn back<W: Write>(
         (AppendsProperPrefix (W.contents out.old) (W.contents out.new)
         (back_text (is_given (length bytes.now) bytes.now run) slot number)) }
     ensures output { IfErr result (λ why. why ≡ DebugError.Output) }
+    ensures failed { IfErr result (λ why. why ≡ DebugError.Output → W.has_failed out.new ≡ true) }
 {
     let RunRestored { run, is_restored } = run.restore(cartridge, bytes);
     match write_back(is_restored, slot, number, out) {
@@ -207,7 +212,7 @@ fn back<W: Write>(
 }
 
 /// The answer to `back`.
-fn write_back<W: Write>(
+fn write_back<W: Output>(
     is_restored: bool,
     slot: u32,
     number: u64,
@@ -216,6 +221,7 @@ fn write_back<W: Write>(
     ensures ok { OnOk result (Appends (W.contents out.old) (W.contents out.new) (back_text is_restored slot number)) }
     ensures err { OnErr result
         (AppendsProperPrefix (W.contents out.old) (W.contents out.new) (back_text is_restored slot number)) }
+    ensures failed { OnErr result (W.has_failed out.new ≡ true) }
 {
     if is_restored {
         return write_count("back", slot as usize, out);

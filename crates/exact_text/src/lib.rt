@@ -1,42 +1,51 @@
 //! Text whose bytes are known, and writing it whole or not.
 //!
-//! A line is built in an `ArrayString`, which takes no memory, and `write_whole` hands it to any
-//! writer. What several calls have written together is told by the laws in `proofs/Writes.antt`.
+//! A line is built in an `ArrayString`, which takes no memory, and `write_whole` hands it to an
+//! `Output`, which tells whether a write has failed; `CheckedOutput` makes one of any writer. What
+//! several calls have written together is told by the laws in `proofs/Writes.antt`.
 #![tactic(auto)]
 
-ghost use Rattle.std.specs.Prelude.{◌≡◌, ◌+◌, ◌<◌, ◌≤◌, ◌++◌, OnOk, OnErr};
+ghost use Rattle.std.specs.Prelude.{◌≡◌, ◌+◌, ◌<◌, ◌≤◌, ◌++◌, decimal, length, true, OnOk, OnErr};
 ghost use Rattle.std.specs.Io.KnownBytes.{Appends};
 ghost use Rattle.arrayvec.specs.ArrayString.{array_string_len};
 ghost use Rattle.exact_text.specs.Hex.{hex_digit, byte_text, word_text};
 ghost use Rattle.exact_text.specs.Written.{AppendsProperPrefix};
 
+mod output;
+
 use arrayvec::ArrayString;
-use std::io::Write;
-use thiserror::Error;
+use itoa::Buffer;
+pub use output::{CheckedOutput, Output, OutputFailed};
 
-/// A write failed, or took no byte.
-#[derive(Clone, Copy, Debug, PartialEq, Eq, Error)]
-#[error("output failed")]
-pub struct OutputFailed;
-
-/// Writes the whole text, in as many writes as the writer asks for.
+/// Writes the whole text, in as many writes as the output asks for.
 ///
-/// The first write that fails or takes no byte ends it with `OutputFailed`, and no write is tried
-/// again: the writer then holds a proper prefix of the text. The writer is not flushed.
-pub fn write_whole<W: Write>(out: &mut W, text: &[u8]) -> Result<(), OutputFailed>
+/// The first write that fails ends it with `OutputFailed`, and no write is tried again: the output
+/// then has a proper prefix of the text, and a write has failed.
+pub fn write_whole<W: Output>(out: &mut W, text: &[u8]) -> Result<(), OutputFailed>
     ensures ok { OnOk result (Appends (W.contents out.old) (W.contents out.new) text.now) }
     ensures err { OnErr result
         (AppendsProperPrefix (W.contents out.old) (W.contents out.new) text.now) }
+    ensures failed { OnErr result (W.has_failed out.new ≡ true) }
 {
     let mut written = 0;
     while written < text.len() {
-        match out.write(&text[written..]) {
-            Ok(0) => return Err(OutputFailed),
+        match out.write_some(&text[written..]) {
             Ok(count) => written += count,
-            Err(_) => return Err(OutputFailed),
+            Err(failed) => return Err(failed),
         }
     }
     Ok(())
+}
+
+/// A number in decimal digits.
+pub fn number_digits(number: u64) -> ArrayString<20>
+    ensures digits { result.bytes ≡ decimal number }
+    ensures len { array_string_len result ≤ 20 }
+{
+    let mut buffer = Buffer::new();
+    let mut text = ArrayString::new();
+    text.push_str(buffer.format(number));
+    text
 }
 
 fn digit(value: u8) -> char

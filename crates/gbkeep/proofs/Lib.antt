@@ -10,5 +10,6 @@ pub mod Endings
 pub mod TestTexts
 pub mod BegunTexts
 pub mod FileTexts
+pub mod Failures
 pub mod LoopSteps
 pub mod Serving

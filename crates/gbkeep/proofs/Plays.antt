@@ -3,9 +3,10 @@ use Rattle.std.proofs.Common.{◌≡◌, Bor, ◌+◌, inl, refl, sym, ap, subst
 use Rattle.std.specs.Io.KnownBytes.{Appends}
 use Rattle.machine.specs.Machine.{MachineState, after}
 use Rattle.machine.specs.Machine.{Input}
-use Rattle.std.specs.Prelude.{IfErr}
+use Rattle.std.specs.Prelude.{IfErr, OnErr}
 use Rattle.sector_device.specs.DiskState.{DiskState, HasAnswered}
 use Rattle.sector_device.specs.Runs.{HoldsSince}
+use Rattle.session.specs.declared.error.SessionError.TheVariants.{Output as Unwritten}
 use Rattle.session.proofs.Beginnings.{since_now}
 use Rattle.session.proofs.Writes.{since_weaker}
 use Rattle.playing.specs.Played.{PlayImage, HasPlayed, HasReached}
@@ -78,6 +79,17 @@ frame_refused cart save out rom file left old new (Session fault) cause = (rom, 
 frame_refused cart save out rom file left old new Picture cause = (tt, (rom, (file, left, cause)))
 
 -- ---- a picture behind a play
+
+-- it is the picture's output that failed
+pub undrawn_failed : {D : Type 0} (r : Result D (PlayRefused D)) (P : Type 0) → OnErr r P → IfErr r (λ refused. refused.why ≡ Picture → P)
+undrawn_failed (Ok d) P failed = tt
+undrawn_failed (Err refused) P failed = λ is. failed
+
+-- and not that of the report
+pub undrawn_reported : {D : Type 0} (r : Result D (PlayRefused D)) (P : Type 0) → IfErr r (λ refused. refused.why ≡ Picture)
+    → IfErr r (λ refused. refused.why ≡ Session Unwritten → P)
+undrawn_reported (Ok d) P why = tt
+undrawn_reported (Err refused) P why = λ is. absurd (cc)
 
 module _ {D : Type 0} (disk : D → DiskState) (device left : D) where
   -- why it could not be written

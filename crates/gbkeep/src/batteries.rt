@@ -1,6 +1,6 @@
 //! Battery files: out of a game, and into a new one.
 
-ghost use Rattle.std.specs.Prelude.{◌≡◌, length, IfErr, IfOk, IfSome, OnErr, OnOk};
+ghost use Rattle.std.specs.Prelude.{◌≡◌, length, true, IfErr, IfOk, OnErr, OnOk};
 ghost use Rattle.std.specs.Io.KnownBytes.{Appends};
 ghost use Rattle.exact_text.specs.Written.{AppendsProperPrefix};
 ghost use Rattle.sector_device.specs.FileDevice.{file_disk};
@@ -21,19 +21,17 @@ use arrayvec::ArrayString;
 use battery_files::{export_battery, machine_with_battery};
 use cartridge::Cartridge;
 use command_line::Request;
-use exact_text::{OutputFailed, write_whole};
+use exact_text::{Output, OutputFailed, number_digits, write_whole};
 use sector_device::FileDevice;
 use session::{Session, SessionError, new_game_from, sectors_needed};
 use std::alloc::Global;
-use std::fmt::Write as FormatWrite;
 use std::fs::File;
-use std::io::Write;
 use std::path::Path;
 use std::rt::Files;
 
 /// Writes the battery file of the game in a file to a new file, and tells how many inputs the game has had once the new file is durable. Nothing
 /// is written to the game's file.
-pub(crate) fn export<R: Files<File = File> + AllocGlobal, O: Write>(
+pub(crate) fn export<R: Files<File = File> + AllocGlobal, O: Output>(
     rt: &R,
     cart: &str,
     save: &str,
@@ -56,31 +54,30 @@ pub(crate) fn export<R: Files<File = File> + AllocGlobal, O: Write>(
     }
 }
 
-fn exported_text(count: u64) -> Option<ArrayString<32>>
-    ensures { IfSome result (λ text. text.bytes ≡ exported_line count) }
+fn exported_text(count: u64) -> ArrayString<32>
+    ensures { result.bytes ≡ exported_line count }
 {
     let mut text = ArrayString::new();
-    match writeln!(text, "exported {count}") {
-        Ok(()) => Some(text),
-        Err(_) => None,
-    }
+    text.push_str("exported ");
+    text.push_str(number_digits(count).as_str());
+    text.push_str("\n");
+    text
 }
 
 /// Writes the line `exported N`.
-fn write_exported<W: Write>(out: &mut W, count: u64) -> Result<(), OutputFailed>
+fn write_exported<W: Output>(out: &mut W, count: u64) -> Result<(), OutputFailed>
     ensures ok { OnOk result (Appends (W.contents out.old) (W.contents out.new) (exported_line count)) }
     ensures err { OnErr result (AppendsProperPrefix (W.contents out.old) (W.contents out.new) (exported_line count)) }
+    ensures failed { OnErr result (W.has_failed out.new ≡ true) }
 {
-    match exported_text(count) {
-        Some(text) => write_whole(out, text.as_bytes()),
-        None => Err(OutputFailed),
-    }
+    let text = exported_text(count);
+    write_whole(out, text.as_bytes())
 }
 
 /// Makes a file of so many sectors, or of as many as the game needs, and begins a game in it with the RAM of a battery file; the file gets
 /// its name once the game is begun. Where that fails no file is left behind. A game that is begun stays, also where its line can't be
 /// written.
-pub(crate) fn import<R: Files<File = File> + AllocGlobal, O: Write>(
+pub(crate) fn import<R: Files<File = File> + AllocGlobal, O: Output>(
     rt: &R,
     cart: &str,
     battery: &str,

@@ -1,25 +1,25 @@
 //! The line of a new game, or of a new recording.
 
-ghost use Rattle.std.specs.Prelude.{◌≡◌, IfErr, OnOk};
+ghost use Rattle.std.specs.Prelude.{◌≡◌, true, IfErr, OnOk};
 ghost use Rattle.std.specs.Io.KnownBytes.{Appends};
 ghost use Rattle.gbkeep.specs.Beginning.{IsUntold, begun_line};
 
 use crate::fault::Fault;
 use crate::making::Making;
-use exact_text::write_whole;
+use exact_text::{Output, write_whole};
 use sector_device::DeviceFault;
 use std::fs::File;
-use std::io::Write;
 use std::rt::Files;
 
 /// Gives a file that is whole its name, and then writes `begun 0`.
-pub(crate) fn tell_begun<R: Files<File = File> + AllocGlobal, O: Write>(
+pub(crate) fn tell_begun<R: Files<File = File> + AllocGlobal, O: Output>(
     rt: &R,
     making: Making<'_>,
     out: &mut O,
 ) -> Result<(), Fault>
     ensures written { OnOk result (Appends (O.contents out.old) (O.contents out.new) begun_line) }
     ensures cause { IfErr result (IsUntold (O.contents out.old) (O.contents out.new)) }
+    ensures output { IfErr result (λ fault. fault ≡ Fault.Output → O.has_failed out.new ≡ true) }
 {
     if making.finish(rt).is_err() {
         return Err(Fault::Device(DeviceFault::Device));

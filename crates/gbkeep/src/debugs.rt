@@ -1,19 +1,21 @@
 //! A debugger over files.
 
+ghost use Rattle.std.specs.Prelude.{◌≡◌, true, IfErr};
 ghost use Rattle.gbkeep.specs.Program.{IsDebugServed};
 
 use crate::fault::Fault;
 use crate::files::{MOST_ROM, file_bytes};
 use debug_lines::{debug_game, debug_rom};
+use exact_text::Output;
+use input_lines::LineInput;
 use sector_device::FileDevice;
 use std::fs::File;
-use std::io::{Read, Write};
 use std::path::Path;
 use std::rt::Files;
 
 /// Debugs a cartridge from power-on, or the game in a file, which keeps nothing of that. The lines of the input are obeyed as they come,
 /// and each answer goes out as it is written.
-pub(crate) fn debug<R: Files<File = File> + AllocGlobal, I: Read, O: Write>(
+pub(crate) fn debug<R: Files<File = File> + AllocGlobal, I: LineInput, O: Output>(
     rt: &R,
     cart: &str,
     save: Option<&str>,
@@ -30,14 +32,19 @@ pub(crate) fn debug<R: Files<File = File> + AllocGlobal, I: Read, O: Write>(
     }
 }
 
-fn power_on<R: AllocGlobal, I: Read, O: Write>(
+fn power_on<R: AllocGlobal, I: LineInput, O: Output>(
     rt: &R,
     rom: Vec<u8>,
     input: &mut I,
     out: &mut O,
 ) -> Result<(), Fault>
-    ensures { IsDebugServed None result (record { before = I.remaining input.old; since = I.remaining input.new })
+    ensures served { IsDebugServed None result (record {
+      before = I.remaining input.old;
+      since = I.remaining input.new;
+    })
         (record { before = O.contents out.old; since = O.contents out.new }) }
+    ensures input { IfErr result (λ fault. fault ≡ Fault.Input → I.has_failed input.new ≡ true) }
+    ensures output { IfErr result (λ fault. fault ≡ Fault.Output → O.has_failed out.new ≡ true) }
 {
     match debug_rom(rt.alloc(), rom, input, out) {
         Ok(()) => Ok(()),
@@ -45,7 +52,7 @@ fn power_on<R: AllocGlobal, I: Read, O: Write>(
     }
 }
 
-fn resumed<R: Files<File = File> + AllocGlobal, I: Read, O: Write>(
+fn resumed<R: Files<File = File> + AllocGlobal, I: LineInput, O: Output>(
     rt: &R,
     rom: Vec<u8>,
     save: &str,

@@ -13,19 +13,19 @@ ghost use Rattle.gbkeep.specs.Playing.{HasDrawn, HasDrawnPart, HasReported, IsLa
 
 use crate::error::{PlayError, PlayRefused};
 use cartridge::Cartridge;
+use exact_text::Output;
 use playing::play;
 use script::read_script;
 use sector_device::SectorDevice;
-use session::Session;
+use session::{Session, SessionError};
 use std::alloc::Global;
-use std::io::Write;
 
 /// Plays a script on the game that a device holds, and writes the picture of the last machine where it is wanted.
 ///
 /// Refusals, in this order, each of which hands the device back: what is wrong with the image, what is wrong with the script or that
 /// its moves find no memory, both with nothing written; those of the play, and what it saved stays saved; that the picture could
 /// not be written, and then all that was played is saved and reported. Of the picture `play_and_draw` says what goes out: no clause can name what is written through an `Option`.
-pub fn play_to_picture<D: SectorDevice, W: Write, P: Write>(
+pub fn play_to_picture<D: SectorDevice, W: Output, P: Output>(
     alloc: Global,
     device: D,
     rom: Vec<u8>,
@@ -51,6 +51,9 @@ pub fn play_to_picture<D: SectorDevice, W: Write, P: Write>(
         refused.why) }
     ensures untouched { IfErr result (λ refused. IsUnplayable refused.why → refused.device ≡ device) }
     ensures undrawn { is_none out.entry ≡ true → IfErr result (λ refused. refused.why ≢ PlayError.Picture) }
+    ensures output { IfErr result (λ refused.
+        refused.why ≡ PlayError.Session SessionError.Output → (D.disk device).honest →
+        W.has_failed report.new ≡ true) }
     ensures answered { HasAnswered (λ refused. faults_after_play refused.why) (D.disk device) (D.disk (left_by result))
         result }
 {
@@ -64,7 +67,7 @@ pub fn play_to_picture<D: SectorDevice, W: Write, P: Write>(
 }
 
 /// `play_to_picture` with a picture.
-pub fn play_and_draw<D: SectorDevice, W: Write, P: Write>(
+pub fn play_and_draw<D: SectorDevice, W: Output, P: Output>(
     alloc: Global,
     device: D,
     rom: Vec<u8>,
@@ -93,6 +96,10 @@ pub fn play_and_draw<D: SectorDevice, W: Write, P: Write>(
         (HasDrawn rom.items script.now (D.disk device) (P.contents out.old) (P.contents out.new)) }
     ensures part { IfErr result (λ refused.
         HasDrawnPart rom.items script.now (D.disk device) (P.contents out.old) (P.contents out.new) refused.why) }
+    ensures output { IfErr result (λ refused.
+        refused.why ≡ PlayError.Session SessionError.Output → (D.disk device).honest →
+        W.has_failed report.new ≡ true) }
+    ensures drawing { IfErr result (λ refused. refused.why ≡ PlayError.Picture → P.has_failed out.new ≡ true) }
     ensures answered { HasAnswered (λ refused. faults_after_play refused.why) (D.disk device) (D.disk (left_by result))
         result }
 {
@@ -103,7 +110,7 @@ pub fn play_and_draw<D: SectorDevice, W: Write, P: Write>(
 }
 
 /// Plays a script, and leaves the session.
-fn play_script<D: SectorDevice, W: Write>(
+fn play_script<D: SectorDevice, W: Output>(
     alloc: Global,
     device: D,
     rom: Vec<u8>,
@@ -129,6 +136,9 @@ fn play_script<D: SectorDevice, W: Write>(
     ensures untouched { IfErr result (λ refused. IsUnplayable refused.why → refused.device ≡ device) }
     ensures last { IfOk result (λ s. IsLastMachine rom.items script.now (D.disk device) (machine_of s)) }
     ensures undrawn { IfErr result (λ refused. refused.why ≢ PlayError.Picture) }
+    ensures output { IfErr result (λ refused.
+        refused.why ≡ PlayError.Session SessionError.Output → (D.disk device).honest →
+        W.has_failed report.new ≡ true) }
     ensures answered { HasAnswered (λ refused. faults_after_play refused.why) (D.disk device)
         (D.disk (left_by_session result)) result }
 {
@@ -156,7 +166,7 @@ fn play_script<D: SectorDevice, W: Write>(
 }
 
 /// Writes the picture of a session's machine, and leaves its device.
-fn picture_of<D: SectorDevice, P: Write>(
+fn picture_of<D: SectorDevice, P: Output>(
     session: Session<D>,
     out: &mut P,
 ) -> Result<D, PlayRefused<D>>
@@ -166,6 +176,7 @@ fn picture_of<D: SectorDevice, P: Write>(
     ensures why { IfErr result (λ refused. refused.why ≡ PlayError.Picture) }
     ensures part { OnErr result (AppendsProperPrefix (P.contents out.old) (P.contents out.new)
         (picture_text (picture_rows (machine_of session)))) }
+    ensures failed { OnErr result (P.has_failed out.new ≡ true) }
 {
     let written = session.machine().picture().write_pgm(out);
     let device = session.into_device();

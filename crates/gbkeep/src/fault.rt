@@ -10,7 +10,7 @@ use battery_files::{ExportError, ImportError};
 use cartridge::CartError;
 use debug_lines::{DebugGameError, DebugRomError};
 use debugging::DebugError;
-use exact_text::write_whole;
+use exact_text::{Output, write_whole};
 use recorded_play::RecordError;
 use recording::RecordingFault;
 use recording_lines::{ScriptLinesError, VerifyLineError};
@@ -20,7 +20,6 @@ use script::ScriptError;
 use sector_device::DeviceFault;
 use session::SessionError;
 use std::fmt::Display;
-use std::io::Write;
 use streaming::StreamError;
 use test_run::TestError;
 
@@ -272,7 +271,7 @@ impl Fault {
 }
 
 /// Writes the line of a fault, `gbkeep: ` and its text, and answers its status. Where a write fails the rest is left out.
-pub(crate) fn report<E: Write>(fault: Fault, err: &mut E) -> u8
+pub(crate) fn report<E: Output>(fault: Fault, err: &mut E) -> u8
     ensures status { result ≡ status_of fault }
     ensures line { HasLine (line_of fault) (E.contents err.old) (E.contents err.new) }
 {
@@ -302,7 +301,7 @@ pub(crate) fn report<E: Write>(fault: Fault, err: &mut E) -> u8
     fault.status()
 }
 
-fn write_session_line<E: Write>(fault: SessionError, err: &mut E)
+fn write_session_line<E: Output>(fault: SessionError, err: &mut E)
     ensures { HasLine (line_of (Fault.Session fault)) (E.contents err.old) (E.contents err.new) }
 {
     match fault {
@@ -320,7 +319,7 @@ fn write_session_line<E: Write>(fault: SessionError, err: &mut E)
     }
 }
 
-fn write_device_line<E: Write>(fault: DeviceFault, err: &mut E)
+fn write_device_line<E: Output>(fault: DeviceFault, err: &mut E)
     ensures { HasLine (line_of (Fault.Device fault)) (E.contents err.old) (E.contents err.new) }
 {
     match fault {
@@ -329,7 +328,7 @@ fn write_device_line<E: Write>(fault: DeviceFault, err: &mut E)
     }
 }
 
-fn write_recording_line<E: Write>(fault: RecordingFault, err: &mut E)
+fn write_recording_line<E: Output>(fault: RecordingFault, err: &mut E)
     ensures { HasLine (line_of (Fault.Recording fault)) (E.contents err.old) (E.contents err.new) }
 {
     match fault {
@@ -344,31 +343,31 @@ fn write_recording_line<E: Write>(fault: RecordingFault, err: &mut E)
     }
 }
 
-fn write_text_line<T: Display + Copy, E: Write>(fault: T, err: &mut E) {
+fn write_text_line<T: Display + Copy, E: Output>(fault: T, err: &mut E) {
     let _ = writeln!(err, "gbkeep: {fault}");
 }
 
-fn write_number_line<E: Write>(number: u64, err: &mut E) {
+fn write_number_line<E: Output>(number: u64, err: &mut E) {
     let _ = writeln!(err, "gbkeep: script line {number}");
 }
 
-fn write_behind_line<E: Write>(count: u64, err: &mut E) {
+fn write_behind_line<E: Output>(count: u64, err: &mut E) {
     let _ = writeln!(err, "gbkeep: recording behind, {count} inputs");
 }
 
-fn write_ahead_line<E: Write>(count: u64, err: &mut E) {
+fn write_ahead_line<E: Output>(count: u64, err: &mut E) {
     let _ = writeln!(err, "gbkeep: recording ahead, {count} inputs");
 }
 
-fn write_length_line<E: Write>(found: u64, needed: u64, err: &mut E) {
+fn write_length_line<E: Output>(found: u64, needed: u64, err: &mut E) {
     let _ = writeln!(err, "gbkeep: battery length {found}, {needed} needed");
 }
 
-fn write_cart_line<E: Write>(fault: CartError, err: &mut E) {
+fn write_cart_line<E: Output>(fault: CartError, err: &mut E) {
     let _ = writeln!(err, "gbkeep: {fault}");
 }
 
-pub(crate) fn write_line<E: Write>(line: &str, err: &mut E)
+pub(crate) fn write_line<E: Output>(line: &str, err: &mut E)
     ensures { HasLine (Some line.now) (E.contents err.old) (E.contents err.new) }
 {
     let _ = write_whole(err, line.as_bytes());

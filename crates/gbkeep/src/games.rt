@@ -13,17 +13,18 @@ use crate::streams::stream_play;
 use crate::trace::trace_lines;
 use cartridge::Cartridge;
 use command_line::Request;
+use exact_text::{CheckedOutput, Output};
+use input_lines::LineInput;
 use save_lines::show_lines;
 use sector_device::FileDevice;
 use session::{SessionError, new_game, sectors_needed};
 use std::fs::File;
-use std::io::{Read, Write};
 use std::path::Path;
 use std::rt::Files;
 
 /// Makes a file of so many sectors, or of as many as the game needs, and begins a game in it; the file gets its name once the game is
 /// begun. Where that fails no file is left behind. A game that is begun stays, also where its line can't be written.
-pub(crate) fn new<R: Files<File = File> + AllocGlobal, O: Write>(
+pub(crate) fn new<R: Files<File = File> + AllocGlobal, O: Output>(
     rt: &R,
     cart: &str,
     save: &str,
@@ -64,7 +65,7 @@ pub(crate) fn sectors_or(sectors: Option<u32>, need: u64) -> u64
 
 /// Plays a script, with the report on `out`: each line goes out as it is written, so that one of a save comes only after the save. A game
 /// that is recorded is refused.
-pub(crate) fn play<R: Files<File = File> + AllocGlobal, O: Write>(
+pub(crate) fn play<R: Files<File = File> + AllocGlobal, O: Output>(
     rt: &R,
     cart: &str,
     save: &str,
@@ -85,7 +86,7 @@ pub(crate) fn play<R: Files<File = File> + AllocGlobal, O: Write>(
         rom,
         script.as_slice(),
         out,
-        None::<&mut File>,
+        None::<&mut CheckedOutput<File>>,
     ) {
         Ok(_left) => Ok(()),
         Err(refused) => Err(Fault::from(refused.why)),
@@ -94,7 +95,7 @@ pub(crate) fn play<R: Files<File = File> + AllocGlobal, O: Write>(
 
 /// Plays an empty script, with the report on `out`, and writes the picture to a file, which is made or emptied before. It is refused where
 /// it is the save file or the cartridge, by whatever name, or has anything else than a picture.
-pub(crate) fn frame<R: Files<File = File> + AllocGlobal, O: Write>(
+pub(crate) fn frame<R: Files<File = File> + AllocGlobal, O: Output>(
     rt: &R,
     cart: &str,
     save: &str,
@@ -106,15 +107,16 @@ pub(crate) fn frame<R: Files<File = File> + AllocGlobal, O: Write>(
 {
     let rom = file_bytes(rt, cart, MOST_ROM)?;
     let device = FileDevice::attach(rt, Path::new(save))?;
-    let mut picture = emptied_file(rt, picture, [cart, save])?;
-    match play_to_picture(rt.alloc(), device, rom, b"", out, Some(&mut picture)) {
+    let picture = emptied_file(rt, picture, [cart, save])?;
+    let mut drawn = CheckedOutput::new(picture);
+    match play_to_picture(rt.alloc(), device, rom, b"", out, Some(&mut drawn)) {
         Ok(_left) => Ok(()),
         Err(refused) => Err(Fault::from(refused.why)),
     }
 }
 
 /// Prints what the game in a file holds. Nothing is written to the file.
-pub(crate) fn show<R: Files<File = File> + AllocGlobal, O: Write>(
+pub(crate) fn show<R: Files<File = File> + AllocGlobal, O: Output>(
     rt: &R,
     cart: &str,
     save: &str,
@@ -131,7 +133,7 @@ pub(crate) fn show<R: Files<File = File> + AllocGlobal, O: Write>(
 }
 
 /// Takes up the game in a file and prints its next steps, which are not saved.
-pub(crate) fn trace<R: Files<File = File> + AllocGlobal, O: Write>(
+pub(crate) fn trace<R: Files<File = File> + AllocGlobal, O: Output>(
     rt: &R,
     cart: &str,
     save: &str,
@@ -150,7 +152,7 @@ pub(crate) fn trace<R: Files<File = File> + AllocGlobal, O: Write>(
 
 /// Takes up the game in a file and obeys the lines of the input as they come, with all answers on `out`: each goes out as it is written. A
 /// game that is recorded is refused.
-pub(crate) fn stream<R: Files<File = File> + AllocGlobal, I: Read, O: Write>(
+pub(crate) fn stream<R: Files<File = File> + AllocGlobal, I: LineInput, O: Output>(
     rt: &R,
     cart: &str,
     save: &str,

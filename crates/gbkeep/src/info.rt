@@ -1,6 +1,6 @@
 //! The lines about a cartridge.
 
-ghost use Rattle.std.specs.Prelude.{◌≡◌, ◌<◌, IfErr, IfSome, OnErr, OnOk, map};
+ghost use Rattle.std.specs.Prelude.{◌≡◌, ◌<◌, ◌≤◌, IfErr, OnErr, OnOk, length, map, true};
 ghost use Rattle.std.specs.Io.KnownBytes.{Appends};
 ghost use Rattle.cartridge.specs.Accepted.{IsAccepted};
 ghost use Rattle.exact_text.specs.Written.{AppendsProperPrefix};
@@ -10,22 +10,21 @@ ghost use Rattle.gbkeep.specs.StepLine.{Refuses};
 use crate::error::TextError;
 use arrayvec::ArrayString;
 use cartridge::{Cartridge, Controller};
-use exact_text::{OutputFailed, byte_digits, write_whole};
+use exact_text::{Output, OutputFailed, byte_digits, number_digits, write_whole};
 use session::sectors_needed;
-use std::fmt::Write as FormatWrite;
-use std::io::Write;
 
 /// Room for a line.
-type Line = ArrayString<64>;
+type Line = ArrayString<80>;
 
 /// Writes the six lines about a cartridge: its title, type, ROM, RAM, checksums, and how many sectors a save file of it needs.
 ///
 /// Refusals, in this order: what is wrong with the image (its length, its type, its RAM code, its number of banks), output failed.
 /// Nothing is written but at the last, where a proper prefix of the lines is.
-pub fn info_lines<W: Write>(rom: Vec<u8>, out: &mut W) -> Result<(), TextError>
+pub fn info_lines<W: Output>(rom: Vec<u8>, out: &mut W) -> Result<(), TextError>
     ensures accepted { OnOk result (IsAccepted rom.items) }
     ensures lines { OnOk result (Appends (W.contents out.old) (W.contents out.new) (info_of rom.items)) }
     ensures refused { IfErr result (Refuses rom.items (info_of rom.items) (W.contents out.old) (W.contents out.new)) }
+    ensures output { IfErr result (λ why. why ≡ TextError.Output → W.has_failed out.new ≡ true) }
 {
     let cartridge = match Cartridge::read(rom) {
         Ok(cartridge) => cartridge,
@@ -37,37 +36,27 @@ pub fn info_lines<W: Write>(rom: Vec<u8>, out: &mut W) -> Result<(), TextError>
     }
 }
 
-fn write_info<W: Write>(out: &mut W, cartridge: &Cartridge) -> Result<(), OutputFailed>
+fn write_info<W: Output>(out: &mut W, cartridge: &Cartridge) -> Result<(), OutputFailed>
     ensures ok { OnOk result (Appends (W.contents out.old) (W.contents out.new) (info_of cartridge.now)) }
     ensures err { OnErr result (AppendsProperPrefix (W.contents out.old) (W.contents out.new) (info_of cartridge.now)) }
+    ensures failed { OnErr result (W.has_failed out.new ≡ true) }
 {
-    match info_text(cartridge) {
-        Some(text) => write_whole(out, text.as_bytes()),
-        None => Err(OutputFailed),
-    }
+    let text = info_text(cartridge);
+    write_whole(out, text.as_bytes())
 }
 
 /// All six lines; there is room for them.
-fn info_text(cartridge: &Cartridge) -> Option<ArrayString<256>>
-    ensures { IfSome result (λ text. text.bytes ≡ info_of cartridge.now) }
+fn info_text(cartridge: &Cartridge) -> ArrayString<480>
+    ensures { result.bytes ≡ info_of cartridge.now }
 {
-    let title = title_text(cartridge)?;
-    let title = title.as_str();
-    let kind = type_text(cartridge)?;
-    let kind = kind.as_str();
-    let rom = rom_text(cartridge)?;
-    let rom = rom.as_str();
-    let ram = ram_text(cartridge)?;
-    let ram = ram.as_str();
-    let checksum = checksum_text(cartridge)?;
-    let checksum = checksum.as_str();
-    let sectors = sectors_text(cartridge)?;
-    let sectors = sectors.as_str();
     let mut text = ArrayString::new();
-    match write!(text, "{title}{kind}{rom}{ram}{checksum}{sectors}") {
-        Ok(()) => Some(text),
-        Err(_) => None,
-    }
+    text.push_str(title_text(cartridge).as_str());
+    text.push_str(type_text(cartridge).as_str());
+    text.push_str(rom_text(cartridge).as_str());
+    text.push_str(ram_text(cartridge).as_str());
+    text.push_str(checksum_text(cartridge).as_str());
+    text.push_str(sectors_text(cartridge).as_str());
+    text
 }
 
 fn shown(byte: u8) -> char
@@ -81,97 +70,91 @@ fn shown(byte: u8) -> char
     }
 }
 
-fn shown_title(title: &[u8]) -> Option<ArrayString<16>>
-    ensures { IfSome result (λ text. text.bytes ≡ map shown title.now) }
+fn shown_title(title: &[u8]) -> ArrayString<16>
+    requires { length title.now ≤ 16 }
+    ensures { result.bytes ≡ map shown title.now }
 {
     let mut text = ArrayString::new();
     for byte in title {
-        if text.try_push(shown(*byte)).is_err() {
-            return None;
-        }
+        text.push(shown(*byte));
     }
-    Some(text)
+    text
 }
 
-fn title_text(cartridge: &Cartridge) -> Option<Line>
-    ensures { IfSome result (λ text. text.bytes ≡ title_line cartridge.now) }
+fn title_text(cartridge: &Cartridge) -> Line
+    ensures { result.bytes ≡ title_line cartridge.now }
 {
-    let title = shown_title(cartridge.title())?;
-    let title = title.as_str();
+    let title = shown_title(cartridge.title());
     let mut text = ArrayString::new();
-    match writeln!(text, "title [{title}]") {
-        Ok(()) => Some(text),
-        Err(_) => None,
-    }
+    text.push_str("title [");
+    text.push_str(title.as_str());
+    text.push_str("]\n");
+    text
 }
 
-fn type_text(cartridge: &Cartridge) -> Option<Line>
-    ensures { IfSome result (λ text. text.bytes ≡ type_line cartridge.now) }
+fn type_text(cartridge: &Cartridge) -> Line
+    ensures { result.bytes ≡ type_line cartridge.now }
 {
-    let kind = byte_digits(cartridge.kind());
-    let kind = kind.as_str();
-    let name = name_of(cartridge.controller());
     let mut text = ArrayString::new();
-    match writeln!(text, "type {kind} {name}") {
-        Ok(()) => Some(text),
-        Err(_) => None,
-    }
+    text.push_str("type ");
+    text.push_str(byte_digits(cartridge.kind()).as_str());
+    text.push_str(" ");
+    text.push_str(name_of(cartridge.controller()));
+    text.push_str("\n");
+    text
 }
 
-fn rom_text(cartridge: &Cartridge) -> Option<Line>
-    ensures { IfSome result (λ text. text.bytes ≡ rom_line cartridge.now) }
+fn rom_text(cartridge: &Cartridge) -> Line
+    ensures { result.bytes ≡ rom_line cartridge.now }
 {
-    let length = cartridge.rom().len();
-    let banks = cartridge.banks();
-    let code = byte_digits(cartridge.rom_code());
-    let code = code.as_str();
     let mut text = ArrayString::new();
-    match writeln!(text, "rom {length} bytes {banks} banks code {code}") {
-        Ok(()) => Some(text),
-        Err(_) => None,
-    }
+    text.push_str("rom ");
+    text.push_str(number_digits(cartridge.rom().len() as u64).as_str());
+    text.push_str(" bytes ");
+    text.push_str(number_digits(u64::from(cartridge.banks())).as_str());
+    text.push_str(" banks code ");
+    text.push_str(byte_digits(cartridge.rom_code()).as_str());
+    text.push_str("\n");
+    text
 }
 
-fn ram_text(cartridge: &Cartridge) -> Option<Line>
-    ensures { IfSome result (λ text. text.bytes ≡ ram_line cartridge.now) }
+fn ram_text(cartridge: &Cartridge) -> Line
+    ensures { result.bytes ≡ ram_line cartridge.now }
 {
-    let length = cartridge.ram_length();
-    let code = byte_digits(cartridge.ram_code());
-    let code = code.as_str();
     let mut text = ArrayString::new();
-    match writeln!(text, "ram {length} bytes code {code}") {
-        Ok(()) => Some(text),
-        Err(_) => None,
-    }
+    text.push_str("ram ");
+    text.push_str(number_digits(cartridge.ram_length() as u64).as_str());
+    text.push_str(" bytes code ");
+    text.push_str(byte_digits(cartridge.ram_code()).as_str());
+    text.push_str("\n");
+    text
 }
 
-fn checksum_text(cartridge: &Cartridge) -> Option<Line>
-    ensures { IfSome result (λ text. text.bytes ≡ checksum_line cartridge.now) }
+fn checksum_text(cartridge: &Cartridge) -> Line
+    ensures { result.bytes ≡ checksum_line cartridge.now }
 {
-    let stored = byte_digits(cartridge.checksum_stored());
-    let stored = stored.as_str();
-    let computed = byte_digits(cartridge.checksum_computed());
-    let computed = computed.as_str();
     let mut text = ArrayString::new();
-    match writeln!(text, "checksum stored {stored} computed {computed}") {
-        Ok(()) => Some(text),
-        Err(_) => None,
-    }
+    text.push_str("checksum stored ");
+    text.push_str(byte_digits(cartridge.checksum_stored()).as_str());
+    text.push_str(" computed ");
+    text.push_str(byte_digits(cartridge.checksum_computed()).as_str());
+    text.push_str("\n");
+    text
 }
 
-fn sectors_text(cartridge: &Cartridge) -> Option<Line>
-    ensures { IfSome result (λ text. text.bytes ≡ sectors_line cartridge.now) }
+fn sectors_text(cartridge: &Cartridge) -> Line
+    ensures { result.bytes ≡ sectors_line cartridge.now }
 {
-    let sectors = sectors_needed(cartridge);
     let mut text = ArrayString::new();
-    match writeln!(text, "sectors {sectors}") {
-        Ok(()) => Some(text),
-        Err(_) => None,
-    }
+    text.push_str("sectors ");
+    text.push_str(number_digits(sectors_needed(cartridge)).as_str());
+    text.push_str("\n");
+    text
 }
 
 fn name_of(controller: Controller) -> &'static str
-    ensures { result.now ≡ name_of controller }
+    ensures name { result.now ≡ name_of controller }
+    ensures len { length result.now ≤ 10 }
 {
     match controller {
         Controller::NoMbc => "none",

@@ -1,7 +1,7 @@
 //! The emulator as a library: bytes in, bytes out.
 //!
 //! `step_line` and `list_lines` are proved to write exactly the text that the definitions in
-//! `specs/` give; `run` is the whole program over any runtime, any reader and any two writers.
+//! `specs/` give; `run` is the whole program over any runtime, any input and any two outputs.
 #![tactic(auto)]
 
 mod batteries;

@@ -1,6 +1,6 @@
 //! Instructions as the machine has them at power-on.
 
-ghost use Rattle.std.specs.Prelude.{IfErr, OnOk};
+ghost use Rattle.std.specs.Prelude.{◌≡◌, true, IfErr, OnOk};
 ghost use Rattle.std.specs.Io.KnownBytes.{Appends};
 ghost use Rattle.cartridge.specs.Accepted.{IsAccepted};
 ghost use Rattle.machine.specs.Machine.{start};
@@ -10,15 +10,15 @@ ghost use Rattle.gbkeep.specs.StepLine.{Refuses};
 use crate::error::TextError;
 use cartridge::Cartridge;
 use debugger::Debugger;
+use exact_text::Output;
 use machine::Machine;
 use std::alloc::Global;
-use std::io::Write;
 
 /// Writes the lines of `count` instructions of the machine at power-on, the first at `address`.
 /// Addresses wrap around after FFFF, and each line begins where the last one's instruction ended.
 ///
 /// The refusals are those of `step_line`, in the same order.
-pub fn list_lines<W: Write>(
+pub fn list_lines<W: Output>(
     alloc: Global,
     rom: Vec<u8>,
     address: u16,
@@ -30,6 +30,7 @@ pub fn list_lines<W: Write>(
         (Appends (W.contents out.old) (W.contents out.new) (lines_from (start rom.items) address count)) }
     ensures refused { IfErr result
         (Refuses rom.items (lines_from (start rom.items) address count) (W.contents out.old) (W.contents out.new)) }
+    ensures output { IfErr result (λ why. why ≡ TextError.Output → W.has_failed out.new ≡ true) }
 {
     let cartridge = match Cartridge::read(rom) {
         Ok(cartridge) => cartridge,

@@ -1,6 +1,6 @@
 //! The program: words in, files and lines out.
 
-ghost use Rattle.std.specs.Prelude.{◌≡◌, ◌≤◌, ◌⊎◌, IfErr, map};
+ghost use Rattle.std.specs.Prelude.{◌≡◌, ◌≤◌, ◌⊎◌, IfErr, OnErr, map, true};
 ghost use Rattle.gbkeep.specs.Request.{is_battery_name, makes_battery_name};
 ghost use Rattle.gbkeep.specs.Program.{Ends, EndsOnSome, HasEnded, HasWarned, IsPossible, IsServed, IsServedReading, KeepsAtMisuse};
 
@@ -17,14 +17,15 @@ use crate::testing::test;
 use crate::words::{Asked, address_of, read_words};
 use clap::Error;
 use command_line::Request;
+use exact_text::Output;
+use input_lines::LineInput;
 use std::convert::AsStr;
 use std::fs::File;
-use std::io::{Read, Write};
 use std::rt::{Env, Files};
 use std::{env, io};
 
 /// Runs the program on the words that the process was started with: `main` does nothing else.
-pub fn run_program<R: Env + Files<File = File> + AllocGlobal, I: Read, O: Write, E: Write>(
+pub fn run_program<R: Env + Files<File = File> + AllocGlobal, I: LineInput, O: Output, E: Output>(
     rt: &R,
     input: &mut I,
     out: &mut O,
@@ -60,7 +61,7 @@ fn words<R: Env + AllocGlobal>(rt: &R) -> Result<Vec<String>, Fault>
 /// `stream`, `record` and `debug` read their lines from `input`; nothing else reads it. What is asked for goes to `out`, which gets
 /// nothing where the status is 2. A fault is one line on `err`, `gbkeep: ` and its text; of words that are not understood `err` gets
 /// `clap`'s text.
-pub fn run<R: Files<File = File> + AllocGlobal, S: AsStr, I: Read, O: Write, E: Write>(
+pub fn run<R: Files<File = File> + AllocGlobal, S: AsStr, I: LineInput, O: Output, E: Output>(
     rt: &R,
     words: &[S],
     input: &mut I,
@@ -79,7 +80,7 @@ pub fn run<R: Files<File = File> + AllocGlobal, S: AsStr, I: Read, O: Write, E: 
 }
 
 /// Answers what was read of the words.
-fn answer<R: Files<File = File> + AllocGlobal, I: Read, O: Write, E: Write>(
+fn answer<R: Files<File = File> + AllocGlobal, I: LineInput, O: Output, E: Output>(
     rt: &R,
     asked: Result<Asked<'_>, Fault>,
     input: &mut I,
@@ -115,7 +116,7 @@ fn answer<R: Files<File = File> + AllocGlobal, I: Read, O: Write, E: Write>(
 }
 
 /// Warns of a SAVE that another emulator takes for its battery file.
-fn warn<E: Write>(request: Request<'_>, err: &mut E)
+fn warn<E: Output>(request: Request<'_>, err: &mut E)
     ensures { HasWarned (makes_battery_name request.entry) (record {
       before = E.contents err.old;
       since = E.contents err.new;
@@ -128,7 +129,7 @@ fn warn<E: Write>(request: Request<'_>, err: &mut E)
     }
 }
 
-fn warn_of<E: Write>(save: &str, err: &mut E)
+fn warn_of<E: Output>(save: &str, err: &mut E)
     ensures { HasWarned (is_battery_name save.now) (record {
       before = E.contents err.old;
       since = E.contents err.new;
@@ -148,8 +149,9 @@ fn is_battery_name(name: &[u8]) -> bool
     name.ends_with(b".sav") || name.ends_with(b".srm")
 }
 
-fn write_help<O: Write>(text: Error, out: &mut O) -> Result<(), Fault>
-    ensures { IfErr result (λ fault. fault ≡ Fault.Output) }
+fn write_help<O: Output>(text: Error, out: &mut O) -> Result<(), Fault>
+    ensures fault { IfErr result (λ fault. fault ≡ Fault.Output) }
+    ensures failed { OnErr result (O.has_failed out.new ≡ true) }
 {
     match write!(out, "{text}") {
         Ok(()) => Ok(()),
@@ -157,7 +159,7 @@ fn write_help<O: Write>(text: Error, out: &mut O) -> Result<(), Fault>
     }
 }
 
-fn serve<R: Files<File = File> + AllocGlobal, I: Read, O: Write>(
+fn serve<R: Files<File = File> + AllocGlobal, I: LineInput, O: Output>(
     rt: &R,
     request: Request<'_>,
     input: &mut I,
@@ -227,7 +229,7 @@ fn serve<R: Files<File = File> + AllocGlobal, I: Read, O: Write>(
     }
 }
 
-fn info<R: Files<File = File> + AllocGlobal, O: Write>(
+fn info<R: Files<File = File> + AllocGlobal, O: Output>(
     rt: &R,
     cart: &str,
     out: &mut O,
@@ -239,7 +241,7 @@ fn info<R: Files<File = File> + AllocGlobal, O: Write>(
     Ok(())
 }
 
-fn list<R: Files<File = File> + AllocGlobal, O: Write>(
+fn list<R: Files<File = File> + AllocGlobal, O: Output>(
     rt: &R,
     cart: &str,
     address: &str,
@@ -256,7 +258,7 @@ fn list<R: Files<File = File> + AllocGlobal, O: Write>(
     Ok(())
 }
 
-fn step<R: Files<File = File> + AllocGlobal, O: Write>(
+fn step<R: Files<File = File> + AllocGlobal, O: Output>(
     rt: &R,
     cart: &str,
     count: u32,

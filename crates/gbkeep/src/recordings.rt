@@ -11,6 +11,8 @@ use crate::making::{MakingDevice, new_device};
 use crate::marks::mark;
 use cartridge::Cartridge;
 use command_line::Request;
+use exact_text::Output;
+use input_lines::LineInput;
 use recorded_play::record as record_play;
 use recording::{RecordingFault, create_recording};
 use recording_lines::{VerifyLineError, recorded_lines, verify_line};
@@ -18,7 +20,6 @@ use replaying::{Limits, verify as verify_within};
 use sector_device::{DeviceFault, FileDevice};
 use std::alloc::Global;
 use std::fs::{self, File};
-use std::io::{Read, Write};
 use std::os::unix::fs::MetadataExt;
 use std::path::Path;
 use std::rt::Files;
@@ -35,7 +36,7 @@ const LIMITS: Limits = Limits {
 
 /// Makes a file of so many sectors, and an empty recording in it; the file gets its name once it is one. Where that fails no file is left
 /// behind. A recording that is begun stays, also where its line can't be written.
-pub(crate) fn new_recording<R: Files<File = File> + AllocGlobal, O: Write>(
+pub(crate) fn new_recording<R: Files<File = File> + AllocGlobal, O: Output>(
     rt: &R,
     cart: &str,
     recording: &str,
@@ -63,7 +64,7 @@ pub(crate) fn new_recording<R: Files<File = File> + AllocGlobal, O: Write>(
 /// Takes up the game in a file with its recording in another one, and obeys the lines of the input as they come, with all answers on
 /// `out`. Each save writes the recording first. A recording that can't be that of the game is refused before either is written to, and the
 /// game is marked as recorded before it is given anything.
-pub(crate) fn record<R: Files<File = File> + AllocGlobal, I: Read, O: Write>(
+pub(crate) fn record<R: Files<File = File> + AllocGlobal, I: LineInput, O: Output>(
     rt: &R,
     cart: &str,
     save: &str,
@@ -112,7 +113,7 @@ fn belonging(alloc: Global, pair: Pair, cartridge: &Cartridge) -> Result<Pair, F
 }
 
 /// Prints the recording in a file as a script.
-pub(crate) fn recorded<R: Files<File = File> + AllocGlobal, O: Write>(
+pub(crate) fn recorded<R: Files<File = File> + AllocGlobal, O: Output>(
     rt: &R,
     cart: &str,
     recording: &str,
@@ -129,7 +130,7 @@ pub(crate) fn recorded<R: Files<File = File> + AllocGlobal, O: Write>(
 }
 
 /// Compares the game in a file with the recording in another one.
-pub(crate) fn verify<R: Files<File = File> + AllocGlobal, O: Write>(
+pub(crate) fn verify<R: Files<File = File> + AllocGlobal, O: Output>(
     rt: &R,
     cart: &str,
     save: &str,

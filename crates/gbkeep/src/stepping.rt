@@ -1,6 +1,6 @@
 //! From ROM bytes to a line of registers.
 
-ghost use Rattle.std.specs.Prelude.{IfErr, OnOk};
+ghost use Rattle.std.specs.Prelude.{◌≡◌, true, IfErr, OnOk};
 ghost use Rattle.std.specs.Io.KnownBytes.{Appends};
 ghost use Rattle.cartridge.specs.Accepted.{IsAccepted};
 ghost use Rattle.gbkeep.specs.StepLine.{Refuses, line_after};
@@ -8,10 +8,9 @@ ghost use Rattle.gbkeep.specs.StepLine.{Refuses, line_after};
 use crate::error::TextError;
 use cartridge::Cartridge;
 use debugger::register_line;
-use exact_text::write_whole;
+use exact_text::{Output, write_whole};
 use machine::Machine;
 use std::alloc::Global;
-use std::io::Write;
 
 /// Writes the line of registers after `count` steps from power-on.
 ///
@@ -19,7 +18,7 @@ use std::io::Write;
 /// number of banks), no memory, output failed. Nothing is written but at the last, where a proper
 /// prefix of the line is.
 #[tactic(auto, unfolding(crate::specs::StepLine::line_after))]
-pub fn step_line<W: Write>(
+pub fn step_line<W: Output>(
     alloc: Global,
     rom: Vec<u8>,
     count: u32,
@@ -29,6 +28,7 @@ pub fn step_line<W: Write>(
     ensures line { OnOk result (Appends (W.contents out.old) (W.contents out.new) (line_after rom.items count)) }
     ensures refused { IfErr result
         (Refuses rom.items (line_after rom.items count) (W.contents out.old) (W.contents out.new)) }
+    ensures output { IfErr result (λ why. why ≡ TextError.Output → W.has_failed out.new ≡ true) }
 {
     let cartridge = match Cartridge::read(rom) {
         Ok(cartridge) => cartridge,

@@ -1,6 +1,6 @@
 //! From ROM bytes and lines as they come to a report, pictures and a device.
 
-ghost use Rattle.std.specs.Prelude.{◌≡◌, IfErr, OnOk};
+ghost use Rattle.std.specs.Prelude.{◌≡◌, true, IfErr, OnOk};
 ghost use Rattle.cartridge.specs.Accepted.{IsAccepted};
 ghost use Rattle.sector_device.specs.DiskState.{HasAnswered};
 ghost use Rattle.streaming.specs.Streamed.{HasStreamed};
@@ -9,17 +9,19 @@ ghost use Rattle.gbkeep.specs.Streaming.{IsStreamPlayCause, faults_after_stream_
 
 use crate::error::{StreamPlayError, StreamPlayRefused};
 use cartridge::Cartridge;
+use exact_text::Output;
+use input_lines::LineInput;
 use sector_device::SectorDevice;
+use session::SessionError;
 use std::alloc::Global;
-use std::io::{Read, Write};
-use streaming::stream;
+use streaming::{StreamError, stream};
 
 /// Takes up the game that a device holds, writes `resumed N`, and obeys the lines of an input as they come: those of a script, and
 /// `picture`, which writes the machine's picture as plain PGM, 46,093 bytes. `saved N` is written after each save.
 ///
 /// Refusals, in this order, each of which hands the device back: what is wrong with the image, with nothing read and nothing written;
 /// those of the stream: what was given before a wrong line, or before a read that failed, is saved and told.
-pub fn stream_play<D: SectorDevice, R: Read, W: Write>(
+pub fn stream_play<D: SectorDevice, R: LineInput, W: Output>(
     alloc: Global,
     device: D,
     rom: Vec<u8>,
@@ -41,6 +43,11 @@ pub fn stream_play<D: SectorDevice, R: Read, W: Write>(
         refused.why) }
     ensures untouched { IfErr result (λ refused.
         (fault : _) → refused.why ≡ StreamPlayError.Cart fault → refused.device ≡ device) }
+    ensures output { IfErr result (λ refused.
+        refused.why ≡ StreamPlayError.Stream (StreamError.Session SessionError.Output) → (D.disk device).honest →
+        W.has_failed out.new ≡ true) }
+    ensures input { IfErr result (λ refused.
+        refused.why ≡ StreamPlayError.Stream StreamError.Input → R.has_failed input.new ≡ true) }
     ensures answered { HasAnswered (λ refused. faults_after_stream_play refused.why) (D.disk device)
         (D.disk (left_by result)) result }
 {

@@ -1,17 +1,18 @@
 //! Test ROMs in files.
 
+ghost use Rattle.std.specs.Prelude.{◌≡◌, true, IfErr};
 ghost use Rattle.gbkeep.specs.Program.{IsServed, IsTestServed};
 
 use crate::fault::Fault;
 use crate::files::{MOST_ROM, MOST_SCRIPT, file_bytes};
 use command_line::Request;
+use exact_text::Output;
 use std::fs::File;
-use std::io::Write;
 use std::rt::Files;
 use test_run::{Verdict, run_test};
 
 /// Runs a test ROM, with the moves of a script first if one is named, and prints what it sends and how it ended. Done: it has passed.
-pub(crate) fn test<R: Files<File = File> + AllocGlobal, O: Write>(
+pub(crate) fn test<R: Files<File = File> + AllocGlobal, O: Output>(
     rt: &R,
     cart: &str,
     frames: u32,
@@ -31,14 +32,15 @@ pub(crate) fn test<R: Files<File = File> + AllocGlobal, O: Write>(
 }
 
 /// Runs a test ROM with the moves of this script first.
-fn test_with<R: AllocGlobal, O: Write>(
+fn test_with<R: AllocGlobal, O: Output>(
     rt: &R,
     rom: Vec<u8>,
     script: &[u8],
     frames: u32,
     out: &mut O,
 ) -> Result<(), Fault>
-    ensures { IsTestServed rom.items script.now frames result (O.contents out.old) (O.contents out.new) }
+    ensures served { IsTestServed rom.items script.now frames result (O.contents out.old) (O.contents out.new) }
+    ensures output { IfErr result (λ fault. fault ≡ Fault.Output → O.has_failed out.new ≡ true) }
 {
     match run_test(rt.alloc(), rom, script, frames, out) {
         Ok(Verdict::Passed) => Ok(()),

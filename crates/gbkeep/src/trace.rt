@@ -1,6 +1,6 @@
 //! The next steps of a game.
 
-ghost use Rattle.std.specs.Prelude.{◌≡◌, IfErr, IfSome, OnErr, OnOk};
+ghost use Rattle.std.specs.Prelude.{◌≡◌, true, IfErr, IfSome, OnErr, OnOk};
 ghost use Rattle.std.specs.Io.KnownBytes.{Appends};
 ghost use Rattle.cartridge.specs.Accepted.{IsAccepted};
 ghost use Rattle.exact_text.specs.Written.{AppendsProperPrefix};
@@ -16,14 +16,13 @@ ghost use Rattle.gbkeep.specs.Tracing.{HasTraced, IsTraceCause, IsUntraced, faul
 use crate::error::{TraceError, TraceRefused};
 use cartridge::Cartridge;
 use debugger::{Debugger, write_stepped};
-use exact_text::OutputFailed;
+use exact_text::{Output, OutputFailed};
 use machine::Machine;
 use playing::write_resumed;
 use sector_device::SectorDevice;
 use session::resume;
 use snapshot::{decode, encode, length};
 use std::alloc::Global;
-use std::io::Write;
 
 /// Takes up the game that a device holds, and writes `resumed N`, N the count of its inputs, and a line for each of the next
 /// `count` steps of its machine: that of the instruction as in a listing, `wait`, or `interrupt` and the vector. The steps are
@@ -32,7 +31,7 @@ use std::io::Write;
 /// Refusals, in this order, each of which hands the device back: what is wrong with the image; why the game can't be taken up; no
 /// memory for the machine that is stepped, all with nothing written; that the text could not be written, of which a proper prefix
 /// went out.
-pub fn trace_lines<D: SectorDevice, W: Write>(
+pub fn trace_lines<D: SectorDevice, W: Output>(
     alloc: Global,
     device: D,
     rom: Vec<u8>,
@@ -55,6 +54,7 @@ pub fn trace_lines<D: SectorDevice, W: Write>(
         refused.why) }
     ensures untouched { IfErr result (λ refused.
         (fault : _) → refused.why ≡ TraceError.Cart fault → refused.device ≡ device) }
+    ensures output { IfErr result (λ refused. refused.why ≡ TraceError.Output → W.has_failed out.new ≡ true) }
     ensures answered { HasAnswered (λ refused. faults_after_trace refused.why) (D.disk device) (D.disk (left_by result))
         result }
 {
@@ -82,7 +82,7 @@ pub fn trace_lines<D: SectorDevice, W: Write>(
 }
 
 /// Writes the text of a trace. `Err`: `Memory`, with nothing written, or `Output`.
-fn write_trace<W: Write>(
+fn write_trace<W: Output>(
     alloc: Global,
     inputs: u64,
     machine: &Machine,
@@ -97,6 +97,7 @@ fn write_trace<W: Write>(
     ensures err { IfErr result
         (IsUntraced cartridge.now machine.now (trace_text inputs machine.now count) (W.contents out.old)
         (W.contents out.new)) }
+    ensures output { IfErr result (λ why. why ≡ TraceError.Output → W.has_failed out.new ≡ true) }
 {
     let Some(mut debugger) = debugger_of(alloc, machine, cartridge) else {
         return Err(TraceError::Memory);
@@ -123,7 +124,7 @@ fn debugger_of(alloc: Global, machine: &Machine, cartridge: &Cartridge) -> Optio
 }
 
 /// Makes so many steps, and writes the line of each.
-fn write_steps<W: Write>(
+fn write_steps<W: Output>(
     debugger: &mut Debugger,
     count: u32,
     out: &mut W,
@@ -133,6 +134,7 @@ fn write_steps<W: Write>(
         (step_lines bus_rules count debugger.old.machine.processor)) }
     ensures err { OnErr result (AppendsProperPrefix (W.contents out.old) (W.contents out.new)
         (step_lines bus_rules count debugger.old.machine.processor)) }
+    ensures failed { OnErr result (W.has_failed out.new ≡ true) }
 {
     for _i in 0..count {
         let stepped = debugger.step();

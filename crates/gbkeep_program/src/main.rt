@@ -1,6 +1,8 @@
 //! The program `gbkeep`: all of it is in the library.
 #![tactic(auto)]
 
+use exact_text::CheckedOutput;
+use input_lines::CheckedInput;
 use std::fs::File;
 use std::io::Write;
 use std::os::fd::AsRawFd;
@@ -16,8 +18,9 @@ fn main(rt: HostRuntime) -> ExitCode {
         let _ = err.write_all(b"gbkeep: file failed\n");
         return ExitCode::from(1);
     };
-    let mut input = rt.stdin();
-    let mut out = rt.stdout();
+    let mut input = CheckedInput::new(rt.stdin());
+    let mut out = CheckedOutput::new(rt.stdout());
+    let mut err = CheckedOutput::new(err);
     ExitCode::from(gbkeep::run_program(&rt, &mut input, &mut out, &mut err))
 }
 

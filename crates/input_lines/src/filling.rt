@@ -1,11 +1,11 @@
 //! Reading until a line is there.
-ghost use Rattle.std.specs.Prelude.{◌≡◌, ◌≤◌, ◌<◌, ◌==◌, [], length, drop};
+ghost use Rattle.std.specs.Prelude.{◌≡◌, ◌≤◌, ◌<◌, ◌==◌, [], length, drop, true};
 ghost use Rattle.std.specs.List.{position, position_or_len};
 ghost use Rattle.std.specs.Io.KnownBytes.{Consumes};
 ghost use Rattle.input_lines.specs.Reading.{left_of, HasReadMore, IsFilled, IsLineThere};
 
+use crate::input::LineInput;
 use arrayvec::ArrayVec;
-use std::io::Read;
 
 const NEWLINE: u8 = b'\n';
 
@@ -49,11 +49,13 @@ pub fn line_length(bytes: &[u8]) -> usize
 }
 
 /// One read.
-pub(crate) fn read_more<R: Read>(unread: &mut Unread, input: &mut R) -> More
+pub(crate) fn read_more<R: LineInput>(unread: &mut Unread, input: &mut R) -> More
     requires { length unread.old.items ≤ 128 }
     ensures left { Consumes (left_of unread.old.items (R.remaining input.old))
         (left_of unread.new.items (R.remaining input.new)) [] }
     ensures more { HasReadMore result unread.old.items unread.new.items (R.remaining input.new) }
+    ensures failed { result ≡ More.Failed → R.has_failed input.new ≡ true }
+    ensures fewer { result ≡ More.Bytes → R.reads_left input.new < R.reads_left input.old }
 {
     let mut bytes = [0; 896];
     match input.read(&mut bytes) {
@@ -69,11 +71,12 @@ pub(crate) fn read_more<R: Read>(unread: &mut Unread, input: &mut R) -> More
 /// Reads until a whole line is there, or more than `most` bytes, the most that a line may have. Up
 /// to 896 bytes are read at once, and nothing is read if that much is there at first. What was
 /// read stays in `unread`, also where the input ends or fails.
-pub fn fill<R: Read>(unread: &mut Unread, input: &mut R, most: usize) -> Filled
+pub fn fill<R: LineInput>(unread: &mut Unread, input: &mut R, most: usize) -> Filled
     requires { most ≤ 128 }
     ensures left { Consumes (left_of unread.old.items (R.remaining input.old))
         (left_of unread.new.items (R.remaining input.new)) [] }
     ensures filled { IsFilled result most unread.new.items (R.remaining input.new) }
+    ensures failed { result ≡ Filled.Failed → R.has_failed input.new ≡ true }
     ensures nothing { IsLineThere most unread.old.items → (unread.new ≡ unread.old) × (input.new ≡ input.old) }
 {
     'filling: while unread.len() <= most && line_length(unread.as_slice()) == unread.len() {

@@ -1,12 +1,12 @@
 //! The next line.
-ghost use Rattle.std.specs.Prelude.{◌≡◌, ◌<◌, ◌==◌, length};
+ghost use Rattle.std.specs.Prelude.{◌≡◌, ◌<◌, ◌==◌, length, true};
 ghost use Rattle.std.specs.List.{position_or_len};
 ghost use Rattle.input_lines.specs.Newlines.{first_line, behind_first_line};
 ghost use Rattle.input_lines.specs.Reading.{left_of, IsCut, IsNextLine};
 
 use crate::filling::{Filled, More, Unread, drop_first, fill, line_length, read_more};
+use crate::input::LineInput;
 use arrayvec::ArrayVec;
-use std::io::Read;
 
 /// The most bytes of a line.
 const MOST: usize = 128;
@@ -47,15 +47,16 @@ fn take_line(unread: &mut Unread) -> NextLine
 }
 
 /// Drops what there is of a line that is too long, and reads up to its newline.
-fn skip_line<R: Read>(unread: &mut Unread, input: &mut R) -> NextLine
+fn skip_line<R: LineInput>(unread: &mut Unread, input: &mut R) -> NextLine
     requires long { 128 < length unread.old.items }
     requires one { position_or_len (λ byte. byte == 10) unread.old.items ≡ length unread.old.items }
-    ensures { IsNextLine result (left_of unread.old.items (R.remaining input.old))
+    ensures line { IsNextLine result (left_of unread.old.items (R.remaining input.old))
         (left_of unread.new.items (R.remaining input.new))
         (R.remaining input.new) }
+    ensures failed { result ≡ NextLine.Failed → R.has_failed input.new ≡ true }
 {
     unread.clear();
-    for _ in 0..u64::MAX {
+    'skipping: loop {
         match read_more(unread, input) {
             More::Bytes => {
                 if line_length(unread.as_slice()) < unread.len() {
@@ -68,19 +69,18 @@ fn skip_line<R: Read>(unread: &mut Unread, input: &mut R) -> NextLine
             More::Failed => return NextLine::Failed,
         }
     }
-    NextLine::Failed
 }
 
 /// Reads the next line, without its newline: first of what was read before, then of the input. The
 /// last line may lack its newline. A line of more than 128 bytes is read up to its newline, or to
 /// the end, and is `TooLong`; the line behind it is the next one. `End` is answered when nothing is
 /// left. `Failed` is answered when a read fails: what was read of the line until then has no newline;
-/// it stays in `unread`, unless it is more than 128 bytes, of which some may be gone. It is also
-/// answered when 2^64 - 1 reads do not reach the end of one line.
-pub fn next_line<R: Read>(unread: &mut Unread, input: &mut R) -> NextLine
-    ensures { IsNextLine result (left_of unread.old.items (R.remaining input.old))
+/// it stays in `unread`, unless it is more than 128 bytes, of which some may be gone.
+pub fn next_line<R: LineInput>(unread: &mut Unread, input: &mut R) -> NextLine
+    ensures line { IsNextLine result (left_of unread.old.items (R.remaining input.old))
         (left_of unread.new.items (R.remaining input.new))
         (R.remaining input.new) }
+    ensures failed { result ≡ NextLine.Failed → R.has_failed input.new ≡ true }
 {
     match fill(unread, input, MOST) {
         Filled::Line => {

@@ -1,14 +1,13 @@
 //! Bytes as the machine sees them, as lines of sixteen.
 
-ghost use Rattle.std.specs.Prelude.{◌≡◌, ◌≤◌, OnErr, OnOk};
+ghost use Rattle.std.specs.Prelude.{◌≡◌, ◌≤◌, true, OnErr, OnOk};
 ghost use Rattle.std.specs.Io.KnownBytes.{Appends};
 ghost use Rattle.exact_text.specs.Written.{AppendsProperPrefix};
 ghost use Rattle.machine_lines.specs.Texts.{memory_line, memory_text};
 
 use arrayvec::ArrayString;
-use exact_text::{OutputFailed, byte_digits, word_digits, write_whole};
+use exact_text::{Output, OutputFailed, byte_digits, word_digits, write_whole};
 use machine::Machine;
-use std::io::Write;
 
 /// The bytes of a line.
 const ROW: u32 = 16;
@@ -31,7 +30,7 @@ fn line(machine: &Machine, address: u16, count: u32) -> ArrayString<64>
 }
 
 /// Writes `count` bytes from an address on, sixteen a line. Addresses wrap around after FFFF.
-pub fn write_memory<W: Write>(
+pub fn write_memory<W: Output>(
     machine: &Machine,
     address: u16,
     count: u32,
@@ -41,6 +40,7 @@ pub fn write_memory<W: Write>(
         (Appends (W.contents out.old) (W.contents out.new) (memory_text machine.now address count)) }
     ensures err { OnErr result
         (AppendsProperPrefix (W.contents out.old) (W.contents out.new) (memory_text machine.now address count)) }
+    ensures failed { OnErr result (W.has_failed out.new ≡ true) }
 {
     let mut place = address;
     for _i in 0..count / ROW {

@@ -2,6 +2,7 @@
 use crate::roms::rom;
 use cartridge::Cartridge;
 use debugger::{Debugger, OutputFailed, write_stepped};
+use exact_text::CheckedOutput;
 use machine::{Machine, StepKind, Stepped};
 use std::alloc::Global;
 use std::process::Abort;
@@ -93,12 +94,13 @@ fn keeps_the_last_instructions(rt: HostRuntime) -> Result<(), Fail> {
 
 /// So many steps are told by these lines.
 fn tells(rt: &impl Abort, alloc: Global, debugger: &mut Debugger, steps: u32, lines: &str) {
-    let mut out = Vec::new(alloc);
+    let mut out = CheckedOutput::new(Vec::<u8>::new(alloc));
     for _step in 0..steps {
         let stepped = step(debugger);
         assert_eq!(rt; write_stepped(&stepped, &mut out), Ok(()));
     }
-    assert!(rt; out.as_slice() == lines.as_bytes());
+    let written = out.into_writer();
+    assert!(rt; written.as_slice() == lines.as_bytes());
 }
 
 #[test]
@@ -138,21 +140,22 @@ fn tells_each_step(rt: HostRuntime) -> Result<(), Fail> {
 
 fn lists(rt: &impl Abort, alloc: Global, debugger: &Debugger) {
     let mut out = Vec::new(alloc);
-    assert_eq!(rt; debugger.list(0x0100, 2, &mut out), Ok(()));
+    let listed = debugger.list(0x0100, 2, &mut CheckedOutput::new(&mut out));
+    assert_eq!(rt; listed, Ok(()));
     assert!(rt; out.as_slice() == b"0100 00     NOP\n0101 C35001 JP 0150\n".as_slice());
 }
 
-fn lists_into(rt: &impl Abort, debugger: &Debugger, room: &mut [u8; 20]) {
-    let mut full: &mut [u8] = room;
+fn lists_into(rt: &impl Abort, debugger: &Debugger, room: &mut [u8]) {
+    let mut full = CheckedOutput::new(room);
     assert_eq!(rt; debugger.list(0x0100, 2, &mut full), Err(OutputFailed));
 }
 
-fn waits_into(rt: &impl Abort, room: &mut [u8; 3]) {
+fn waits_into(rt: &impl Abort, room: &mut [u8]) {
     let wait = Stepped {
         kind: StepKind::Wait,
         cycles: 1,
     };
-    let mut full: &mut [u8] = room;
+    let mut full = CheckedOutput::new(room);
     assert_eq!(rt; write_stepped(&wait, &mut full), Err(OutputFailed));
 }
 

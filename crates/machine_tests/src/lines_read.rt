@@ -1,6 +1,6 @@
 //! Lines of an input, as they are read.
 use crate::asserting::holds;
-use input_lines::{NextLine, Unread, next_line};
+use input_lines::{CheckedInput, NextLine, Unread, next_line};
 use std::io;
 use std::io::{ErrorKind, Read};
 use std::process::Abort;
@@ -47,11 +47,11 @@ fn is_wanted(found: &NextLine, wanted: Wanted<'_>) -> bool {
 /// Reads an input line by line, with 1, 100 and all bytes a read, and looks at what comes and at what is left unread.
 fn reads(rt: &impl Abort, bytes: &[u8], fails: bool, wanted: &[Wanted<'_>], left: &[u8]) {
     for most in [1, 100, 10_000] {
-        let mut input = Slow {
+        let mut input = CheckedInput::new(Slow {
             rest: bytes,
             most,
             fails,
-        };
+        });
         let mut unread = Unread::new();
         for next in wanted {
             let found = next_line(&mut unread, &mut input);

@@ -1,5 +1,6 @@
 //! The picture unit: time, registers, stores and pictures.
 use crate::asserting::{OrStop, holds, same};
+use exact_text::CheckedOutput;
 use picture_unit::{LatePicture, OutputFailed, map_shades, tile_colours};
 
 // These have no contract, so that a test's proof does not follow the picture.
@@ -17,15 +18,18 @@ fn is_black(text: &[u8]) -> bool {
 // A writer with room for 100 bytes has the first of them.
 fn is_cut_short(picture: &LatePicture, text: &[u8]) -> bool {
     let mut part = [0; 100];
-    let mut room: &mut [u8] = &mut part;
-    picture.write_pgm(&mut room) == Err(OutputFailed) && text.starts_with(&part)
+    is_longer(picture, &mut part) && text.starts_with(&part)
+}
+
+fn is_longer(picture: &LatePicture, room: &mut [u8]) -> bool {
+    picture.write_pgm(&mut CheckedOutput::new(room)) == Err(OutputFailed)
 }
 
 #[test]
 fn picture_at_power_on_as_text(rt: HostRuntime) {
     let picture = LatePicture::new(rt.alloc()).or_stop(&rt);
     let mut text = Vec::new(rt.alloc());
-    same!(rt; picture.write_pgm(&mut text), Ok(()));
+    same!(rt; picture.write_pgm(&mut CheckedOutput::new(&mut text)), Ok(()));
     same!(rt; text.len(), 46093);
     holds!(rt; is_black(&text));
     holds!(rt; is_cut_short(&picture, &text));

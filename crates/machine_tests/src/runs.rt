@@ -3,6 +3,7 @@
 use crate::asserting::{OrStop, same};
 use crate::roms::{PASSES, PRINTS, rom};
 use cartridge::CartError;
+use exact_text::CheckedOutput;
 use script::ScriptError;
 use std::alloc::{AllocError, Global};
 use std::io::{self, Write};
@@ -20,7 +21,7 @@ fn run(
     let Ok(rom) = rom(alloc, code) else {
         return Err(TestError::Memory);
     };
-    run_test(alloc, rom, script, frames, out)
+    run_test(alloc, rom, script, frames, &mut CheckedOutput::new(out))
 }
 
 /// A program that writes 41 to SB and 81 to SC, after which 20 M-cycles of the 1,024 are left when its loop has ended, and as many
@@ -139,7 +140,8 @@ fn output_fails_at_any_byte(rt: HostRuntime) {
             taken: Vec::new(alloc),
         };
         let rom = rom(alloc, &PRINTS).or_stop(&rt);
-        same!(rt; run_test(alloc, rom, b"", 9, &mut narrow), Err(TestError::Output));
+        let found = run_test(alloc, rom, b"", 9, &mut CheckedOutput::new(&mut narrow));
+        same!(rt; found, Err(TestError::Output));
         same!(rt; narrow.taken.as_slice(), whole.get(..left).unwrap_or(b""));
     }
 }
@@ -150,6 +152,7 @@ fn refusals(rt: HostRuntime) {
     let mut out = Vec::new(alloc);
     same!(rt; run(alloc, &PASSES, b"frame 0\n", 9, &mut out), Err(TestError::Script(ScriptError::Script(1))));
     let short = vec![in alloc; 0u8; 3].or_stop(&rt);
-    same!(rt; run_test(alloc, short, b"x", 9, &mut out), Err(TestError::Cart(CartError::Length(3))));
+    let found = run_test(alloc, short, b"x", 9, &mut CheckedOutput::new(&mut out));
+    same!(rt; found, Err(TestError::Cart(CartError::Length(3))));
     same!(rt; out.len(), 0);
 }

@@ -1,7 +1,9 @@
 //! Texts that are written whole or cut short.
 use crate::asserting::{OrStop, holds, same};
 use arrayvec::ArrayVec;
-use exact_text::{OutputFailed, byte_digits, word_digits, write_whole};
+use exact_text::{
+    CheckedOutput, OutputFailed, byte_digits, number_digits, word_digits, write_whole,
+};
 use std::io::{self, Write};
 use std::process::Abort;
 
@@ -49,7 +51,7 @@ fn run(rt: &impl Abort, case: &Case) {
         most: case.most,
         room: case.room,
     };
-    let outcome = write_whole(&mut out, b"saved 120\n");
+    let outcome = write_whole(&mut CheckedOutput::new(&mut out), b"saved 120\n");
     same!(rt; outcome, case.outcome);
     holds!(rt; out.taken.as_slice() == case.taken);
     same!(rt; out.calls, case.calls);
@@ -100,12 +102,16 @@ fn writes_all_or_stops_at_the_first_failure(rt: HostRuntime) {
     }
 }
 
+fn writes_into(rt: &impl Abort, room: &mut [u8]) {
+    let mut out = CheckedOutput::new(room);
+    same!(*rt; write_whole(&mut out, b"3A"), Ok(()));
+    same!(*rt; write_whole(&mut out, b"C6C6"), Err(OutputFailed));
+}
+
 #[test]
 fn writes_into_a_slice(rt: HostRuntime) {
     let mut buffer = [0; 4];
-    let mut out: &mut [u8] = &mut buffer;
-    same!(rt; write_whole(&mut out, b"3A"), Ok(()));
-    same!(rt; write_whole(&mut out, b"C6C6"), Err(OutputFailed));
+    writes_into(&rt, &mut buffer);
     same!(rt; buffer, *b"3AC6");
 }
 
@@ -115,4 +121,6 @@ fn gives_digits(rt: HostRuntime) {
     same!(rt; byte_digits(0xAF).as_str(), "AF");
     same!(rt; word_digits(0xC0F9).as_str(), "C0F9");
     same!(rt; word_digits(0).as_str(), "0000");
+    same!(rt; number_digits(0).as_str(), "0");
+    same!(rt; number_digits(u64::MAX).as_str(), "18446744073709551615");
 }

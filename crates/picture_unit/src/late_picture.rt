@@ -1,6 +1,6 @@
 //! The picture unit, which is given its M-cycles late.
 
-ghost use Rattle.std.specs.Prelude.{◌≡◌, false, IfOk, OnOk, OnErr};
+ghost use Rattle.std.specs.Prelude.{◌≡◌, false, true, IfOk, OnOk, OnErr};
 
 mod clock;
 mod contents;
@@ -9,9 +9,8 @@ use crate::pgm::write_rows;
 use crate::picture::Picture;
 use crate::registers::{LCDC, LYC, STAT};
 use crate::state::PictureState;
-use exact_text::OutputFailed;
+use exact_text::{Output, OutputFailed};
 use std::alloc::{AllocError, Global};
-use std::io::Write;
 use std::marker::Model;
 
 /// The picture unit: registers and counters, VRAM, OAM and the rows of shades (Pan Docs,
@@ -195,13 +194,13 @@ impl LatePicture {
     }
 
     /// Writes the picture as plain PGM: `P2`, `160 144`, `3`, then each row as five lines of 32
-    /// values, 3 minus the shade. Refused if a write fails or takes no byte: a proper prefix of the
-    /// text went out.
-    pub fn write_pgm<W: Write>(&self, out: &mut W) -> Result<(), OutputFailed>
+    /// values, 3 minus the shade. Refused if a write fails: a proper prefix of the text went out.
+    pub fn write_pgm<W: Output>(&self, out: &mut W) -> Result<(), OutputFailed>
         ensures ok { OnOk result
             (Appends (W.contents out.old) (W.contents out.new) (picture_text self.now.rows)) }
         ensures err { OnErr result (AppendsProperPrefix
             (W.contents out.old) (W.contents out.new) (picture_text self.now.rows)) }
+        ensures failed { OnErr result (W.has_failed out.new ≡ true) }
     {
         write_rows(self, out)
     }

@@ -1,14 +1,13 @@
 //! A picture as plain PGM.
 
-ghost use Rattle.std.specs.Prelude.{◌≡◌, ◌<◌, ◌≤◌, ◌+◌, ◌*◌, ◌%◌, map, take, drop, length, All, OnOk, OnErr};
+ghost use Rattle.std.specs.Prelude.{◌≡◌, ◌<◌, ◌≤◌, ◌+◌, ◌*◌, ◌%◌, map, take, drop, length, true, All, OnOk, OnErr};
 ghost use lib.Lanes.{chunk, put_chunk};
 ghost use Rattle.std.specs.Io.KnownBytes.{Appends};
 ghost use Rattle.exact_text.specs.Written.{AppendsProperPrefix};
 ghost use Rattle.picture_unit.specs.Pgm.{values_text, row_text, picture_text};
 
 use crate::late_picture::LatePicture;
-use exact_text::{OutputFailed, write_whole};
-use std::io::Write;
+use exact_text::{Output, OutputFailed, write_whole};
 use std::simd::prelude::*;
 
 const HEADER: &[u8; 13] = b"P2\n160 144\n3\n";
@@ -83,11 +82,12 @@ fn put_rows(picture: &LatePicture, first: usize, texts: &mut [[u8; 320]; 24])
 }
 
 /// Writes the rows of a picture as plain PGM.
-pub(crate) fn write_rows<W: Write>(picture: &LatePicture, out: &mut W) -> Result<(), OutputFailed>
+pub(crate) fn write_rows<W: Output>(picture: &LatePicture, out: &mut W) -> Result<(), OutputFailed>
     ensures ok { OnOk result
         (Appends (W.contents out.old) (W.contents out.new) (picture_text picture.now.rows)) }
     ensures err { OnErr result
         (AppendsProperPrefix (W.contents out.old) (W.contents out.new) (picture_text picture.now.rows)) }
+    ensures failed { OnErr result (W.has_failed out.new ≡ true) }
 {
     if let Err(fault) = write_whole(out, HEADER) {
         return Err(fault);

@@ -78,10 +78,10 @@ module _ {G F : Type 0} (game : Ghosts G F) where
   makes_by {a} {b} {x} {y} {inputs} {inputs'} {unsaved} {unsaved'} {lines} {lines'} given left text made =
       subst (Makes game a b x y inputs' unsaved') text (subst (λ (n : ℕ). Makes game a b x y inputs' n lines) left (subst (λ (l : List Input). Makes game a b x y l unsaved lines) given made))
 
-  pub stops_by : {a b : G} {x y : Option (List ℕ)} {may_fail : Type 0} {inputs inputs' : List Input} {lines lines' : List Line} {why : F} → inputs ≡ inputs' → lines ≡ lines'
-      → StopsMaking game a b x y may_fail inputs lines why → StopsMaking game a b x y may_fail inputs' lines' why
-  stops_by {a} {b} {x} {y} {may_fail} {inputs} {inputs'} {lines} {lines'} {why} given text stop =
-      subst (λ (l : List Line). StopsMaking game a b x y may_fail inputs' l why) text (subst (λ (l : List Input). StopsMaking game a b x y may_fail l lines why) given stop)
+  pub stops_by : {a b : G} {x y : Option (List ℕ)} {has_failed : Type 0} {inputs inputs' : List Input} {lines lines' : List Line} {why : F} → inputs ≡ inputs' → lines ≡ lines'
+      → StopsMaking game a b x y has_failed inputs lines why → StopsMaking game a b x y has_failed inputs' lines' why
+  stops_by {a} {b} {x} {y} {has_failed} {inputs} {inputs'} {lines} {lines'} {why} given text stop =
+      subst (λ (l : List Line). StopsMaking game a b x y has_failed inputs' l why) text (subst (λ (l : List Input). StopsMaking game a b x y has_failed l lines why) given stop)
 
   -- ---- where a game stays
 
@@ -95,7 +95,7 @@ module _ {G F : Type 0} (game : Ghosts G F) where
         makes_here (line ∷ []) (appends_line x y line written) (All-cons (λ line. line.told ≤ game.acknowledged a) line [] saved (All-nil (λ line. line.told ≤ game.acknowledged a)))
 
     -- one that could not be written
-    pub stops_at_line : {may_fail : Type 0} (line : Line) → game.told_as game.unwritten ≡ Output → may_fail → AppendsProperPrefix x y line.text → StopsMaking game a a x y may_fail [] (line ∷ []) game.unwritten
+    pub stops_at_line : {has_failed : Type 0} (line : Line) → game.told_as game.unwritten ≡ Output → has_failed → AppendsProperPrefix x y line.text → StopsMaking game a a x y has_failed [] (line ∷ []) game.unwritten
     stops_at_line line is fails part = record {
       stops = at_line a [];
       told = subst (λ (why : SessionError). HasTold why (game.acknowledged a) (line ∷ []) x y) (sym is) (told_part (game.acknowledged a) line [] x y part);
@@ -120,7 +120,7 @@ module _ {G F : Type 0} (game : Ghosts G F) where
               (All-weaker (λ line. line.told ≤ game.acknowledged b) (λ line. line.told ≤ game.acknowledged c) (λ line (within : line.told ≤ game.acknowledged b). omega (arith, within, later)) these one.are_saved) two.are_saved;
         }
 
-    pub stops_then : {left : ℕ} {may_fail : Type 0} {why : F} → Makes game a b x y first left these → StopsMaking game b c y z may_fail second those why → StopsMaking game a c x z may_fail (first ++ second) (these ++ those) why
+    pub stops_then : {left : ℕ} {has_failed : Type 0} {why : F} → Makes game a b x y first left these → StopsMaking game b c y z has_failed second those why → StopsMaking game a c x z has_failed (first ++ second) (these ++ those) why
     stops_then {why = why} one two = record {
       stops = stops_behind one.advances two.stops;
       told = told_then (game.told_as why) (game.acknowledged b) (game.acknowledged c) these those x y z one.answered one.are_saved (stops_later two.stops) two.told;
@@ -128,8 +128,8 @@ module _ {G F : Type 0} (game : Ghosts G F) where
     }
 
   -- a stop before more
-  pub stops_before : {a b : G} {x y : Option (List ℕ)} {may_fail : Type 0} {first : List Input} {these : List Line} {why : F} (second : List Input) (those : List Line) → StopsMaking game a b x y may_fail first these why
-      → StopsMaking game a b x y may_fail (first ++ second) (these ++ those) why
+  pub stops_before : {a b : G} {x y : Option (List ℕ)} {has_failed : Type 0} {first : List Input} {these : List Line} {why : F} (second : List Input) (those : List Line) → StopsMaking game a b x y has_failed first these why
+      → StopsMaking game a b x y has_failed (first ++ second) (these ++ those) why
   stops_before {a} {b} {x} {y} {these = these} {why = why} second those stop = record {
     stops = stops_more second stop.stops;
     told = told_more (game.told_as why) (game.acknowledged b) these those x y stop.told;
@@ -155,8 +155,8 @@ module _ {G F T : Type 0} (game : Ghosts G F) (asked : Asked T) where
   abbrev Does : (a b : G) → (x y : Option (List ℕ)) → List T → Type 0
   Does a b x y things = Makes game a b x y (asked.inputs things) (asked.unsaved (game.unsaved a) things) (lines_from a things)
 
-  abbrev StopsAmong : (a b : G) → (x y : Option (List ℕ)) → (may_fail : Type 0) → List T → F → Type 0
-  StopsAmong a b x y may_fail things why = StopsMaking game a b x y may_fail (asked.inputs things) (lines_from a things) why
+  abbrev StopsAmong : (a b : G) → (x y : Option (List ℕ)) → (has_failed : Type 0) → List T → F → Type 0
+  StopsAmong a b x y has_failed things why = StopsMaking game a b x y has_failed (asked.inputs things) (lines_from a things) why
 
   -- what is written for the second ones from there
   lines_then : (a b : G) (x y : Option (List ℕ)) (first second : List T) → Does a b x y first → lines_from a first ++ lines_from b second ≡ lines_from a (first ++ second)
@@ -174,11 +174,11 @@ module _ {G F T : Type 0} (game : Ghosts G F) (asked : Asked T) where
       (ap (λ (n : ℕ). asked.unsaved n second) one.unsaved_is ∙ sym (asked.unsaved_append (game.unsaved a) first second))
       (lines_then a b x y first second one) (makes_then game one two)
 
-  pub stops_among_more : (a b c : G) (x y z : Option (List ℕ)) (may_fail : Type 0) (first second : List T) (why : F) → Does a b x y first → StopsAmong b c y z may_fail second why → StopsAmong a c x z may_fail (first ++ second) why
-  stops_among_more a b c x y z may_fail first second why one two = stops_by game (sym (asked.inputs_append first second)) (lines_then a b x y first second one) (stops_then game one two)
+  pub stops_among_more : (a b c : G) (x y z : Option (List ℕ)) (has_failed : Type 0) (first second : List T) (why : F) → Does a b x y first → StopsAmong b c y z has_failed second why → StopsAmong a c x z has_failed (first ++ second) why
+  stops_among_more a b c x y z has_failed first second why one two = stops_by game (sym (asked.inputs_append first second)) (lines_then a b x y first second one) (stops_then game one two)
 
-  pub stops_before_more : (a b : G) (x y : Option (List ℕ)) (may_fail : Type 0) (first second : List T) (why : F) → StopsAmong a b x y may_fail first why → StopsAmong a b x y may_fail (first ++ second) why
-  stops_before_more a b x y may_fail first second why stop =
+  pub stops_before_more : (a b : G) (x y : Option (List ℕ)) (has_failed : Type 0) (first second : List T) (why : F) → StopsAmong a b x y has_failed first why → StopsAmong a b x y has_failed (first ++ second) why
+  stops_before_more a b x y has_failed first second why stop =
       let m = game.machine a in
       stops_by game (sym (asked.inputs_append first second)) (sym (asked.lines_append m (count_of game a) (game.unsaved a) first second))
       (stops_before game (asked.inputs second) (asked.lines (after m (asked.inputs first)) (count_of game a + length (asked.inputs first)) (asked.unsaved (game.unsaved a) first) second) stop)

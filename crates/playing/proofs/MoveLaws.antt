@@ -36,10 +36,10 @@ module _ {G F : Type 0} (game : Ghosts G F) (a b c : G) (x y z : Option (List �
   pub frame_given : GivesInputs game b c y z (input ∷ []) → GivesInputs game a c x z (replicate (i + 1) input)
   frame_given one = subst (GivesInputs game a c x z) (one_frame_more input i) (does_then game inputs a b c x y z (replicate i input) (input ∷ []) so_far one)
 
-  pub frame_stopped : (may_fail : Type 0) (why : F) (n : ℕ) → i < n → StopsAmongInputs game b c y z may_fail (input ∷ []) why → StopsAmongInputs game a c x z may_fail (replicate n input) why
-  frame_stopped may_fail why n less stop =
-      subst (λ (l : List Input). StopsAmongInputs game a c x z may_fail l why) (all_frames input i n less)
-      (stops_before_more game inputs a c x z may_fail (replicate i input ++ input ∷ []) (replicate (n - (i + 1)) input) why (stops_among_more game inputs a b c x y z may_fail (replicate i input) (input ∷ []) why so_far stop))
+  pub frame_stopped : (has_failed : Type 0) (why : F) (n : ℕ) → i < n → StopsAmongInputs game b c y z has_failed (input ∷ []) why → StopsAmongInputs game a c x z has_failed (replicate n input) why
+  frame_stopped has_failed why n less stop =
+      subst (λ (l : List Input). StopsAmongInputs game a c x z has_failed l why) (all_frames input i n less)
+      (stops_before_more game inputs a c x z has_failed (replicate i input ++ input ∷ []) (replicate (n - (i + 1)) input) why (stops_among_more game inputs a b c x y z has_failed (replicate i input) (input ∷ []) why so_far stop))
 
 -- ---- moves
 
@@ -58,7 +58,7 @@ module _ {G F : Type 0} (game : Ghosts G F) {a b : G} {x y : Option (List ℕ)} 
   pub move_made : Makes game a b x y (inputs_of_move m) (unsaved_behind_move (game.unsaved a) m) (lines_of_move (count_of game a) (game.unsaved a) m) → MakesMoves game a b x y (m ∷ [])
   move_made made = makes_by game (sym (append-nil (inputs_of_move m))) refl (sym (append-nil (lines_of_move (count_of game a) (game.unsaved a) m))) made
 
-  pub move_stopped : {may_fail : Type 0} {why : F} → StopsMaking game a b x y may_fail (inputs_of_move m) (lines_of_move (count_of game a) (game.unsaved a) m) why → StopsAmongMoves game a b x y may_fail (m ∷ []) why
+  pub move_stopped : {has_failed : Type 0} {why : F} → StopsMaking game a b x y has_failed (inputs_of_move m) (lines_of_move (count_of game a) (game.unsaved a) m) why → StopsAmongMoves game a b x y has_failed (m ∷ []) why
   move_stopped stop = stops_by game (sym (append-nil (inputs_of_move m))) (sym (append-nil (lines_of_move (count_of game a) (game.unsaved a) m))) stop
 
 split : (moves : List Move) (i : ℕ) → take i moves ++ drop i moves ≡ moves
@@ -76,10 +76,10 @@ module _ {G F : Type 0} (game : Ghosts G F) (a b c : G) (x y z : Option (List �
   pub next_made : MakesMoves game b c y z (get_or moves i d ∷ []) → MakesMoves game a c x z (take (i + 1) moves)
   next_made one = subst (MakesMoves game a c x z) (one_move_more moves i d less) (does_then game moves_asked a b c x y z (take i moves) (get_or moves i d ∷ []) so_far one)
 
-  pub next_stopped : (may_fail : Type 0) (why : F) → StopsAmongMoves game b c y z may_fail (get_or moves i d ∷ []) why → StopsAmongMoves game a c x z may_fail moves why
-  next_stopped may_fail why stop =
-      subst (λ (l : List Move). StopsAmongMoves game a c x z may_fail l why) (all_moves moves i d less)
-      (stops_before_more game moves_asked a c x z may_fail (take i moves ++ get_or moves i d ∷ []) (drop (i + 1) moves) why (stops_among_more game moves_asked a b c x y z may_fail (take i moves) (get_or moves i d ∷ []) why so_far stop))
+  pub next_stopped : (has_failed : Type 0) (why : F) → StopsAmongMoves game b c y z has_failed (get_or moves i d ∷ []) why → StopsAmongMoves game a c x z has_failed moves why
+  next_stopped has_failed why stop =
+      subst (λ (l : List Move). StopsAmongMoves game a c x z has_failed l why) (all_moves moves i d less)
+      (stops_before_more game moves_asked a c x z has_failed (take i moves ++ get_or moves i d ∷ []) (drop (i + 1) moves) why (stops_among_more game moves_asked a b c x y z has_failed (take i moves) (get_or moves i d ∷ []) why so_far stop))
 
   -- there was no memory for it
   pub next_without_memory : get_or moves i d ≡ Power → c ≡ b → z ≡ y → HasRoom game b → FindsNoMemory game a c x z moves

@@ -22,9 +22,9 @@ module _ {G F : Type 0} (game : Ghosts G F) where
     saved_alone : IsSaved game a b → Makes game a b x x [] 0 []
     saved_alone one = record { advances = by_save one (stays b); unsaved_is = one.unsaved_is; answered = appends_nothing x; are_saved = All-nil (λ line. line.told ≤ game.acknowledged b) }
 
-    pub save_refused : (may_fail : Type 0) (why : F) → game.fails a b why → game.acknowledged b ≡ game.acknowledged a → (game.told_as why ≡ Output → ⊥)
-        → StopsMaking game a b x x may_fail [] (saved_line (count_of game a) ∷ []) why
-    save_refused may_fail why failed same other = record {
+    pub save_refused : (has_failed : Type 0) (why : F) → game.fails a b why → game.acknowledged b ≡ game.acknowledged a → (game.told_as why ≡ Output → ⊥)
+        → StopsMaking game a b x x has_failed [] (saved_line (count_of game a) ∷ []) why
+    save_refused has_failed why failed same other = record {
       stops = at_save failed same;
       told = told_nothing (game.told_as why) (game.acknowledged b) (saved_line (count_of game a) ∷ []) x other;
       output = λ is. absurd (other is);
@@ -37,8 +37,8 @@ module _ {G F : Type 0} (game : Ghosts G F) where
           makes_by game refl one.unsaved_is refl
           (makes_then game (saved_alone one) (makes_line game b x y (saved_line (count_of game a)) (omega (arith, one.acknowledged_is)) (subst (λ (n : ℕ). Appends x y (saved_line n).text) all_is written)))
 
-      pub save_not_told : (may_fail : Type 0) → game.told_as game.unwritten ≡ Output → may_fail → AppendsProperPrefix x y (saved_line all).text → StopsMaking game a b x y may_fail [] (saved_line (count_of game a) ∷ []) game.unwritten
-      save_not_told may_fail is fails part =
+      pub save_not_told : (has_failed : Type 0) → game.told_as game.unwritten ≡ Output → has_failed → AppendsProperPrefix x y (saved_line all).text → StopsMaking game a b x y has_failed [] (saved_line (count_of game a) ∷ []) game.unwritten
+      save_not_told has_failed is fails part =
           stops_then game (saved_alone one) (stops_at_line game b x y (saved_line (count_of game a)) is fails (subst (λ (n : ℕ). AppendsProperPrefix x y (saved_line n).text) all_is part))
 
   -- ---- an input
@@ -47,8 +47,8 @@ module _ {G F : Type 0} (game : Ghosts G F) where
     given_so : IsGiven game a b input → Makes game a b x x (input ∷ []) (game.unsaved a + 1) []
     given_so one = record { advances = by_input one (stays b); unsaved_is = one.unsaved_is; answered = appends_nothing x; are_saved = All-nil (λ line. line.told ≤ game.acknowledged b) }
 
-    pub input_refused : (may_fail : Type 0) (why : F) → game.refuses a b input why → game.acknowledged b ≡ game.acknowledged a → (game.told_as why ≡ Output → ⊥) → StopsAmongInputs game a b x x may_fail (input ∷ []) why
-    input_refused may_fail why refused same other = record {
+    pub input_refused : (has_failed : Type 0) (why : F) → game.refuses a b input why → game.acknowledged b ≡ game.acknowledged a → (game.told_as why ≡ Output → ⊥) → StopsAmongInputs game a b x x has_failed (input ∷ []) why
+    input_refused has_failed why refused same other = record {
       stops = at_input refused same;
       told = told_nothing (game.told_as why) (game.acknowledged b) (lines_of_inputs (count_of game a) (game.unsaved a) (input ∷ [])) x other;
       output = λ is. absurd (other is);
@@ -71,5 +71,5 @@ module _ {G F : Type 0} (game : Ghosts G F) where
       pub given_saved : Makes game b c x y [] 0 (saved_line (count_of game b) ∷ []) → GivesInputs game a c x y (input ∷ [])
       given_saved saved = makes_by game refl (is_due (game.unsaved a) (count_of game a + 1) due).0 line_is (makes_then game (given_so one) saved)
 
-      pub given_not_saved : (may_fail : Type 0) (why : F) → StopsMaking game b c x y may_fail [] (saved_line (count_of game b) ∷ []) why → StopsAmongInputs game a c x y may_fail (input ∷ []) why
-      given_not_saved may_fail why stop = stops_by game refl line_is (stops_then game (given_so one) stop)
+      pub given_not_saved : (has_failed : Type 0) (why : F) → StopsMaking game b c x y has_failed [] (saved_line (count_of game b) ∷ []) why → StopsAmongInputs game a c x y has_failed (input ∷ []) why
+      given_not_saved has_failed why stop = stops_by game refl line_is (stops_then game (given_so one) stop)

@@ -18,8 +18,8 @@ module _ {G F : Type 0} (game : Ghosts G F) (a : G) (x y : Option (List ℕ)) (a
   pub resumed_made : Appends x y (resumed_line all).text → Makes game a a x y [] (game.unsaved a) (resumed_line (game.acknowledged a) ∷ [])
   resumed_made written = makes_line game a x y (resumed_line (game.acknowledged a)) (omega arith) (subst (λ (n : ℕ). Appends x y (resumed_line n).text) count_is written)
 
-  pub resumed_failed : {may_fail : Type 0} (inputs : List Input) (lines : List Line) → game.told_as game.unwritten ≡ Output → may_fail → AppendsProperPrefix x y (resumed_line all).text
-      → StopsMaking game a a x y may_fail inputs (resumed_line (game.acknowledged a) ∷ lines) game.unwritten
+  pub resumed_failed : {has_failed : Type 0} (inputs : List Input) (lines : List Line) → game.told_as game.unwritten ≡ Output → has_failed → AppendsProperPrefix x y (resumed_line all).text
+      → StopsMaking game a a x y has_failed inputs (resumed_line (game.acknowledged a) ∷ lines) game.unwritten
   resumed_failed inputs lines is fails part =
       stops_before game inputs lines (stops_at_line game a x y (resumed_line (game.acknowledged a)) is fails (subst (λ (n : ℕ). AppendsProperPrefix x y (resumed_line n).text) count_is part))
 
@@ -34,8 +34,8 @@ module _ {G F : Type 0} (game : Ghosts G F) (a b : G) (x y z : Option (List ℕ)
       ap (λ (n : ℕ). lines_of_moves n (game.unsaved a) moves) all ∙ ap (λ (n : ℕ). lines_of_moves first n moves) none
 
   -- they were refused
-  pub play_stopped : (may_fail : Type 0) (why : F) → StopsAmongMoves game a b y z may_fail moves why → StopsMaking game a b x z may_fail (inputs_of_moves moves) (report_lines first moves) why
-  play_stopped may_fail why stop =
+  pub play_stopped : (has_failed : Type 0) (why : F) → StopsAmongMoves game a b y z has_failed moves why → StopsMaking game a b x z has_failed (inputs_of_moves moves) (report_lines first moves) why
+  play_stopped has_failed why stop =
       let last = last_line (first + length (inputs_of_moves moves)) (unsaved_behind_moves 0 moves) in
       stops_by game (append-nil (inputs_of_moves moves)) refl (stops_before game [] last (stops_by game refl (ap (λ (l : List Line). resumed_line first ∷ l) moves_lines) (stops_then game resumed stop)))
 
@@ -56,8 +56,8 @@ module _ {G F : Type 0} (game : Ghosts G F) (a b : G) (x y z : Option (List ℕ)
     play_made c w last = makes_by game (append-nil (inputs_of_moves moves)) refl report_is (makes_then game resumed (makes_then game made last))
 
     -- and the save behind them was refused
-    pub play_not_saved : (c : G) (w : Option (List ℕ)) (may_fail : Type 0) (why : F) → StopsMaking game b c z w may_fail [] last_there why → StopsMaking game a c x w may_fail (inputs_of_moves moves) (report_lines first moves) why
-    play_not_saved c w may_fail why stop = stops_by game (append-nil (inputs_of_moves moves)) report_is (stops_then game resumed (stops_then game made stop))
+    pub play_not_saved : (c : G) (w : Option (List ℕ)) (has_failed : Type 0) (why : F) → StopsMaking game b c z w has_failed [] last_there why → StopsMaking game a c x w has_failed (inputs_of_moves moves) (report_lines first moves) why
+    play_not_saved c w has_failed why stop = stops_by game (append-nil (inputs_of_moves moves)) report_is (stops_then game resumed (stops_then game made stop))
 
   -- they were made up to a power switch for which there was no memory
   pub play_without_memory : FindsNoMemory game a b y z moves → PlaysToMemory game a b x z moves

@@ -57,12 +57,12 @@ module _ {G F : Type 0} (game : Ghosts G F) where
     pub are_saved : All (λ line. line.told ≤ game.acknowledged new) lines
 
   -- One of these inputs, a save among them or a line was refused, after those before it.
-  pub record StopsMaking (old new : G) (before since : Option (List ℕ)) (may_fail : Type 0) (inputs : List Input) (lines : List Line) (why : F) : Type 0 where
+  pub record StopsMaking (old new : G) (before since : Option (List ℕ)) (has_failed : Type 0) (inputs : List Input) (lines : List Line) (why : F) : Type 0 where
     pub stops : Stops old new inputs why
     -- the first of the lines were written, each telling a count that is saved
     pub told : HasTold (game.told_as why) (game.acknowledged new) lines before since
-    -- a line was refused only where one may fail
-    pub output : game.told_as why ≡ Output → may_fail
+    -- a line was refused only where one has failed
+    pub output : game.told_as why ≡ Output → has_failed
 
   -- ---- by what was asked for
 
@@ -70,16 +70,16 @@ module _ {G F : Type 0} (game : Ghosts G F) where
   abbrev pub GivesInputs : (old new : G) → (before since : Option (List ℕ)) → List Input → Type 0
   GivesInputs old new before since inputs = Makes old new before since inputs (unsaved_behind (game.unsaved old) inputs) (lines_of_inputs (count_of old) (game.unsaved old) inputs)
 
-  abbrev pub StopsAmongInputs : (old new : G) → (before since : Option (List ℕ)) → (may_fail : Type 0) → List Input → F → Type 0
-  StopsAmongInputs old new before since may_fail inputs why = StopsMaking old new before since may_fail inputs (lines_of_inputs (count_of old) (game.unsaved old) inputs) why
+  abbrev pub StopsAmongInputs : (old new : G) → (before since : Option (List ℕ)) → (has_failed : Type 0) → List Input → F → Type 0
+  StopsAmongInputs old new before since has_failed inputs why = StopsMaking old new before since has_failed inputs (lines_of_inputs (count_of old) (game.unsaved old) inputs) why
 
   -- these moves were made
   abbrev pub MakesMoves : (old new : G) → (before since : Option (List ℕ)) → List Move → Type 0
   MakesMoves old new before since moves =
       Makes old new before since (inputs_of_moves moves) (unsaved_behind_moves (game.unsaved old) moves) (lines_of_moves (count_of old) (game.unsaved old) moves)
 
-  abbrev pub StopsAmongMoves : (old new : G) → (before since : Option (List ℕ)) → (may_fail : Type 0) → List Move → F → Type 0
-  StopsAmongMoves old new before since may_fail moves why = StopsMaking old new before since may_fail (inputs_of_moves moves) (lines_of_moves (count_of old) (game.unsaved old) moves) why
+  abbrev pub StopsAmongMoves : (old new : G) → (before since : Option (List ℕ)) → (has_failed : Type 0) → List Move → F → Type 0
+  StopsAmongMoves old new before since has_failed moves why = StopsMaking old new before since has_failed (inputs_of_moves moves) (lines_of_moves (count_of old) (game.unsaved old) moves) why
 
   -- the count of all inputs is not the greatest: one more can be counted
   abbrev pub HasRoom : G → Type 0

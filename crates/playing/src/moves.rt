@@ -1,5 +1,5 @@
 //! Moves made on a game, saved when a save is due, and reported.
-ghost use Rattle.std.specs.Prelude.{◌≡◌, ◌<◌, ◌≤◌, ◌∷◌, [], replicate, true, false, ⊤, OnOk, IfOk, IfErr};
+ghost use Rattle.std.specs.Prelude.{◌≡◌, ◌<◌, ◌≤◌, ◌∷◌, [], replicate, true, false, OnOk, IfOk, IfErr};
 ghost use Rattle.machine.specs.Machine.{Frame, Power, State, Input as GivenInput, as_input};
 ghost use Rattle.snapshot.specs.Legal.{IsLegalSnapshot};
 ghost use Rattle.snapshot.specs.Reading.{machine_in};
@@ -12,11 +12,11 @@ ghost use Rattle.playing.specs.Inputs.{inputs_of_moves};
 use crate::playable::Playable;
 use crate::report::{Report, write_resumed};
 use cartridge::Cartridge;
+use exact_text::Output;
 use machine::Input;
 use script::Move;
 use session::MOST_UNSAVED;
 use std::alloc::Global;
-use std::io::Write;
 
 /// Saves, and writes the line of the save once it is made.
 pub fn save_line<G: Playable, R: Report>(game: &mut G, report: &mut R) -> Result<(), G::Fault>
@@ -26,7 +26,7 @@ pub fn save_line<G: Playable, R: Report>(game: &mut G, report: &mut R) -> Result
         (saved_line (count_of ⟦<G as Playable>⟧ game.old) ∷ [])) }
     ensures stopped { IfErr result (λ why.
         StopsMaking ⟦<G as Playable>⟧ game.old game.new (R.contents report.old) (R.contents report.new)
-        R.may_fail [] (saved_line (count_of ⟦<G as Playable>⟧ game.old) ∷ []) why) }
+        (R.has_failed report.new) [] (saved_line (count_of ⟦<G as Playable>⟧ game.old) ∷ []) why) }
     ensures whole { OnOk result (G.whole game.new) }
 {
     match game.save() {
@@ -46,8 +46,8 @@ fn save_due<G: Playable, R: Report>(game: &mut G, report: &mut R) -> Result<(), 
         (GivesInputs ⟦<G as Playable>⟧ before game.new (R.contents report.old) (R.contents report.new) (input ∷ [])) }
     ensures stopped { (before : G) (input : GivenInput) → IsGiven ⟦<G as Playable>⟧ before game.old input →
         IfErr result (λ why.
-        StopsAmongInputs ⟦<G as Playable>⟧ before game.new (R.contents report.old) (R.contents report.new) R.may_fail
-        (input ∷ []) why) }
+        StopsAmongInputs ⟦<G as Playable>⟧ before game.new (R.contents report.old) (R.contents report.new)
+        (R.has_failed report.new) (input ∷ []) why) }
     ensures whole { OnOk result (G.whole game.new × (G.unsaved game.new < most_unsaved)) }
 {
     if game.counts().pending == MOST_UNSAVED {
@@ -68,8 +68,8 @@ pub fn give<G: Playable, R: Report>(
         (GivesInputs ⟦<G as Playable>⟧ game.old game.new (R.contents report.old) (R.contents report.new)
         (as_input input ∷ [])) }
     ensures stopped { IfErr result (λ why.
-        StopsAmongInputs ⟦<G as Playable>⟧ game.old game.new (R.contents report.old) (R.contents report.new) R.may_fail
-        (as_input input ∷ []) why) }
+        StopsAmongInputs ⟦<G as Playable>⟧ game.old game.new (R.contents report.old) (R.contents report.new)
+        (R.has_failed report.new) (as_input input ∷ []) why) }
     ensures whole { OnOk result (G.whole game.new × (G.unsaved game.new < most_unsaved)) }
 {
     match game.input(input) {
@@ -95,8 +95,8 @@ pub fn give_power<G: Playable, R: Report>(
     ensures nothing { IfOk result (λ done. done ≡ false → (game.new ≡ game.old) × (report.new ≡ report.old) ×
         HasRoom ⟦<G as Playable>⟧ game.old) }
     ensures stopped { IfErr result (λ why.
-        StopsAmongInputs ⟦<G as Playable>⟧ game.old game.new (R.contents report.old) (R.contents report.new) R.may_fail
-        (Power ∷ []) why) }
+        StopsAmongInputs ⟦<G as Playable>⟧ game.old game.new (R.contents report.old) (R.contents report.new)
+        (R.has_failed report.new) (Power ∷ []) why) }
     ensures whole { OnOk result (G.whole game.new × (G.unsaved game.new < most_unsaved)) }
 {
     match game.power(alloc, cartridge) {
@@ -129,8 +129,8 @@ pub fn give_state<G: Playable, R: Report>(
         done ≡ false →
         (game.new ≡ game.old) × (report.new ≡ report.old) × (¬ IsLegalSnapshot cartridge.now bytes.now)) }
     ensures stopped { IfErr result (λ why.
-        StopsAmongInputs ⟦<G as Playable>⟧ game.old game.new (R.contents report.old) (R.contents report.new) R.may_fail
-        (State (machine_in cartridge.now bytes.now) ∷ []) why) }
+        StopsAmongInputs ⟦<G as Playable>⟧ game.old game.new (R.contents report.old) (R.contents report.new)
+        (R.has_failed report.new) (State (machine_in cartridge.now bytes.now) ∷ []) why) }
     ensures whole { OnOk result (G.whole game.new × (G.unsaved game.new < most_unsaved)) }
 {
     match game.restore(bytes, cartridge) {
@@ -156,8 +156,8 @@ fn give_frames<G: Playable, R: Report>(
         (GivesInputs ⟦<G as Playable>⟧ game.old game.new (R.contents report.old) (R.contents report.new)
         (replicate times (Frame buttons))) }
     ensures stopped { IfErr result (λ why.
-        StopsAmongInputs ⟦<G as Playable>⟧ game.old game.new (R.contents report.old) (R.contents report.new) R.may_fail
-        (replicate times (Frame buttons)) why) }
+        StopsAmongInputs ⟦<G as Playable>⟧ game.old game.new (R.contents report.old) (R.contents report.new)
+        (R.has_failed report.new) (replicate times (Frame buttons)) why) }
     ensures whole { OnOk result (G.whole game.new × (G.unsaved game.new < most_unsaved)) }
 {
     for _i in 0..times {
@@ -191,8 +191,8 @@ pub fn make_move<G: Playable, R: Report>(
         done ≡ false → (a_move ≡ SwitchMove) × (game.new ≡ game.old) × (report.new ≡ report.old) ×
         HasRoom ⟦<G as Playable>⟧ game.old) }
     ensures stopped { IfErr result (λ why.
-        StopsAmongMoves ⟦<G as Playable>⟧ game.old game.new (R.contents report.old) (R.contents report.new) R.may_fail
-        (a_move ∷ []) why) }
+        StopsAmongMoves ⟦<G as Playable>⟧ game.old game.new (R.contents report.old) (R.contents report.new)
+        (R.has_failed report.new) (a_move ∷ []) why) }
     ensures whole { OnOk result (G.whole game.new × (G.unsaved game.new < most_unsaved)) }
 {
     match a_move {
@@ -233,8 +233,8 @@ pub fn make_moves<G: Playable, R: Report>(
     ensures memory { IfOk result (λ done. done ≡ false →
         FindsNoMemory ⟦<G as Playable>⟧ game.old game.new (R.contents report.old) (R.contents report.new) moves.now) }
     ensures stopped { IfErr result (λ why.
-        StopsAmongMoves ⟦<G as Playable>⟧ game.old game.new (R.contents report.old) (R.contents report.new) R.may_fail
-        moves.now why) }
+        StopsAmongMoves ⟦<G as Playable>⟧ game.old game.new (R.contents report.old) (R.contents report.new)
+        (R.has_failed report.new) moves.now why) }
     ensures whole { OnOk result (G.whole game.new × (G.unsaved game.new < most_unsaved)) }
 {
     for next in moves {
@@ -248,7 +248,7 @@ pub fn make_moves<G: Playable, R: Report>(
 }
 
 /// Writes that the game was resumed, makes the moves, and saves what is then unsaved. The answer is whether there was memory for all.
-pub(crate) fn play_on<G: Playable, W: Write>(
+pub(crate) fn play_on<G: Playable, W: Output>(
     game: &mut G,
     alloc: Global,
     cartridge: &Cartridge,
@@ -265,8 +265,9 @@ pub(crate) fn play_on<G: Playable, W: Write>(
     ensures memory { IfOk result (λ done. done ≡ false →
         PlaysToMemory ⟦<G as Playable>⟧ game.old game.new (W.contents report.old) (W.contents report.new) moves.now) }
     ensures stopped { IfErr result (λ why.
-        StopsMaking ⟦<G as Playable>⟧ game.old game.new (W.contents report.old) (W.contents report.new) ⊤
-        (inputs_of_moves moves.now) (report_lines (G.acknowledged game.old) moves.now) why) }
+        StopsMaking ⟦<G as Playable>⟧ game.old game.new (W.contents report.old) (W.contents report.new)
+        (W.has_failed report.new ≡ true) (inputs_of_moves moves.now) (report_lines (G.acknowledged game.old) moves.now)
+        why) }
     ensures whole { OnOk result (G.whole game.new) }
 {
     if let Err(_) = write_resumed(report, game.counts().all) {

@@ -1,5 +1,5 @@
 //! A whole play.
-ghost use Rattle.std.specs.Prelude.{◌≡◌, ◌⊎◌, ◌+◌, ℕ, [], length, false, IfOk, IfErr};
+ghost use Rattle.std.specs.Prelude.{◌≡◌, ◌⊎◌, ◌+◌, ℕ, [], length, false, true, IfOk, IfErr};
 ghost use Rattle.std.specs.Io.KnownBytes.{Appends};
 ghost use Rattle.sector_device.specs.DiskState.{HasAnswered};
 ghost use Rattle.sector_device.specs.Runs.{HoldsSince};
@@ -11,11 +11,11 @@ ghost use Rattle.playing.specs.Inputs.{inputs_of_moves};
 
 use crate::moves::play_on;
 use cartridge::Cartridge;
+use exact_text::Output;
 use script::Move;
 use sector_device::SectorDevice;
 use session::{Refused, Session, SessionError, resume};
 use std::alloc::Global;
-use std::io::Write;
 
 /// Resumes the game on a device, writes `resumed N`, makes the moves, and writes `saved N` after
 /// each save: one at each `Save`, right after the input that makes 3,200 unsaved, and at the end if
@@ -25,7 +25,7 @@ use std::io::Write;
 /// `GenerationsUsedUp`, `Device`, `CountFull`, `Output` and, at a power switch, `Memory`. What was saved stays saved: the report then has the
 /// first of its lines, followed, only on `Output`, by a part of the next, and each image that is
 /// left has all inputs up to each N that these lines report.
-pub fn play<D: SectorDevice, W: Write>(
+pub fn play<D: SectorDevice, W: Output>(
     alloc: Global,
     device: D,
     cartridge: &Cartridge,
@@ -49,6 +49,10 @@ pub fn play<D: SectorDevice, W: Write>(
         (W.contents report.new)
         ⊎ HasFoundNoMemory cartridge.now (D.disk device) (D.disk refused.device) moves.now refused.why
         (W.contents report.old) (W.contents report.new)) }
+
+    // only a write that failed is told as one
+    ensures output { IfErr result (λ refused. refused.why ≡ SessionError.Output → (D.disk device).honest →
+        W.has_failed report.new ≡ true) }
 
     // at each moment
     ensures images { (D.disk device).honest →

@@ -10,6 +10,8 @@ ghost use Rattle.recorded_lives.specs.Devices.{StandTogether, CountsCut, IsByNoF
 ghost use Rattle.recorded_lives.specs.Rounds.{LeavesRound, IsCut, IsCutRound, IsByFuse, RefusesRound};
 
 use cartridge::Cartridge;
+use exact_text::CheckedOutput;
+use input_lines::CheckedInput;
 use recorded_play::{RecordError, RecordRefused, RecordedGame, record};
 use recording::RecordingFault;
 use sector_device::MemoryDevice;
@@ -124,19 +126,19 @@ fn play_until_blown(
     ensures fuse { IfErr result (λ refused. IsByNoFuse refused.why (memory refused.save) (memory refused.recording)) }
 {
     let Devices { save, recording } = devices;
-    let mut input = lines;
-    let mut report = Vec::new(alloc);
+    let mut input = CheckedInput::new(lines);
+    let mut report = CheckedOutput::new(Vec::new(alloc));
     match record(alloc, save, recording, cartridge, &mut input, &mut report) {
         Ok(game) => {
             let end = RecordedEnd {
-                report,
+                report: report.into_writer(),
                 whole: true,
             };
             Ok((devices_of(game), end))
         }
         Err(refused) => {
             let end = RecordedEnd {
-                report,
+                report: report.into_writer(),
                 whole: false,
             };
             ended_by(refused, end)

@@ -1,5 +1,5 @@
 //! A whole recorded play.
-ghost use Rattle.std.specs.Prelude.{◌≡◌, [], false, Ok, Err, IfOk, IfErr};
+ghost use Rattle.std.specs.Prelude.{◌≡◌, [], false, true, Ok, Err, IfOk, IfErr};
 ghost use Rattle.sector_device.specs.DiskState.{HasAnswered};
 ghost use Rattle.recording.specs.Accessors.{device_of as device_of_recording, is_broken as is_broken_recording};
 ghost use Rattle.session.specs.Accessors.{device_of, rom_of, pending_of, is_broken};
@@ -12,10 +12,11 @@ use crate::error::{RecordError, RecordRefused};
 use crate::recorded_game::RecordedGame;
 use crate::taking_up::take_up;
 use cartridge::Cartridge;
+use exact_text::Output;
+use input_lines::LineInput;
 use sector_device::SectorDevice;
 use session::SessionError;
 use std::alloc::Global;
-use std::io::{Read, Write};
 use streaming::{End, StateRoom, stream_on};
 
 /// What is left of a game that stops.
@@ -47,7 +48,7 @@ fn stopped<D: SectorDevice, E: SectorDevice>(
 /// `Session` with `GenerationsUsedUp`, `Device`, `CountFull` or `Output`; `Line` with the number of the first
 /// wrong line, counted from 1, and `Input` if a read fails, both once what was given before is saved
 /// and reported.
-pub fn record<D: SectorDevice, E: SectorDevice, R: Read, W: Write>(
+pub fn record<D: SectorDevice, E: SectorDevice, R: LineInput, W: Output>(
     alloc: Global,
     save: D,
     recording: E,
@@ -65,6 +66,11 @@ pub fn record<D: SectorDevice, E: SectorDevice, R: Read, W: Write>(
         IsRecordCause refused.why cartridge.now (D.disk save) (D.disk refused.save)
         (E.disk recording) (E.disk refused.recording) (R.remaining input.old) (R.remaining input.new)
         (W.contents out.old) (W.contents out.new)) }
+
+    // only a read and a write that failed are told as such
+    ensures input { IfErr result (λ refused. refused.why ≡ RecordError.Input → R.has_failed input.new ≡ true) }
+    ensures output { IfErr result (λ refused. refused.why ≡ RecordError.Session SessionError.Output →
+        (D.disk save).honest → (E.disk recording).honest → W.has_failed out.new ≡ true) }
 
     // Whatever a power cut leaves of both agrees.
     ensures agree { (D.disk save).honest → (E.disk recording).honest →

@@ -1,6 +1,6 @@
 //! A recording as the lines of a script.
 
-ghost use Rattle.std.specs.Prelude.{◌≡◌, IfErr, OnOk};
+ghost use Rattle.std.specs.Prelude.{◌≡◌, true, IfErr, OnOk};
 ghost use Rattle.cartridge.specs.Accepted.{IsAccepted};
 ghost use Rattle.sector_device.specs.DiskState.{HasAnswered};
 ghost use Rattle.sector_device.specs.Looking.{HasLooked};
@@ -8,18 +8,18 @@ ghost use Rattle.recording_lines.specs.Script.{HasWrittenScript, IsScriptCause, 
 
 use crate::error::{ScriptLinesError, ScriptLinesRefused};
 use cartridge::Cartridge;
+use exact_text::Output;
 use recording::{RecordingFault, open_recording};
 use replaying::{WriteRecordedError, write_recorded};
 use sector_device::SectorDevice;
 use std::alloc::Global;
-use std::io::Write;
 
 /// Writes the inputs of the recording on a device as a script: `frames BB N` for each run of equal frames, `seconds N` for seconds of the
 /// clock. Nothing is written to the device.
 ///
 /// Refusals, in this order, each of which hands the device back: what is wrong with the image; those of `open_recording`, with nothing
 /// written; `Device` and `Output` of `write_recorded`, whichever comes first.
-pub fn recorded_lines<D: SectorDevice, W: Write>(
+pub fn recorded_lines<D: SectorDevice, W: Output>(
     alloc: Global,
     device: D,
     rom: Vec<u8>,
@@ -31,6 +31,8 @@ pub fn recorded_lines<D: SectorDevice, W: Write>(
     ensures looked { (D.disk device).honest → HasLooked (D.disk device) (D.disk (left_by result)) }
     ensures cause { IfErr result (λ refused.
         IsScriptCause rom.items (D.disk device) (W.contents out.old) (W.contents out.new) refused.why) }
+    ensures output { IfErr result (λ refused.
+        refused.why ≡ ScriptLinesError.Output → W.has_failed out.new ≡ true) }
     ensures answered { HasAnswered (λ refused. faults_after_script refused.why) (D.disk device)
         (D.disk (left_by result)) result }
 {

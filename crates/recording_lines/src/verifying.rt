@@ -1,6 +1,6 @@
 //! A game compared with its recording, and the line that says so.
 
-ghost use Rattle.std.specs.Prelude.{◌≡◌, IfErr, IfOk, IfSome, OnErr, OnOk};
+ghost use Rattle.std.specs.Prelude.{◌≡◌, true, IfErr, IfOk, OnErr, OnOk};
 ghost use Rattle.std.specs.Io.KnownBytes.{Appends};
 ghost use Rattle.cartridge.specs.Accepted.{IsAccepted};
 ghost use Rattle.exact_text.specs.Written.{AppendsProperPrefix};
@@ -11,12 +11,10 @@ ghost use Rattle.recording_lines.specs.Verifying.{HasAgreed, IsLineCause, agree_
 use crate::error::VerifyLineError;
 use arrayvec::ArrayString;
 use cartridge::Cartridge;
-use exact_text::{OutputFailed, write_whole};
+use exact_text::{Output, OutputFailed, number_digits, write_whole};
 use replaying::verify;
 use sector_device::SectorDevice;
 use std::alloc::Global;
-use std::fmt::Write as FormatWrite;
-use std::io::Write;
 
 /// What `verify_line` did, and both devices.
 #[derive(Drop)]
@@ -31,7 +29,7 @@ pub struct Compared<S: SectorDevice, D: SectorDevice> {
 /// exactly the one after the first N inputs of the recording from power-on. Nothing is written to either device.
 ///
 /// Refusals, in this order: what is wrong with the image; those of `verify`, with nothing written; that the line could not be written.
-pub fn verify_line<S: SectorDevice, D: SectorDevice, W: Write>(
+pub fn verify_line<S: SectorDevice, D: SectorDevice, W: Output>(
     alloc: Global,
     save: S,
     recording: D,
@@ -45,6 +43,7 @@ pub fn verify_line<S: SectorDevice, D: SectorDevice, W: Write>(
     ensures looked_recording { (D.disk recording).honest → HasLooked (D.disk recording) (D.disk result.recording) }
     ensures cause { IfErr result.answer (λ why.
         IsLineCause rom.items (S.disk save) (D.disk recording) (W.contents out.old) (W.contents out.new) why) }
+    ensures output { IfErr result.answer (λ why. why ≡ VerifyLineError.Output → W.has_failed out.new ≡ true) }
     ensures answered_save { HasAnswered save_faults_after_line (S.disk save) (S.disk result.save) result.answer }
     ensures answered_recording { HasAnswered recording_faults_after_line (D.disk recording) (D.disk result.recording)
         result.answer }
@@ -80,23 +79,21 @@ pub fn verify_line<S: SectorDevice, D: SectorDevice, W: Write>(
     }
 }
 
-fn agree_text(count: u64) -> Option<ArrayString<32>>
-    ensures { IfSome result (λ text. text.bytes ≡ agree_line count) }
+fn agree_text(count: u64) -> ArrayString<32>
+    ensures { result.bytes ≡ agree_line count }
 {
     let mut text = ArrayString::new();
-    match writeln!(text, "agree {count}") {
-        Ok(()) => Some(text),
-        Err(_) => None,
-    }
+    text.push_str("agree ");
+    text.push_str(number_digits(count).as_str());
+    text.push('\n');
+    text
 }
 
 /// Writes the line `agree N`.
-fn write_agreed<W: Write>(out: &mut W, count: u64) -> Result<(), OutputFailed>
+fn write_agreed<W: Output>(out: &mut W, count: u64) -> Result<(), OutputFailed>
     ensures ok { OnOk result (Appends (W.contents out.old) (W.contents out.new) (agree_line count)) }
     ensures err { OnErr result (AppendsProperPrefix (W.contents out.old) (W.contents out.new) (agree_line count)) }
+    ensures failed { OnErr result (W.has_failed out.new ≡ true) }
 {
-    match agree_text(count) {
-        Some(text) => write_whole(out, text.as_bytes()),
-        None => Err(OutputFailed),
-    }
+    write_whole(out, agree_text(count).as_bytes())
 }

@@ -3,7 +3,9 @@ use crate::answers::{Answer, refused};
 use cartridge::Cartridge;
 use debug_lines::{DebugGameError, DebugRomError, debug_game, debug_rom};
 use debugger::Debugger;
+use exact_text::CheckedOutput;
 use gbkeep::{PlayError, TextError, play_to_picture, step_line};
+use input_lines::CheckedInput;
 use machine::{Input, Machine, Region};
 use playing::play;
 use script::{Move, ScriptError, read_script};
@@ -242,8 +244,14 @@ pub(crate) fn played(alloc: Global) -> Option<Answer> {
         Move::Save,
     ];
     let mut buffer = [0; 64];
-    let mut report: &mut [u8] = &mut buffer;
-    let answer = match play(alloc, device, &cartridge, &moves, &mut report) {
+    let report: &mut [u8] = &mut buffer;
+    let answer = match play(
+        alloc,
+        device,
+        &cartridge,
+        &moves,
+        &mut CheckedOutput::new(report),
+    ) {
         Ok(_) => return Some(Answer::Done),
         Err(left) => refused(
             left.why == SessionError::Memory && holds_the_game(alloc, left.device, &cartridge),
@@ -260,10 +268,18 @@ pub(crate) fn drawn(alloc: Global) -> Option<Answer> {
     let device = game(alloc, &cartridge)?;
     let rom = rom(alloc)?;
     let mut picture = Vec::from_elem(alloc, 0u8, 50_000).ok()?;
-    let mut out: &mut [u8] = &mut picture;
+    let room: &mut [u8] = &mut picture;
+    let mut out = CheckedOutput::new(room);
     let mut buffer = [0; 64];
-    let mut report: &mut [u8] = &mut buffer;
-    let answer = match play_to_picture(alloc, device, rom, SCRIPT, &mut report, Some(&mut out)) {
+    let report: &mut [u8] = &mut buffer;
+    let answer = match play_to_picture(
+        alloc,
+        device,
+        rom,
+        SCRIPT,
+        &mut CheckedOutput::new(report),
+        Some(&mut out),
+    ) {
         Ok(_) => return Some(Answer::Done),
         Err(left) => {
             let is_memory = left.why == PlayError::Session(SessionError::Memory)
@@ -280,8 +296,8 @@ pub(crate) fn drawn(alloc: Global) -> Option<Answer> {
 pub(crate) fn stepped(alloc: Global) -> Option<Answer> {
     let rom = rom(alloc)?;
     let mut buffer = [0; 128];
-    let mut out: &mut [u8] = &mut buffer;
-    let why = match step_line(alloc, rom, 9, &mut out) {
+    let out: &mut [u8] = &mut buffer;
+    let why = match step_line(alloc, rom, 9, &mut CheckedOutput::new(out)) {
         Ok(()) => return Some(Answer::Done),
         Err(why) => why,
     };
@@ -292,9 +308,14 @@ pub(crate) fn stepped(alloc: Global) -> Option<Answer> {
 pub(crate) fn debugged_rom(alloc: Global) -> Option<Answer> {
     let rom = rom(alloc)?;
     let mut buffer = [0; 512];
-    let mut out: &mut [u8] = &mut buffer;
+    let out: &mut [u8] = &mut buffer;
     let mut input: &[u8] = LINES;
-    let why = match debug_rom(alloc, rom, &mut input, &mut out) {
+    let why = match debug_rom(
+        alloc,
+        rom,
+        &mut CheckedInput::new(&mut input),
+        &mut CheckedOutput::new(out),
+    ) {
         Ok(()) => return Some(Answer::Done),
         Err(why) => why,
     };
@@ -306,9 +327,14 @@ pub(crate) fn debugged_rom(alloc: Global) -> Option<Answer> {
 pub(crate) fn debugged_states(alloc: Global) -> Option<Answer> {
     let rom = rom(alloc)?;
     let mut buffer = [0; 512];
-    let mut out: &mut [u8] = &mut buffer;
+    let out: &mut [u8] = &mut buffer;
     let mut input: &[u8] = STATE_LINES;
-    let why = match debug_rom(alloc, rom, &mut input, &mut out) {
+    let why = match debug_rom(
+        alloc,
+        rom,
+        &mut CheckedInput::new(&mut input),
+        &mut CheckedOutput::new(out),
+    ) {
         Ok(()) => return Some(Answer::Done),
         Err(why) => why,
     };
@@ -329,9 +355,15 @@ pub(crate) fn debugged_game(alloc: Global) -> Option<Answer> {
     let device = game(alloc, &cartridge)?;
     let rom = rom(alloc)?;
     let mut buffer = [0; 512];
-    let mut out: &mut [u8] = &mut buffer;
+    let out: &mut [u8] = &mut buffer;
     let mut input: &[u8] = LINES;
-    let answer = match debug_game(alloc, device, rom, &mut input, &mut out) {
+    let answer = match debug_game(
+        alloc,
+        device,
+        rom,
+        &mut CheckedInput::new(&mut input),
+        &mut CheckedOutput::new(out),
+    ) {
         Ok(_) => return Some(Answer::Done),
         Err(left) => {
             let is_memory = left.why == DebugGameError::Memory

@@ -29,17 +29,6 @@ pub frames_line_none : (buttons times : ℕ) → times ≡ 0 → frames_line but
 unfolding frames_line
 frames_line_none buttons times none = ap (λ (n : ℕ). if n == 0 then [] else codes "frames " ++ (byte_text buttons ++ (codes " " ++ (decimal n ++ codes "\n")))) none
 
--- nothing of a line is a proper prefix of it
-pub nothing_of : (now : Option (List ℕ)) (text : List ℕ) → 0 < length text → AppendsProperPrefix now now text
-nothing_of now text some = record { count = 0; proper = some; prefix = appends_nothing now }
-
-pub nothing_of_frames : (now : Option (List ℕ)) (buttons times : ℕ) → 1 ≤ times → AppendsProperPrefix now now (frames_line buttons times)
-nothing_of_frames now buttons times some = nothing_of now (frames_line buttons times) (let is = ap length (frames_line_is buttons times some) in omega arith)
-
-pub nothing_of_seconds : (now : Option (List ℕ)) (seconds : ℕ) → AppendsProperPrefix now now (seconds_line seconds)
-unfolding seconds_line
-nothing_of_seconds now seconds = nothing_of now (codes "seconds " ++ (decimal seconds ++ codes "\n")) (omega arith)
-
 pub nothing_for_none : (now : Option (List ℕ)) (buttons times : ℕ) → times ≡ 0 → Appends now now (frames_line buttons times)
 nothing_for_none now buttons times none = subst (Appends now now) (sym (frames_line_none buttons times none)) (appends_nothing now)
 

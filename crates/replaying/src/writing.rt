@@ -14,9 +14,9 @@ ghost use Rattle.replaying.specs.declared.error.WriteRecordedError.TheVariants.{
 use crate::error::WriteRecordedError;
 use crate::lines::{write_entries, write_run};
 use crate::run::Run;
+use exact_text::Output;
 use recording::{Recording, RecordingFault};
 use sector_device::SectorDevice;
-use std::io::Write;
 
 /// Writes the inputs of a recording as a script that asks for exactly these inputs: a line `frames
 /// BB N` for each run of equal frames, of at most 1,000,000, and a line `seconds N` for seconds. It
@@ -25,7 +25,7 @@ use std::io::Write;
 ///
 /// Refusals: `Broken` before anything else; `Device` at the first call of the device that fails,
 /// which breaks the recording; `Output` at the first write that fails or takes no byte.
-pub fn write_recorded<D: SectorDevice, W: Write>(
+pub fn write_recorded<D: SectorDevice, W: Output>(
     recording: &mut Recording<D>,
     out: &mut W,
 ) -> Result<(), WriteRecordedError>
@@ -35,6 +35,9 @@ pub fn write_recorded<D: SectorDevice, W: Write>(
     ensures part { IfErr result (λ why. (D.disk (device_of recording.old)).honest →
         WritesPart why (W.contents out.old) (W.contents out.new)
         (script_in (D.disk (device_of recording.old)).sectors)) }
+
+    // only a write that failed is told as one
+    ensures output { IfErr result (λ why. why ≡ WriteRecordedError.Output → W.has_failed out.new ≡ true) }
 
     // the recording stays as it was
     ensures looked { (D.disk (device_of recording.old)).honest →
@@ -65,7 +68,7 @@ pub fn write_recorded<D: SectorDevice, W: Write>(
 }
 
 /// Writes the lines that the inputs of a sector end.
-fn write_sector<D: SectorDevice, W: Write>(
+fn write_sector<D: SectorDevice, W: Output>(
     recording: &mut Recording<D>,
     number: u64,
     run: &mut Run,
@@ -83,6 +86,7 @@ fn write_sector<D: SectorDevice, W: Write>(
         HasStopped run.old
         (inputs_of (inputs (entries_at number (sector_at (D.disk (device_of recording.old)).sectors number))))
         (W.contents out.old) (W.contents out.new) }
+    ensures failed { result ≡ Err Output → W.has_failed out.new ≡ true }
     ensures device { result ≡ Err Device → W.contents out.new ≡ W.contents out.old }
     ensures looked { (D.disk (device_of recording.old)).honest →
         HasLooked (D.disk (device_of recording.old)) (D.disk (device_of recording.new)) }

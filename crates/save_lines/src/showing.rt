@@ -1,6 +1,6 @@
 //! A SAVE, shown as lines.
 
-ghost use Rattle.std.specs.Prelude.{◌≡◌, ◌⊎◌, length, IfErr, IfSome, OnErr, OnOk};
+ghost use Rattle.std.specs.Prelude.{◌≡◌, ◌⊎◌, length, true, IfErr, OnErr, OnOk};
 ghost use Rattle.std.specs.Io.KnownBytes.{Appends};
 ghost use Rattle.cartridge.specs.Accepted.{IsAccepted};
 ghost use Rattle.exact_text.specs.Written.{AppendsProperPrefix};
@@ -16,13 +16,11 @@ use crate::error::{ShowError, ShowRefused};
 use crate::text::{digests_text, numbers_text};
 use arrayvec::ArrayString;
 use cartridge::Cartridge;
-use exact_text::{OutputFailed, write_whole};
+use exact_text::{Output, OutputFailed, write_whole};
 use sector_device::SectorDevice;
 use session::{Look, look_at};
 use sha2::{Digest, Sha256};
 use std::alloc::Global;
-use std::fmt::Write as FormatWrite;
-use std::io::Write;
 
 /// Looks at the game on a device and writes six lines: `inputs N`, how many it has had; `logged N`, how many of them are in the log; `generation N`,
 /// that of the log; `sectors N`, those of the device; `rom` and `state` with the SHA-256 of the ROM image and of the snapshot of the game's machine.
@@ -30,7 +28,7 @@ use std::io::Write;
 ///
 /// Refusals, in this order, each of which hands the device back: what is wrong with the image; those of `look_at`, with no line written; that the
 /// text could not be written.
-pub fn show_lines<D: SectorDevice, W: Write>(
+pub fn show_lines<D: SectorDevice, W: Output>(
     alloc: Global,
     device: D,
     rom: Vec<u8>,
@@ -41,6 +39,7 @@ pub fn show_lines<D: SectorDevice, W: Write>(
     ensures looked { (D.disk device).honest → HasLooked (D.disk device) (D.disk (left_by result)) }
     ensures cause { IfErr result (λ refused.
         IsShowCause rom.items (D.disk device) (W.contents out.old) (W.contents out.new) refused.why) }
+    ensures output { IfErr result (λ refused. refused.why ≡ ShowError.Output → W.has_failed out.new ≡ true) }
     ensures memory { IfErr result (λ refused. refused.why ≡ Session Memory → (refused.device ≡ device) ⊎
         ((D.disk device).honest → CanBeLookedAt rom.items (D.disk device))) }
     ensures answered { HasAnswered (λ refused. faults_after_show refused.why) (D.disk device) (D.disk (left_by result))
@@ -71,25 +70,22 @@ pub fn show_lines<D: SectorDevice, W: Write>(
     }
 }
 
-/// All six lines; there is room for them.
-fn shown_text<D: SectorDevice>(cartridge: &Cartridge, look: &Look<D>) -> Option<ArrayString<512>>
-    ensures { IfSome result (λ text.
-        text.bytes ≡ shown_text cartridge.now (length (D.disk (device_of_look look.now)).sectors) (seen_by look.now)) }
+/// All six lines.
+fn shown_text<D: SectorDevice>(cartridge: &Cartridge, look: &Look<D>) -> ArrayString<512>
+    ensures { result.bytes ≡
+        shown_text cartridge.now (length (D.disk (device_of_look look.now)).sectors) (seen_by look.now) }
 {
     let sectors = look.device().count();
-    let numbers = numbers_text(look.count(), look.logged(), look.generation(), sectors)?;
-    let numbers = numbers.as_str();
-    let digests = digests_text(cartridge.digest(), Sha256::digest(look.snapshot()))?;
-    let digests = digests.as_str();
+    let numbers = numbers_text(look.count(), look.logged(), look.generation(), sectors);
+    let digests = digests_text(cartridge.digest(), Sha256::digest(look.snapshot()));
     let mut text = ArrayString::new();
-    match write!(text, "{numbers}{digests}") {
-        Ok(()) => Some(text),
-        Err(_) => None,
-    }
+    text.push_str(numbers.as_str());
+    text.push_str(digests.as_str());
+    text
 }
 
 /// Writes all six lines.
-fn write_shown<D: SectorDevice, W: Write>(
+fn write_shown<D: SectorDevice, W: Output>(
     out: &mut W,
     cartridge: &Cartridge,
     look: &Look<D>,
@@ -98,9 +94,7 @@ fn write_shown<D: SectorDevice, W: Write>(
         (shown_text cartridge.now (length (D.disk (device_of_look look.now)).sectors) (seen_by look.now))) }
     ensures err { OnErr result (AppendsProperPrefix (W.contents out.old) (W.contents out.new)
         (shown_text cartridge.now (length (D.disk (device_of_look look.now)).sectors) (seen_by look.now))) }
+    ensures failed { OnErr result (W.has_failed out.new ≡ true) }
 {
-    match shown_text(cartridge, look) {
-        Some(text) => write_whole(out, text.as_bytes()),
-        None => Err(OutputFailed),
-    }
+    write_whole(out, shown_text(cartridge, look).as_bytes())
 }

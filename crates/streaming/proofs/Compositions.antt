@@ -1,6 +1,5 @@
 -- Deeds one after another.
 use Rattle.std.proofs.Common.{◌≡◌, ℕ, ◌+◌, List, [], ◌∷◌, ◌++◌, length, Option, refl, sym, ap, ◌∙◌, arith, append_assoc, length-append}
-use Rattle.std.specs.Prelude.{⊤}
 use Rattle.machine.specs.Machine.{MachineState, after}
 use Rattle.machine.specs.Machine.{Input}
 use Rattle.session.proofs.StandsLaws.{after_append, after_none}
@@ -54,9 +53,10 @@ module _ {G F : Type 0} (game : Ghosts G F) where
   pub obeys_then : (a b c : G) (x y z : Option (List ℕ)) (first second : List Deed) → Obeys game a b x y first → Obeys game b c y z second → Obeys game a c x z (first ++ second)
   obeys_then a b c x y z first second one two = does_then game deeds_asked a b c x y z first second one two
 
-  pub stops_then : (a b c : G) (x y z : Option (List ℕ)) (first second : List Deed) (why : F) → Obeys game a b x y first → StopsAmong game b c y z second why → StopsAmong game a c x z (first ++ second) why
-  stops_then a b c x y z first second why one two = stops_among_more game deeds_asked a b c x y z ⊤ first second why one two
+  pub stops_then : (a b c : G) (x y z : Option (List ℕ)) (has_failed : Type 0) (first second : List Deed) (why : F) → Obeys game a b x y first → StopsAmong game b c y z has_failed second why
+      → StopsAmong game a c x z has_failed (first ++ second) why
+  stops_then a b c x y z has_failed first second why one two = stops_among_more game deeds_asked a b c x y z has_failed first second why one two
 
   -- and before others
-  pub stops_before : (a b : G) (x y : Option (List ℕ)) (first second : List Deed) (why : F) → StopsAmong game a b x y first why → StopsAmong game a b x y (first ++ second) why
-  stops_before a b x y first second why stop = stops_before_more game deeds_asked a b x y ⊤ first second why stop
+  pub stops_before : (a b : G) (x y : Option (List ℕ)) (has_failed : Type 0) (first second : List Deed) (why : F) → StopsAmong game a b x y has_failed first why → StopsAmong game a b x y has_failed (first ++ second) why
+  stops_before a b x y has_failed first second why stop = stops_before_more game deeds_asked a b x y has_failed first second why stop

@@ -1,6 +1,5 @@
 -- An input, and then the answer that tells of it.
 use Rattle.std.proofs.Common.{◌≡◌, ℕ, ◌+◌, List, [], ◌∷◌, ◌++◌, Option, refl, sym, ap, ◌∙◌, arith, append-nil}
-use Rattle.std.specs.Prelude.{⊤}
 use Rattle.std.specs.Io.KnownBytes.{Appends}
 use Rattle.exact_text.specs.Written.{AppendsProperPrefix}
 use Rattle.machine.specs.Machine.{MachineState, State}
@@ -27,8 +26,9 @@ module _ {G F : Type 0} (game : Ghosts G F) (a b : G) (x y z : Option (List ℕ)
   pub goes_on : GivesInputs game a b x y (State m ∷ []) → Appends y z (other_text order) → Obeys game a b x z (GoesOnWith order m ∷ [])
   goes_on made written = makes_by game refl made.unsaved_is lines_are (makes_then game made (makes_line game b y z (answer (other_text order)) (omega arith) written))
 
-  pub goes_on_untold : GivesInputs game a b x y (State m ∷ []) → game.told_as game.unwritten ≡ Output → AppendsProperPrefix y z (other_text order) → StopsAmong game a b x z (GoesOnWith order m ∷ []) game.unwritten
-  goes_on_untold made is part = stops_by game refl lines_are (stops_then game made (stops_at_line game b y z (answer (other_text order)) is tt part))
+  pub goes_on_untold : {has_failed : Type 0} → GivesInputs game a b x y (State m ∷ []) → game.told_as game.unwritten ≡ Output → has_failed → AppendsProperPrefix y z (other_text order)
+      → StopsAmong game a b x z has_failed (GoesOnWith order m ∷ []) game.unwritten
+  goes_on_untold made is fails part = stops_by game refl lines_are (stops_then game made (stops_at_line game b y z (answer (other_text order)) is fails part))
 
-  pub goes_no_further : (why : F) → StopsAmongInputs game a b x y ⊤ (State m ∷ []) why → StopsAmong game a b x y (GoesOnWith order m ∷ []) why
+  pub goes_no_further : {has_failed : Type 0} (why : F) → StopsAmongInputs game a b x y has_failed (State m ∷ []) why → StopsAmong game a b x y has_failed (GoesOnWith order m ∷ []) why
   goes_no_further why stop = stops_by game refl lines_are (stops_before game [] told stop)

@@ -144,12 +144,13 @@ module _ {G F : Type 0} (game : Ghosts G F) (rom : List ℕ) (start : G) (of : g
           }
 
       -- it was refused
-      pub refused_line : (after_it : G) (z known : Option (List ℕ)) (items : List ℕ) (why : F) → IsRefused game now after_it y z (record { before = mid; since = left_of items known; unread = known }) rom so_far.kept order why
-          → StopsAmongLines game start after_it before_in known x z why
-      refused_line after_it z known items why stop =
+      pub refused_line : (after_it : G) (z known : Option (List ℕ)) (items : List ℕ) (has_failed : Type 0) (why : F)
+          → IsRefused game now after_it y z (record { before = mid; since = left_of items known; unread = known }) rom so_far.kept order has_failed why
+          → StopsAmongLines game start after_it before_in known x z has_failed why
+      refused_line after_it z known items has_failed why stop =
           let given = with_bytes stop.bytes in
           let asked_order = asked_here _ stop.order_is in
-          let stops = stops_then game start now after_it x y z so_far.deeds (stop.deed ∷ []) why so_far.obeys stop.stops in
+          let stops = stops_then game start now after_it x y z has_failed so_far.deeds (stop.deed ∷ []) why so_far.obeys stop.stops in
           elim stop.asked [
             | inl done ↦
                 let all = deed_asks rom so_far.kept stop.bytes stop.deed done ∙ sym (asked_is game.takes_states line _ asked_order) in

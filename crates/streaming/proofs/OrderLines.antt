@@ -66,6 +66,10 @@ module _ (states : Bool) where
   pub too_long : (line : List ℕ) → 64 < length line → order_of states line ≡ None
   too_long line long = rw (lt-leb (length line) 64 long) refl
 
+  -- a line that was taken is no read that failed
+  pub asked_not_failed : (next : Next) (line : List ℕ) → IsAsked states next line → next ≡ Failed → ⊥
+  asked_not_failed next line asked failed = subst (λ (n : Next). IsAsked states n line) failed asked
+
   pub next_line : (next : Next) (line : List ℕ) (old new since : Option (List ℕ)) → HasNoNewline line → IsAsked states next line → TakesLine line old new → IsNext states next old new since
   next_line (Line order) line old new since one asked takes = (line, one, asked, takes)
   next_line Wrong line old new since one asked takes = (line, record { one_line = one; some = asked.0; wrong = asked.1 }, inl takes)

@@ -1,6 +1,5 @@
 -- A whole stream, from the line of the resume to the last save.
 use Rattle.std.proofs.Common.{◌≡◌, inl, inr, Bool, true, ℕ, ◌==◌, ◌+◌, ◌-◌, List, [], ◌∷◌, ◌++◌, length, Option, Some, refl, sym, ap, ◌∙◌, subst, arith, append-nil}
-use Rattle.std.specs.Prelude.{⊤}
 use Rattle.std.specs.Io.KnownBytes.{Appends}
 use Rattle.std.proofs.lemmas.Bool.{cases_Bool}
 use Rattle.machine.specs.Machine.{Input}
@@ -55,9 +54,10 @@ module _ {G F : Type 0} (game : Ghosts G F) where
   ended_obeyed a m b x y z deeds one two =
       subst (λ (n : ℕ). Obeys game a b x z (deeds ++ last_deeds n)) one.unsaved_is (obeys_then game a m b x y z deeds (last_deeds (game.unsaved m)) one two)
 
-  pub ended_stopped : (a m b : G) (x y z : Option (List ℕ)) (deeds : List Deed) (why : F) → Obeys game a m x y deeds → StopsAmong game m b y z (last_deeds (game.unsaved m)) why → StopsAmong game a b x z (ended (game.unsaved a) deeds) why
-  ended_stopped a m b x y z deeds why one two =
-      subst (λ (n : ℕ). StopsAmong game a b x z (deeds ++ last_deeds n) why) one.unsaved_is (stops_then game a m b x y z deeds (last_deeds (game.unsaved m)) why one two)
+  pub ended_stopped : (a m b : G) (x y z : Option (List ℕ)) (has_failed : Type 0) (deeds : List Deed) (why : F) → Obeys game a m x y deeds → StopsAmong game m b y z has_failed (last_deeds (game.unsaved m)) why
+      → StopsAmong game a b x z has_failed (ended (game.unsaved a) deeds) why
+  ended_stopped a m b x y z has_failed deeds why one two =
+      subst (λ (n : ℕ). StopsAmong game a b x z has_failed (deeds ++ last_deeds n) why) one.unsaved_is (stops_then game a m b x y z has_failed deeds (last_deeds (game.unsaved m)) why one two)
 
   -- behind the line of the resume
   module _ (a : G) (x y : Option (List ℕ)) (resumed : Makes game a a x y [] (game.unsaved a) (resumed_line (game.acknowledged a) ∷ [])) (b : G) (z : Option (List ℕ)) (deeds : List Deed) where
@@ -71,8 +71,8 @@ module _ {G F : Type 0} (game : Ghosts G F) where
     streams_behind saved obeyed = makes_by game gives (sym obeyed.unsaved_is ∙ saved) refl (makes_then game resumed obeyed)
 
     -- what was refused
-    pub stops_behind : (why : F) → StopsAmong game a b y z all_deeds why → StopsMaking game a b x z ⊤ (inputs_of_deeds deeds) (stream_from game a deeds) why
-    stops_behind why stop = stops_by game gives refl (behind game resumed stop)
+    pub stops_behind : (has_failed : Type 0) (why : F) → StopsAmong game a b y z has_failed all_deeds why → StopsMaking game a b x z has_failed (inputs_of_deeds deeds) (stream_from game a deeds) why
+    stops_behind has_failed why stop = stops_by game gives refl (behind game resumed stop)
 
 -- whatever the end, the lines before it were read
 pub reads_some : (states : Bool) (rom : List ℕ) (kept : List KeptMachine) (end : End) (lines : List Given) (a b : Option (List ℕ)) → ReadsTo states rom kept end lines a b → (more : List ℕ) × HasReadGiven (asked states) lines more a b

@@ -1,5 +1,5 @@
 -- What obeying orders leaves of a game.
-use Rattle.std.specs.Prelude.{ℕ, List, ◌∷◌, Option, ⊤}
+use Rattle.std.specs.Prelude.{ℕ, List, ◌∷◌, Option}
 use Rattle.input_lines.specs.Given.{Given, HasReadGiven}
 use Rattle.machine_lines.specs.KeptStates.{KeptMachine}
 use Rattle.playing.specs.Making.{count_of, Makes, StopsMaking}
@@ -20,8 +20,8 @@ module _ {G F : Type 0} (game : Ghosts G F) where
   Obeys old new before since deeds = Makes game old new before since (inputs_of_deeds deeds) (unsaved_behind_deeds (game.unsaved old) deeds) (answers_from old deeds)
 
   -- one of these was refused, and those before it were done
-  abbrev pub StopsAmong : (old new : G) → (before since : Option (List ℕ)) → List Deed → F → Type 0
-  StopsAmong old new before since deeds why = StopsMaking game old new before since ⊤ (inputs_of_deeds deeds) (answers_from old deeds) why
+  abbrev pub StopsAmong : (old new : G) → (before since : Option (List ℕ)) → (has_failed : Type 0) → List Deed → F → Type 0
+  StopsAmong old new before since has_failed deeds why = StopsMaking game old new before since has_failed (inputs_of_deeds deeds) (answers_from old deeds) why
 
   -- ---- with the lines that were read
 
@@ -33,13 +33,13 @@ module _ {G F : Type 0} (game : Ghosts G F) where
     pub read : ReadsTo game.takes_states (game.rom old) kept end lines before_in since_in
     pub obeys : Obeys old new before since deeds
 
-  pub record StopsAmongLines (old new : G) (before_in since_in before since : Option (List ℕ)) (why : F) : Type 0 where
+  pub record StopsAmongLines (old new : G) (before_in since_in before since : Option (List ℕ)) (has_failed : Type 0) (why : F) : Type 0 where
     pub lines : List Given
     pub deeds : List Deed
     pub asks : AsksUpTo game.takes_states (game.rom old) (game.machine old) lines deeds
     pub more : List ℕ
     pub read : HasReadGiven (asked game.takes_states) lines more before_in since_in
-    pub stops : StopsAmong old new before since deeds why
+    pub stops : StopsAmong old new before since has_failed deeds why
 
   -- ---- with the line of the resume, and the save at the end
 
@@ -55,10 +55,10 @@ module _ {G F : Type 0} (game : Ghosts G F) where
     pub read : ReadsTo game.takes_states (game.rom old) kept end lines before_in since_in
     pub makes : Makes game old new before since (inputs_of_deeds deeds) 0 (stream_from old deeds)
 
-  pub record StopsStream (old new : G) (before_in since_in before since : Option (List ℕ)) (why : F) : Type 0 where
+  pub record StopsStream (old new : G) (before_in since_in before since : Option (List ℕ)) (has_failed : Type 0) (why : F) : Type 0 where
     pub lines : List Given
     pub deeds : List Deed
     pub asks : AsksUpTo game.takes_states (game.rom old) (game.machine old) lines deeds
     pub more : List ℕ
     pub read : HasReadGiven (asked game.takes_states) lines more before_in since_in
-    pub stops : StopsMaking game old new before since ⊤ (inputs_of_deeds deeds) (stream_from old deeds) why
+    pub stops : StopsMaking game old new before since has_failed (inputs_of_deeds deeds) (stream_from old deeds) why

@@ -55,10 +55,10 @@ module _ {G F : Type 0} (game : Ghosts G F) (old new : G) (before since : Option
   IsStep states Failed = IsStill × ((n : ℕ) × (order ≡ Restore n) × IsShort n left)
 
   -- it was refused
-  pub record IsRefused (why : F) : Type 0 where
+  pub record IsRefused (has_failed : Type 0) (why : F) : Type 0 where
     pub bytes : List ℕ
     pub deed : Deed
     pub order_is : order_in deed ≡ order
     pub asked : IsDoneBy rom kept bytes deed ⊎ ((n : ℕ) × (order ≡ Restore n) × (length bytes ≡ n) × (deed ≡ GoesOnWith (Restore n) (machine_in rom bytes)))
     pub took : Consumes left.before left.since bytes
-    pub stops : StopsAmong game old new before since (deed ∷ []) why
+    pub stops : StopsAmong game old new before since has_failed (deed ∷ []) why

@@ -1,12 +1,11 @@
 //! The next order.
-ghost use Rattle.std.specs.Prelude.{◌≡◌};
+ghost use Rattle.std.specs.Prelude.{◌≡◌, true};
 ghost use Rattle.input_lines.specs.Newlines.{first_line, behind_first_line};
 ghost use Rattle.input_lines.specs.Reading.{left_of};
 ghost use Rattle.streaming.specs.Reading.{IsAsked, IsNext};
 
 use crate::order::{MOST_BYTES, Order, read_order};
-use input_lines::{Filled, Unread, drop_first, fill, line_length};
-use std::io::Read;
+use input_lines::{Filled, LineInput, Unread, drop_first, fill, line_length};
 
 /// What comes next.
 #[derive(Clone, Copy, Debug, PartialEq, Eq)]
@@ -47,10 +46,11 @@ fn take_line(unread: &mut Unread, states: bool) -> Next
 
 /// Reads the next line: first of what was read before, then of the input. A line of more than 64 bytes is
 /// wrong as soon as that many are read.
-pub fn read_next<R: Read>(unread: &mut Unread, input: &mut R, states: bool) -> Next
-    ensures { IsNext states result (left_of unread.old.items (R.remaining input.old))
+pub fn read_next<R: LineInput>(unread: &mut Unread, input: &mut R, states: bool) -> Next
+    ensures next { IsNext states result (left_of unread.old.items (R.remaining input.old))
         (left_of unread.new.items (R.remaining input.new))
         (R.remaining input.new) }
+    ensures failed { result ≡ Next.Failed → R.has_failed input.new ≡ true }
 {
     match fill(unread, input, MOST_BYTES) {
         Filled::Line => take_line(unread, states),

@@ -1,5 +1,5 @@
 //! Obeying lines.
-ghost use Rattle.std.specs.Prelude.{◌≡◌, ◌<◌, List, ℕ, [], ◌∷◌, length, true, false, Option as Known, None as NotThere, IfOk, IfErr, OnOk, OnErr};
+ghost use Rattle.std.specs.Prelude.{◌≡◌, ◌≢◌, ◌<◌, List, ℕ, [], ◌∷◌, length, true, false, Option as Known, None as NotThere, IfOk, IfErr, OnOk, OnErr};
 ghost use Rattle.std.specs.List.{All};
 ghost use Rattle.std.specs.Io.KnownBytes.{Appends};
 ghost use Rattle.exact_text.specs.Written.{AppendsProperPrefix};
@@ -25,15 +25,14 @@ use crate::order::Order;
 use crate::state_room::StateRoom;
 use arrayvec::ArrayVec;
 use cartridge::Cartridge;
-use exact_text::{OutputFailed, write_whole};
-use input_lines::{Taken, Unread, skip_bytes, take_bytes};
+use exact_text::{Output, OutputFailed, write_whole};
+use input_lines::{LineInput, Taken, Unread, skip_bytes, take_bytes};
 use machine::Region;
 use machine_lines::{KeptStates, write_count, write_memory, write_state};
 use playing::{Playable, give_state, make_move, save_line, write_resumed};
 use script::Move;
 use snapshot::length;
 use std::alloc::Global;
-use std::io::{Read, Write};
 
 /// How a stream ends.
 #[derive(Clone, Copy, Debug, PartialEq, Eq)]
@@ -66,18 +65,19 @@ pub(crate) enum Went {
 }
 
 /// Writes the picture of the machine as it is.
-fn draw<G: Playable, W: Write>(game: &G, out: &mut W) -> Result<(), OutputFailed>
+fn draw<G: Playable, W: Output>(game: &G, out: &mut W) -> Result<(), OutputFailed>
     ensures ok { OnOk result
         (Appends (W.contents out.old) (W.contents out.new) (picture_text (picture_rows (G.machine game.now)))) }
     ensures err { OnErr result
         (AppendsProperPrefix (W.contents out.old) (W.contents out.new)
         (picture_text (picture_rows (G.machine game.now)))) }
+    ensures failed { OnErr result (W.has_failed out.new ≡ true) }
 {
     game.machine().picture().write_pgm(out)
 }
 
 /// Makes a move. The answer is whether there was memory for it.
-fn obey_move<G: Playable, W: Write>(
+fn obey_move<G: Playable, W: Output>(
     game: &mut G,
     alloc: Global,
     cartridge: &Cartridge,
@@ -95,20 +95,20 @@ fn obey_move<G: Playable, W: Write>(
         done ≡ false → (a_move ≡ Power) × (game.new ≡ game.old) × (out.new ≡ out.old)) }
     ensures stopped { IfErr result (λ why.
         StopsAmong ⟦<G as Playable>⟧ game.old game.new (W.contents out.old) (W.contents out.new)
-        (Does (Order.Make a_move) ∷ []) why) }
+        (W.has_failed out.new ≡ true) (Does (Order.Make a_move) ∷ []) why) }
     ensures whole { OnOk result (G.whole game.new × (G.unsaved game.new < most_unsaved)) }
 {
     make_move(game, alloc, cartridge, a_move, out)
 }
 
 /// Writes a picture.
-fn obey_picture<G: Playable, W: Write>(game: &mut G, out: &mut W) -> Result<(), G::Fault>
+fn obey_picture<G: Playable, W: Output>(game: &mut G, out: &mut W) -> Result<(), G::Fault>
     ensures obeyed { OnOk result
         (Obeys ⟦<G as Playable>⟧ game.old game.new (W.contents out.old) (W.contents out.new) (Does Order.Picture ∷
         [])) }
     ensures stopped { IfErr result (λ why.
-        StopsAmong ⟦<G as Playable>⟧ game.old game.new (W.contents out.old) (W.contents out.new) (Does Order.Picture ∷
-        []) why) }
+        StopsAmong ⟦<G as Playable>⟧ game.old game.new (W.contents out.old) (W.contents out.new)
+        (W.has_failed out.new ≡ true) (Does Order.Picture ∷ []) why) }
     ensures same { game.new ≡ game.old }
 {
     game.draw_late();
@@ -119,7 +119,7 @@ fn obey_picture<G: Playable, W: Write>(game: &mut G, out: &mut W) -> Result<(), 
 }
 
 /// Writes the machine's snapshot, for which there is room.
-fn obey_state<G: Playable, W: Write>(
+fn obey_state<G: Playable, W: Output>(
     game: &mut G,
     snapshot: &mut [u8],
     out: &mut W,
@@ -128,8 +128,8 @@ fn obey_state<G: Playable, W: Write>(
     ensures obeyed { OnOk result
         (Obeys ⟦<G as Playable>⟧ game.old game.new (W.contents out.old) (W.contents out.new) (Does Order.State ∷ [])) }
     ensures stopped { IfErr result (λ why.
-        StopsAmong ⟦<G as Playable>⟧ game.old game.new (W.contents out.old) (W.contents out.new) (Does Order.State ∷
-        []) why) }
+        StopsAmong ⟦<G as Playable>⟧ game.old game.new (W.contents out.old) (W.contents out.new)
+        (W.has_failed out.new ≡ true) (Does Order.State ∷ []) why) }
     ensures same { game.new ≡ game.old }
     ensures room { length snapshot.new ≡ length snapshot.old }
 {
@@ -141,7 +141,7 @@ fn obey_state<G: Playable, W: Write>(
 }
 
 /// Writes bytes as the machine sees them.
-fn obey_memory<G: Playable, W: Write>(
+fn obey_memory<G: Playable, W: Output>(
     game: &mut G,
     address: u16,
     count: u32,
@@ -152,7 +152,7 @@ fn obey_memory<G: Playable, W: Write>(
         (Does (Order.Memory address count) ∷ [])) }
     ensures stopped { IfErr result (λ why.
         StopsAmong ⟦<G as Playable>⟧ game.old game.new (W.contents out.old) (W.contents out.new)
-        (Does (Order.Memory address count) ∷ []) why) }
+        (W.has_failed out.new ≡ true) (Does (Order.Memory address count) ∷ []) why) }
     ensures same { game.new ≡ game.old }
 {
     match write_memory(game.machine(), address, count, out) {
@@ -162,7 +162,7 @@ fn obey_memory<G: Playable, W: Write>(
 }
 
 /// Keeps the machine under a number, and answers it. The answer is whether there was memory for it: where there is none, nothing changes.
-fn obey_keep<G: Playable, W: Write>(
+fn obey_keep<G: Playable, W: Output>(
     game: &mut G,
     alloc: Global,
     kept: &mut KeptStates,
@@ -181,7 +181,7 @@ fn obey_keep<G: Playable, W: Write>(
         (out.new ≡ out.old) × (kept_under slot machines ≡ NotThere)) }
     ensures stopped { IfErr result (λ why.
         StopsAmong ⟦<G as Playable>⟧ game.old game.new (W.contents out.old) (W.contents out.new)
-        (Does (Order.Keep slot) ∷ []) why) }
+        (W.has_failed out.new ≡ true) (Does (Order.Keep slot) ∷ []) why) }
     ensures same { game.new ≡ game.old }
 {
     game.draw_late();
@@ -198,7 +198,7 @@ fn obey_keep<G: Playable, W: Write>(
 
 /// Goes on with the machine of a snapshot, one input, and answers it with a text. The answer is whether the bytes are a legal snapshot of the
 /// cartridge: where they are none, nothing changes.
-fn go_on_with<G: Playable, W: Write>(
+fn go_on_with<G: Playable, W: Output>(
     game: &mut G,
     bytes: &[u8],
     cartridge: &Cartridge,
@@ -217,7 +217,7 @@ fn go_on_with<G: Playable, W: Write>(
         done ≡ false → (game.new ≡ game.old) × (out.new ≡ out.old) × (¬ IsLegalSnapshot cartridge.now bytes.now)) }
     ensures stopped { IfErr result (λ why.
         StopsAmong ⟦<G as Playable>⟧ game.old game.new (W.contents out.old) (W.contents out.new)
-        (GoesOnWith order (machine_in cartridge.now bytes.now) ∷ []) why) }
+        (W.has_failed out.new ≡ true) (GoesOnWith order (machine_in cartridge.now bytes.now) ∷ []) why) }
     ensures whole { OnOk result (G.whole game.new × (G.unsaved game.new < most_unsaved)) }
 {
     match give_state(game, bytes, cartridge, out) {
@@ -231,9 +231,10 @@ fn go_on_with<G: Playable, W: Write>(
 }
 
 /// The answer where the game went on with another machine.
-fn write_gone_on<W: Write>(order: Order, out: &mut W) -> Result<(), OutputFailed>
+fn write_gone_on<W: Output>(order: Order, out: &mut W) -> Result<(), OutputFailed>
     ensures ok { OnOk result (Appends (W.contents out.old) (W.contents out.new) (other_text order)) }
     ensures err { OnErr result (AppendsProperPrefix (W.contents out.old) (W.contents out.new) (other_text order)) }
+    ensures failed { OnErr result (W.has_failed out.new ≡ true) }
 {
     if let Order::Back(slot) = order {
         return write_count("back", slot as usize, out);
@@ -242,7 +243,7 @@ fn write_gone_on<W: Write>(order: Order, out: &mut W) -> Result<(), OutputFailed
 }
 
 /// Goes on with the machine that is kept under a number, and answers it.
-fn obey_back<G: Playable, W: Write>(
+fn obey_back<G: Playable, W: Output>(
     game: &mut G,
     kept: &KeptStates,
     slot: u32,
@@ -266,7 +267,8 @@ fn obey_back<G: Playable, W: Write>(
         (left unread : Known (List ℕ)) → IfErr result
         (IsRefused ⟦<G as Playable>⟧ game.old game.new (W.contents out.old) (W.contents out.new)
         (record { before = left; since = left; unread = unread })
-        cartridge.now machines (Order.Back slot)) }
+        cartridge.now machines (Order.Back slot) (W.has_failed out.new ≡ true)) }
+    ensures no_read { IfOk result (λ went. went ≢ Went.Failed) }
     ensures whole { OnOk result (G.whole game.new × (G.unsaved game.new < most_unsaved)) }
 {
     let bytes = kept.state(slot as usize);
@@ -281,7 +283,7 @@ fn obey_back<G: Playable, W: Write>(
 }
 
 /// Takes the bytes of a snapshot, and goes on with its machine.
-fn obey_restore<G: Playable, R: Read, W: Write>(
+fn obey_restore<G: Playable, R: LineInput, W: Output>(
     game: &mut G,
     unread: &mut Unread,
     input: &mut R,
@@ -311,7 +313,8 @@ fn obey_restore<G: Playable, R: Read, W: Write>(
           since = left_of unread.new.items (R.remaining input.new);
           unread = R.remaining input.new;
         })
-        cartridge.now machines (Order.Restore size)) }
+        cartridge.now machines (Order.Restore size) (W.has_failed out.new ≡ true)) }
+    ensures failed { IfOk result (λ went. went ≡ Went.Failed → R.has_failed input.new ≡ true) }
     ensures whole { OnOk result (G.whole game.new × (G.unsaved game.new < most_unsaved)) }
     ensures room { length snapshot.new ≡ length snapshot.old }
 {
@@ -333,7 +336,7 @@ fn obey_restore<G: Playable, R: Read, W: Write>(
 }
 
 /// Does what a line asks for.
-fn obey<G: Playable, R: Read, W: Write>(
+fn obey<G: Playable, R: LineInput, W: Output>(
     game: &mut G,
     alloc: Global,
     cartridge: &Cartridge,
@@ -364,7 +367,8 @@ fn obey<G: Playable, R: Read, W: Write>(
           since = left_of unread.new.items (R.remaining input.new);
           unread = R.remaining input.new;
         })
-        cartridge.now machines order) }
+        cartridge.now machines order (W.has_failed out.new ≡ true)) }
+    ensures failed { IfOk result (λ went. went ≡ Went.Failed → R.has_failed input.new ≡ true) }
     ensures whole { OnOk result (G.whole game.new × (G.unsaved game.new < most_unsaved)) }
     ensures room { length room.new.snapshot.items ≡ length room.old.snapshot.items }
 {
@@ -405,7 +409,7 @@ fn obey<G: Playable, R: Read, W: Write>(
 }
 
 /// Obeys lines as they come, up to the end, a wrong one, or a read that fails.
-fn obey_lines<G: Playable, R: Read, W: Write>(
+fn obey_lines<G: Playable, R: LineInput, W: Output>(
     game: &mut G,
     alloc: Global,
     cartridge: &Cartridge,
@@ -421,7 +425,9 @@ fn obey_lines<G: Playable, R: Read, W: Write>(
     ensures obeyed { IfOk result (λ end. ObeysLines ⟦<G as Playable>⟧ game.old game.new
         (R.remaining input.old) (R.remaining input.new) (W.contents out.old) (W.contents out.new) end) }
     ensures stopped { IfErr result (λ why. StopsAmongLines ⟦<G as Playable>⟧ game.old game.new
-        (R.remaining input.old) (R.remaining input.new) (W.contents out.old) (W.contents out.new) why) }
+        (R.remaining input.old) (R.remaining input.new) (W.contents out.old) (W.contents out.new)
+        (W.has_failed out.new ≡ true) why) }
+    ensures failed { IfOk result (λ end. end ≡ End.Failed → R.has_failed input.new ≡ true) }
     ensures whole { OnOk result (G.whole game.new × (G.unsaved game.new < most_unsaved)) }
 {
     let states = G::takes_states();
@@ -448,7 +454,7 @@ fn obey_lines<G: Playable, R: Read, W: Write>(
 }
 
 /// Saves what is unsaved.
-fn save_rest<G: Playable, W: Write>(game: &mut G, out: &mut W) -> Result<(), G::Fault>
+fn save_rest<G: Playable, W: Output>(game: &mut G, out: &mut W) -> Result<(), G::Fault>
     requires whole { G.whole game.old }
     requires few { G.unsaved game.old < most_unsaved }
     ensures obeyed { OnOk result
@@ -456,7 +462,7 @@ fn save_rest<G: Playable, W: Write>(game: &mut G, out: &mut W) -> Result<(), G::
         (last_deeds (G.unsaved game.old))) }
     ensures stopped { IfErr result (λ why.
         StopsAmong ⟦<G as Playable>⟧ game.old game.new (W.contents out.old) (W.contents out.new)
-        (last_deeds (G.unsaved game.old)) why) }
+        (W.has_failed out.new ≡ true) (last_deeds (G.unsaved game.old)) why) }
     ensures saved { OnOk result (G.whole game.new × (G.unsaved game.new ≡ 0)) }
 {
     if game.counts().pending == 0 {
@@ -469,7 +475,7 @@ fn save_rest<G: Playable, W: Write>(game: &mut G, out: &mut W) -> Result<(), G::
 /// room is that for its states, of which none is kept.
 ///
 /// Refusals: whichever comes first of those of an input, of a save and of a line of the report.
-pub fn stream_on<G: Playable, R: Read, W: Write>(
+pub fn stream_on<G: Playable, R: LineInput, W: Output>(
     game: &mut G,
     alloc: Global,
     cartridge: &Cartridge,
@@ -485,7 +491,9 @@ pub fn stream_on<G: Playable, R: Read, W: Write>(
     ensures streamed { IfOk result (λ end. Streams ⟦<G as Playable>⟧ game.old game.new
         (R.remaining input.old) (R.remaining input.new) (W.contents out.old) (W.contents out.new) end) }
     ensures stopped { IfErr result (λ why. StopsStream ⟦<G as Playable>⟧ game.old game.new
-        (R.remaining input.old) (R.remaining input.new) (W.contents out.old) (W.contents out.new) why) }
+        (R.remaining input.old) (R.remaining input.new) (W.contents out.old) (W.contents out.new)
+        (W.has_failed out.new ≡ true) why) }
+    ensures failed { IfOk result (λ end. end ≡ End.Failed → R.has_failed input.new ≡ true) }
     ensures whole { OnOk result (G.whole game.new) }
 {
     if let Err(_) = write_resumed(out, game.counts().all) {

@@ -1,5 +1,5 @@
 //! A whole stream.
-ghost use Rattle.std.specs.Prelude.{◌≡◌, [], false, IfOk, IfErr};
+ghost use Rattle.std.specs.Prelude.{◌≡◌, [], false, true, IfOk, IfErr};
 ghost use Rattle.sector_device.specs.DiskState.{HasAnswered};
 ghost use Rattle.session.specs.Accessors.{device_of, machine_of, rom_of, pending_of, acknowledged_of, is_broken};
 ghost use Rattle.streaming.specs.Streamed.{HasStreamedAll, IsStreamCause, faults_after_stream, left_by};
@@ -8,10 +8,11 @@ use crate::error::{StreamError, StreamRefused};
 use crate::obeying::{End, stream_on};
 use crate::state_room::StateRoom;
 use cartridge::Cartridge;
+use exact_text::Output;
+use input_lines::LineInput;
 use sector_device::SectorDevice;
 use session::{Session, SessionError, resume};
 use std::alloc::Global;
-use std::io::{Read, Write};
 
 /// Resumes the game on a device, writes `resumed N`, and obeys the lines of an input as they come,
 /// each before more is read. A line is a line of a script, or one of these; an empty one is counted
@@ -37,7 +38,7 @@ use std::io::{Read, Write};
 /// input, `Memory` for a `power` or for the first `keep` of a number, and `Input` if a read fails, all once what was given before is
 /// saved and reported. A line of more than 64 bytes is wrong as soon as that many are read, and so
 /// is the line with the number `u64::MAX`, whatever it says.
-pub fn stream<D: SectorDevice, R: Read, W: Write>(
+pub fn stream<D: SectorDevice, R: LineInput, W: Output>(
     alloc: Global,
     device: D,
     cartridge: &Cartridge,
@@ -53,6 +54,12 @@ pub fn stream<D: SectorDevice, R: Read, W: Write>(
         IsStreamCause refused.why cartridge.now (D.disk device) (D.disk refused.device) (R.remaining input.old)
         (R.remaining input.new)
         (W.contents out.old) (W.contents out.new)) }
+
+    // only a read and a write that failed are told as such
+    ensures input { IfErr result (λ refused. refused.why ≡ StreamError.Input → R.has_failed input.new ≡ true) }
+    ensures output { IfErr result (λ refused. refused.why ≡ StreamError.Session SessionError.Output →
+        (D.disk device).honest → W.has_failed out.new ≡ true) }
+
     ensures answered { HasAnswered (λ refused. faults_after_stream refused.why) (D.disk device)
         (D.disk (left_by result)) result }
 {

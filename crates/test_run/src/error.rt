@@ -16,7 +16,7 @@ pub enum TestError {
     /// There is no memory for the machine, or at a power switch for the machine at power-on.
     #[error("no memory")]
     Memory,
-    /// A write failed or took no byte: a proper prefix of the text went out.
+    /// A write failed: a proper prefix of the text went out.
     #[error("output failed")]
     Output,
 }

@@ -1,6 +1,6 @@
 //! One frame of a test.
 
-ghost use Rattle.std.specs.Prelude.{◌≡◌, IfOk, OnOk, OnErr};
+ghost use Rattle.std.specs.Prelude.{◌≡◌, true, IfOk, OnOk, OnErr};
 ghost use Rattle.std.specs.Io.KnownBytes.{Appends};
 ghost use Rattle.exact_text.specs.Written.{AppendsProperPrefix};
 ghost use Rattle.machine.specs.Watched.{begun_with, byte_list, seen_in};
@@ -9,9 +9,8 @@ ghost use Rattle.test_run.specs.Playing.{HasPlayed};
 
 use crate::ends::{End, end_of};
 use crate::told::Told;
-use exact_text::{OutputFailed, write_whole};
+use exact_text::{Output, OutputFailed, write_whole};
 use machine::{Machine, Watched, WatchedFrame};
-use std::io::Write;
 
 /// A frame as far as it was played, and why the test ends in it or after it, if it does.
 #[derive(Drop)]
@@ -21,10 +20,11 @@ pub(crate) struct PlayedFrame {
 }
 
 /// Writes a byte that was sent, if one was.
-fn tell<W: Write>(sent: Option<u8>, told: &mut Told, out: &mut W) -> Result<(), OutputFailed>
+fn tell<W: Output>(sent: Option<u8>, told: &mut Told, out: &mut W) -> Result<(), OutputFailed>
     ensures ok { OnOk result (Appends (W.contents out.old) (W.contents out.new) (byte_list sent)) }
     ensures told { OnOk result (told.new ≡ told_all told.old (byte_list sent)) }
     ensures err { OnErr result (AppendsProperPrefix (W.contents out.old) (W.contents out.new) (byte_list sent)) }
+    ensures failed { OnErr result (W.has_failed out.new ≡ true) }
 {
     let Some(byte) = sent else {
         return Ok(());
@@ -37,7 +37,7 @@ fn tell<W: Write>(sent: Option<u8>, told: &mut Told, out: &mut W) -> Result<(), 
 }
 
 /// Plays a frame with these buttons, and writes each byte that is sent in it.
-pub(crate) fn play_frame<W: Write>(
+pub(crate) fn play_frame<W: Output>(
     machine: Machine,
     buttons: u8,
     told: &mut Told,
@@ -48,6 +48,7 @@ pub(crate) fn play_frame<W: Write>(
         played) }
     ensures err { OnErr result
         (AppendsProperPrefix (W.contents out.old) (W.contents out.new) (seen_in (begun_with buttons machine)).sent) }
+    ensures failed { OnErr result (W.has_failed out.new ≡ true) }
 {
     let mut frame = machine.begin_frame(buttons);
     'playing: while !frame.is_over() {

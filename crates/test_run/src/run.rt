@@ -1,6 +1,6 @@
 //! A whole test.
 
-ghost use Rattle.std.specs.Prelude.{◌≡◌, ◌≤◌, ◌<◌, ◌++◌, [], ◌∷◌, IfOk, IfErr, OnErr, OnOk, replicate};
+ghost use Rattle.std.specs.Prelude.{◌≡◌, ◌≤◌, ◌<◌, ◌++◌, [], ◌∷◌, true, IfOk, IfErr, OnErr, OnOk, replicate};
 ghost use Rattle.std.specs.Io.KnownBytes.{Appends};
 ghost use Rattle.bank_controllers.specs.CartridgeState.{IsSameCartridge};
 ghost use Rattle.machine.specs.Machine.{Frame, start};
@@ -19,14 +19,13 @@ use crate::verdict::{Verdict, verdict_by};
 use crate::writing::write_end;
 use cartridge::Cartridge;
 use debugger::{RegisterLine, register_line};
-use exact_text::OutputFailed;
+use exact_text::{Output, OutputFailed};
 use machine::{Input, Machine, Processor};
 use memory_map::Bus;
 use script::{Move, read_script};
 use sm83_alu::Registers;
 use snapshot::powered;
 use std::alloc::Global;
-use std::io::Write;
 
 /// What is kept of a machine at the end of a test.
 #[derive(Drop)]
@@ -84,7 +83,7 @@ fn frames_with(why: End, done: u32) -> u32
 }
 
 /// Plays a frame of a test, if one is left.
-fn test_frame<W: Write>(
+fn test_frame<W: Output>(
     machine: Machine,
     buttons: u8,
     limit: u32,
@@ -96,6 +95,7 @@ fn test_frame<W: Write>(
         []) [] machine progress.old progress.new (W.contents out.old) (W.contents out.new)) }
     ensures err { OnErr result (StopsIn limit (Frame buttons ∷
         []) machine progress.old (W.contents out.old) (W.contents out.new)) }
+    ensures failed { OnErr result (W.has_failed out.new ≡ true) }
     ensures kept { IfOk result (IsKeptBy machine) }
 {
     if progress.done >= limit {
@@ -118,7 +118,7 @@ fn test_frame<W: Write>(
 }
 
 /// Plays so many frames of a test.
-fn test_frames<W: Write>(
+fn test_frames<W: Output>(
     machine: Machine,
     buttons: u8,
     times: u32,
@@ -133,6 +133,7 @@ fn test_frames<W: Write>(
     ensures err { OnErr result
         (StopsIn limit (replicate times (Frame buttons)) machine progress.old (W.contents out.old)
         (W.contents out.new)) }
+    ensures failed { OnErr result (W.has_failed out.new ≡ true) }
     ensures kept { IfOk result (IsKeptBy machine) }
 {
     let mut machine = machine;
@@ -147,7 +148,7 @@ fn test_frames<W: Write>(
 }
 
 /// Makes a move of a test.
-fn test_move<W: Write>(
+fn test_move<W: Output>(
     machine: Machine,
     alloc: Global,
     cartridge: &Cartridge,
@@ -163,6 +164,7 @@ fn test_move<W: Write>(
         (W.contents out.new)) }
     ensures err { IfErr result
         (IsMoveStop limit a_move machine progress.old (W.contents out.old) (W.contents out.new)) }
+    ensures output { IfErr result (λ why. why ≡ Stop.Output → W.has_failed out.new ≡ true) }
     ensures kept { IfOk result (IsKeptBy machine) }
 {
     match a_move {
@@ -186,7 +188,7 @@ fn test_move<W: Write>(
 }
 
 /// Makes the moves of a test, one after another.
-fn test_moves<W: Write>(
+fn test_moves<W: Output>(
     machine: Machine,
     alloc: Global,
     cartridge: &Cartridge,
@@ -202,6 +204,7 @@ fn test_moves<W: Write>(
         (W.contents out.new)) }
     ensures err { IfErr result
         (IsMovesStop limit moves.now machine progress.old (W.contents out.old) (W.contents out.new)) }
+    ensures output { IfErr result (λ why. why ≡ Stop.Output → W.has_failed out.new ≡ true) }
 {
     let mut machine = machine;
     for a_move in moves {
@@ -215,7 +218,7 @@ fn test_moves<W: Write>(
 }
 
 /// Makes the moves of a test, and then plays frames without buttons, up to its end.
-fn test_to_end<W: Write>(
+fn test_to_end<W: Output>(
     machine: Machine,
     alloc: Global,
     cartridge: &Cartridge,
@@ -232,6 +235,7 @@ fn test_to_end<W: Write>(
     ensures err { IfErr result (IsTestStop limit progress.old.done moves.now machine
         (tested limit progress.old.done (inputs_of_moves moves.now ++
         replicate limit (Frame 0)) machine).sent (W.contents out.old) (W.contents out.new)) }
+    ensures output { IfErr result (λ why. why ≡ Stop.Output → W.has_failed out.new ≡ true) }
 {
     let machine = match test_moves(machine, alloc, cartridge, moves, limit, progress, out) {
         Ok(Went::On(machine)) => machine,
@@ -253,7 +257,7 @@ fn test_to_end<W: Write>(
 ///
 /// Refusals: what is wrong with the image; with the script; no memory, all with nothing written; then, whichever comes first, no memory at a
 /// power switch of the script, where all that was sent before it went out, and output failed, where a proper prefix of the text went out.
-pub fn run_test<W: Write>(
+pub fn run_test<W: Output>(
     alloc: Global,
     rom: Vec<u8>,
     script: &[u8],
@@ -263,6 +267,7 @@ pub fn run_test<W: Write>(
     ensures tested { IfOk result (IsTested rom.items script.now frames (W.contents out.old) (W.contents out.new)) }
     ensures refused { IfErr result
         (IsTestRefused rom.items script.now frames (W.contents out.old) (W.contents out.new)) }
+    ensures output { IfErr result (λ why. why ≡ TestError.Output → W.has_failed out.new ≡ true) }
 {
     let cartridge = match Cartridge::read(rom) {
         Ok(cartridge) => cartridge,
@@ -284,7 +289,7 @@ pub fn run_test<W: Write>(
 }
 
 /// Tests a machine, and writes how it ended.
-fn test_machine<W: Write>(
+fn test_machine<W: Output>(
     machine: Machine,
     alloc: Global,
     cartridge: &Cartridge,
@@ -300,6 +305,7 @@ fn test_machine<W: Write>(
     ensures err { IfErr result (IsTestStop frames 0 moves.now machine
         (test_text (tested frames 0 (inputs_of_moves moves.now ++ replicate frames (Frame 0)) machine))
         (W.contents out.old) (W.contents out.new)) }
+    ensures output { IfErr result (λ why. why ≡ Stop.Output → W.has_failed out.new ≡ true) }
 {
     let mut progress = Progress {
         done: 0,

@@ -1,6 +1,6 @@
 //! The last lines of a test.
 
-ghost use Rattle.std.specs.Prelude.{◌≡◌, ◌++◌, IfSome, OnOk, OnErr};
+ghost use Rattle.std.specs.Prelude.{◌≡◌, ◌++◌, true, OnOk, OnErr};
 ghost use Rattle.std.specs.Io.KnownBytes.{Appends};
 ghost use Rattle.exact_text.specs.Written.{AppendsProperPrefix};
 ghost use Rattle.test_run.specs.Told.{is_in_line, line_end_told};
@@ -10,18 +10,16 @@ use crate::ends::End;
 use crate::run::{Ended, Progress};
 use crate::told::Told;
 use arrayvec::ArrayString;
-use exact_text::{OutputFailed, write_whole};
-use std::fmt::Write as FormatWrite;
-use std::io::Write;
+use exact_text::{Output, OutputFailed, number_digits, write_whole};
 
-fn frames_text(frames: u32) -> Option<ArrayString<32>>
-    ensures { IfSome result (λ text. text.bytes ≡ frames_line frames) }
+fn frames_text(frames: u32) -> ArrayString<32>
+    ensures { result.bytes ≡ frames_line frames }
 {
     let mut text = ArrayString::new();
-    match writeln!(text, "frames {frames}") {
-        Ok(()) => Some(text),
-        Err(_) => None,
-    }
+    text.push_str("frames ");
+    text.push_str(number_digits(u64::from(frames)).as_str());
+    text.push_str("\n");
+    text
 }
 
 fn ended_text(why: End) -> &'static [u8]
@@ -37,10 +35,11 @@ fn ended_text(why: End) -> &'static [u8]
 }
 
 /// Writes a newline if a line has begun.
-fn write_line_end<W: Write>(told: &Told, out: &mut W) -> Result<(), OutputFailed>
+fn write_line_end<W: Output>(told: &Told, out: &mut W) -> Result<(), OutputFailed>
     ensures ok { OnOk result (Appends (W.contents out.old) (W.contents out.new) (line_end_told told.now.last)) }
     ensures err { OnErr result
         (AppendsProperPrefix (W.contents out.old) (W.contents out.new) (line_end_told told.now.last)) }
+    ensures failed { OnErr result (W.has_failed out.new ≡ true) }
 {
     if !told.is_in_line() {
         return Ok(());
@@ -52,34 +51,35 @@ fn write_line_end<W: Write>(told: &Told, out: &mut W) -> Result<(), OutputFailed
 }
 
 /// Writes how many frames are done.
-fn write_frames<W: Write>(frames: u32, out: &mut W) -> Result<(), OutputFailed>
+fn write_frames<W: Output>(frames: u32, out: &mut W) -> Result<(), OutputFailed>
     ensures ok { OnOk result (Appends (W.contents out.old) (W.contents out.new) (frames_line frames)) }
     ensures err { OnErr result (AppendsProperPrefix (W.contents out.old) (W.contents out.new) (frames_line frames)) }
+    ensures failed { OnErr result (W.has_failed out.new ≡ true) }
 {
-    match frames_text(frames) {
-        Some(text) => write_whole(out, text.as_bytes()),
-        None => Err(OutputFailed),
-    }
+    let text = frames_text(frames);
+    write_whole(out, text.as_bytes())
 }
 
 /// Writes the line of registers.
-fn write_line<W: Write>(ended: &Ended, out: &mut W) -> Result<(), OutputFailed>
+fn write_line<W: Output>(ended: &Ended, out: &mut W) -> Result<(), OutputFailed>
     ensures ok { OnOk result (Appends (W.contents out.old) (W.contents out.new) ended.now.line.bytes) }
     ensures err { OnErr result (AppendsProperPrefix (W.contents out.old) (W.contents out.new) ended.now.line.bytes) }
+    ensures failed { OnErr result (W.has_failed out.new ≡ true) }
 {
     write_whole(out, ended.line.as_bytes())
 }
 
 /// Writes why a test ended.
-fn write_why<W: Write>(why: End, out: &mut W) -> Result<(), OutputFailed>
+fn write_why<W: Output>(why: End, out: &mut W) -> Result<(), OutputFailed>
     ensures ok { OnOk result (Appends (W.contents out.old) (W.contents out.new) (ended_line why)) }
     ensures err { OnErr result (AppendsProperPrefix (W.contents out.old) (W.contents out.new) (ended_line why)) }
+    ensures failed { OnErr result (W.has_failed out.new ≡ true) }
 {
     write_whole(out, ended_text(why))
 }
 
 /// Writes the lines that tell where a test ended.
-pub(crate) fn write_end<W: Write>(
+pub(crate) fn write_end<W: Output>(
     ended: &Ended,
     progress: &Progress,
     out: &mut W,
@@ -90,6 +90,7 @@ pub(crate) fn write_end<W: Write>(
     ensures err { OnErr result (AppendsProperPrefix (W.contents out.old) (W.contents out.new)
         (line_end_told progress.now.told.last ++
         (ended.now.line.bytes ++ (frames_line progress.now.done ++ ended_line ended.now.why)))) }
+    ensures failed { OnErr result (W.has_failed out.new ≡ true) }
 {
     if let Err(fault) = write_line_end(&progress.told, out) {
         return Err(fault);

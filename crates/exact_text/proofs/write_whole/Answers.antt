@@ -5,8 +5,7 @@ use Rattle.exact_text.proofs.write_whole.Goals as goal
 
 pub loop-written-preserved : goal.loop-written-preserved
 loop-written-preserved g c =
-    let taken = rw take_rest at c.in-Ok.ensures.bytes in
-    let bound = rw take_rest at c.in-Ok.ensures.bound in (
-      omega (arith, bound, length-drop c.loop-written.written c.args.text.now),
-      appends_next_part _ _ _ c.args.text.now c.loop-written.written c.in-Ok.count c.loop-written.invariant.1 taken,
+    let taken = rw take_rest at c.in-Ok.ensures.taken in (
+      omega (arith, taken.0, length-drop c.loop-written.written c.args.text.now),
+      appends_next_part _ _ _ c.args.text.now c.loop-written.written c.in-Ok.count c.loop-written.invariant.1 taken.2,
     )

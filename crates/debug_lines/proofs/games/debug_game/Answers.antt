@@ -16,7 +16,7 @@ pub returns-in-Ok-debugged-clause-debugged : goal.returns-in-Ok-debugged-clause-
 returns-in-Ok-debugged-clause-debugged g c =
     let s = c.in-Ok-resume.session in
     let from : Position = record { count = acknowledged_of s; machine = machine_of s } in
-    let io : Exchange = record { unread = g.R.Read.remaining c.args.input.now; left = g.R.Read.remaining c.debug_machine-debugged.new.input; before = g.W.Write.contents c.args.out.now; since = g.W.Write.contents c.debug_machine-debugged.new.out } in
+    let io : Exchange = record { unread = g.R.LineInput.remaining c.args.input.now; left = g.R.LineInput.remaining c.debug_machine-debugged.new.input; before = g.W.Output.contents c.args.out.now; since = g.W.Output.contents c.debug_machine-debugged.new.out } in
     let all_is : c.counts-inputs.result.all ≡ acknowledged_of s = omega (arith, ap (λ (n : Counts). n.all) c.counts-inputs.ensures, ap length c.in-Ok-resume.ensures.begun.0) in
     subst (λ (d : g.row.D.Denot). HasDebugged c.args.rom.items (g.D.SectorDevice.disk c.args.device) (g.D.SectorDevice.disk d) io)
     (sym c.into_device-device.ensures.device)
@@ -32,7 +32,7 @@ pub returns-clause-cause : goal.returns-clause-cause
 returns-clause-cause g c =
     let s = c.in-Ok-resume.session in
     let from : Position = record { count = acknowledged_of s; machine = machine_of s } in
-    let io : Exchange = record { unread = g.R.Read.remaining c.args.input.now; left = g.R.Read.remaining c.debug_machine-debugged.new.input; before = g.W.Write.contents c.args.out.now; since = g.W.Write.contents c.debug_machine-debugged.new.out } in
+    let io : Exchange = record { unread = g.R.LineInput.remaining c.args.input.now; left = g.R.LineInput.remaining c.debug_machine-debugged.new.input; before = g.W.Output.contents c.args.out.now; since = g.W.Output.contents c.debug_machine-debugged.new.out } in
     let all_is : c.counts-inputs.result.all ≡ acknowledged_of s = omega (arith, ap (λ (n : Counts). n.all) c.counts-inputs.ensures, ap length c.in-Ok-resume.ensures.begun.0) in
     subst (λ (d : g.row.D.Denot). IsDebugGameCause c.args.rom.items (g.D.SectorDevice.disk c.args.device) (g.D.SectorDevice.disk d) io c.in-Err-debugged.why)
     (sym c.into_device-device.ensures.device)
@@ -45,8 +45,8 @@ pub returns-in-Err-resume-clause-cause : goal.returns-in-Err-resume-clause-cause
 returns-in-Err-resume-clause-cause g c =
     let refused = c.in-Err-resume.ensures in
     not_taken_up c.args.rom.items c.in-Ok.cartridge (g.D.SectorDevice.disk c.args.device) (g.D.SectorDevice.disk c.in-Err-resume.refused.device) c.in-Err-resume.refused.why
-    (g.R.Read.remaining c.args.input.now) (g.W.Write.contents c.args.out.now) c.in-Ok.ensures.image (c.in-Ok.ensures.accepted.0 refl)
-    (record { cause = refused.cause; report = keeps_same (g.W.Write.contents c.args.out.now); images = refused.images; untouched = refused.untouched; memory = memory_at (g.D.SectorDevice.disk) refused.memory; failed = refused.failed })
+    (g.R.LineInput.remaining c.args.input.now) (g.W.Output.contents c.args.out.now) c.in-Ok.ensures.image (c.in-Ok.ensures.accepted.0 refl)
+    (record { cause = refused.cause; report = keeps_same (g.W.Output.contents c.args.out.now); images = refused.images; untouched = refused.untouched; memory = memory_at (g.D.SectorDevice.disk) refused.memory; failed = refused.failed })
 
 pub returns-clause-answered : goal.returns-clause-answered
 returns-clause-answered g c =

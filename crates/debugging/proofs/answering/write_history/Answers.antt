@@ -14,6 +14,6 @@ returns-clause-err g c =
     let text = last_of c.args.most c.debugger-2.result.now.history c.history_len-length.result c.saturating_sub-first.result size c.saturating_sub-first.ensures
     ∙ ap (λ (d : DebuggerState). history_text c.args.most d.history) c.debugger-2.ensures in
     on_err c.write_seen.result (λ failed.
-    subst (AppendsProperPrefix (g.W.Write.contents c.args.out.now) (g.W.Write.contents c.write_seen.new.out)) text
+    subst (AppendsProperPrefix (g.W.Output.contents c.args.out.now) (g.W.Output.contents c.write_seen.new.out)) text
     (whole_then_prefix _ _ _ _ _ c.in_default.ensures.ok failed))
     c.write_seen.ensures.err

@@ -21,7 +21,7 @@ loop-index-preserved g c =
     let within : c.loop-index.index < length history = omega (arith, c.loop-index-test.true, c.history_len-index-end.ensures.len) in
     elim c.match-history.branch [
       | in-Some+in_default-write_stepped w ↦
-          subst (λ (o : g.row.W.Denot). IsWrittenBut (flat_map line_seen (drop (c.loop-index.index + 1) history)) (flat_map line_seen (drop c.args.first history)) (g.W.Write.contents c.args.out.now) (g.W.Write.contents o))
+          subst (λ (o : g.row.W.Denot). IsWrittenBut (flat_map line_seen (drop (c.loop-index.index + 1) history)) (flat_map line_seen (drop c.args.first history)) (g.W.Output.contents c.args.out.now) (g.W.Output.contents o))
           (sym w.out-is)
           (one_more_written _ _ _ _ _ _ _ (next_item line_seen history c.loop-index.index w.in-Some.executed within (sym c.history.ensures ∙ w.in-Some.is))
           c.loop-index.invariant w.in_default-write_stepped.ensures.ok)

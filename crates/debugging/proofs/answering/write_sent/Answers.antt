@@ -7,22 +7,22 @@ pub returns-in-Err-write_whole-clause-err : goal.returns-in-Err-write_whole-clau
 returns-in-Err-write_whole-clause-err g c =
     let first = c.sent.result.0.now in
     let second = c.sent.result.1.now in
-    first_failed (length first + length second) first second c.args.run.now.sent refl c.sent.ensures (g.W.Write.contents c.args.out.now) (g.W.Write.contents c.write_count.new.out)
-    (g.W.Write.contents c.write_whole.new.out) c.in_default.ensures.ok c.in-Err-write_whole.ensures.err
+    first_failed (length first + length second) first second c.args.run.now.sent refl c.sent.ensures (g.W.Output.contents c.args.out.now) (g.W.Output.contents c.write_count.new.out)
+    (g.W.Output.contents c.write_whole.new.out) c.in_default.ensures.ok c.in-Err-write_whole.ensures.err
 
 pub returns-in-Err-write_whole-2-clause-err : goal.returns-in-Err-write_whole-2-clause-err
 returns-in-Err-write_whole-2-clause-err g c =
     let first = c.sent.result.0.now in
     let second = c.sent.result.1.now in
-    second_failed (length first + length second) first second c.args.run.now.sent refl c.sent.ensures (g.W.Write.contents c.args.out.now) (g.W.Write.contents c.write_count.new.out)
-    (g.W.Write.contents c.write_whole.new.out) c.in_default.ensures.ok (g.W.Write.contents c.write_whole-2.new.out) c.in_default-write_whole.ensures.ok c.in-Err-write_whole-2.ensures.err
+    second_failed (length first + length second) first second c.args.run.now.sent refl c.sent.ensures (g.W.Output.contents c.args.out.now) (g.W.Output.contents c.write_count.new.out)
+    (g.W.Output.contents c.write_whole.new.out) c.in_default.ensures.ok (g.W.Output.contents c.write_whole-2.new.out) c.in_default-write_whole.ensures.ok c.in-Err-write_whole-2.ensures.err
 
 pub returns-clause-err : goal.returns-clause-err
 returns-clause-err g c =
     let first = c.sent.result.0.now in
     let second = c.sent.result.1.now in
     on_err c.write_whole-3.result
-    (end_failed (length first + length second) first second c.args.run.now.sent refl c.sent.ensures (g.W.Write.contents c.args.out.now) (g.W.Write.contents c.write_count.new.out)
-    (g.W.Write.contents c.write_whole.new.out) c.in_default.ensures.ok (g.W.Write.contents c.write_whole-2.new.out) c.in_default-write_whole.ensures.ok
-    (g.W.Write.contents c.write_whole-3.new.out) c.in_default-write_whole-2.ensures.ok)
+    (end_failed (length first + length second) first second c.args.run.now.sent refl c.sent.ensures (g.W.Output.contents c.args.out.now) (g.W.Output.contents c.write_count.new.out)
+    (g.W.Output.contents c.write_whole.new.out) c.in_default.ensures.ok (g.W.Output.contents c.write_whole-2.new.out) c.in_default-write_whole.ensures.ok
+    (g.W.Output.contents c.write_whole-3.new.out) c.in_default-write_whole-2.ensures.ok)
     c.write_whole-3.ensures.err

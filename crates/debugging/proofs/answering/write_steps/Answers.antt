@@ -17,17 +17,17 @@ pub returns-in-Err-clause-err : goal.returns-in-Err-clause-err
 returns-in-Err-clause-err g c =
     let text : line_of c.step-step.result.stepped.kind ≡ line_of (step_of bus_rules (processor_of c.loop-i.run)).stepped.kind = ap (λ (s : Stepped). line_of s.kind) c.step-step.ensures.stepped in
     part_failed _ _ _ _ _ _ _ (next_step bus_rules _ _ _ c.loop-i-test.true) c.loop-i.invariant.written
-    (subst (λ (t : List ℕ). AppendsProperPrefix (g.W.Write.contents c.loop-i.out) (g.W.Write.contents c.write_stepped.new.out) t) text c.in-Err.ensures.err)
+    (subst (λ (t : List ℕ). AppendsProperPrefix (g.W.Output.contents c.loop-i.out) (g.W.Output.contents c.write_stepped.new.out) t) text c.in-Err.ensures.err)
 
 pub loop-i-preserved : goal.loop-i-preserved
 loop-i-preserved g c =
     let text : line_of c.step-step.result.stepped.kind ≡ line_of (step_of bus_rules (processor_of c.loop-i.run)).stepped.kind = ap (λ (s : Stepped). line_of s.kind) c.step-step.ensures.stepped in
     record {
       run = and_one c.loop-i._i c.args.run c.loop-i.run c.step-step.result.run c.loop-i.invariant.run c.step-step.ensures.run;
-      written = subst (λ (r : RunState). IsWrittenBut (step_lines bus_rules (c.args.count - (c.loop-i._i + 1)) (processor_of r)) (step_lines bus_rules c.args.count (processor_of c.args.run)) (g.W.Write.contents c.args.out.now) (g.W.Write.contents c.write_stepped.new.out))
+      written = subst (λ (r : RunState). IsWrittenBut (step_lines bus_rules (c.args.count - (c.loop-i._i + 1)) (processor_of r)) (step_lines bus_rules c.args.count (processor_of c.args.run)) (g.W.Output.contents c.args.out.now) (g.W.Output.contents c.write_stepped.new.out))
           (sym c.step-step.ensures.run)
           (one_more_written _ _ _ _ _ _ _ (next_step bus_rules _ _ _ c.loop-i-test.true) c.loop-i.invariant.written
-          (subst (λ (t : List ℕ). Appends (g.W.Write.contents c.loop-i.out) (g.W.Write.contents c.write_stepped.new.out) t) text c.in_default.ensures.ok));
+          (subst (λ (t : List ℕ). Appends (g.W.Output.contents c.loop-i.out) (g.W.Output.contents c.write_stepped.new.out) t) text c.in_default.ensures.ok));
     }
 
 pub returns-clause-ok : goal.returns-clause-ok

@@ -6,7 +6,7 @@ use Rattle.debugging.proofs.cycles.write_lines.Goals as goal
 
 pub loop-offset-preserved-then-cycles-eq0 : goal.loop-offset-preserved-then-cycles-eq0
 loop-offset-preserved-then-cycles-eq0 g c =
-    subst (λ (left : List ℕ). IsWrittenBut left (cycles_lines 0 c.args.rom.now) (g.W.Write.contents c.args.out.now) (g.W.Write.contents c.loop-offset.out))
+    subst (λ (left : List ℕ). IsWrittenBut left (cycles_lines 0 c.args.rom.now) (g.W.Output.contents c.args.out.now) (g.W.Output.contents c.loop-offset.out))
     (next_skipped c.args.rom.now c.loop-offset.offset c.loop-offset-test.true c.if-cycles-eq0.true) c.loop-offset.invariant
 
 pub returns-in-Err-clause-err : goal.returns-in-Err-clause-err

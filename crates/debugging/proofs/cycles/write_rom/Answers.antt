@@ -10,7 +10,7 @@ use Rattle.debugging.proofs.cycles.write_rom.Goals as goal
 pub returns-clause-err : goal.returns-clause-err
 returns-clause-err g c =
     on_err c.write_lines.result (λ failed.
-    subst (λ (n : ℕ). AppendsProperPrefix (g.W.Write.contents c.args.out.now) (g.W.Write.contents c.write_lines.new.out) (count_line (codes "profile") n ++ cycles_lines 0 c.args.rom.now)) c.lines_of.ensures
-    (whole_then_prefix (g.W.Write.contents c.args.out.now) (g.W.Write.contents c.write_count.new.out) (g.W.Write.contents c.write_lines.new.out)
+    subst (λ (n : ℕ). AppendsProperPrefix (g.W.Output.contents c.args.out.now) (g.W.Output.contents c.write_lines.new.out) (count_line (codes "profile") n ++ cycles_lines 0 c.args.rom.now)) c.lines_of.ensures
+    (whole_then_prefix (g.W.Output.contents c.args.out.now) (g.W.Output.contents c.write_count.new.out) (g.W.Output.contents c.write_lines.new.out)
     (count_line (codes "profile") c.lines_of.result) (cycles_lines 0 c.args.rom.now) c.in_default.ensures.ok failed))
     c.write_lines.ensures.err

@@ -33,7 +33,7 @@ returns-in-Profile-clause-done g c machines kept =
     switched c.args.cartridge.now (Profile limit c.in-Profile.places) c.args.order c.in-Profile.is c.args.number d c.args.kept.now _ _ c.profile.result
     (subst (λ (places : List Place). IfOk c.profile.result (λ now. now ≡ after_steps_of (until_steps limit places c.args.run) c.args.run)) c.as_slice.ensures.value c.profile.ensures.run)
     (on_ok_always c.profile.result kept)
-    (subst (λ (places : List Place). OnOk c.profile.result (Appends (g.W.Write.contents c.args.out.now) (g.W.Write.contents c.profile.new.out) (profile_text (until_steps limit places c.args.run) limit c.args.run)))
+    (subst (λ (places : List Place). OnOk c.profile.result (Appends (g.W.Output.contents c.args.out.now) (g.W.Output.contents c.profile.new.out) (profile_text (until_steps limit places c.args.run) limit c.args.run)))
     c.as_slice.ensures.value c.profile.ensures.ok)
 
 pub returns-in-Profile-clause-refused : goal.returns-in-Profile-clause-refused
@@ -42,7 +42,7 @@ returns-in-Profile-clause-refused g c machines kept =
     let limit = c.in-Profile.steps in
     not_switched c.args.cartridge.now (Profile limit c.in-Profile.places) c.args.order c.in-Profile.is c.args.number d c.args.kept.now _ _ c.profile.result
     (subst (λ (places : List Place).
-    IfErr c.profile.result (λ why. IsRefusedAnswer why (profile_text (until_steps limit places c.args.run) limit c.args.run) (g.W.Write.contents c.args.out.now) (g.W.Write.contents c.profile.new.out)))
+    IfErr c.profile.result (λ why. IsRefusedAnswer why (profile_text (until_steps limit places c.args.run) limit c.args.run) (g.W.Output.contents c.args.out.now) (g.W.Output.contents c.profile.new.out)))
     c.as_slice.ensures.value c.profile.ensures.err)
     (memory_always c.profile.result refl)
 

@@ -43,5 +43,5 @@ returns g c = (
 
 pub returns-in-Err : goal.returns-in-Err
 returns-in-Err g c =
-    subst (λ (fault : Fault). IsRefused (Export c.args.cart c.args.save c.args.battery) fault (g.O.Write.contents c.args.out.now) (g.O.Write.contents c.args.out.now)) (sym c.from.ensures)
-    (export_refused c.args.cart c.args.save c.args.battery c.in_ok-rom.rom.items c.in_ok-device.device _ _ (keeps_same (g.O.Write.contents c.args.out.now)) c.in-Err.refused.why c.in-Err.ensures.cause)
+    subst (λ (fault : Fault). IsRefused (Export c.args.cart c.args.save c.args.battery) fault (g.O.Output.contents c.args.out.now) (g.O.Output.contents c.args.out.now)) (sym c.from.ensures)
+    (export_refused c.args.cart c.args.save c.args.battery c.in_ok-rom.rom.items c.in_ok-device.device _ _ (keeps_same (g.O.Output.contents c.args.out.now)) c.in-Err.refused.why c.in-Err.ensures.cause)

@@ -9,5 +9,5 @@ returns-in-Ok g c = game_debugged c.args.save c.args.rom.items c.in_ok-device.de
 
 pub returns-in-Err : goal.returns-in-Err
 returns-in-Err g c =
-    subst (λ (fault : Fault). IsDebugRefused (Some c.args.save) fault (record { before = g.I.Read.remaining c.args.input.now; since = g.I.Read.remaining c.debug_game.new.input }) (record { before = g.O.Write.contents c.args.out.now; since = g.O.Write.contents c.debug_game.new.out })) (sym c.from.ensures)
+    subst (λ (fault : Fault). IsDebugRefused (Some c.args.save) fault (record { before = g.I.LineInput.remaining c.args.input.now; since = g.I.LineInput.remaining c.debug_game.new.input }) (record { before = g.O.Output.contents c.args.out.now; since = g.O.Output.contents c.debug_game.new.out })) (sym c.from.ensures)
     (debug_game_refused c.args.save c.args.rom.items c.in_ok-device.device c.in-Err.refused.device _ _ c.in-Err.refused.why c.in-Err.ensures.cause)

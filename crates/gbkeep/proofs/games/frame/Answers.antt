@@ -11,5 +11,5 @@ returns-in-Ok g c =
 
 pub returns : goal.returns
 returns g c =
-    subst (λ (fault : Fault). IsRefused (Frame c.args.cart c.args.save c.args.picture) fault (g.O.Write.contents c.args.out.now) (g.O.Write.contents c.play_to_picture.new.report)) (sym c.from.ensures)
+    subst (λ (fault : Fault). IsRefused (Frame c.args.cart c.args.save c.args.picture) fault (g.O.Output.contents c.args.out.now) (g.O.Output.contents c.play_to_picture.new.report)) (sym c.from.ensures)
     (frame_refused c.args.cart c.args.save c.args.picture c.in_ok-rom.rom.items c.in_ok-device.device c.in-Err.refused.device _ _ c.in-Err.refused.why c.in-Err.ensures.cause)

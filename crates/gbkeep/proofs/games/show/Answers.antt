@@ -10,5 +10,5 @@ returns-in-Ok g c = (c.in_ok-rom.rom.items, (c.in-Ok.ensures.accepted, (c.in_ok-
 
 pub returns : goal.returns
 returns g c =
-    subst (λ (fault : Fault). IsRefused (Show c.args.cart c.args.save) fault (g.O.Write.contents c.args.out.now) (g.O.Write.contents c.show_lines.new.out)) (sym c.from.ensures)
+    subst (λ (fault : Fault). IsRefused (Show c.args.cart c.args.save) fault (g.O.Output.contents c.args.out.now) (g.O.Output.contents c.show_lines.new.out)) (sym c.from.ensures)
     (show_refused c.args.cart c.args.save c.in_ok-rom.rom.items c.in_ok-device.device _ _ c.in-Err.unshown.why c.in-Err.ensures.cause)

@@ -9,5 +9,5 @@ returns-in-Ok g c = streamed_to c.in_ok-rom.rom.items c.in_ok-device.device c.in
 
 pub returns-in-Err : goal.returns-in-Err
 returns-in-Err g c =
-    subst (λ (fault : Fault). IsStreamRefused fault (record { before = g.I.Read.remaining c.args.input.now; since = g.I.Read.remaining c.stream_play.new.input }) (record { before = g.O.Write.contents c.args.out.now; since = g.O.Write.contents c.stream_play.new.out })) (sym c.from.ensures)
+    subst (λ (fault : Fault). IsStreamRefused fault (record { before = g.I.LineInput.remaining c.args.input.now; since = g.I.LineInput.remaining c.stream_play.new.input }) (record { before = g.O.Output.contents c.args.out.now; since = g.O.Output.contents c.stream_play.new.out })) (sym c.from.ensures)
     (stream_refused c.in_ok-rom.rom.items c.in_ok-device.device c.in-Err.stopped.device _ _ _ _ c.in-Err.stopped.why c.in-Err.ensures.cause)

@@ -10,5 +10,5 @@ returns-in-Ok g c = (c.in_ok-rom.rom.items, (c.in-Ok.ensures.accepted, (c.in_ok-
 
 pub returns-in-Err : goal.returns-in-Err
 returns-in-Err g c =
-    subst (λ (fault : Fault). IsRefused (Trace c.args.cart c.args.save c.args.count) fault (g.O.Write.contents c.args.out.now) (g.O.Write.contents c.trace_lines.new.out)) (sym c.from.ensures)
+    subst (λ (fault : Fault). IsRefused (Trace c.args.cart c.args.save c.args.count) fault (g.O.Output.contents c.args.out.now) (g.O.Output.contents c.trace_lines.new.out)) (sym c.from.ensures)
     (trace_refused c.args.cart c.args.save c.args.count c.in_ok-rom.rom.items c.in_ok-device.device c.in-Err.untraced.device _ _ c.in-Err.untraced.why c.in-Err.ensures.cause)

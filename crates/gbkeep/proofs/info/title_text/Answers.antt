@@ -1,9 +1,5 @@
-use Rattle.std.proofs.Common.{◌∙◌, refl}
-use Rattle.std.proofs.lemmas.Fmt.{contents_after_writes}
-use Rattle.arrayvec.specs.ArrayString.{ArrayString}
+use Rattle.gbkeep.proofs.HeaderLines.{title_fits}
 use Rattle.gbkeep.proofs.info.title_text.Goals as goal
 
-pub returns-in-Ok : goal.returns-in-Ok
-returns-in-Ok c =
-    contents_after_writes _ (λ (s : ArrayString). s.bytes) (λ _ _ _ t. t) _ _ _ c.in-Ok.ensures.writes
-    ∙ rw c.new-text.ensures (rw c.as_str-title.ensures.value (rw c.in_ok-title.ensures (rw c.title.ensures refl)))
+pub shown_title-title-requires : goal.shown_title-title-requires
+shown_title-title-requires c = rw c.title.ensures (title_fits c.args.cartridge.now)

@@ -10,9 +10,9 @@ use Rattle.gbkeep.proofs.program.answer.Goals as goal
 pub returns-in-Err-serve : goal.returns-in-Err-serve
 returns-in-Err-serve g c =
     let run : Exchange = record {
-      input = record { before = g.I.Read.remaining c.args.input.now; since = g.I.Read.remaining c.serve.new.input };
-      output = record { before = g.O.Write.contents c.args.out.now; since = g.O.Write.contents c.serve.new.out };
-      errors = record { before = g.E.Write.contents c.args.err.now; since = g.E.Write.contents c.report.new.err };
+      input = record { before = g.I.LineInput.remaining c.args.input.now; since = g.I.LineInput.remaining c.serve.new.input };
+      output = record { before = g.O.Output.contents c.args.out.now; since = g.O.Output.contents c.serve.new.out };
+      errors = record { before = g.E.Output.contents c.args.err.now; since = g.E.Output.contents c.report.new.err };
     } in
     let same : c.args.asked ≡ Ok (Command c.in-Ok-Command.request) = cc in
     subst (λ (asked : Result Asked Fault). HasEnded asked run c.report.result) (sym same)

@@ -9,9 +9,9 @@ pub returns-in-Err-clause-ends : goal.returns-in-Err-clause-ends
 returns-in-Err-clause-ends g c =
     let Ended = λ (fault : Fault). HasEnded (Err fault)
     (record {
-      input = record { before = g.I.Read.remaining c.args.input.now; since = g.I.Read.remaining c.answer.new.input };
-      output = record { before = g.O.Write.contents c.args.out.now; since = g.O.Write.contents c.answer.new.out };
-      errors = record { before = g.E.Write.contents c.args.err.now; since = g.E.Write.contents c.answer.new.err };
+      input = record { before = g.I.LineInput.remaining c.args.input.now; since = g.I.LineInput.remaining c.answer.new.input };
+      output = record { before = g.O.Output.contents c.args.out.now; since = g.O.Output.contents c.answer.new.out };
+      errors = record { before = g.E.Output.contents c.args.err.now; since = g.E.Output.contents c.answer.new.err };
     })
     c.answer.result in
     elim c.in-Err.ensures [

@@ -29,7 +29,7 @@ returns g c =
     let accepted = accepted_image _ _ c.in_ok-cartridge.ensures.image (c.in_ok-cartridge.ensures.accepted.0 refl) in
     let zero = c.in_ok-making.ensures.zero in
     let honest = c.in_ok-making.ensures.honest in (
-      keeps_same (g.O.Write.contents c.args.out.now),
+      keeps_same (g.O.Output.contents c.args.out.now),
       (rom, accepted),
       not_begun c.args.sectors c.from.result (file_disk c.in_ok-making.field-0.device) honest zero c.from.ensures c.in-Err.refused.why c.in-Err.ensures.cause,
     )

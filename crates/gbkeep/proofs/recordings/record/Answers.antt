@@ -18,10 +18,10 @@ returns-in-Ok-record_play g c =
 pub returns-in-Err : goal.returns-in-Err
 returns-in-Err g c =
     not_belonging c.in_ok-cartridge.cartridge (accepted_as _ _ c.in_ok-cartridge.ensures.image (c.in_ok-cartridge.ensures.accepted.0 refl)) c.in_ok-pair.pair.save c.in_ok-pair.pair.recording
-    (g.I.Read.remaining c.args.input.now) (g.O.Write.contents c.args.out.now) c.in-Err.fault c.in-Err.ensures
+    (g.I.LineInput.remaining c.args.input.now) (g.O.Output.contents c.args.out.now) c.in-Err.fault c.in-Err.ensures
 
 pub returns : goal.returns
 returns g c =
-    subst (λ (fault : Fault). IsRecordRefused fault (record { before = g.I.Read.remaining c.args.input.now; since = g.I.Read.remaining c.record.new.input }) (record { before = g.O.Write.contents c.args.out.now; since = g.O.Write.contents c.record.new.out })) (sym c.from.ensures)
+    subst (λ (fault : Fault). IsRecordRefused fault (record { before = g.I.LineInput.remaining c.args.input.now; since = g.I.LineInput.remaining c.record.new.input }) (record { before = g.O.Output.contents c.args.out.now; since = g.O.Output.contents c.record.new.out })) (sym c.from.ensures)
     (record_refused c.in_ok-cartridge.cartridge (accepted_as _ _ c.in_ok-cartridge.ensures.image (c.in_ok-cartridge.ensures.accepted.0 refl)) c.in-Ok.pair.save
     c.in-Err-record_play.refused.save c.in-Ok.pair.recording c.in-Err-record_play.refused.recording _ _ _ _ c.in-Err-record_play.refused.why c.in-Err-record_play.ensures.refused)

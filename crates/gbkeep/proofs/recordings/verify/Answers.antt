@@ -21,7 +21,7 @@ returns-in-Ok g c =
           (
             c.in_ok-pair.pair.save,
             c.in_ok-pair.pair.recording,
-            ok_at answer c.in-Ok._count (λ (count : ℕ). HasAgreed rom (file_disk c.in_ok-pair.pair.save) (file_disk c.in_ok-pair.pair.recording) count (g.O.Write.contents c.args.out.now) (g.O.Write.contents c.verify_line-compared.new.out))
+            ok_at answer c.in-Ok._count (λ (count : ℕ). HasAgreed rom (file_disk c.in_ok-pair.pair.save) (file_disk c.in_ok-pair.pair.recording) count (g.O.Output.contents c.args.out.now) (g.O.Output.contents c.verify_line-compared.new.out))
                 c.in-Ok.is said.agreed,
           ),
         ),
@@ -31,7 +31,7 @@ returns-in-Ok g c =
 pub returns : goal.returns
 returns g c =
     let rom = c.in_ok-rom.rom.items in
-    subst (λ (fault : Fault). IsRefused (Verify c.args.cart c.args.save c.args.recording) fault (g.O.Write.contents c.args.out.now) (g.O.Write.contents c.verify_line-compared.new.out)) (sym c.from.ensures)
+    subst (λ (fault : Fault). IsRefused (Verify c.args.cart c.args.save c.args.recording) fault (g.O.Output.contents c.args.out.now) (g.O.Output.contents c.verify_line-compared.new.out)) (sym c.from.ensures)
     (verify_refused c.args.cart c.args.save c.args.recording rom c.in_ok-pair.pair.save c.in_ok-pair.pair.recording _ _ c.in-Err.why
-    (err_at c.verify_line-compared.result.answer c.in-Err.why (IsLineCause rom (file_disk c.in_ok-pair.pair.save) (file_disk c.in_ok-pair.pair.recording) (g.O.Write.contents c.args.out.now) (g.O.Write.contents c.verify_line-compared.new.out))
+    (err_at c.verify_line-compared.result.answer c.in-Err.why (IsLineCause rom (file_disk c.in_ok-pair.pair.save) (file_disk c.in_ok-pair.pair.recording) (g.O.Output.contents c.args.out.now) (g.O.Output.contents c.verify_line-compared.new.out))
     c.in-Err.is c.verify_line-compared.ensures.cause))

@@ -9,7 +9,7 @@ use Rattle.gbkeep.proofs.streams.stream_play.Goals as goal
 
 pub returns-in-Ok-stream-clause-streamed : goal.returns-in-Ok-stream-clause-streamed
 returns-in-Ok-stream-clause-streamed g c =
-    subst (λ (d : g.row.D.Denot). HasStreamed c.args.rom.items (g.D.SectorDevice.disk c.args.device) (g.D.SectorDevice.disk d) Whole (g.R.Read.remaining c.args.input.now) (g.R.Read.remaining c.stream.new.input) (g.W.Write.contents c.args.out.now) (g.W.Write.contents c.stream.new.out))
+    subst (λ (d : g.row.D.Denot). HasStreamed c.args.rom.items (g.D.SectorDevice.disk c.args.device) (g.D.SectorDevice.disk d) Whole (g.R.LineInput.remaining c.args.input.now) (g.R.LineInput.remaining c.stream.new.input) (g.W.Output.contents c.args.out.now) (g.W.Output.contents c.stream.new.out))
     (sym c.into_device.ensures.device)
     (streamed_as c.args.rom.items c.in-Ok.cartridge _ _ _ _ _ _ _ _ c.in-Ok.ensures.image c.in-Ok-stream.ensures.streamed)
 

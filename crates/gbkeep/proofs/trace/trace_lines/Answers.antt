@@ -21,15 +21,15 @@ returns-in-Ok-written-clause-traced g c =
     let s = c.in-Ok-resume.session in
     let from : Position = record { count = acknowledged_of s; machine = machine_of s } in
     let all_is : c.counts-inputs.result.all ≡ acknowledged_of s = omega (arith, ap (λ (n : Counts). n.all) c.counts-inputs.ensures, ap length c.in-Ok-resume.ensures.begun.0) in
-    subst (λ (d : g.row.D.Denot). HasTraced c.args.rom.items (g.D.SectorDevice.disk c.args.device) (g.D.SectorDevice.disk d) c.args.count (g.W.Write.contents c.args.out.now) (g.W.Write.contents c.write_trace-written.new.out))
+    subst (λ (d : g.row.D.Denot). HasTraced c.args.rom.items (g.D.SectorDevice.disk c.args.device) (g.D.SectorDevice.disk d) c.args.count (g.W.Output.contents c.args.out.now) (g.W.Output.contents c.write_trace-written.new.out))
     (sym c.into_device-device.ensures.device)
     (record {
       from = from;
       taken_up = taken_up c.args.rom.items c.in-Ok.cartridge (g.D.SectorDevice.disk c.args.device) (g.D.SectorDevice.disk (device_of s)) from c.in-Ok.ensures.image
           (subst (λ (m : MachineState). IsMachineOf c.in-Ok.cartridge m) c.machine.ensures.machine c.in-Ok-written.ensures.ok.0)
           c.in-Ok-resume.ensures.stands c.in-Ok-resume.ensures.rests;
-      written = subst (λ (n : ℕ). Appends (g.W.Write.contents c.args.out.now) (g.W.Write.contents c.write_trace-written.new.out) (trace_text n (machine_of s) c.args.count)) all_is
-          (subst (λ (m : MachineState). Appends (g.W.Write.contents c.args.out.now) (g.W.Write.contents c.write_trace-written.new.out) (trace_text c.counts-inputs.result.all m c.args.count)) c.machine.ensures.machine c.in-Ok-written.ensures.ok.1);
+      written = subst (λ (n : ℕ). Appends (g.W.Output.contents c.args.out.now) (g.W.Output.contents c.write_trace-written.new.out) (trace_text n (machine_of s) c.args.count)) all_is
+          (subst (λ (m : MachineState). Appends (g.W.Output.contents c.args.out.now) (g.W.Output.contents c.write_trace-written.new.out) (trace_text c.counts-inputs.result.all m c.args.count)) c.machine.ensures.machine c.in-Ok-written.ensures.ok.1);
     })
 
 pub returns-clause-cause : goal.returns-clause-cause
@@ -37,21 +37,21 @@ returns-clause-cause g c =
     let s = c.in-Ok-resume.session in
     let from : Position = record { count = acknowledged_of s; machine = machine_of s } in
     let all_is : c.counts-inputs.result.all ≡ acknowledged_of s = omega (arith, ap (λ (n : Counts). n.all) c.counts-inputs.ensures, ap length c.in-Ok-resume.ensures.begun.0) in
-    subst (λ (d : g.row.D.Denot). IsTraceCause c.args.rom.items c.args.count (record { old = g.D.SectorDevice.disk c.args.device; now = g.D.SectorDevice.disk d; output = record { before = g.W.Write.contents c.args.out.now; since = g.W.Write.contents c.write_trace-written.new.out } }) c.in-Err-written.why)
+    subst (λ (d : g.row.D.Denot). IsTraceCause c.args.rom.items c.args.count (record { old = g.D.SectorDevice.disk c.args.device; now = g.D.SectorDevice.disk d; output = record { before = g.W.Output.contents c.args.out.now; since = g.W.Output.contents c.write_trace-written.new.out } }) c.in-Err-written.why)
     (sym c.into_device-device.ensures.device)
     (trace_cause c.args.rom.items c.in-Ok.cartridge c.args.count (g.D.SectorDevice.disk c.args.device) (g.D.SectorDevice.disk (device_of s)) from
-    (g.W.Write.contents c.args.out.now) (g.W.Write.contents c.write_trace-written.new.out) c.in-Err-written.why (c.in-Ok.ensures.accepted.0 refl)
+    (g.W.Output.contents c.args.out.now) (g.W.Output.contents c.write_trace-written.new.out) c.in-Err-written.why (c.in-Ok.ensures.accepted.0 refl)
     (λ of. taken_up c.args.rom.items c.in-Ok.cartridge (g.D.SectorDevice.disk c.args.device) (g.D.SectorDevice.disk (device_of s)) from c.in-Ok.ensures.image of
     c.in-Ok-resume.ensures.stands c.in-Ok-resume.ensures.rests)
-    (subst (λ (n : ℕ). IsUntraced c.in-Ok.cartridge (machine_of s) (trace_text n (machine_of s) c.args.count) (g.W.Write.contents c.args.out.now) (g.W.Write.contents c.write_trace-written.new.out) c.in-Err-written.why) all_is
-    (subst (λ (m : MachineState). IsUntraced c.in-Ok.cartridge m (trace_text c.counts-inputs.result.all m c.args.count) (g.W.Write.contents c.args.out.now) (g.W.Write.contents c.write_trace-written.new.out) c.in-Err-written.why) c.machine.ensures.machine c.in-Err-written.ensures.err)))
+    (subst (λ (n : ℕ). IsUntraced c.in-Ok.cartridge (machine_of s) (trace_text n (machine_of s) c.args.count) (g.W.Output.contents c.args.out.now) (g.W.Output.contents c.write_trace-written.new.out) c.in-Err-written.why) all_is
+    (subst (λ (m : MachineState). IsUntraced c.in-Ok.cartridge m (trace_text c.counts-inputs.result.all m c.args.count) (g.W.Output.contents c.args.out.now) (g.W.Output.contents c.write_trace-written.new.out) c.in-Err-written.why) c.machine.ensures.machine c.in-Err-written.ensures.err)))
 
 pub returns-in-Err-resume-clause-cause : goal.returns-in-Err-resume-clause-cause
 returns-in-Err-resume-clause-cause g c =
     let refused = c.in-Err-resume.ensures in
     not_taken_up c.args.rom.items c.in-Ok.cartridge c.args.count (g.D.SectorDevice.disk c.args.device) (g.D.SectorDevice.disk c.in-Err-resume.refused.device) c.in-Err-resume.refused.why
-    (g.W.Write.contents c.args.out.now) c.in-Ok.ensures.image (c.in-Ok.ensures.accepted.0 refl)
-    (record { cause = refused.cause; report = keeps_same (g.W.Write.contents c.args.out.now); images = refused.images; untouched = refused.untouched; memory = memory_at (g.D.SectorDevice.disk) refused.memory; failed = refused.failed })
+    (g.W.Output.contents c.args.out.now) c.in-Ok.ensures.image (c.in-Ok.ensures.accepted.0 refl)
+    (record { cause = refused.cause; report = keeps_same (g.W.Output.contents c.args.out.now); images = refused.images; untouched = refused.untouched; memory = memory_at (g.D.SectorDevice.disk) refused.memory; failed = refused.failed })
 
 pub returns-in-Err-clause-answered : goal.returns-in-Err-clause-answered
 returns-in-Err-clause-answered g c = answered_refusal (λ n. refl)

@@ -15,14 +15,14 @@ pub returns-in-Err-clause-err : goal.returns-in-Err-clause-err
 returns-in-Err-clause-err g c =
     let text : line_of c.step-stepped.result.kind ≡ line_of (step_of bus_rules c.loop-i.debugger.machine.processor).stepped.kind = ap (λ (s : Stepped). line_of s.kind) c.step-stepped.ensures.stepped in
     part_failed _ _ _ _ _ _ _ (next_step bus_rules _ _ _ c.loop-i-test.true) c.loop-i.invariant
-    (subst (λ (t : List ℕ). AppendsProperPrefix (g.W.Write.contents c.loop-i.out) (g.W.Write.contents c.write_stepped.new.out) t) text c.in-Err.ensures.err)
+    (subst (λ (t : List ℕ). AppendsProperPrefix (g.W.Output.contents c.loop-i.out) (g.W.Output.contents c.write_stepped.new.out) t) text c.in-Err.ensures.err)
 
 pub loop-i-preserved : goal.loop-i-preserved
 loop-i-preserved g c =
     let text : line_of c.step-stepped.result.kind ≡ line_of (step_of bus_rules c.loop-i.debugger.machine.processor).stepped.kind = ap (λ (s : Stepped). line_of s.kind) c.step-stepped.ensures.stepped in
     rw c.step-stepped.ensures.debugger
     (one_more_written _ _ _ _ _ _ _ (next_step bus_rules _ _ _ c.loop-i-test.true) c.loop-i.invariant
-    (subst (λ (t : List ℕ). Appends (g.W.Write.contents c.loop-i.out) (g.W.Write.contents c.write_stepped.new.out) t) text c.in_default.ensures.ok))
+    (subst (λ (t : List ℕ). Appends (g.W.Output.contents c.loop-i.out) (g.W.Output.contents c.write_stepped.new.out) t) text c.in_default.ensures.ok))
 
 pub returns-clause-ok : goal.returns-clause-ok
 returns-clause-ok g c = all_written _ _ _ _ (no_step_left bus_rules _ _ _ c.loop-i-test.false) c.loop-i.invariant

@@ -6,4 +6,4 @@ use Rattle.gbkeep.proofs.trace.write_steps.Given as goal
 
 abbrev pub invariant-loop-i : goal.invariant-loop-i
 invariant-loop-i g l =
-    IsWrittenBut (step_lines bus_rules (l.count - l._i) l.debugger.machine.processor) (step_lines bus_rules l.count l.fn.debugger.machine.processor) (g.W.Write.contents l.fn.out) (g.W.Write.contents l.out)
+    IsWrittenBut (step_lines bus_rules (l.count - l._i) l.debugger.machine.processor) (step_lines bus_rules l.count l.fn.debugger.machine.processor) (g.W.Output.contents l.fn.out) (g.W.Output.contents l.out)

@@ -16,18 +16,21 @@ returns-then-is_err-clause-err g c = (
       (on_err_of c.write_resumed.result (c.is_err.ensures.value) c.if-is_err.true c.write_resumed.ensures.err),
 )
 
+pub returns-then-is_err-clause-output : goal.returns-then-is_err-clause-output
+returns-then-is_err-clause-output g c = λ is. on_err_of c.write_resumed.result c.is_err.ensures.value c.if-is_err.true c.write_resumed.ensures.failed
+
 pub returns-in-Ok-clause-ok : goal.returns-in-Ok-clause-ok
 returns-in-Ok-clause-ok g c = (
   c.in-Some.ensures.1,
-  appends_twice (g.W.Write.contents c.args.out.now) (g.W.Write.contents c.write_resumed.new.out) (g.W.Write.contents c.write_steps.new.out) (resumed_line c.args.inputs).text (step_lines bus_rules c.args.count c.args.machine.now.processor)
+  appends_twice (g.W.Output.contents c.args.out.now) (g.W.Output.contents c.write_resumed.new.out) (g.W.Output.contents c.write_steps.new.out) (resumed_line c.args.inputs).text (step_lines bus_rules c.args.count c.args.machine.now.processor)
       (on_ok_of c.write_resumed.result c.is_err.ensures.value c.if-is_err.false c.write_resumed.ensures.ok)
-      (subst (λ (m : MachineState). Appends (g.W.Write.contents c.write_resumed.new.out) (g.W.Write.contents c.write_steps.new.out) (step_lines bus_rules c.args.count m.processor)) c.in-Some.ensures.0 c.in-Ok.ensures.ok),
+      (subst (λ (m : MachineState). Appends (g.W.Output.contents c.write_resumed.new.out) (g.W.Output.contents c.write_steps.new.out) (step_lines bus_rules c.args.count m.processor)) c.in-Some.ensures.0 c.in-Ok.ensures.ok),
 )
 
 pub returns-clause-err : goal.returns-clause-err
 returns-clause-err g c = (
   c.in-Some.ensures.1,
-  whole_then_prefix (g.W.Write.contents c.args.out.now) (g.W.Write.contents c.write_resumed.new.out) (g.W.Write.contents c.write_steps.new.out) (resumed_line c.args.inputs).text (step_lines bus_rules c.args.count c.args.machine.now.processor)
+  whole_then_prefix (g.W.Output.contents c.args.out.now) (g.W.Output.contents c.write_resumed.new.out) (g.W.Output.contents c.write_steps.new.out) (resumed_line c.args.inputs).text (step_lines bus_rules c.args.count c.args.machine.now.processor)
       (on_ok_of c.write_resumed.result c.is_err.ensures.value c.if-is_err.false c.write_resumed.ensures.ok)
-      (subst (λ (m : MachineState). AppendsProperPrefix (g.W.Write.contents c.write_resumed.new.out) (g.W.Write.contents c.write_steps.new.out) (step_lines bus_rules c.args.count m.processor)) c.in-Some.ensures.0 c.in-Err.ensures.err),
+      (subst (λ (m : MachineState). AppendsProperPrefix (g.W.Output.contents c.write_resumed.new.out) (g.W.Output.contents c.write_steps.new.out) (step_lines bus_rules c.args.count m.processor)) c.in-Some.ensures.0 c.in-Err.ensures.err),
 )

@@ -4,12 +4,12 @@ use Rattle.std.proofs.KnownBytes.{Consumes-nil}
 use Rattle.input_lines.specs.Reading.{left_of}
 use Rattle.input_lines.proofs.Newlines.{found_by_length, nowhere_by_length, no_newline_at_all}
 use Rattle.input_lines.proofs.KnownLeft.{all_taken}
-use Rattle.input_lines.proofs.NextLines.{one_still, longer, skips_more, skips_to_newline, skips_to_end, skips_failed, skips_failed_there}
+use Rattle.input_lines.proofs.NextLines.{one_still, longer, skips_more, skips_to_newline, skips_to_end, skips_failed_there}
 use Rattle.input_lines.proofs.lines.skip_line.Goals as goal
 
-pub loop-init : goal.loop-init
-loop-init g c =
-    let known = g.R.Read.remaining c.args.input.now in
+pub skipping-init : goal.skipping-init
+skipping-init g c =
+    let known = g.R.LineInput.remaining c.args.input.now in
     let unread = c.args.unread.now.items in
     let old = left_of unread known in
     record {
@@ -20,13 +20,13 @@ loop-init g c =
       read = subst (λ l. Consumes old (left_of l known) unread) (sym c.clear.ensures) (all_taken old unread known (Consumes-nil old));
     }
 
-pub loop-preserved : goal.loop-preserved
-loop-preserved g c =
-    let so_far = c.loop.invariant in
-    let old = left_of c.args.unread.now.items (g.R.Read.remaining c.args.input.now) in
-    let there = left_of c.loop.unread.items (g.R.Read.remaining c.loop.input) in
+pub skipping-preserved : goal.skipping-preserved
+skipping-preserved g c =
+    let so_far = c.skipping.invariant in
+    let old = left_of c.args.unread.now.items (g.R.LineInput.remaining c.args.input.now) in
+    let there = left_of c.skipping.unread.items (g.R.LineInput.remaining c.skipping.input) in
     let unread = c.read_more.new.unread.items in
-    let since = g.R.Read.remaining c.read_more.new.input in
+    let since = g.R.LineInput.remaining c.read_more.new.input in
     let all = nowhere_by_length unread c.as_slice.result.now c.line_length.result c.len.result c.as_slice.ensures.value c.line_length.ensures c.len.ensures.value c.if-line_length-len.false in
     record {
       skipped = so_far.skipped ++ unread;
@@ -36,27 +36,22 @@ loop-preserved g c =
       read = subst (λ l. Consumes old (left_of l since) (so_far.skipped ++ unread)) (sym c.clear-in-Bytes.ensures) (skips_more old there so_far.skipped unread since so_far.read c.in-Bytes.ensures.left);
     }
 
-pub returns-then-line_length-len : goal.returns-then-line_length-len
-returns-then-line_length-len g c =
-    let so_far = c.loop.invariant in
+pub returns-then-line_length-len-clause-line : goal.returns-then-line_length-len-clause-line
+returns-then-line_length-len-clause-line g c =
+    let so_far = c.skipping.invariant in
     let unread = c.read_more.new.unread.items in
     let found = found_by_length unread c.as_slice.result.now c.line_length.result c.len.result c.as_slice.ensures.value c.line_length.ensures c.len.ensures.value c.if-line_length-len.true in
-    skips_to_newline (left_of c.args.unread.now.items (g.R.Read.remaining c.args.input.now)) (left_of c.loop.unread.items (g.R.Read.remaining c.loop.input)) so_far.skipped unread c.take_line.new.unread.items
-    (g.R.Read.remaining c.read_more.new.input) so_far.one so_far.long so_far.read c.in-Bytes.ensures.left found c.take_line.ensures.rest
+    skips_to_newline (left_of c.args.unread.now.items (g.R.LineInput.remaining c.args.input.now)) (left_of c.skipping.unread.items (g.R.LineInput.remaining c.skipping.input)) so_far.skipped unread c.take_line.new.unread.items
+    (g.R.LineInput.remaining c.read_more.new.input) so_far.one so_far.long so_far.read c.in-Bytes.ensures.left found c.take_line.ensures.rest
 
-pub returns-in-End : goal.returns-in-End
-returns-in-End g c =
-    let so_far = c.loop.invariant in
-    skips_to_end (left_of c.args.unread.now.items (g.R.Read.remaining c.args.input.now)) (left_of c.loop.unread.items (g.R.Read.remaining c.loop.input)) so_far.skipped c.read_more.new.unread.items
-    (g.R.Read.remaining c.read_more.new.input) so_far.one so_far.long so_far.read c.in-End.ensures.left (c.in-End.ensures.more.0 ∙ so_far.none) c.in-End.ensures.more.1
+pub returns-in-End-clause-line : goal.returns-in-End-clause-line
+returns-in-End-clause-line g c =
+    let so_far = c.skipping.invariant in
+    skips_to_end (left_of c.args.unread.now.items (g.R.LineInput.remaining c.args.input.now)) (left_of c.skipping.unread.items (g.R.LineInput.remaining c.skipping.input)) so_far.skipped c.read_more.new.unread.items
+    (g.R.LineInput.remaining c.read_more.new.input) so_far.one so_far.long so_far.read c.in-End.ensures.left (c.in-End.ensures.more.0 ∙ so_far.none) c.in-End.ensures.more.1
 
-pub returns-in-Failed : goal.returns-in-Failed
-returns-in-Failed g c =
-    let so_far = c.loop.invariant in
-    skips_failed_there (left_of c.args.unread.now.items (g.R.Read.remaining c.args.input.now)) (left_of c.loop.unread.items (g.R.Read.remaining c.loop.input)) so_far.skipped c.read_more.new.unread.items
-    (g.R.Read.remaining c.read_more.new.input) so_far.one so_far.long so_far.read c.in-Failed.ensures.left (c.in-Failed.ensures.more ∙ so_far.none)
-
-pub returns : goal.returns
-returns g c =
-    let so_far = c.loop.invariant in
-    skips_failed (left_of c.args.unread.now.items (g.R.Read.remaining c.args.input.now)) so_far.skipped c.loop.unread.items (g.R.Read.remaining c.loop.input) so_far.one so_far.long so_far.read so_far.none
+pub returns-in-Failed-clause-line : goal.returns-in-Failed-clause-line
+returns-in-Failed-clause-line g c =
+    let so_far = c.skipping.invariant in
+    skips_failed_there (left_of c.args.unread.now.items (g.R.LineInput.remaining c.args.input.now)) (left_of c.skipping.unread.items (g.R.LineInput.remaining c.skipping.input)) so_far.skipped c.read_more.new.unread.items
+    (g.R.LineInput.remaining c.read_more.new.input) so_far.one so_far.long so_far.read c.in-Failed.ensures.left (c.in-Failed.ensures.more ∙ so_far.none)

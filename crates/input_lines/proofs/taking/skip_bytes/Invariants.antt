@@ -9,7 +9,7 @@ invariant-skipping g l = record {
   room : length l.bytes ≡ 1024;
   skipped : List ℕ;
   count : length skipped + l.left ≡ l.fn.count;
-  took : Consumes (left_of l.fn.unread.items (g.R.Read.remaining l.fn.input)) (left_of l.unread.items (g.R.Read.remaining l.input)) skipped;
+  took : Consumes (left_of l.fn.unread.items (g.R.LineInput.remaining l.fn.input)) (left_of l.unread.items (g.R.LineInput.remaining l.input)) skipped;
 }
 
 abbrev pub decreases-skipping : goal.decreases-skipping

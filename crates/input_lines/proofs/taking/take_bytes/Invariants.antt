@@ -10,7 +10,7 @@ invariant-reading g l = record {
   room : length l.bytes ≡ length l.fn.bytes;
   unread : l.unread.items ≡ drop (length l.fn.bytes) l.fn.unread.items;
   none : l.filled < length l.bytes → l.unread.items ≡ [];
-  took : Consumes (left_of l.fn.unread.items (g.R.Read.remaining l.fn.input)) (left_of l.unread.items (g.R.Read.remaining l.input)) (take l.filled l.bytes);
+  took : Consumes (left_of l.fn.unread.items (g.R.LineInput.remaining l.fn.input)) (left_of l.unread.items (g.R.LineInput.remaining l.input)) (take l.filled l.bytes);
 }
 
 abbrev pub decreases-reading : goal.decreases-reading

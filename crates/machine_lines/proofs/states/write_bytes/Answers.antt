@@ -8,6 +8,6 @@ use Rattle.machine_lines.proofs.states.write_bytes.Goals as goal
 pub returns-clause-err : goal.returns-clause-err
 returns-clause-err g c =
     on_err c.write_whole.result
-    (whole_then_prefix (g.W.Write.contents c.args.out.now) (g.W.Write.contents c.write_count.new.out) (g.W.Write.contents c.write_whole.new.out) (count_line (codes "state") (length c.args.bytes.now)) c.args.bytes.now
+    (whole_then_prefix (g.W.Output.contents c.args.out.now) (g.W.Output.contents c.write_count.new.out) (g.W.Output.contents c.write_whole.new.out) (count_line (codes "state") (length c.args.bytes.now)) c.args.bytes.now
     c.in_default.ensures.ok)
     c.write_whole.ensures.err

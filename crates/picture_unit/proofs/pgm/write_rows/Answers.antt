@@ -22,12 +22,12 @@ loop-part-preserved g c =
     let rows = c.args.picture.now.rows in
     let first = 24 * c.loop-part.part in
     let texts = flat_map (λ text. text) (map row_text (take 24 (drop first rows))) in
-    let here : Appends (g.W.Write.contents c.loop-part.out) (g.W.Write.contents c.write_whole-in-loop-part.new.out) texts =
+    let here : Appends (g.W.Output.contents c.loop-part.out) (g.W.Output.contents c.write_whole-in-loop-part.new.out) texts =
     rw (c.as_flattened.ensures.value, c.put_rows.ensures) at c.in_default-write_whole.ensures.ok in
     let next : first + 24 ≡ 24 * (c.loop-part.part + 1) = omega arith in
     let more : (header_text ++ flat_map row_text (take first rows)) ++ texts ≡ header_text ++ flat_map row_text (take (24 * (c.loop-part.part + 1)) rows) =
     append_assoc header_text (flat_map row_text (take first rows)) texts ∙ ap (λ l. header_text ++ l) (texts-more row_text rows first 24 ∙ ap (λ n. flat_map row_text (take n rows)) next) in
-    subst (λ (text : List ℕ). Appends (g.W.Write.contents c.args.out.now) (g.W.Write.contents c.write_whole-in-loop-part.new.out) text) more
+    subst (λ (text : List ℕ). Appends (g.W.Output.contents c.args.out.now) (g.W.Output.contents c.write_whole-in-loop-part.new.out) text) more
     (appends_twice _ _ _ (header_text ++ flat_map row_text (take first rows)) texts c.loop-part.invariant here)
 
 pub returns-in-Err-write_whole-clause-err : goal.returns-in-Err-write_whole-clause-err
@@ -40,7 +40,7 @@ returns-in-Err-write_whole-clause-err g c =
     let after = flat_map row_text (drop (first + 24) rows) in
     let whole : header_text ++ flat_map row_text rows ≡ (header_text ++ before) ++ (texts ++ after) =
     ap (λ l. header_text ++ l) (texts-split row_text rows first 24) ∙ sym (append_assoc header_text before (texts ++ after)) in
-    let part : AppendsProperPrefix (g.W.Write.contents c.loop-part.out) (g.W.Write.contents c.write_whole-in-loop-part.new.out) texts =
+    let part : AppendsProperPrefix (g.W.Output.contents c.loop-part.out) (g.W.Output.contents c.write_whole-in-loop-part.new.out) texts =
     rw (c.as_flattened.ensures.value, c.put_rows.ensures) at c.in-Err-write_whole.ensures.err in
     rw whole (whole_then_prefix _ _ _ (header_text ++ before) (texts ++ after) c.loop-part.invariant (prefix_of_longer _ _ texts after part))
 

@@ -5,7 +5,7 @@ use Rattle.playing.proofs.moves.give.Goals as goal
 
 pub returns-in-Err-clause-stopped : goal.returns-in-Err-clause-stopped
 returns-in-Err-clause-stopped g c =
-    input_refused g.G.Playable c.args.game.now c.input.new.self (g.R.Report.contents c.args.report.now) (as_input c.args.input) g.R.Report.may_fail c.in-Err.why c.in-Err.ensures.refused c.input.ensures.acknowledged c.in-Err.ensures.not_told
+    input_refused g.G.Playable c.args.game.now c.input.new.self (g.R.Report.contents c.args.report.now) (as_input c.args.input) (g.R.Report.has_failed c.args.report.now) c.in-Err.why c.in-Err.ensures.refused c.input.ensures.acknowledged c.in-Err.ensures.not_told
 
 pub returns-in-Ok-clause-made : goal.returns-in-Ok-clause-made
 returns-in-Ok-clause-made g c =

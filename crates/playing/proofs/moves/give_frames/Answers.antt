@@ -23,7 +23,7 @@ returns-in_err-give-clause-stopped g c =
     rw (handed_on c.from_residual.result c.from_residual.ensures.1)
     (frame_stopped g.G.Playable c.args.game.now c.loop-i.game c.give.new.game
     (g.R.Report.contents c.args.report.now) (g.R.Report.contents c.loop-i.report) (g.R.Report.contents c.give.new.report) (Frame c.args.buttons) c.loop-i._i c.loop-i.invariant.made
-    g.R.Report.may_fail c.in_err-give.field-0.0 c.args.times c.loop-i-test.true c.in_err-give.ensures.stopped)
+    (g.R.Report.has_failed c.give.new.report) c.in_err-give.field-0.0 c.args.times c.loop-i-test.true c.in_err-give.ensures.stopped)
 
 pub returns-clause-made : goal.returns-clause-made
 returns-clause-made g c =

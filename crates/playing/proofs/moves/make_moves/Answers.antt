@@ -32,7 +32,7 @@ pub returns-in-Err-clause-stopped : goal.returns-in-Err-clause-stopped
 returns-in-Err-clause-stopped g c =
     next_stopped g.G.Playable c.args.game.now c.loop-next.game c.make_move.new.game
     (g.R.Report.contents c.args.report.now) (g.R.Report.contents c.loop-next.report) (g.R.Report.contents c.make_move.new.report) c.args.moves.now c.loop-next.next-index (Frames 0 0) c.loop-next-test.true c.loop-next.invariant.made
-    g.R.Report.may_fail c.in-Err.why c.in-Err.ensures.stopped
+    (g.R.Report.has_failed c.make_move.new.report) c.in-Err.why c.in-Err.ensures.stopped
 
 pub returns-clause-made : goal.returns-clause-made
 returns-clause-made g c = λ done.

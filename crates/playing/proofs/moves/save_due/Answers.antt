@@ -21,4 +21,4 @@ pub returns-then-counts-eq-MOST_UNSAVED-clause-stopped : goal.returns-then-count
 returns-then-counts-eq-MOST_UNSAVED-clause-stopped g c before input one =
     if_err c.save_line.result c.save_line.ensures.stopped
     (given_not_saved g.G.Playable before c.args.game.now (g.R.Report.contents c.args.report.now) input c.save_line.new.game (g.R.Report.contents c.save_line.new.report) one
-    (sym one.unsaved_is ∙ sym c.counts.ensures.pending ∙ c.if-counts-eq-MOST_UNSAVED.true) g.R.Report.may_fail)
+    (sym one.unsaved_is ∙ sym c.counts.ensures.pending ∙ c.if-counts-eq-MOST_UNSAVED.true) (g.R.Report.has_failed c.save_line.new.report))

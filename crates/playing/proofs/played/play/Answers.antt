@@ -4,6 +4,7 @@ use Rattle.sector_device.specs.Runs.{HoldsSince}
 use Rattle.machine.specs.Machine.{Input, after}
 use Rattle.script.specs.declared.moves.Move.TheVariants.{Power}
 use Rattle.session.specs.declared.error.SessionError.TheVariants.{Memory}
+use Rattle.log_format.specs.Content.{content, generation_in}
 use Rattle.session.specs.Calls.{faults_after}
 use Rattle.session.specs.Stands.{Position}
 use Rattle.session.specs.Accessors.{device_of, machine_of, pending_of, acknowledged_of}
@@ -16,6 +17,7 @@ use Rattle.playing.proofs.Going.{goes_all, no_further_at_all, none_left}
 use Rattle.playing.proofs.Telling.{keeps_same, memory_at}
 use Rattle.playing.proofs.PlayLaws.{begun_played, all_saved, reaches_more}
 use Rattle.playing.proofs.ReportLaws.{front_of_moves}
+use Rattle.playing.proofs.Stops.{resume_not_output}
 use Rattle.playing.proofs.played.play.Goals as goal
 
 pub returns-in-Err-clause-images : goal.returns-in-Err-clause-images
@@ -23,7 +25,12 @@ returns-in-Err-clause-images g c = λ honest. since_weaker (c.in-Err.ensures.ima
 
 pub returns-in-Err-clause-refused : goal.returns-in-Err-clause-refused
 returns-in-Err-clause-refused g c =
-    inl (record { cause = c.in-Err.ensures.cause; report = keeps_same (g.W.Write.contents c.args.report.now); images = c.in-Err.ensures.images; untouched = c.in-Err.ensures.untouched; memory = memory_at (g.D.SectorDevice.disk) c.in-Err.ensures.memory; failed = c.in-Err.ensures.failed })
+    inl (record { cause = c.in-Err.ensures.cause; report = keeps_same (g.W.Output.contents c.args.report.now); images = c.in-Err.ensures.images; untouched = c.in-Err.ensures.untouched; memory = memory_at (g.D.SectorDevice.disk) c.in-Err.ensures.memory; failed = c.in-Err.ensures.failed })
+
+pub returns-in-Err-clause-output : goal.returns-in-Err-clause-output
+returns-in-Err-clause-output g c = λ output honest.
+    let was = g.D.SectorDevice.disk c.args.device in
+    absurd (resume_not_output c.args.cartridge.now (generation_in was.sectors) (content was.sectors) c.in-Err.refused.why (c.in-Err.ensures.cause honest) output)
 
 pub returns-in-Ok-true-clause-played : goal.returns-in-Ok-true-clause-played
 returns-in-Ok-true-clause-played g c = λ honest.
@@ -96,7 +103,7 @@ returns-in-Err-play_on-clause-refused g c =
     let from : Position = record { count = acknowledged_of s; machine = machine_of s } in
     let stop = no_further_at_all g.met.D.SectorDevice.only_now (λ a b input one. one) (λ a b one. one) (λ a b input why one. one) (λ a b why one. one) refl s now (inputs_of_moves moves) why c.in-Err-play_on.ensures.stopped.stops in
     let none : acknowledged_of s + length (pending_of s) + length (inputs_of_moves moves) ≡ acknowledged_of s + length (inputs_of_moves moves) = omega (arith, ap length c.in-Ok.ensures.begun.0) in
-    inr (inl (subst (λ d. HasStopped rom (g.D.SectorDevice.disk c.args.device) (g.D.SectorDevice.disk d) moves why (g.W.Write.contents c.args.report.now) (g.W.Write.contents c.play_on.new.report)) (sym c.into_device-in-Err-play_on.ensures.device)
+    inr (inl (subst (λ d. HasStopped rom (g.D.SectorDevice.disk c.args.device) (g.D.SectorDevice.disk d) moves why (g.W.Output.contents c.args.report.now) (g.W.Output.contents c.play_on.new.report)) (sym c.into_device-in-Err-play_on.ensures.device)
     (record {
       count = acknowledged_of s;
       saved = acknowledged_of now;
@@ -108,6 +115,9 @@ returns-in-Err-play_on-clause-refused g c =
           let stopped = stop.stopped rom from [] begun in
           record { from = from; stood = c.in-Ok.ensures.stands honest; count_is = refl; least = stopped.least; saved_is = stopped.acknowledged_is; images = stopped.images };
     })))
+
+pub returns-in-Err-play_on-clause-output : goal.returns-in-Err-play_on-clause-output
+returns-in-Err-play_on-clause-output g c = λ output honest. c.in-Err-play_on.ensures.stopped.output output
 
 pub returns-in-Err-play_on-clause-images : goal.returns-in-Err-play_on-clause-images
 returns-in-Err-play_on-clause-images g c = λ honest.
@@ -138,7 +148,7 @@ returns-in-Ok-false-clause-refused g c =
     let from : Position = record { count = acknowledged_of s; machine = machine_of s } in
     let goes = goes_all g.met.D.SectorDevice.only_now (λ a b input one. one) (λ a b one. one) s now inputs stop.made.advances in
     let before = ap length c.in-Ok.ensures.begun.0 in
-    inr (inr (subst (λ d. HasFoundNoMemory rom (g.D.SectorDevice.disk c.args.device) (g.D.SectorDevice.disk d) moves Memory (g.W.Write.contents c.args.report.now) (g.W.Write.contents c.play_on.new.report)) (sym c.into_device.ensures.device)
+    inr (inr (subst (λ d. HasFoundNoMemory rom (g.D.SectorDevice.disk c.args.device) (g.D.SectorDevice.disk d) moves Memory (g.W.Output.contents c.args.report.now) (g.W.Output.contents c.play_on.new.report)) (sym c.into_device.ensures.device)
     (record {
       why_is = refl;
       count = acknowledged_of s;

@@ -28,11 +28,18 @@ returns-in-Ok-clause-leaves c = λ together.
     let save = memory c.args.devices.save in
     let recording = memory c.args.devices.recording in
     let game = c.in-Ok.game in
-    let report = c.record.new.out.items in
-    subst (λ (d : Devices). LeavesRound rom (memory_disk save) (memory_disk recording) (memory_disk (memory d.save)) (memory_disk (memory d.recording)) c.args.lines.now report true) (sym c.devices_of.ensures)
-    (whole_in rom save recording (memory (device_of game.session)) (memory (device_of_recording game.recording)) together (c.in-Ok.ensures.agree tt tt together.agree) c.args.lines.now c.record.new.input.now report
-    (subst (λ (none : List ℕ). HasRecorded rom (memory_disk save) (memory_disk (memory (device_of game.session))) (memory_disk recording) (memory_disk (memory (device_of_recording game.recording))) Whole (Some c.args.lines.now) (Some c.record.new.input.now) (Some none) (Some report))
-    c.new-report.ensures.items c.in-Ok.ensures.recorded))
+    let unread = c.record.new.input.reader.now in
+    let report = c.record.new.out.writer.items in
+    let lines_are : c.new-input.result.reader.now ≡ c.args.lines.now = cc in
+    let none_is : c.new-report.result.writer.items ≡ [] = cc in
+    let report_is : c.into_writer.result.items ≡ report = cc in
+    let recorded : HasRecorded rom (memory_disk save) (memory_disk (memory (device_of game.session))) (memory_disk recording) (memory_disk (memory (device_of_recording game.recording))) Whole (Some c.args.lines.now) (Some unread) (Some []) (Some report) =
+    subst (λ (text : List ℕ). HasRecorded rom (memory_disk save) (memory_disk (memory (device_of game.session))) (memory_disk recording) (memory_disk (memory (device_of_recording game.recording))) Whole (Some text) (Some unread) (Some []) (Some report)) lines_are
+    (subst (λ (none : List ℕ). HasRecorded rom (memory_disk save) (memory_disk (memory (device_of game.session))) (memory_disk recording) (memory_disk (memory (device_of_recording game.recording))) Whole (Some c.new-input.result.reader.now) (Some unread) (Some none) (Some report)) none_is
+    c.in-Ok.ensures.recorded) in
+    subst (λ (d : Devices). LeavesRound rom (memory_disk save) (memory_disk recording) (memory_disk (memory d.save)) (memory_disk (memory d.recording)) c.args.lines.now c.into_writer.result.items true) (sym c.devices_of.ensures)
+    (subst (λ (told : List ℕ). LeavesRound rom (memory_disk save) (memory_disk recording) (memory_disk (memory (device_of game.session))) (memory_disk (memory (device_of_recording game.recording))) c.args.lines.now told true) (sym report_is)
+    (whole_in rom save recording (memory (device_of game.session)) (memory (device_of_recording game.recording)) together (c.in-Ok.ensures.agree tt tt together.agree) c.args.lines.now unread report recorded))
 
 pub returns-in-Err-clause-leaves : goal.returns-in-Err-clause-leaves
 returns-in-Err-clause-leaves c =
@@ -40,15 +47,21 @@ returns-in-Err-clause-leaves c =
     let save = memory c.args.devices.save in
     let recording = memory c.args.devices.recording in
     let refused = c.in-Err.refused in
-    let report = c.record.new.out.items in
+    let unread = c.record.new.input.reader.now in
+    let report = c.record.new.out.writer.items in
+    let lines_are : c.new-input.result.reader.now ≡ c.args.lines.now = cc in
+    let none_is : c.new-report.result.writer.items ≡ [] = cc in
+    let report_is : c.into_writer-in-Err.result.items ≡ report = cc in
     IfOk-weaker c.ended_by.result _ _ (λ r is together.
     let why = refused.why in
-    let by : IsRecordCause why rom (memory_disk save) (memory_disk (memory refused.save)) (memory_disk recording) (memory_disk (memory refused.recording)) (Some c.args.lines.now) (Some c.record.new.input.now) (Some []) (Some report) =
-    subst (λ (none : List ℕ). IsRecordCause why rom (memory_disk save) (memory_disk (memory refused.save)) (memory_disk recording) (memory_disk (memory refused.recording)) (Some c.args.lines.now) (Some c.record.new.input.now) (Some none) (Some report)) c.new-report.ensures.items c.in-Err.ensures.refused in
-    let leaves = failed_in rom save recording (memory refused.save) (memory refused.recording) together (c.in-Err.ensures.agree tt tt together.agree) c.args.lines.now why c.record.new.input.now report (device_told why (memory refused.save) (memory refused.recording) is.3) by in
+    let by : IsRecordCause why rom (memory_disk save) (memory_disk (memory refused.save)) (memory_disk recording) (memory_disk (memory refused.recording)) (Some c.args.lines.now) (Some unread) (Some []) (Some report) =
+    subst (λ (text : List ℕ). IsRecordCause why rom (memory_disk save) (memory_disk (memory refused.save)) (memory_disk recording) (memory_disk (memory refused.recording)) (Some text) (Some unread) (Some []) (Some report)) lines_are
+    (subst (λ (none : List ℕ). IsRecordCause why rom (memory_disk save) (memory_disk (memory refused.save)) (memory_disk recording) (memory_disk (memory refused.recording)) (Some c.new-input.result.reader.now) (Some unread) (Some none) (Some report)) none_is c.in-Err.ensures.refused) in
+    let leaves = failed_in rom save recording (memory refused.save) (memory refused.recording) together (c.in-Err.ensures.agree tt tt together.agree) c.args.lines.now why unread report (device_told why (memory refused.save) (memory refused.recording) is.3) by in
     subst (λ (end : RecordedEnd). LeavesRound rom (memory_disk save) (memory_disk recording) (memory_disk (memory r.0.save)) (memory_disk (memory r.0.recording)) c.args.lines.now end.report.items end.whole) (sym is.2)
-    (subst (λ (d : MemoryDevice). LeavesRound rom (memory_disk save) (memory_disk recording) (memory_disk (memory r.0.save)) (memory_disk (memory d)) c.args.lines.now report false) (sym is.1)
-    (subst (λ (d : MemoryDevice). LeavesRound rom (memory_disk save) (memory_disk recording) (memory_disk (memory d)) (memory_disk (memory refused.recording)) c.args.lines.now report false) (sym is.0) leaves)))
+    (subst (λ (d : MemoryDevice). LeavesRound rom (memory_disk save) (memory_disk recording) (memory_disk (memory r.0.save)) (memory_disk (memory d)) c.args.lines.now c.into_writer-in-Err.result.items false) (sym is.1)
+    (subst (λ (d : MemoryDevice). LeavesRound rom (memory_disk save) (memory_disk recording) (memory_disk (memory d)) (memory_disk (memory refused.recording)) c.args.lines.now c.into_writer-in-Err.result.items false) (sym is.0)
+    (subst (λ (told : List ℕ). LeavesRound rom (memory_disk save) (memory_disk recording) (memory_disk (memory refused.save)) (memory_disk (memory refused.recording)) c.args.lines.now told false) (sym report_is) leaves))))
     c.ended_by.ensures.ended
 
 pub returns-in-Err-clause-refused : goal.returns-in-Err-clause-refused
@@ -57,16 +70,20 @@ returns-in-Err-clause-refused c =
     let save = memory c.args.devices.save in
     let recording = memory c.args.devices.recording in
     let refused = c.in-Err.refused in
-    let report = c.record.new.out.items in
+    let unread = c.record.new.input.reader.now in
+    let report = c.record.new.out.writer.items in
+    let lines_are : c.new-input.result.reader.now ≡ c.args.lines.now = cc in
+    let none_is : c.new-report.result.writer.items ≡ [] = cc in
     let why = refused.why in
-    let by : IsRecordCause why rom (memory_disk save) (memory_disk (memory refused.save)) (memory_disk recording) (memory_disk (memory refused.recording)) (Some c.args.lines.now) (Some c.record.new.input.now) (Some []) (Some report) =
-    subst (λ (none : List ℕ). IsRecordCause why rom (memory_disk save) (memory_disk (memory refused.save)) (memory_disk recording) (memory_disk (memory refused.recording)) (Some c.args.lines.now) (Some c.record.new.input.now) (Some none) (Some report)) c.new-report.ensures.items c.in-Err.ensures.refused in
+    let by : IsRecordCause why rom (memory_disk save) (memory_disk (memory refused.save)) (memory_disk recording) (memory_disk (memory refused.recording)) (Some c.args.lines.now) (Some unread) (Some []) (Some report) =
+    subst (λ (text : List ℕ). IsRecordCause why rom (memory_disk save) (memory_disk (memory refused.save)) (memory_disk recording) (memory_disk (memory refused.recording)) (Some text) (Some unread) (Some []) (Some report)) lines_are
+    (subst (λ (none : List ℕ). IsRecordCause why rom (memory_disk save) (memory_disk (memory refused.save)) (memory_disk recording) (memory_disk (memory refused.recording)) (Some c.new-input.result.reader.now) (Some unread) (Some none) (Some report)) none_is c.in-Err.ensures.refused) in
     IfErr-weaker c.ended_by.result _ _ (λ r is.
     subst (λ (x : RecordRefused MemoryDevice MemoryDevice). RefusesRound rom (memory_disk save) (memory_disk recording) (memory_disk (memory x.save)) (memory_disk (memory x.recording)) c.args.lines.now x.why) (sym is.0)
     (record {
       leaves = λ together.
-          let part = refused_in rom save recording (memory refused.save) (memory refused.recording) together (c.in-Err.ensures.agree tt tt together.agree) c.args.lines.now why c.record.new.input.now report by in
+          let part = refused_in rom save recording (memory refused.save) (memory refused.recording) together (c.in-Err.ensures.agree tt tt together.agree) c.args.lines.now why unread report by in
           (part.front, false, part.leaves);
-      cause = inr (record { unread = c.record.new.input.now; report = report; cause = by });
+      cause = inr (record { unread = unread; report = report; cause = by });
     }))
     c.ended_by.ensures.refused

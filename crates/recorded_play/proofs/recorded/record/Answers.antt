@@ -1,7 +1,8 @@
-use Rattle.std.proofs.Common.{◌∙◌, false, length, Err, inl, inr, refl, sym, ap, subst}
+use Rattle.std.proofs.Common.{◌≡◌, ◌∙◌, false, length, Err, inl, inr, refl, sym, ap, subst}
 use Rattle.sector_device.specs.DiskState.{HasAnswered}
 use Rattle.recording.specs.Accessors.{device_of as device_of_recording}
 use Rattle.session.specs.Accessors.{pending_of, rom_of}
+use Rattle.session.specs.declared.error.SessionError.TheVariants.{Output}
 use Rattle.session.specs.Inputs.{can_be_logged}
 use Rattle.session.proofs.Answering.{answered_both, answered_otherwise, answered_refused}
 use Rattle.playing.proofs.Going.{none_left}
@@ -10,15 +11,25 @@ use Rattle.streaming.specs.Answers.{inputs_of_deeds}
 use Rattle.streaming.specs.Reading.{ReadsTo}
 use Rattle.streaming.specs.declared.obeying.End.TheVariants.{Whole, Wrong, Failed}
 use Rattle.recorded_play.specs.Agreeing.{AllAgree}
-use Rattle.recorded_play.specs.Steps.{game, save_faults_after, recording_faults_after}
+use Rattle.recorded_play.specs.Steps.{game, save_faults_after, recording_faults_after, told_as}
 use Rattle.recorded_play.specs.Whole.{IsRecordCause}
+use Rattle.recorded_play.specs.declared.error.RecordError.{RecordError}
+use Rattle.recorded_play.specs.declared.error.RecordError.TheVariants.{Session, Line, Input}
 use Rattle.recorded_play.specs.declared.error.RecordRefused.{RecordRefused}
 use Rattle.recorded_play.proofs.Stepping.{comes_all, halts_all}
-use Rattle.recorded_play.proofs.WholePlays.{none_damaged, none_lacked, recorded_to, stopped_record, as_refusal, ended_agree, stopped_agree}
+use Rattle.recorded_play.proofs.WholePlays.{devices_not_input, none_damaged, none_lacked, recorded_to, stop_not_input, stopped_record, as_refusal, ended_agree, stopped_agree, take_up_not_output}
 use Rattle.recorded_play.proofs.recorded.record.Goals as goal
 
 pub returns-in-Err-clause-refused : goal.returns-in-Err-clause-refused
-returns-in-Err-clause-refused g c = inl (c.in-Err.ensures.refused, keeps_same (g.W.Write.contents c.args.out.now), refl)
+returns-in-Err-clause-refused g c = inl (c.in-Err.ensures.refused, keeps_same (g.W.Output.contents c.args.out.now), refl)
+
+pub returns-in-Err-clause-input : goal.returns-in-Err-clause-input
+returns-in-Err-clause-input g c = λ input. absurd (devices_not_input c.in-Err.refused.why c.in-Err.ensures.refused.kind input)
+
+pub returns-in-Err-clause-output : goal.returns-in-Err-clause-output
+returns-in-Err-clause-output g c = λ output honest other_honest.
+    let disk = g.D.SectorDevice.disk in
+    absurd (take_up_not_output c.args.cartridge.now (disk c.args.save) (disk c.in-Err.refused.save) (g.E.SectorDevice.disk c.args.recording) c.in-Err.refused.why (c.in-Err.ensures.refused.cause honest other_honest) output)
 
 pub stream_on-requires-clause-whole : goal.stream_on-requires-clause-whole
 stream_on-requires-clause-whole g c = (c.in-Ok-take_up.ensures.whole.1, c.in-Ok-take_up.ensures.whole.2, ap can_be_logged c.in-Ok-take_up.ensures.whole.0)
@@ -35,10 +46,10 @@ returns-in-Ok-Whole-clause-recorded g c =
     let now = c.stream_on.new.game in
     let a = game first.session first.recording in
     let b = game now.session now.recording in
-    let before_in = g.R.Read.remaining c.args.input.now in
-    let since_in = g.R.Read.remaining c.stream_on.new.input in
-    let before = g.W.Write.contents c.args.out.now in
-    let since = g.W.Write.contents c.stream_on.new.out in
+    let before_in = g.R.LineInput.remaining c.args.input.now in
+    let since_in = g.R.LineInput.remaining c.stream_on.new.input in
+    let before = g.W.Output.contents c.args.out.now in
+    let since = g.W.Output.contents c.stream_on.new.out in
     let up = c.in-Ok-take_up.ensures in
     let streams = c.in-Ok-Whole.ensures.streamed in
     let comes = comes_all g.met.D.SectorDevice.only_now g.met.E.SectorDevice.only_now (λ a b input one. one) (λ a b one. one) first now (inputs_of_deeds streams.deeds) streams.makes.advances in
@@ -53,10 +64,10 @@ returns-in-Ok-Whole-clause-agree g c =
     let now = c.stream_on.new.game in
     let a = game first.session first.recording in
     let b = game now.session now.recording in
-    let before_in = g.R.Read.remaining c.args.input.now in
-    let since_in = g.R.Read.remaining c.stream_on.new.input in
-    let before = g.W.Write.contents c.args.out.now in
-    let since = g.W.Write.contents c.stream_on.new.out in
+    let before_in = g.R.LineInput.remaining c.args.input.now in
+    let since_in = g.R.LineInput.remaining c.stream_on.new.input in
+    let before = g.W.Output.contents c.args.out.now in
+    let since = g.W.Output.contents c.stream_on.new.out in
     let up = c.in-Ok-take_up.ensures in
     let streams = c.in-Ok-Whole.ensures.streamed in
     let comes = comes_all g.met.D.SectorDevice.only_now g.met.E.SectorDevice.only_now (λ a b input one. one) (λ a b one. one) first now (inputs_of_deeds streams.deeds) streams.makes.advances in
@@ -95,6 +106,16 @@ returns-in-Ok-Whole-clause-whole g c =
     let comes = comes_all g.met.D.SectorDevice.only_now g.met.E.SectorDevice.only_now (λ a b input one. one) (λ a b one. one) first now (inputs_of_deeds streams.deeds) streams.makes.advances in
     (none_left (pending_of now.session) streams.makes.unsaved_is, c.in-Ok-Whole.ensures.whole.0, c.in-Ok-Whole.ensures.whole.1, comes.rom ∙ up.whole.3)
 
+pub returns-in-Ok-Wrong-clause-input : goal.returns-in-Ok-Wrong-clause-input
+returns-in-Ok-Wrong-clause-input g c = λ input.
+    let no : Line c.in-Ok-Wrong.number ≡ Input = sym (ap (λ (r : RecordRefused _ _). r.why) c.stopped.ensures) ∙ input in
+    absurd (cc)
+
+pub returns-in-Ok-Wrong-clause-output : goal.returns-in-Ok-Wrong-clause-output
+returns-in-Ok-Wrong-clause-output g c = λ output.
+    let no : Line c.in-Ok-Wrong.number ≡ Session Output = sym (ap (λ (r : RecordRefused _ _). r.why) c.stopped.ensures) ∙ output in
+    absurd (cc)
+
 pub returns-in-Ok-Wrong-clause-refused : goal.returns-in-Ok-Wrong-clause-refused
 returns-in-Ok-Wrong-clause-refused g c =
     let rom = c.args.cartridge.now in
@@ -104,10 +125,10 @@ returns-in-Ok-Wrong-clause-refused g c =
     let now = c.stream_on.new.game in
     let a = game first.session first.recording in
     let b = game now.session now.recording in
-    let before_in = g.R.Read.remaining c.args.input.now in
-    let since_in = g.R.Read.remaining c.stream_on.new.input in
-    let before = g.W.Write.contents c.args.out.now in
-    let since = g.W.Write.contents c.stream_on.new.out in
+    let before_in = g.R.LineInput.remaining c.args.input.now in
+    let since_in = g.R.LineInput.remaining c.stream_on.new.input in
+    let before = g.W.Output.contents c.args.out.now in
+    let since = g.W.Output.contents c.stream_on.new.out in
     let up = c.in-Ok-take_up.ensures in
     let streams = c.in-Ok-Wrong.ensures.streamed in
     let comes = comes_all g.met.D.SectorDevice.only_now g.met.E.SectorDevice.only_now (λ a b input one. one) (λ a b one. one) first now (inputs_of_deeds streams.deeds) streams.makes.advances in
@@ -123,10 +144,10 @@ returns-in-Ok-Wrong-clause-agree g c =
     let now = c.stream_on.new.game in
     let a = game first.session first.recording in
     let b = game now.session now.recording in
-    let before_in = g.R.Read.remaining c.args.input.now in
-    let since_in = g.R.Read.remaining c.stream_on.new.input in
-    let before = g.W.Write.contents c.args.out.now in
-    let since = g.W.Write.contents c.stream_on.new.out in
+    let before_in = g.R.LineInput.remaining c.args.input.now in
+    let since_in = g.R.LineInput.remaining c.stream_on.new.input in
+    let before = g.W.Output.contents c.args.out.now in
+    let since = g.W.Output.contents c.stream_on.new.out in
     let up = c.in-Ok-take_up.ensures in
     let streams = c.in-Ok-Wrong.ensures.streamed in
     let comes = comes_all g.met.D.SectorDevice.only_now g.met.E.SectorDevice.only_now (λ a b input one. one) (λ a b one. one) first now (inputs_of_deeds streams.deeds) streams.makes.advances in
@@ -159,6 +180,14 @@ returns-in-Ok-Wrong-clause-recording_answered g c =
     subst (λ (r : RecordRefused _ _). HasAnswered (λ refused. recording_faults_after refused.why) (other c.args.recording) (other r.recording) (Err r)) (sym c.stopped.ensures)
     (answered_otherwise (answered_both {V = Unit {0}} {faults_after = recording_faults_after} {value = tt} up.recording_answered comes.recording_calls) (λ n. refl))
 
+pub returns-in-Ok-Failed-clause-input : goal.returns-in-Ok-Failed-clause-input
+returns-in-Ok-Failed-clause-input g c = λ input. c.in-Ok-Failed.ensures.failed c.in-Ok-Failed.field-0-is
+
+pub returns-in-Ok-Failed-clause-output : goal.returns-in-Ok-Failed-clause-output
+returns-in-Ok-Failed-clause-output g c = λ output.
+    let no : Input ≡ Session Output = sym (ap (λ (r : RecordRefused _ _). r.why) c.stopped-in-Ok-Failed.ensures) ∙ output in
+    absurd (cc)
+
 pub returns-in-Ok-Failed-clause-refused : goal.returns-in-Ok-Failed-clause-refused
 returns-in-Ok-Failed-clause-refused g c =
     let rom = c.args.cartridge.now in
@@ -168,10 +197,10 @@ returns-in-Ok-Failed-clause-refused g c =
     let now = c.stream_on.new.game in
     let a = game first.session first.recording in
     let b = game now.session now.recording in
-    let before_in = g.R.Read.remaining c.args.input.now in
-    let since_in = g.R.Read.remaining c.stream_on.new.input in
-    let before = g.W.Write.contents c.args.out.now in
-    let since = g.W.Write.contents c.stream_on.new.out in
+    let before_in = g.R.LineInput.remaining c.args.input.now in
+    let since_in = g.R.LineInput.remaining c.stream_on.new.input in
+    let before = g.W.Output.contents c.args.out.now in
+    let since = g.W.Output.contents c.stream_on.new.out in
     let up = c.in-Ok-take_up.ensures in
     let streams = c.in-Ok-Failed.ensures.streamed in
     let comes = comes_all g.met.D.SectorDevice.only_now g.met.E.SectorDevice.only_now (λ a b input one. one) (λ a b one. one) first now (inputs_of_deeds streams.deeds) streams.makes.advances in
@@ -187,10 +216,10 @@ returns-in-Ok-Failed-clause-agree g c =
     let now = c.stream_on.new.game in
     let a = game first.session first.recording in
     let b = game now.session now.recording in
-    let before_in = g.R.Read.remaining c.args.input.now in
-    let since_in = g.R.Read.remaining c.stream_on.new.input in
-    let before = g.W.Write.contents c.args.out.now in
-    let since = g.W.Write.contents c.stream_on.new.out in
+    let before_in = g.R.LineInput.remaining c.args.input.now in
+    let since_in = g.R.LineInput.remaining c.stream_on.new.input in
+    let before = g.W.Output.contents c.args.out.now in
+    let since = g.W.Output.contents c.stream_on.new.out in
     let up = c.in-Ok-take_up.ensures in
     let streams = c.in-Ok-Failed.ensures.streamed in
     let comes = comes_all g.met.D.SectorDevice.only_now g.met.E.SectorDevice.only_now (λ a b input one. one) (λ a b one. one) first now (inputs_of_deeds streams.deeds) streams.makes.advances in
@@ -223,6 +252,21 @@ returns-in-Ok-Failed-clause-recording_answered g c =
     subst (λ (r : RecordRefused _ _). HasAnswered (λ refused. recording_faults_after refused.why) (other c.args.recording) (other r.recording) (Err r)) (sym c.stopped-in-Ok-Failed.ensures)
     (answered_otherwise (answered_both {V = Unit {0}} {faults_after = recording_faults_after} {value = tt} up.recording_answered comes.recording_calls) (λ n. refl))
 
+pub returns-clause-input : goal.returns-clause-input
+returns-clause-input g c = λ input.
+    let first = c.in-Ok-take_up.game in
+    let now = c.stream_on.new.game in
+    let why = c.in-Err-stream_on.why in
+    let streams = c.in-Err-stream_on.ensures.stopped in
+    let halts = halts_all g.met.D.SectorDevice.only_now g.met.E.SectorDevice.only_now (λ a b input one. one) (λ a b one. one) (λ a b input why one. one) (λ a b why one. one) refl first now (inputs_of_deeds streams.deeds) why streams.stops.stops in
+    let is : why ≡ Input = sym (ap (λ (r : RecordRefused _ _). r.why) c.stopped-in-Err-stream_on.ensures) ∙ input in
+    absurd (stop_not_input why _ (game now.session now.recording).save.disk halts.cause is)
+
+pub returns-clause-output : goal.returns-clause-output
+returns-clause-output g c = λ output honest other_honest.
+    let is : c.in-Err-stream_on.why ≡ Session Output = sym (ap (λ (r : RecordRefused _ _). r.why) c.stopped-in-Err-stream_on.ensures) ∙ output in
+    c.in-Err-stream_on.ensures.stopped.stops.output (ap told_as is)
+
 pub returns-clause-refused : goal.returns-clause-refused
 returns-clause-refused g c =
     let rom = c.args.cartridge.now in
@@ -232,10 +276,10 @@ returns-clause-refused g c =
     let now = c.stream_on.new.game in
     let a = game first.session first.recording in
     let b = game now.session now.recording in
-    let before_in = g.R.Read.remaining c.args.input.now in
-    let since_in = g.R.Read.remaining c.stream_on.new.input in
-    let before = g.W.Write.contents c.args.out.now in
-    let since = g.W.Write.contents c.stream_on.new.out in
+    let before_in = g.R.LineInput.remaining c.args.input.now in
+    let since_in = g.R.LineInput.remaining c.stream_on.new.input in
+    let before = g.W.Output.contents c.args.out.now in
+    let since = g.W.Output.contents c.stream_on.new.out in
     let up = c.in-Ok-take_up.ensures in
     let why = c.in-Err-stream_on.why in
     let streams = c.in-Err-stream_on.ensures.stopped in
@@ -254,10 +298,10 @@ returns-clause-agree g c =
     let now = c.stream_on.new.game in
     let a = game first.session first.recording in
     let b = game now.session now.recording in
-    let before_in = g.R.Read.remaining c.args.input.now in
-    let since_in = g.R.Read.remaining c.stream_on.new.input in
-    let before = g.W.Write.contents c.args.out.now in
-    let since = g.W.Write.contents c.stream_on.new.out in
+    let before_in = g.R.LineInput.remaining c.args.input.now in
+    let since_in = g.R.LineInput.remaining c.stream_on.new.input in
+    let before = g.W.Output.contents c.args.out.now in
+    let since = g.W.Output.contents c.stream_on.new.out in
     let up = c.in-Ok-take_up.ensures in
     let why = c.in-Err-stream_on.why in
     let streams = c.in-Err-stream_on.ensures.stopped in
@@ -294,15 +338,15 @@ returns-clause-recording_answered g c =
 pub unreachable-requires : goal.unreachable-requires
 unreachable-requires g c =
     let own = rom_of c.in-Ok-take_up.game.session in
-    let before_in = g.R.Read.remaining c.args.input.now in
-    let since_in = g.R.Read.remaining c.stream_on.new.input in
+    let before_in = g.R.LineInput.remaining c.args.input.now in
+    let since_in = g.R.LineInput.remaining c.stream_on.new.input in
     let streams = c.in-Ok-Damaged.ensures.streamed in
     none_damaged own streams.kept streams.lines before_in since_in (subst (λ end. ReadsTo false own streams.kept end streams.lines before_in since_in) c.in-Ok-Damaged.field-0-is streams.read)
 
 pub unreachable-requires-in-Ok-NoMemory : goal.unreachable-requires-in-Ok-NoMemory
 unreachable-requires-in-Ok-NoMemory g c =
     let own = rom_of c.in-Ok-take_up.game.session in
-    let before_in = g.R.Read.remaining c.args.input.now in
-    let since_in = g.R.Read.remaining c.stream_on.new.input in
+    let before_in = g.R.LineInput.remaining c.args.input.now in
+    let since_in = g.R.LineInput.remaining c.stream_on.new.input in
     let streams = c.in-Ok-NoMemory.ensures.streamed in
     none_lacked own streams.kept streams.lines before_in since_in (subst (λ end. ReadsTo false own streams.kept end streams.lines before_in since_in) c.in-Ok-NoMemory.field-0-is streams.read)

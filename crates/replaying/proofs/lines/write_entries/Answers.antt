@@ -12,9 +12,9 @@ returns-in-Err-clause-err g c = λ all.
     let i = c.loop-entry.entry-index in
     let entries = c.args.entries.now in
     let next = next_of entries i (record { code = [] }) c.loop-entry-test.true all in
-    let first = g.W.Write.contents c.args.out.now in
-    let last = g.W.Write.contents c.write_entry.new.out in
-    let stopped = written_stopped c.args.run.now c.loop-entry.run (inputs_of (inputs (take i entries))) (inputs_of (inputs_in (get_or entries i (record { code = [] })))) first (g.W.Write.contents c.loop-entry.out) last
+    let first = g.W.Output.contents c.args.out.now in
+    let last = g.W.Output.contents c.write_entry.new.out in
+    let stopped = written_stopped c.args.run.now c.loop-entry.run (inputs_of (inputs (take i entries))) (inputs_of (inputs_in (get_or entries i (record { code = [] })))) first (g.W.Output.contents c.loop-entry.out) last
     (c.loop-entry.invariant all) (c.in-Err.ensures.err next.is_one) in
     subst (λ (l : List Input). HasStopped c.args.run.now l first last) (sym next.all)
     (stopped_before c.args.run.now (inputs_of (inputs (take (i + 1) entries))) (inputs_of (inputs (drop (i + 1) entries))) first last
@@ -25,8 +25,8 @@ loop-entry-preserved g c = λ all.
     let i = c.loop-entry.entry-index in
     let entries = c.args.entries.now in
     let next = next_of entries i (record { code = [] }) c.loop-entry-test.true all in
-    let first = g.W.Write.contents c.args.out.now in
-    let last = g.W.Write.contents c.write_entry.new.out in
+    let first = g.W.Output.contents c.args.out.now in
+    let last = g.W.Output.contents c.write_entry.new.out in
     subst (λ (l : List Input). HasWritten c.args.run.now c.write_entry.new.run l first last) (sym next.given)
-    (written_then c.args.run.now c.loop-entry.run c.write_entry.new.run (inputs_of (inputs (take i entries))) (inputs_of (inputs_in (get_or entries i (record { code = [] })))) first (g.W.Write.contents c.loop-entry.out) last
+    (written_then c.args.run.now c.loop-entry.run c.write_entry.new.run (inputs_of (inputs (take i entries))) (inputs_of (inputs_in (get_or entries i (record { code = [] })))) first (g.W.Output.contents c.loop-entry.out) last
     (c.loop-entry.invariant all) (c.in_default.ensures.ok next.is_one))

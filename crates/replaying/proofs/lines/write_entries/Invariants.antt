@@ -6,4 +6,4 @@ use Rattle.replaying.proofs.lines.write_entries.Given as goal
 
 abbrev pub invariant-loop-entry : goal.invariant-loop-entry
 invariant-loop-entry g l =
-    all_entries l.entries → HasWritten l.initial.run l.run (inputs_of (inputs (take l.entry-index l.entries))) (g.W.Write.contents l.initial.out) (g.W.Write.contents l.out)
+    all_entries l.entries → HasWritten l.initial.run l.run (inputs_of (inputs (take l.entry-index l.entries))) (g.W.Output.contents l.initial.out) (g.W.Output.contents l.out)

@@ -21,16 +21,16 @@ loop-index-init g c = record {
   same = (refl, refl, refl);
   answered = answered_nothing;
   looked = λ honest. looked_self (g.D.SectorDevice.disk (device_of c.args.recording.now)) honest;
-  written = λ honest. written_nothing c.none-run.result (g.W.Write.contents c.args.out.now);
+  written = λ honest. written_nothing c.none-run.result (g.W.Output.contents c.args.out.now);
 }
 
 pub loop-index-preserved : goal.loop-index-preserved
 loop-index-preserved g c =
     let i = c.loop-index.index in
     let image = (g.D.SectorDevice.disk (device_of c.args.recording.now)).sectors in
-    let first = g.W.Write.contents c.args.out.now in
-    let mid = g.W.Write.contents c.loop-index.out in
-    let last = g.W.Write.contents c.write_sector.new.out in
+    let first = g.W.Output.contents c.args.out.now in
+    let mid = g.W.Output.contents c.loop-index.out in
+    let last = g.W.Output.contents c.write_sector.new.out in
     let before = c.loop-index.invariant in
     record {
       whole = false_by (is_broken c.write_sector.new.recording) (λ broken. let wrong = c.in_default.ensures.broken.0 broken in cc);
@@ -48,23 +48,23 @@ loop-index-preserved g c =
 pub returns-in-Ok-clause-script : goal.returns-in-Ok-clause-script
 returns-in-Ok-clause-script g c = λ honest.
     let image = (g.D.SectorDevice.disk (device_of c.args.recording.now)).sectors in
-    let first = g.W.Write.contents c.args.out.now in
-    let last = g.W.Write.contents c.write_run.new.out in
+    let first = g.W.Output.contents c.args.out.now in
+    let last = g.W.Output.contents c.write_run.new.out in
     let ended : c.loop-index.index ≡ c.sectors_used-used.result = omega arith in
     let all = all_up_to c.sectors_used-used.result image (c.sectors_used-used.ensures.whole honest) in
     subst (λ (l : List Input). Appends first last (lines_after 0 0 l)) (ap (λ n. inputs_up_to n image) ended ∙ sym all)
-    (script_ends c.none-run.result c.loop-index.run (inputs_up_to c.loop-index.index image) first (g.W.Write.contents c.loop-index.out) last c.none-run.ensures.buttons c.none-run.ensures.times
+    (script_ends c.none-run.result c.loop-index.run (inputs_up_to c.loop-index.index image) first (g.W.Output.contents c.loop-index.out) last c.none-run.ensures.buttons c.none-run.ensures.times
     (c.loop-index.invariant.written honest) c.in-Ok.ensures.ok)
 
 pub returns-in-Err-write_run-clause-part : goal.returns-in-Err-write_run-clause-part
 returns-in-Err-write_run-clause-part g c = λ honest.
     let image = (g.D.SectorDevice.disk (device_of c.args.recording.now)).sectors in
-    let first = g.W.Write.contents c.args.out.now in
-    let last = g.W.Write.contents c.write_run.new.out in
+    let first = g.W.Output.contents c.args.out.now in
+    let last = g.W.Output.contents c.write_run.new.out in
     let ended : c.loop-index.index ≡ c.sectors_used-used.result = omega arith in
     let all = all_up_to c.sectors_used-used.result image (c.sectors_used-used.ensures.whole honest) in
     subst (λ (l : List Input). AppendsProperPrefix first last (lines_after 0 0 l)) (ap (λ n. inputs_up_to n image) ended ∙ sym all)
-    (script_stops_last c.none-run.result c.loop-index.run (inputs_up_to c.loop-index.index image) first (g.W.Write.contents c.loop-index.out) last c.none-run.ensures.buttons c.none-run.ensures.times
+    (script_stops_last c.none-run.result c.loop-index.run (inputs_up_to c.loop-index.index image) first (g.W.Output.contents c.loop-index.out) last c.none-run.ensures.buttons c.none-run.ensures.times
     (c.loop-index.invariant.written honest) c.in-Err-write_run.ensures.err)
 
 pub returns-in-Err-clause-part : goal.returns-in-Err-clause-part
@@ -72,9 +72,9 @@ returns-in-Err-clause-part g c = λ honest.
     let i = c.loop-index.index in
     let used = c.sectors_used-used.result in
     let image = (g.D.SectorDevice.disk (device_of c.args.recording.now)).sectors in
-    let first = g.W.Write.contents c.args.out.now in
-    let mid = g.W.Write.contents c.loop-index.out in
-    let last = g.W.Write.contents c.write_sector.new.out in
+    let first = g.W.Output.contents c.args.out.now in
+    let mid = g.W.Output.contents c.loop-index.out in
+    let last = g.W.Output.contents c.write_sector.new.out in
     let before = c.loop-index.invariant in
     let none = c.none-run.result in
     let all = all_up_to used image (c.sectors_used-used.ensures.whole honest) in
@@ -98,3 +98,6 @@ returns-in-Err-clause-part g c = λ honest.
     (subst (λ (l : List Input). AppendsProperPrefix first last (lines_after 0 0 l)) (sym longer.is ∙ sym all)
     (script_stops none (inputs_up_to (i + 1) image) longer.more first last c.none-run.ensures.buttons c.none-run.ensures.times until)))
     c.in-Err.ensures.cause
+
+pub returns-in-Err-clause-output : goal.returns-in-Err-clause-output
+returns-in-Err-clause-output g c = λ output. c.in-Err.ensures.failed (ap Err output)

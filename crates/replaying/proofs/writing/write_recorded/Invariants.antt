@@ -18,5 +18,5 @@ invariant-loop-index g l =
       answered : HasAnswered {T = Unit {0}} faults_after (g.D.SectorDevice.disk (device_of first)) (g.D.SectorDevice.disk (device_of now)) (Ok tt);
       looked : (g.D.SectorDevice.disk (device_of first)).honest → LooksOnly (g.D.SectorDevice.disk (device_of first)) (g.D.SectorDevice.disk (device_of now));
       written : (g.D.SectorDevice.disk (device_of first)).honest →
-          HasWritten l.initial.run l.run (inputs_up_to l.index (g.D.SectorDevice.disk (device_of first)).sectors) (g.W.Write.contents l.initial.out) (g.W.Write.contents l.out);
+          HasWritten l.initial.run l.run (inputs_up_to l.index (g.D.SectorDevice.disk (device_of first)).sectors) (g.W.Output.contents l.initial.out) (g.W.Output.contents l.out);
     }

@@ -1,12 +1,21 @@
-use Rattle.std.proofs.Common.{◌∙◌}
-use Rattle.std.specs.Prelude.{codes, decimal}
-use Rattle.std.proofs.lemmas.Fmt.{contents_after_writes}
-use Rattle.arrayvec.specs.ArrayString.{ArrayString}
-use Rattle.save_lines.proofs.Lines.{four_lines}
+use Rattle.save_lines.specs.Shown.{inputs_line, logged_line, generation_line, sectors_line}
+use Rattle.save_lines.proofs.Lines.{four_texts}
 use Rattle.save_lines.proofs.text.numbers_text.Goals as goal
 
-pub returns-in-Ok : goal.returns-in-Ok
-returns-in-Ok c =
-    contents_after_writes _ (λ (s : ArrayString). s.bytes) (λ _ _ _ t. t) _ _ _ c.in-Ok.ensures.writes
-    ∙ rw c.new-text.ensures
-    (four_lines (codes "inputs ") (decimal c.args.inputs) (codes "logged ") (decimal c.args.logged) (codes "generation ") (decimal c.args.generation) (codes "sectors ") (decimal c.args.sectors) (codes "\n"))
+pub returns : goal.returns
+returns c =
+    rw (
+      c.push_str-4.ensures.bytes,
+      c.as_str-4.ensures.value,
+      c.number_line-4.ensures,
+      c.push_str-3.ensures.bytes,
+      c.as_str-3.ensures.value,
+      c.number_line-3.ensures,
+      c.push_str-2.ensures.bytes,
+      c.as_str-2.ensures.value,
+      c.number_line-2.ensures,
+      c.push_str.ensures.bytes,
+      c.as_str.ensures.value,
+      c.number_line.ensures,
+      c.new-text.ensures,
+    ) (four_texts (inputs_line c.args.inputs) (logged_line c.args.logged) (generation_line c.args.generation) (sectors_line c.args.sectors))

@@ -15,7 +15,7 @@ returns-in-Ok-true-clause-step g c machines kept = record {
   deed = Does (Make c.in-Make.a_move);
   order_is = sym c.in-Make.is;
   done = (refl, tt);
-  took = Consumes-nil (left_of c.args.unread.now.items (g.R.Read.remaining c.args.input.now));
+  took = Consumes-nil (left_of c.args.unread.now.items (g.R.LineInput.remaining c.args.input.now));
   obeys = c.in-Ok-true.ensures.obeyed c.in-Ok-true.field-0-test;
   kept_is = kept;
 }
@@ -23,7 +23,7 @@ returns-in-Ok-true-clause-step g c machines kept = record {
 pub returns-in-Ok-false-clause-step : goal.returns-in-Ok-false-clause-step
 returns-in-Ok-false-clause-step g c machines kept =
     let nothing = c.in-Ok-false.ensures.nothing c.in-Ok-false.field-0-test in
-    (record { same = nothing.1; quiet = ap g.W.Write.contents nothing.2 }, inl (c.in-Make.is ∙ ap Make nothing.0), Consumes-nil (left_of c.args.unread.now.items (g.R.Read.remaining c.args.input.now)))
+    (record { same = nothing.1; quiet = ap g.W.Output.contents nothing.2 }, inl (c.in-Make.is ∙ ap Make nothing.0), Consumes-nil (left_of c.args.unread.now.items (g.R.LineInput.remaining c.args.input.now)))
 
 pub returns-in-Err-clause-refused : goal.returns-in-Err-clause-refused
 returns-in-Err-clause-refused g c machines kept = record {
@@ -31,7 +31,7 @@ returns-in-Err-clause-refused g c machines kept = record {
   deed = Does (Make c.in-Make.a_move);
   order_is = sym c.in-Make.is;
   asked = inl (refl, tt);
-  took = Consumes-nil (left_of c.args.unread.now.items (g.R.Read.remaining c.args.input.now));
+  took = Consumes-nil (left_of c.args.unread.now.items (g.R.LineInput.remaining c.args.input.now));
   stops = c.in-Err.ensures.stopped;
 }
 
@@ -41,7 +41,7 @@ returns-in-Ok-clause-step g c machines kept = record {
   deed = Does Picture;
   order_is = sym c.in-Picture.is;
   done = (refl, tt);
-  took = Consumes-nil (left_of c.args.unread.now.items (g.R.Read.remaining c.args.input.now));
+  took = Consumes-nil (left_of c.args.unread.now.items (g.R.LineInput.remaining c.args.input.now));
   obeys = c.in-Ok.ensures.obeyed;
   kept_is = kept;
 }
@@ -52,7 +52,7 @@ returns-in-Err-obey_picture-clause-refused g c machines kept = record {
   deed = Does Picture;
   order_is = sym c.in-Picture.is;
   asked = inl (refl, tt);
-  took = Consumes-nil (left_of c.args.unread.now.items (g.R.Read.remaining c.args.input.now));
+  took = Consumes-nil (left_of c.args.unread.now.items (g.R.LineInput.remaining c.args.input.now));
   stops = c.in-Err-obey_picture.ensures.stopped;
 }
 
@@ -62,7 +62,7 @@ returns-in-Ok-obey_state-clause-step g c machines kept = record {
   deed = Does State;
   order_is = sym c.in-State.is;
   done = (refl, tt);
-  took = Consumes-nil (left_of c.args.unread.now.items (g.R.Read.remaining c.args.input.now));
+  took = Consumes-nil (left_of c.args.unread.now.items (g.R.LineInput.remaining c.args.input.now));
   obeys = c.in-Ok-obey_state.ensures.obeyed;
   kept_is = kept;
 }
@@ -73,7 +73,7 @@ returns-in-Err-obey_state-clause-refused g c machines kept = record {
   deed = Does State;
   order_is = sym c.in-State.is;
   asked = inl (refl, tt);
-  took = Consumes-nil (left_of c.args.unread.now.items (g.R.Read.remaining c.args.input.now));
+  took = Consumes-nil (left_of c.args.unread.now.items (g.R.LineInput.remaining c.args.input.now));
   stops = c.in-Err-obey_state.ensures.stopped;
 }
 
@@ -83,7 +83,7 @@ returns-in-Ok-obey_memory-clause-step g c machines kept = record {
   deed = Does (Memory c.in-Memory.address c.in-Memory.count);
   order_is = sym c.in-Memory.is;
   done = (refl, tt);
-  took = Consumes-nil (left_of c.args.unread.now.items (g.R.Read.remaining c.args.input.now));
+  took = Consumes-nil (left_of c.args.unread.now.items (g.R.LineInput.remaining c.args.input.now));
   obeys = c.in-Ok-obey_memory.ensures.obeyed;
   kept_is = kept;
 }
@@ -94,7 +94,7 @@ returns-in-Err-obey_memory-clause-refused g c machines kept = record {
   deed = Does (Memory c.in-Memory.address c.in-Memory.count);
   order_is = sym c.in-Memory.is;
   asked = inl (refl, tt);
-  took = Consumes-nil (left_of c.args.unread.now.items (g.R.Read.remaining c.args.input.now));
+  took = Consumes-nil (left_of c.args.unread.now.items (g.R.LineInput.remaining c.args.input.now));
   stops = c.in-Err-obey_memory.ensures.stopped;
 }
 
@@ -106,7 +106,7 @@ returns-in-Ok-true-obey_keep-clause-step g c machines kept =
       deed = Does (Keep c.in-Keep.slot);
       order_is = sym c.in-Keep.is;
       done = (refl, tt);
-      took = Consumes-nil (left_of c.args.unread.now.items (g.R.Read.remaining c.args.input.now));
+      took = Consumes-nil (left_of c.args.unread.now.items (g.R.LineInput.remaining c.args.input.now));
       obeys = c.in-Ok-true-obey_keep.ensures.obeyed c.in-Ok-true-obey_keep.field-0-test;
       kept_is =
           subst (λ rom. AreKept rom c.obey_keep.new.kept (record { number = c.in-Keep.slot; machine = g.G.Playable.machine c.args.game.now } ∷ machines)) of
@@ -116,7 +116,7 @@ returns-in-Ok-true-obey_keep-clause-step g c machines kept =
 pub returns-in-Ok-false-obey_keep-clause-step : goal.returns-in-Ok-false-obey_keep-clause-step
 returns-in-Ok-false-obey_keep-clause-step g c machines kept =
     let nothing = c.in-Ok-false-obey_keep.ensures.nothing machines (subst (λ rom. AreKept rom c.args.room.now.kept machines) (sym c.requires.of) kept) c.in-Ok-false-obey_keep.field-0-test in
-    (record { same = c.obey_keep.ensures.same; quiet = ap g.W.Write.contents nothing.0 }, inr (c.in-Keep.slot, c.in-Keep.is, nothing.1), Consumes-nil (left_of c.args.unread.now.items (g.R.Read.remaining c.args.input.now)))
+    (record { same = c.obey_keep.ensures.same; quiet = ap g.W.Output.contents nothing.0 }, inr (c.in-Keep.slot, c.in-Keep.is, nothing.1), Consumes-nil (left_of c.args.unread.now.items (g.R.LineInput.remaining c.args.input.now)))
 
 pub returns-in-Err-obey_keep-clause-refused : goal.returns-in-Err-obey_keep-clause-refused
 returns-in-Err-obey_keep-clause-refused g c machines kept = record {
@@ -124,17 +124,17 @@ returns-in-Err-obey_keep-clause-refused g c machines kept = record {
   deed = Does (Keep c.in-Keep.slot);
   order_is = sym c.in-Keep.is;
   asked = inl (refl, tt);
-  took = Consumes-nil (left_of c.args.unread.now.items (g.R.Read.remaining c.args.input.now));
+  took = Consumes-nil (left_of c.args.unread.now.items (g.R.LineInput.remaining c.args.input.now));
   stops = c.in-Err-obey_keep.ensures.stopped;
 }
 
 pub returns-in-Back-clause-step : goal.returns-in-Back-clause-step
 returns-in-Back-clause-step g c machines kept =
-    rw c.in-Back.is (c.obey_back.ensures.step machines kept (left_of c.args.unread.now.items (g.R.Read.remaining c.args.input.now)) (g.R.Read.remaining c.args.input.now))
+    rw c.in-Back.is (c.obey_back.ensures.step machines kept (left_of c.args.unread.now.items (g.R.LineInput.remaining c.args.input.now)) (g.R.LineInput.remaining c.args.input.now))
 
 pub returns-in-Back-clause-refused : goal.returns-in-Back-clause-refused
 returns-in-Back-clause-refused g c machines kept =
-    rw c.in-Back.is (c.obey_back.ensures.refused machines kept (left_of c.args.unread.now.items (g.R.Read.remaining c.args.input.now)) (g.R.Read.remaining c.args.input.now))
+    rw c.in-Back.is (c.obey_back.ensures.refused machines kept (left_of c.args.unread.now.items (g.R.LineInput.remaining c.args.input.now)) (g.R.LineInput.remaining c.args.input.now))
 
 pub returns-in-Restore-clause-step : goal.returns-in-Restore-clause-step
 returns-in-Restore-clause-step g c machines kept = rw c.in-Restore.is (c.obey_restore.ensures.step machines c.args.room.now.kept kept)

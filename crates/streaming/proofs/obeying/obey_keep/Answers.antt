@@ -16,14 +16,14 @@ pub returns-in-Ok-write_count-clause-obeyed : goal.returns-in-Ok-write_count-cla
 returns-in-Ok-write_count-clause-obeyed g c = λ done.
     let was = c.args.game.now in
     rw c.draw_late.ensures
-    (makes_line g.G.Playable was (g.W.Write.contents c.args.out.now) (g.W.Write.contents c.write_count.new.out) (answer (count_line (codes "kept") c.args.slot)) (omega arith) c.in-Ok-write_count.ensures.ok)
+    (makes_line g.G.Playable was (g.W.Output.contents c.args.out.now) (g.W.Output.contents c.write_count.new.out) (answer (count_line (codes "kept") c.args.slot)) (omega arith) c.in-Ok-write_count.ensures.ok)
 
 pub returns-in-Err-write_count-clause-stopped : goal.returns-in-Err-write_count-clause-stopped
 returns-in-Err-write_count-clause-stopped g c =
     let was = c.args.game.now in
     rw c.draw_late.ensures
     (rw c.unwritten.ensures.is
-    (stops_at_line g.G.Playable was (g.W.Write.contents c.args.out.now) (g.W.Write.contents c.write_count.new.out) (answer (count_line (codes "kept") c.args.slot)) c.unwritten.ensures.told tt c.in-Err-write_count.ensures.err))
+    (stops_at_line g.G.Playable was (g.W.Output.contents c.args.out.now) (g.W.Output.contents c.write_count.new.out) (answer (count_line (codes "kept") c.args.slot)) c.unwritten.ensures.told c.in-Err-write_count.ensures.failed c.in-Err-write_count.ensures.err))
 
 pub returns-in-Ok-write_count-clause-kept : goal.returns-in-Ok-write_count-clause-kept
 returns-in-Ok-write_count-clause-kept g c machines kept done =

@@ -18,7 +18,7 @@ returns-in-Ok-true-clause-step g c machines states kept = record {
 pub returns-in-Ok-false-clause-step : goal.returns-in-Ok-false-clause-step
 returns-in-Ok-false-clause-step g c machines states kept =
     let nothing = c.in-Ok-false.ensures.nothing c.in-Ok-false.field-0-test in (
-      record { same = nothing.0; quiet = ap g.W.Write.contents nothing.1 },
+      record { same = nothing.0; quiet = ap g.W.Output.contents nothing.1 },
       (
         c.args.size,
         refl,

@@ -10,8 +10,8 @@ use Rattle.streaming.proofs.obeying.obey_state.Goals as goal
 pub returns-in-Ok-clause-obeyed : goal.returns-in-Ok-clause-obeyed
 returns-in-Ok-clause-obeyed g c =
     let was = c.args.game.now in
-    let x = g.W.Write.contents c.args.out.now in
-    let y = g.W.Write.contents c.write_state.new.out in
+    let x = g.W.Output.contents c.args.out.now in
+    let y = g.W.Output.contents c.write_state.new.out in
     let same = c.machine.ensures.machine ∙ ap g.G.Playable.machine c.draw_late.ensures in
     rw c.draw_late.ensures
     (makes_line g.G.Playable was x y (answer (state_text (encoded (g.G.Playable.machine was)))) (omega arith)
@@ -20,10 +20,10 @@ returns-in-Ok-clause-obeyed g c =
 pub returns-in-Err-clause-stopped : goal.returns-in-Err-clause-stopped
 returns-in-Err-clause-stopped g c =
     let was = c.args.game.now in
-    let x = g.W.Write.contents c.args.out.now in
-    let y = g.W.Write.contents c.write_state.new.out in
+    let x = g.W.Output.contents c.args.out.now in
+    let y = g.W.Output.contents c.write_state.new.out in
     let same = c.machine.ensures.machine ∙ ap g.G.Playable.machine c.draw_late.ensures in
     rw c.draw_late.ensures
     (rw c.unwritten.ensures.is
-    (stops_at_line g.G.Playable was x y (answer (state_text (encoded (g.G.Playable.machine was)))) c.unwritten.ensures.told tt
+    (stops_at_line g.G.Playable was x y (answer (state_text (encoded (g.G.Playable.machine was)))) c.unwritten.ensures.told c.in-Err.ensures.failed
     (subst (λ m. AppendsProperPrefix x y (state_text (encoded m))) same c.in-Err.ensures.err)))

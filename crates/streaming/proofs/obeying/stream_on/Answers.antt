@@ -1,4 +1,4 @@
-use Rattle.std.proofs.Common.{inl, []}
+use Rattle.std.proofs.Common.{◌≡◌, true, inl, []}
 use Rattle.std.proofs.KnownBytes.{Consumes-nil}
 use Rattle.std.proofs.lemmas.List.Elements.{All-nil}
 use Rattle.playing.proofs.Stops.{handed_on}
@@ -23,10 +23,10 @@ returns-in-Err-clause-stopped g c =
       deeds = [];
       asks = all_asked no_line;
       more = [];
-      read = inl (All-nil (IsWhole (asked game.takes_states)), Consumes-nil (g.R.Read.remaining c.args.input.now));
+      read = inl (All-nil (IsWhole (asked game.takes_states)), Consumes-nil (g.R.LineInput.remaining c.args.input.now));
       stops =
-          resumed_failed game a (g.W.Write.contents c.args.out.now) (g.W.Write.contents c.write_resumed.new.out) c.counts.result.all c.counts.ensures.all c.requires.none
-          [] (answers_from game a (ended (game.unsaved a) [])) c.unwritten.ensures.told tt c.in-Err.ensures.err;
+          resumed_failed game a (g.W.Output.contents c.args.out.now) (g.W.Output.contents c.write_resumed.new.out) c.counts.result.all c.counts.ensures.all c.requires.none
+          [] (answers_from game a (ended (game.unsaved a) [])) c.unwritten.ensures.told c.in-Err.ensures.failed c.in-Err.ensures.err;
     })
 
 pub returns-in_err-end-clause-stopped : goal.returns-in_err-end-clause-stopped
@@ -34,9 +34,10 @@ returns-in_err-end-clause-stopped g c =
     let game = g.G.Playable in
     let a = c.args.game.now in
     let b = c.obey_lines.new.game in
-    let x = g.W.Write.contents c.args.out.now in
-    let y = g.W.Write.contents c.write_resumed.new.out in
-    let z = g.W.Write.contents c.obey_lines.new.out in
+    let x = g.W.Output.contents c.args.out.now in
+    let y = g.W.Output.contents c.write_resumed.new.out in
+    let z = g.W.Output.contents c.obey_lines.new.out in
+    let failed : Type 0 = g.W.Output.has_failed c.obey_lines.new.out ≡ true in
     let stop = c.in_err-end.ensures.stopped in
     let why = c.in_err-end.field-0.0 in
     rw (handed_on c.from_residual.result c.from_residual.ensures.1)
@@ -48,7 +49,7 @@ returns-in_err-end-clause-stopped g c =
       read = stop.read;
       stops =
           stops_behind game a x y (resumed_made game a x y c.counts.result.all c.counts.ensures.all c.requires.none c.in_default.ensures.ok)
-          b z stop.deeds why (stops_before game a b y z stop.deeds (last_behind game a stop.deeds) why stop.stops);
+          b z stop.deeds failed why (stops_before game a b y z failed stop.deeds (last_behind game a stop.deeds) why stop.stops);
     })
 
 pub returns-clause-streamed : goal.returns-clause-streamed
@@ -56,9 +57,9 @@ returns-clause-streamed g c =
     let game = g.G.Playable in
     let a = c.args.game.now in
     let b = c.save_rest.new.game in
-    let x = g.W.Write.contents c.args.out.now in
-    let y = g.W.Write.contents c.write_resumed.new.out in
-    let w = g.W.Write.contents c.save_rest.new.out in
+    let x = g.W.Output.contents c.args.out.now in
+    let y = g.W.Output.contents c.write_resumed.new.out in
+    let w = g.W.Output.contents c.save_rest.new.out in
     let made = c.in_ok-end.ensures.obeyed in
     record {
       lines = made.lines;
@@ -69,7 +70,7 @@ returns-clause-streamed g c =
       makes =
           streams_behind game a x y (resumed_made game a x y c.counts.result.all c.counts.ensures.all c.requires.none c.in_default.ensures.ok)
           b w made.deeds c.in_ok-save_rest.ensures.saved.1
-          (ended_obeyed game a c.obey_lines.new.game b y (g.W.Write.contents c.obey_lines.new.out) w made.deeds made.obeys c.in_ok-save_rest.ensures.obeyed);
+          (ended_obeyed game a c.obey_lines.new.game b y (g.W.Output.contents c.obey_lines.new.out) w made.deeds made.obeys c.in_ok-save_rest.ensures.obeyed);
     }
 
 pub returns-in_err-save_rest-clause-stopped : goal.returns-in_err-save_rest-clause-stopped
@@ -77,11 +78,12 @@ returns-in_err-save_rest-clause-stopped g c =
     let game = g.G.Playable in
     let a = c.args.game.now in
     let b = c.save_rest.new.game in
-    let x = g.W.Write.contents c.args.out.now in
-    let y = g.W.Write.contents c.write_resumed.new.out in
-    let w = g.W.Write.contents c.save_rest.new.out in
+    let x = g.W.Output.contents c.args.out.now in
+    let y = g.W.Output.contents c.write_resumed.new.out in
+    let w = g.W.Output.contents c.save_rest.new.out in
     let made = c.in_ok-end.ensures.obeyed in
-    let read = reads_some game.takes_states (game.rom a) made.kept c.in_ok-end.end made.lines (g.R.Read.remaining c.args.input.now) (g.R.Read.remaining c.obey_lines.new.input) made.read in
+    let read = reads_some game.takes_states (game.rom a) made.kept c.in_ok-end.end made.lines (g.R.LineInput.remaining c.args.input.now) (g.R.LineInput.remaining c.obey_lines.new.input) made.read in
+    let failed : Type 0 = g.W.Output.has_failed c.save_rest.new.out ≡ true in
     let why = c.in_err-save_rest.field-0.0 in
     rw (handed_on c.from_residual-in_err-save_rest.result c.from_residual-in_err-save_rest.ensures.1)
     (record {
@@ -92,6 +94,6 @@ returns-in_err-save_rest-clause-stopped g c =
       read = read.1;
       stops =
           stops_behind game a x y (resumed_made game a x y c.counts.result.all c.counts.ensures.all c.requires.none c.in_default.ensures.ok)
-          b w made.deeds why
-          (ended_stopped game a c.obey_lines.new.game b y (g.W.Write.contents c.obey_lines.new.out) w made.deeds why made.obeys c.in_err-save_rest.ensures.stopped);
+          b w made.deeds failed why
+          (ended_stopped game a c.obey_lines.new.game b y (g.W.Output.contents c.obey_lines.new.out) w failed made.deeds why made.obeys c.in_err-save_rest.ensures.stopped);
     })

@@ -1,8 +1,11 @@
-use Rattle.std.proofs.Common.{Err, inl, inr, refl, sym, subst, ◌∙◌}
+use Rattle.std.proofs.Common.{◌≡◌, Err, inl, inr, refl, sym, subst, ◌∙◌}
 use Rattle.sector_device.specs.DiskState.{HasAnswered}
+use Rattle.log_format.specs.Content.{content, generation_in}
+use Rattle.session.specs.declared.error.SessionError.TheVariants.{Output}
 use Rattle.session.specs.Calls.{faults_after}
 use Rattle.session.specs.Accessors.{pending_of, rom_of}
 use Rattle.playing.proofs.Going.{goes_all, no_further_at_all, none_left}
+use Rattle.playing.proofs.Stops.{resume_not_output}
 use Rattle.playing.proofs.Telling.{keeps_same, memory_at}
 use Rattle.playing.specs.Going.{place}
 use Rattle.streaming.specs.Answers.{inputs_of_deeds}
@@ -15,7 +18,13 @@ use Rattle.streaming.proofs.streamed.stream.Goals as goal
 
 pub returns-in-Err-clause-refused : goal.returns-in-Err-clause-refused
 returns-in-Err-clause-refused g c =
-    inl (record { cause = c.in-Err.ensures.cause; report = keeps_same (g.W.Write.contents c.args.out.now); images = c.in-Err.ensures.images; untouched = c.in-Err.ensures.untouched; memory = memory_at (g.D.SectorDevice.disk) c.in-Err.ensures.memory; failed = c.in-Err.ensures.failed }, refl)
+    inl (record { cause = c.in-Err.ensures.cause; report = keeps_same (g.W.Output.contents c.args.out.now); images = c.in-Err.ensures.images; untouched = c.in-Err.ensures.untouched; memory = memory_at (g.D.SectorDevice.disk) c.in-Err.ensures.memory; failed = c.in-Err.ensures.failed }, refl)
+
+pub returns-in-Err-clause-output : goal.returns-in-Err-clause-output
+returns-in-Err-clause-output g c = λ output honest.
+    let was = g.D.SectorDevice.disk c.args.device in
+    let is : c.in-Err.refused.why ≡ Output = cc in
+    absurd (resume_not_output c.args.cartridge.now (generation_in was.sectors) (content was.sectors) c.in-Err.refused.why (c.in-Err.ensures.cause honest) is)
 
 pub returns-in-Ok-Whole-clause-streamed : goal.returns-in-Ok-Whole-clause-streamed
 returns-in-Ok-Whole-clause-streamed g c =
@@ -23,10 +32,10 @@ returns-in-Ok-Whole-clause-streamed g c =
     let now = c.stream_on.new.game in
     let old = g.D.SectorDevice.disk c.args.device in
     let rom = c.args.cartridge.now in
-    let before_in = g.R.Read.remaining c.args.input.now in
-    let since_in = g.R.Read.remaining c.stream_on.new.input in
-    let before = g.W.Write.contents c.args.out.now in
-    let since = g.W.Write.contents c.stream_on.new.out in
+    let before_in = g.R.LineInput.remaining c.args.input.now in
+    let since_in = g.R.LineInput.remaining c.stream_on.new.input in
+    let before = g.W.Output.contents c.args.out.now in
+    let since = g.W.Output.contents c.stream_on.new.out in
     let taken = c.in-Ok-resume.ensures in
     let up : TakenUp rom old (place s) = record { none = taken.begun.0; rom_is = taken.begun.2; of_rom = taken.of; honest = taken.answered.honest.1; rests = taken.rests; stood = taken.stands; images = taken.images } in
     let streams = c.in-Ok-Whole.ensures.streamed in
@@ -47,10 +56,10 @@ returns-in-Ok-Wrong-clause-refused g c =
     let now = c.stream_on.new.game in
     let old = g.D.SectorDevice.disk c.args.device in
     let rom = c.args.cartridge.now in
-    let before_in = g.R.Read.remaining c.args.input.now in
-    let since_in = g.R.Read.remaining c.stream_on.new.input in
-    let before = g.W.Write.contents c.args.out.now in
-    let since = g.W.Write.contents c.stream_on.new.out in
+    let before_in = g.R.LineInput.remaining c.args.input.now in
+    let since_in = g.R.LineInput.remaining c.stream_on.new.input in
+    let before = g.W.Output.contents c.args.out.now in
+    let since = g.W.Output.contents c.stream_on.new.out in
     let taken = c.in-Ok-resume.ensures in
     let up : TakenUp rom old (place s) = record { none = taken.begun.0; rom_is = taken.begun.2; of_rom = taken.of; honest = taken.answered.honest.1; rests = taken.rests; stood = taken.stands; images = taken.images } in
     let streams = c.in-Ok-Wrong.ensures.streamed in
@@ -73,10 +82,10 @@ returns-in-Ok-Failed-clause-refused g c =
     let now = c.stream_on.new.game in
     let old = g.D.SectorDevice.disk c.args.device in
     let rom = c.args.cartridge.now in
-    let before_in = g.R.Read.remaining c.args.input.now in
-    let since_in = g.R.Read.remaining c.stream_on.new.input in
-    let before = g.W.Write.contents c.args.out.now in
-    let since = g.W.Write.contents c.stream_on.new.out in
+    let before_in = g.R.LineInput.remaining c.args.input.now in
+    let since_in = g.R.LineInput.remaining c.stream_on.new.input in
+    let before = g.W.Output.contents c.args.out.now in
+    let since = g.W.Output.contents c.stream_on.new.out in
     let taken = c.in-Ok-resume.ensures in
     let up : TakenUp rom old (place s) = record { none = taken.begun.0; rom_is = taken.begun.2; of_rom = taken.of; honest = taken.answered.honest.1; rests = taken.rests; stood = taken.stands; images = taken.images } in
     let streams = c.in-Ok-Failed.ensures.streamed in
@@ -99,10 +108,10 @@ returns-in-Ok-Damaged-clause-refused g c =
     let now = c.stream_on.new.game in
     let old = g.D.SectorDevice.disk c.args.device in
     let rom = c.args.cartridge.now in
-    let before_in = g.R.Read.remaining c.args.input.now in
-    let since_in = g.R.Read.remaining c.stream_on.new.input in
-    let before = g.W.Write.contents c.args.out.now in
-    let since = g.W.Write.contents c.stream_on.new.out in
+    let before_in = g.R.LineInput.remaining c.args.input.now in
+    let since_in = g.R.LineInput.remaining c.stream_on.new.input in
+    let before = g.W.Output.contents c.args.out.now in
+    let since = g.W.Output.contents c.stream_on.new.out in
     let taken = c.in-Ok-resume.ensures in
     let up : TakenUp rom old (place s) = record { none = taken.begun.0; rom_is = taken.begun.2; of_rom = taken.of; honest = taken.answered.honest.1; rests = taken.rests; stood = taken.stands; images = taken.images } in
     let streams = c.in-Ok-Damaged.ensures.streamed in
@@ -125,10 +134,10 @@ returns-in-Ok-NoMemory-clause-refused g c =
     let now = c.stream_on.new.game in
     let old = g.D.SectorDevice.disk c.args.device in
     let rom = c.args.cartridge.now in
-    let before_in = g.R.Read.remaining c.args.input.now in
-    let since_in = g.R.Read.remaining c.stream_on.new.input in
-    let before = g.W.Write.contents c.args.out.now in
-    let since = g.W.Write.contents c.stream_on.new.out in
+    let before_in = g.R.LineInput.remaining c.args.input.now in
+    let since_in = g.R.LineInput.remaining c.stream_on.new.input in
+    let before = g.W.Output.contents c.args.out.now in
+    let since = g.W.Output.contents c.stream_on.new.out in
     let taken = c.in-Ok-resume.ensures in
     let up : TakenUp rom old (place s) = record { none = taken.begun.0; rom_is = taken.begun.2; of_rom = taken.of; honest = taken.answered.honest.1; rests = taken.rests; stood = taken.stands; images = taken.images } in
     let streams = c.in-Ok-NoMemory.ensures.streamed in
@@ -151,10 +160,10 @@ returns-clause-refused g c =
     let now = c.stream_on.new.game in
     let old = g.D.SectorDevice.disk c.args.device in
     let rom = c.args.cartridge.now in
-    let before_in = g.R.Read.remaining c.args.input.now in
-    let since_in = g.R.Read.remaining c.stream_on.new.input in
-    let before = g.W.Write.contents c.args.out.now in
-    let since = g.W.Write.contents c.stream_on.new.out in
+    let before_in = g.R.LineInput.remaining c.args.input.now in
+    let since_in = g.R.LineInput.remaining c.stream_on.new.input in
+    let before = g.W.Output.contents c.args.out.now in
+    let since = g.W.Output.contents c.stream_on.new.out in
     let taken = c.in-Ok-resume.ensures in
     let up : TakenUp rom old (place s) = record { none = taken.begun.0; rom_is = taken.begun.2; of_rom = taken.of; honest = taken.answered.honest.1; rests = taken.rests; stood = taken.stands; images = taken.images } in
     let streams = c.in-Err-stream_on.ensures.stopped in
@@ -162,6 +171,11 @@ returns-clause-refused g c =
     let stop = no_further_at_all g.met.D.SectorDevice.only_now (λ a b input one. one) (λ a b one. one) (λ a b input why one. one) (λ a b why one. one) refl s now (inputs_of_deeds streams.deeds) why streams.stops.stops in
     inr (subst (λ d. HasStopped rom old (g.D.SectorDevice.disk d) why before_in since_in before since) (sym c.into_device-in-Err-stream_on.ensures.device)
     (stopped_stream rom old (place s) (place now) before_in since_in before since up streams.lines streams.deeds why streams.more (rom_of s) taken.begun.2 streams.asks streams.read streams.stops.told stop))
+
+pub returns-clause-output : goal.returns-clause-output
+returns-clause-output g c = λ output honest.
+    let is : c.in-Err-stream_on.why ≡ Output = cc in
+    c.in-Err-stream_on.ensures.stopped.stops.output is
 
 pub returns-in-Ok-Whole-clause-answered : goal.returns-in-Ok-Whole-clause-answered
 returns-in-Ok-Whole-clause-answered g c =

@@ -10,7 +10,7 @@ invariant-playing g l = record {
   bytes : List ℕ;
   run : seen_in (begun_with l.buttons l.fn.machine) ≡ sent_before bytes (seen_in l.frame);
   told : l.told ≡ told_all l.fn.told bytes;
-  written : Appends (g.W.Write.contents l.fn.out) (g.W.Write.contents l.out) bytes;
+  written : Appends (g.W.Output.contents l.fn.out) (g.W.Output.contents l.out) bytes;
 }
 
 abbrev pub decreases-playing : goal.decreases-playing

@@ -19,7 +19,7 @@ returns-in-Ok-test_machine-clause-tested g c =
       accepted = c.in-Ok.ensures.accepted.0 refl;
       moves = moves;
       script_is = c.in-Ok-read_script.ensures.moves;
-      written = subst (λ (t : Tested). Appends (g.W.Write.contents c.args.out.now) (g.W.Write.contents c.test_machine.new.out) (test_text t)) whole c.in-Ok-test_machine.ensures.written;
+      written = subst (λ (t : Tested). Appends (g.W.Output.contents c.args.out.now) (g.W.Output.contents c.test_machine.new.out) (test_text t)) whole c.in-Ok-test_machine.ensures.written;
       verdict_is = c.in-Ok-test_machine.ensures.verdict ∙ ap verdict_of whole;
     }
 
@@ -35,8 +35,8 @@ returns-in-Err-Memory-clause-refused g c =
       moves = moves;
       script_is = c.in-Ok-read_script.ensures.moves;
       stops =
-          subst (λ (l : List Move). FindsNoMemory c.args.frames 0 l (start c.args.rom.items) (g.W.Write.contents c.args.out.now) (g.W.Write.contents c.test_machine.new.out)) c.deref.ensures.value
-          (subst (λ (m : MachineState). FindsNoMemory c.args.frames 0 c.deref.result.now m (g.W.Write.contents c.args.out.now) (g.W.Write.contents c.test_machine.new.out))
+          subst (λ (l : List Move). FindsNoMemory c.args.frames 0 l (start c.args.rom.items) (g.W.Output.contents c.args.out.now) (g.W.Output.contents c.test_machine.new.out)) c.deref.ensures.value
+          (subst (λ (m : MachineState). FindsNoMemory c.args.frames 0 c.deref.result.now m (g.W.Output.contents c.args.out.now) (g.W.Output.contents c.test_machine.new.out))
           (c.in-Ok-power_on.ensures ∙ ap start c.in-Ok.ensures.image) stops);
     })
 
@@ -49,5 +49,5 @@ returns-clause-refused g c =
       accepted = c.in-Ok.ensures.accepted.0 refl;
       moves = moves;
       script_is = c.in-Ok-read_script.ensures.moves;
-      written = subst (λ (t : Tested). AppendsProperPrefix (g.W.Write.contents c.args.out.now) (g.W.Write.contents c.test_machine.new.out) (test_text t)) whole stops;
+      written = subst (λ (t : Tested). AppendsProperPrefix (g.W.Output.contents c.args.out.now) (g.W.Output.contents c.test_machine.new.out) (test_text t)) whole stops;
     }

@@ -10,6 +10,6 @@ abbrev pub invariant-loop-i : goal.invariant-loop-i
 invariant-loop-i g l =
     record {
       so_far : HasReached l.limit (replicate l.times (Frame l.buttons)) (replicate (l.times - l._i) (Frame l.buttons)) l.fn.machine l.fn.progress l.progress
-          (g.W.Write.contents l.fn.out) (g.W.Write.contents l.out) (On l.machine);
+          (g.W.Output.contents l.fn.out) (g.W.Output.contents l.out) (On l.machine);
       kept : IsSameCartridge l.fn.machine.processor.memory.banks l.machine.processor.memory.banks;
     }

@@ -38,5 +38,5 @@ loop-a_move-preserved g c = record {
 
 pub returns-clause-ok : goal.returns-clause-ok
 returns-clause-ok g c =
-    subst (λ l. HasReached c.args.limit (inputs_of_moves l) [] c.args.machine c.args.progress.now c.loop-a_move.progress (g.W.Write.contents c.args.out.now) (g.W.Write.contents c.loop-a_move.out) (On c.loop-a_move.machine))
+    subst (λ l. HasReached c.args.limit (inputs_of_moves l) [] c.args.machine c.args.progress.now c.loop-a_move.progress (g.W.Output.contents c.args.out.now) (g.W.Output.contents c.loop-a_move.out) (On c.loop-a_move.machine))
     (take_all c.loop-a_move.a_move-index c.args.moves.now c.loop-a_move-test.false) c.loop-a_move.invariant.so_far

@@ -9,6 +9,6 @@ use Rattle.test_run.proofs.run.test_moves.Given as goal
 abbrev pub invariant-loop-a_move : goal.invariant-loop-a_move
 invariant-loop-a_move g l = record {
   so_far : HasReached l.limit (inputs_of_moves (take l.a_move-index l.moves)) [] l.fn.machine l.fn.progress l.progress
-      (g.W.Write.contents l.fn.out) (g.W.Write.contents l.out) (On l.machine);
+      (g.W.Output.contents l.fn.out) (g.W.Output.contents l.out) (On l.machine);
   kept : IsSameCartridge l.fn.machine.processor.memory.banks l.machine.processor.memory.banks;
 }

@@ -10,8 +10,8 @@ use Rattle.debugging.proofs.cycles.CycleCounts.write.Goals as goal
 pub returns-clause-err : goal.returns-clause-err
 returns-clause-err g c =
     on_err c.write_rom.result (λ failed.
-    subst (λ (counts : Cycles). AppendsProperPrefix (g.W.Write.contents c.args.out.now) (g.W.Write.contents c.write_rom.new.out) (cycles_text counts)) c.self.view_is
-    (whole_then_prefix (g.W.Write.contents c.args.out.now) (g.W.Write.contents c.write_count.new.out) (g.W.Write.contents c.write_rom.new.out)
+    subst (λ (counts : Cycles). AppendsProperPrefix (g.W.Output.contents c.args.out.now) (g.W.Output.contents c.write_rom.new.out) (cycles_text counts)) c.self.view_is
+    (whole_then_prefix (g.W.Output.contents c.args.out.now) (g.W.Output.contents c.write_count.new.out) (g.W.Output.contents c.write_rom.new.out)
     (count_line (codes "elsewhere") c.self.inside.elsewhere) (rom_text c.self.inside.rom.items) c.in_default.ensures.ok
-    (subst (λ (rom : List ℕ). AppendsProperPrefix (g.W.Write.contents c.write_count.new.out) (g.W.Write.contents c.write_rom.new.out) (rom_text rom)) c.deref.ensures.value failed)))
+    (subst (λ (rom : List ℕ). AppendsProperPrefix (g.W.Output.contents c.write_count.new.out) (g.W.Output.contents c.write_rom.new.out) (rom_text rom)) c.deref.ensures.value failed)))
     c.write_rom.ensures.err

@@ -5,10 +5,12 @@ use Rattle.snapshot.specs.Encoding.{snapshot_length}
 use Rattle.std.specs.Io.KnownBytes.{Appends}
 use Rattle.exact_text.specs.Written.{AppendsProperPrefix}
 use Rattle.input_lines.specs.Reading.{left_of}
+use Rattle.debugging.specs.declared.error.DebugError.{DebugError}
 use Rattle.debugging.specs.Run.{RunState}
 use Rattle.debugging.specs.KeptStates.{with_none_kept}
 use Rattle.debugging.specs.Orders.{state_order_of}
 use Rattle.debugging.specs.Answers.{after_line, after_restore, answer_line, answer_restore}
+use Rattle.debugging.specs.Switching.{IsNotSwitched}
 use Rattle.debugging.proofs.Exchanges.{IsObeying, state_of, none_obeyed, switch_obeyed, switch_refused, line_obeyed, line_broken, state_obeyed, state_broken, wrong_obeyed, wrong_broken, last_obeyed, last_broken, ended, failed_to_read, all_obeyed}
 use Rattle.snapshot.specs.Legal.{IsOfImage}
 use Rattle.debugging.proofs.Kept.{line_of, ram_length, rom_is, room_is, room_of}
@@ -22,8 +24,8 @@ loop-number-init g c = record {
   so_far = record {
     machines = [];
     kept = none_kept c.args.cartridge.now c.self.inside.kept c.self.invariant.2;
-    obeying = subst (λ (r : RunState). IsObeying r (with_none_kept c.self.inside.run) 1 (g.R.Read.remaining c.args.input.now) (left_of c.new-unread.result.items (g.R.Read.remaining c.args.input.now)) (g.W.Write.contents c.args.out.now) (g.W.Write.contents c.args.out.now))
-        c.self.view_is (none_obeyed c.self.inside.run c.new-unread.result.items (g.R.Read.remaining c.args.input.now) (g.W.Write.contents c.args.out.now) c.new-unread.ensures);
+    obeying = subst (λ (r : RunState). IsObeying r (with_none_kept c.self.inside.run) 1 (g.R.LineInput.remaining c.args.input.now) (left_of c.new-unread.result.items (g.R.LineInput.remaining c.args.input.now)) (g.W.Output.contents c.args.out.now) (g.W.Output.contents c.args.out.now))
+        c.self.view_is (none_obeyed c.self.inside.run c.new-unread.result.items (g.R.LineInput.remaining c.args.input.now) (g.W.Output.contents c.args.out.now) c.new-unread.ensures);
   };
   rom = c.self.invariant.0;
   room = c.self.invariant.1;
@@ -32,56 +34,56 @@ loop-number-init g c = record {
 
 pub returns-then-is_err-clause-refused : goal.returns-then-is_err-clause-refused
 returns-then-is_err-clause-refused g c =
-    line_broken c.args.self (state_of c.loop-number.run c.loop-number.invariant.so_far.machines) c.loop-number.number (g.R.Read.remaining c.args.input.now) (left_of c.loop-number.unread.items (g.R.Read.remaining c.loop-number.input))
-    (g.W.Write.contents c.args.out.now) (g.W.Write.contents c.loop-number.out) c.loop-number.invariant.so_far.obeying
-    c.in-Line.line c.next_given.new.snapshot c.next_given.new.unread.items (g.R.Read.remaining c.next_given.new.input) (g.W.Write.contents c.answer-answered.new.out) c.in-Line.ensures.given (ap state_order_of (sym c.as_slice.ensures.value) ∙ sym c.read_state_order.ensures.order ∙ c.in_default.is)
-    (subst (λ (line : List ℕ). AppendsProperPrefix (g.W.Write.contents c.loop-number.out) (g.W.Write.contents c.answer-answered.new.out) (answer_line line c.loop-number.number c.loop-number.run)) c.as_slice-in-Line.ensures.value
+    line_broken c.args.self (state_of c.loop-number.run c.loop-number.invariant.so_far.machines) c.loop-number.number (g.R.LineInput.remaining c.args.input.now) (left_of c.loop-number.unread.items (g.R.LineInput.remaining c.loop-number.input))
+    (g.W.Output.contents c.args.out.now) (g.W.Output.contents c.loop-number.out) c.loop-number.invariant.so_far.obeying
+    c.in-Line.line c.next_given.new.snapshot c.next_given.new.unread.items (g.R.LineInput.remaining c.next_given.new.input) (g.W.Output.contents c.answer-answered.new.out) c.in-Line.ensures.given (ap state_order_of (sym c.as_slice.ensures.value) ∙ sym c.read_state_order.ensures.order ∙ c.in_default.is)
+    (subst (λ (line : List ℕ). AppendsProperPrefix (g.W.Output.contents c.loop-number.out) (g.W.Output.contents c.answer-answered.new.out) (answer_line line c.loop-number.number c.loop-number.run)) c.as_slice-in-Line.ensures.value
     (on_err_of c.answer-answered.result.written c.is_err.ensures.value c.if-is_err.true c.answer-answered.ensures.err))
 
 pub returns-then-is_err-2-clause-refused : goal.returns-then-is_err-2-clause-refused
 returns-then-is_err-2-clause-refused g c =
-    state_broken c.args.self (state_of c.loop-number.run c.loop-number.invariant.so_far.machines) c.loop-number.number (g.R.Read.remaining c.args.input.now) (left_of c.loop-number.unread.items (g.R.Read.remaining c.loop-number.input))
-    (g.W.Write.contents c.args.out.now) (g.W.Write.contents c.loop-number.out) c.loop-number.invariant.so_far.obeying
-    c.next_given.new.snapshot c.next_given.new.unread.items (g.R.Read.remaining c.next_given.new.input) (g.W.Write.contents c.restore-answered.new.out) c.in-State.ensures.given
-    (subst (λ (bytes : List ℕ). AppendsProperPrefix (g.W.Write.contents c.loop-number.out) (g.W.Write.contents c.restore-answered.new.out) (answer_restore (length bytes) bytes c.loop-number.number c.loop-number.run))
+    state_broken c.args.self (state_of c.loop-number.run c.loop-number.invariant.so_far.machines) c.loop-number.number (g.R.LineInput.remaining c.args.input.now) (left_of c.loop-number.unread.items (g.R.LineInput.remaining c.loop-number.input))
+    (g.W.Output.contents c.args.out.now) (g.W.Output.contents c.loop-number.out) c.loop-number.invariant.so_far.obeying
+    c.next_given.new.snapshot c.next_given.new.unread.items (g.R.LineInput.remaining c.next_given.new.input) (g.W.Output.contents c.restore-answered.new.out) c.in-State.ensures.given
+    (subst (λ (bytes : List ℕ). AppendsProperPrefix (g.W.Output.contents c.loop-number.out) (g.W.Output.contents c.restore-answered.new.out) (answer_restore (length bytes) bytes c.loop-number.number c.loop-number.run))
     (c.deref.ensures.value ∙ with_items_is c.loop-number.snapshot c.next_given.new.snapshot (omega (arith, c.next_given.ensures.room, ap length c.deref_mut.ensures.value, c.loop-number.snapshot.ok)))
     (on_err_of c.restore-answered.result.written c.is_err-in-State.ensures.value c.if-is_err-2.true c.restore-answered.ensures.err))
 
 pub returns-then-is_err-3-clause-refused : goal.returns-then-is_err-3-clause-refused
 returns-then-is_err-3-clause-refused g c =
-    wrong_broken c.args.self (state_of c.loop-number.run c.loop-number.invariant.so_far.machines) c.loop-number.number (g.R.Read.remaining c.args.input.now) (left_of c.loop-number.unread.items (g.R.Read.remaining c.loop-number.input))
-    (g.W.Write.contents c.args.out.now) (g.W.Write.contents c.loop-number.out) c.loop-number.invariant.so_far.obeying
-    c.next_given.new.snapshot c.next_given.new.unread.items (g.R.Read.remaining c.next_given.new.input) (g.W.Write.contents c.write_wrong.new.out)
+    wrong_broken c.args.self (state_of c.loop-number.run c.loop-number.invariant.so_far.machines) c.loop-number.number (g.R.LineInput.remaining c.args.input.now) (left_of c.loop-number.unread.items (g.R.LineInput.remaining c.loop-number.input))
+    (g.W.Output.contents c.args.out.now) (g.W.Output.contents c.loop-number.out) c.loop-number.invariant.so_far.obeying
+    c.next_given.new.snapshot c.next_given.new.unread.items (g.R.LineInput.remaining c.next_given.new.input) (g.W.Output.contents c.write_wrong.new.out)
     (room_of (length c.next_given.new.snapshot) c.args.cartridge.now c.loop-number.run (c.next_given.ensures.room ∙ ap length c.deref_mut.ensures.value ∙ c.loop-number.invariant.room) c.loop-number.invariant.of) c.in-Wrong.ensures.given
     (on_err_of c.write_wrong.result c.is_err-in-Wrong.ensures.value c.if-is_err-3.true c.write_wrong.ensures.err)
 
 pub returns-then-is_err-4-clause-refused : goal.returns-then-is_err-4-clause-refused
 returns-then-is_err-4-clause-refused g c =
-    last_broken c.args.self (state_of c.loop-number.run c.loop-number.invariant.so_far.machines) c.loop-number.number (g.R.Read.remaining c.args.input.now) (left_of c.loop-number.unread.items (g.R.Read.remaining c.loop-number.input))
-    (g.W.Write.contents c.args.out.now) (g.W.Write.contents c.loop-number.out) c.loop-number.invariant.so_far.obeying
-    c.next_given.new.snapshot (left_of c.next_given.new.unread.items (g.R.Read.remaining c.next_given.new.input)) (g.R.Read.remaining c.next_given.new.input) (g.W.Write.contents c.write_wrong-in-Last.new.out)
+    last_broken c.args.self (state_of c.loop-number.run c.loop-number.invariant.so_far.machines) c.loop-number.number (g.R.LineInput.remaining c.args.input.now) (left_of c.loop-number.unread.items (g.R.LineInput.remaining c.loop-number.input))
+    (g.W.Output.contents c.args.out.now) (g.W.Output.contents c.loop-number.out) c.loop-number.invariant.so_far.obeying
+    c.next_given.new.snapshot (left_of c.next_given.new.unread.items (g.R.LineInput.remaining c.next_given.new.input)) (g.R.LineInput.remaining c.next_given.new.input) (g.W.Output.contents c.write_wrong-in-Last.new.out)
     (room_of (length c.next_given.new.snapshot) c.args.cartridge.now c.loop-number.run (c.next_given.ensures.room ∙ ap length c.deref_mut.ensures.value ∙ c.loop-number.invariant.room) c.loop-number.invariant.of) c.in-Last.ensures.given
     (on_err_of c.write_wrong-in-Last.result c.is_err-in-Last.ensures.value c.if-is_err-4.true c.write_wrong-in-Last.ensures.err)
 
 pub returns-in-Last-clause-answered : goal.returns-in-Last-clause-answered
 returns-in-Last-clause-answered g c =
-    last_obeyed c.args.self (state_of c.loop-number.run c.loop-number.invariant.so_far.machines) c.loop-number.number (g.R.Read.remaining c.args.input.now) (left_of c.loop-number.unread.items (g.R.Read.remaining c.loop-number.input))
-    (g.W.Write.contents c.args.out.now) (g.W.Write.contents c.loop-number.out) c.loop-number.invariant.so_far.obeying
-    c.next_given.new.snapshot (left_of c.next_given.new.unread.items (g.R.Read.remaining c.next_given.new.input)) (g.R.Read.remaining c.next_given.new.input) (g.W.Write.contents c.write_wrong-in-Last.new.out)
+    last_obeyed c.args.self (state_of c.loop-number.run c.loop-number.invariant.so_far.machines) c.loop-number.number (g.R.LineInput.remaining c.args.input.now) (left_of c.loop-number.unread.items (g.R.LineInput.remaining c.loop-number.input))
+    (g.W.Output.contents c.args.out.now) (g.W.Output.contents c.loop-number.out) c.loop-number.invariant.so_far.obeying
+    c.next_given.new.snapshot (left_of c.next_given.new.unread.items (g.R.LineInput.remaining c.next_given.new.input)) (g.R.LineInput.remaining c.next_given.new.input) (g.W.Output.contents c.write_wrong-in-Last.new.out)
     (room_of (length c.next_given.new.snapshot) c.args.cartridge.now c.loop-number.run (c.next_given.ensures.room ∙ ap length c.deref_mut.ensures.value ∙ c.loop-number.invariant.room) c.loop-number.invariant.of) c.in-Last.ensures.given
     (on_ok_of c.write_wrong-in-Last.result c.is_err-in-Last.ensures.value c.if-is_err-4.false c.write_wrong-in-Last.ensures.ok)
 
 pub returns-in-End-clause-answered : goal.returns-in-End-clause-answered
 returns-in-End-clause-answered g c =
-    ended c.args.self (state_of c.loop-number.run c.loop-number.invariant.so_far.machines) c.loop-number.number (g.R.Read.remaining c.args.input.now) (left_of c.loop-number.unread.items (g.R.Read.remaining c.loop-number.input))
-    (g.W.Write.contents c.args.out.now) (g.W.Write.contents c.loop-number.out) c.loop-number.invariant.so_far.obeying
-    c.next_given.new.snapshot (left_of c.next_given.new.unread.items (g.R.Read.remaining c.next_given.new.input)) (g.R.Read.remaining c.next_given.new.input) c.in-End.ensures.given
+    ended c.args.self (state_of c.loop-number.run c.loop-number.invariant.so_far.machines) c.loop-number.number (g.R.LineInput.remaining c.args.input.now) (left_of c.loop-number.unread.items (g.R.LineInput.remaining c.loop-number.input))
+    (g.W.Output.contents c.args.out.now) (g.W.Output.contents c.loop-number.out) c.loop-number.invariant.so_far.obeying
+    c.next_given.new.snapshot (left_of c.next_given.new.unread.items (g.R.LineInput.remaining c.next_given.new.input)) (g.R.LineInput.remaining c.next_given.new.input) c.in-End.ensures.given
 
 pub returns-in-Failed-clause-refused : goal.returns-in-Failed-clause-refused
 returns-in-Failed-clause-refused g c =
-    failed_to_read c.args.self (state_of c.loop-number.run c.loop-number.invariant.so_far.machines) c.loop-number.number (g.R.Read.remaining c.args.input.now) (left_of c.loop-number.unread.items (g.R.Read.remaining c.loop-number.input))
-    (g.W.Write.contents c.args.out.now) (g.W.Write.contents c.loop-number.out) c.loop-number.invariant.so_far.obeying
-    c.next_given.new.snapshot (left_of c.next_given.new.unread.items (g.R.Read.remaining c.next_given.new.input)) (g.R.Read.remaining c.next_given.new.input) c.in-Failed.ensures.given
+    failed_to_read c.args.self (state_of c.loop-number.run c.loop-number.invariant.so_far.machines) c.loop-number.number (g.R.LineInput.remaining c.args.input.now) (left_of c.loop-number.unread.items (g.R.LineInput.remaining c.loop-number.input))
+    (g.W.Output.contents c.args.out.now) (g.W.Output.contents c.loop-number.out) c.loop-number.invariant.so_far.obeying
+    c.next_given.new.snapshot (left_of c.next_given.new.unread.items (g.R.LineInput.remaining c.next_given.new.input)) (g.R.LineInput.remaining c.next_given.new.input) c.in-Failed.ensures.given
 
 pub loop-number-preserved : goal.loop-number-preserved
 loop-number-preserved g c =
@@ -91,12 +93,12 @@ loop-number-preserved g c =
     let now = state_of c.loop-number.run machines in
     let of = c.loop-number.invariant.of in
     let rom = c.args.cartridge.now in
-    let unread = g.R.Read.remaining c.args.input.now in
-    let left = left_of c.loop-number.unread.items (g.R.Read.remaining c.loop-number.input) in
-    let known = g.R.Read.remaining c.next_given.new.input in
+    let unread = g.R.LineInput.remaining c.args.input.now in
+    let left = left_of c.loop-number.unread.items (g.R.LineInput.remaining c.loop-number.input) in
+    let known = g.R.LineInput.remaining c.next_given.new.input in
     let rest = left_of c.next_given.new.unread.items known in
-    let before = g.W.Write.contents c.args.out.now in
-    let since = g.W.Write.contents c.loop-number.out in
+    let before = g.W.Output.contents c.args.out.now in
+    let since = g.W.Output.contents c.loop-number.out in
     let taken = c.next_given.new.snapshot in
     let long : length taken ≡ snapshot_length (ram_length c.loop-number.run) = c.next_given.ensures.room ∙ ap length c.deref_mut.ensures.value ∙ c.loop-number.invariant.room in
     let items = with_items_is c.loop-number.snapshot taken (omega (arith, c.next_given.ensures.room, ap length c.deref_mut.ensures.value, c.loop-number.snapshot.ok)) in
@@ -113,8 +115,8 @@ loop-number-preserved g c =
               machines = machines;
               kept = kept;
               obeying = line_obeyed c.args.self now c.loop-number.number unread left before since so_far w.in-Line.line taken w.answer-answered.result.run rest known
-                  (g.W.Write.contents w.answer-answered.new.out) w.in-Line.ensures.given (ap state_order_of (sym w.as_slice.ensures.value) ∙ sym w.read_state_order.ensures.order ∙ w.in_default.is) moved
-                  (subst (λ (line : List ℕ). Appends since (g.W.Write.contents w.answer-answered.new.out) (answer_line line c.loop-number.number c.loop-number.run)) w.as_slice-in-Line.ensures.value
+                  (g.W.Output.contents w.answer-answered.new.out) w.in-Line.ensures.given (ap state_order_of (sym w.as_slice.ensures.value) ∙ sym w.read_state_order.ensures.order ∙ w.in_default.is) moved
+                  (subst (λ (line : List ℕ). Appends since (g.W.Output.contents w.answer-answered.new.out) (answer_line line c.loop-number.number c.loop-number.run)) w.as_slice-in-Line.ensures.value
                   (on_ok_of written w.is_err.ensures.value w.if-is_err.false w.answer-answered.ensures.ok));
             };
             rom = rom_is c.self.inside.rom rom c.loop-number.run w.answer-answered.result.run c.loop-number.invariant.rom of still;
@@ -133,8 +135,8 @@ loop-number-preserved g c =
               machines = machines;
               kept = kept;
               obeying = state_obeyed c.args.self now c.loop-number.number unread left before since so_far taken w.restore-answered.result.run rest known
-                  (g.W.Write.contents w.restore-answered.new.out) w.in-State.ensures.given moved
-                  (subst (λ (b : List ℕ). Appends since (g.W.Write.contents w.restore-answered.new.out) (answer_restore (length b) b c.loop-number.number c.loop-number.run)) bytes
+                  (g.W.Output.contents w.restore-answered.new.out) w.in-State.ensures.given moved
+                  (subst (λ (b : List ℕ). Appends since (g.W.Output.contents w.restore-answered.new.out) (answer_restore (length b) b c.loop-number.number c.loop-number.run)) bytes
                   (on_ok_of written w.is_err-in-State.ensures.value w.if-is_err-2.false w.restore-answered.ensures.ok));
             };
             rom = rom_is c.self.inside.rom rom c.loop-number.run w.restore-answered.result.run c.loop-number.invariant.rom of w.restore-answered.ensures.of;
@@ -146,7 +148,7 @@ loop-number-preserved g c =
             so_far = record {
               machines = machines;
               kept = kept;
-              obeying = wrong_obeyed c.args.self now c.loop-number.number unread left before since so_far taken rest known (g.W.Write.contents w.write_wrong.new.out)
+              obeying = wrong_obeyed c.args.self now c.loop-number.number unread left before since so_far taken rest known (g.W.Output.contents w.write_wrong.new.out)
                   (room_of (length taken) rom c.loop-number.run long of) w.in-Wrong.ensures.given
                   (on_ok_of w.write_wrong.result w.is_err-in-Wrong.ensures.value w.if-is_err-3.false w.write_wrong.ensures.ok);
             };
@@ -158,15 +160,15 @@ loop-number-preserved g c =
 
 pub returns-clause-answered : goal.returns-clause-answered
 returns-clause-answered g c =
-    all_obeyed c.args.self (state_of c.loop-number.run c.loop-number.invariant.so_far.machines) c.loop-number.number (g.R.Read.remaining c.args.input.now) c.loop-number.unread.items (g.R.Read.remaining c.loop-number.input)
-    (g.W.Write.contents c.args.out.now) (g.W.Write.contents c.loop-number.out) c.loop-number.invariant.so_far.obeying (omega (arith, c.loop-number-test.false, c.loop-number.auto.number-end))
+    all_obeyed c.args.self (state_of c.loop-number.run c.loop-number.invariant.so_far.machines) c.loop-number.number (g.R.LineInput.remaining c.args.input.now) c.loop-number.unread.items (g.R.LineInput.remaining c.loop-number.input)
+    (g.W.Output.contents c.args.out.now) (g.W.Output.contents c.loop-number.out) c.loop-number.invariant.so_far.obeying (omega (arith, c.loop-number-test.false, c.loop-number.auto.number-end))
 
 pub returns-in-Err-clause-refused : goal.returns-in-Err-clause-refused
 returns-in-Err-clause-refused g c =
     let so_far = c.loop-number.invariant.so_far in
-    switch_refused c.args.self (state_of c.loop-number.run so_far.machines) c.loop-number.number (g.R.Read.remaining c.args.input.now) (left_of c.loop-number.unread.items (g.R.Read.remaining c.loop-number.input))
-    (g.W.Write.contents c.args.out.now) (g.W.Write.contents c.loop-number.out) so_far.obeying
-    c.in-Line.line c.next_given.new.snapshot c.in-Some.order c.next_given.new.unread.items (g.R.Read.remaining c.next_given.new.input) (g.W.Write.contents c.switch.new.out) c.in-Err.why c.in-Line.ensures.given
+    switch_refused c.args.self (state_of c.loop-number.run so_far.machines) c.loop-number.number (g.R.LineInput.remaining c.args.input.now) (left_of c.loop-number.unread.items (g.R.LineInput.remaining c.loop-number.input))
+    (g.W.Output.contents c.args.out.now) (g.W.Output.contents c.loop-number.out) so_far.obeying
+    c.in-Line.line c.next_given.new.snapshot c.in-Some.order c.next_given.new.unread.items (g.R.LineInput.remaining c.next_given.new.input) (g.W.Output.contents c.switch.new.out) c.in-Err.why c.in-Line.ensures.given
     (ap state_order_of (sym c.as_slice.ensures.value) ∙ sym c.read_state_order.ensures.order ∙ c.in-Some.is) (c.in-Err.ensures.refused so_far.machines so_far.kept)
 
 pub loop-number-preserved-in-Some : goal.loop-number-preserved-in-Some
@@ -174,16 +176,36 @@ loop-number-preserved-in-Some g c =
     let so_far = c.loop-number.invariant.so_far in
     let of = c.loop-number.invariant.of in
     let rom = c.args.cartridge.now in
-    let known = g.R.Read.remaining c.next_given.new.input in
+    let known = g.R.LineInput.remaining c.next_given.new.input in
     let taken = c.next_given.new.snapshot in
     let long : length taken ≡ snapshot_length (ram_length c.loop-number.run) = c.next_given.ensures.room ∙ ap length c.deref_mut.ensures.value ∙ c.loop-number.invariant.room in
     let items = with_items_is c.loop-number.snapshot taken (omega (arith, c.next_given.ensures.room, ap length c.deref_mut.ensures.value, c.loop-number.snapshot.ok)) in
     record {
-      so_far = switch_obeyed c.args.self (state_of c.loop-number.run so_far.machines) c.loop-number.number (g.R.Read.remaining c.args.input.now)
-          (left_of c.loop-number.unread.items (g.R.Read.remaining c.loop-number.input)) (g.W.Write.contents c.args.out.now) (g.W.Write.contents c.loop-number.out) so_far.obeying rom c.switch.new.kept
-          c.in-Line.line taken c.in-Some.order c.in-Ok.run' (left_of c.next_given.new.unread.items known) known (g.W.Write.contents c.switch.new.out) c.in-Line.ensures.given
+      so_far = switch_obeyed c.args.self (state_of c.loop-number.run so_far.machines) c.loop-number.number (g.R.LineInput.remaining c.args.input.now)
+          (left_of c.loop-number.unread.items (g.R.LineInput.remaining c.loop-number.input)) (g.W.Output.contents c.args.out.now) (g.W.Output.contents c.loop-number.out) so_far.obeying rom c.switch.new.kept
+          c.in-Line.line taken c.in-Some.order c.in-Ok.run' (left_of c.next_given.new.unread.items known) known (g.W.Output.contents c.switch.new.out) c.in-Line.ensures.given
           (ap state_order_of (sym c.as_slice.ensures.value) ∙ sym c.read_state_order.ensures.order ∙ c.in-Some.is) (c.in-Ok.ensures.done so_far.machines so_far.kept);
       rom = rom_is c.self.inside.rom rom c.loop-number.run c.in-Ok.run' c.loop-number.invariant.rom of c.in-Ok.ensures.of;
       of = c.in-Ok.ensures.of;
       room = ap length items ∙ room_is (length taken) rom c.loop-number.run c.in-Ok.run' long of c.in-Ok.ensures.of;
     }
+
+-- ---- a read or a write has failed
+
+pub returns-in-Err-clause-input : goal.returns-in-Err-clause-input
+returns-in-Err-clause-input g c is =
+    let so_far = c.loop-number.invariant.so_far in
+    absurd (subst (λ (why : DebugError). IsNotSwitched why c.in-Some.order c.loop-number.number (state_of c.loop-number.run so_far.machines) (g.W.Output.contents c.loop-number.out) (g.W.Output.contents c.switch.new.out))
+    is (c.in-Err.ensures.refused so_far.machines so_far.kept))
+
+pub returns-then-is_err-clause-output : goal.returns-then-is_err-clause-output
+returns-then-is_err-clause-output g c is = on_err_of c.answer-answered.result.written c.is_err.ensures.value c.if-is_err.true c.answer-answered.ensures.failed
+
+pub returns-then-is_err-2-clause-output : goal.returns-then-is_err-2-clause-output
+returns-then-is_err-2-clause-output g c is = on_err_of c.restore-answered.result.written c.is_err-in-State.ensures.value c.if-is_err-2.true c.restore-answered.ensures.failed
+
+pub returns-then-is_err-3-clause-output : goal.returns-then-is_err-3-clause-output
+returns-then-is_err-3-clause-output g c is = on_err_of c.write_wrong.result c.is_err-in-Wrong.ensures.value c.if-is_err-3.true c.write_wrong.ensures.failed
+
+pub returns-then-is_err-4-clause-output : goal.returns-then-is_err-4-clause-output
+returns-then-is_err-4-clause-output g c is = on_err_of c.write_wrong-in-Last.result c.is_err-in-Last.ensures.value c.if-is_err-4.true c.write_wrong-in-Last.ensures.failed

@@ -10,7 +10,7 @@ use Rattle.debugging.proofs.obeying.LineDebugger.obey.Given as goal
 
 abbrev pub invariant-loop-number : goal.invariant-loop-number
 invariant-loop-number g l = record {
-  so_far : HasObeyed l.cartridge l.kept l.fn.self l.run l.number (g.R.Read.remaining l.fn.input) (left_of l.unread.items (g.R.Read.remaining l.input)) (g.W.Write.contents l.fn.out) (g.W.Write.contents l.out);
+  so_far : HasObeyed l.cartridge l.kept l.fn.self l.run l.number (g.R.LineInput.remaining l.fn.input) (left_of l.unread.items (g.R.LineInput.remaining l.input)) (g.W.Output.contents l.fn.out) (g.W.Output.contents l.out);
   rom : HasRom l.rom (processor_of l.run).memory;
   of : IsOfImage l.cartridge l.run.debugger.machine;
   room : length l.snapshot.items ≡ snapshot_length (ram_length l.run);
