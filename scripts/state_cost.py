@@ -65,12 +65,12 @@ def time_of_saves(game, call):
     return 1e6 * statistics.median(times)
 
 
-def tell_moment(machine):
-    machine.given_until, shades = 0, machine.picture().shades
+def tell_moment(game):
+    game.given_until, shades = 0, game.picture().shades
     times = []
     for _ in range(TIMES):
         start = time.perf_counter()
-        moment = Moment(machine, shades)
+        moment = Moment(game, shades)
         times.append(time.perf_counter() - start)
     print(f'a moment of the window: {1e6 * statistics.median(times):.0f} us, {len(moment.packed):,} bytes')
 
@@ -82,9 +82,9 @@ def main():
     with tempfile.TemporaryDirectory(prefix='states-', dir=os.path.realpath('.')) as folder:
         with DebugMachine(CART, program=program) as machine:
             tell_rates('DebugMachine', began(machine))
-            tell_moment(machine)
         with Game(CART, Path(folder) / 'game.gbkeep', program) as game:
             tell_rates('Game', began(game))
+            tell_moment(game)
             game.save()
             one = time_of_saves(game, lambda: game.frame(A))
 
