@@ -62,14 +62,14 @@ class Room:
 
 # ---- calls
 
-def strace(room):
+def strace(room, *of):
     names = ','.join(READS + WRITES + SYNCS)
-    return ['strace', '-f', '-qq', '-s', '0', '-P', room.save, '-e', 'trace=' + names, '-o', room.trace]
+    return ['strace', '-f', '-qq', '-s', '0', *(of or ('-P', room.save)), '-e', 'trace=' + names, '-o', room.trace]
 
 
-def traced(room):
-    """The names and answers of the calls of the last trace, in order."""
-    found = [(row, CALL.match(row)) for row in open(room.trace)]
+def traced(room, name=''):
+    """The names and answers of the calls of the last trace, in order: those of a file whose name has this in it."""
+    found = [(row, CALL.match(row)) for row in open(room.trace) if name in row]
     for row, call in found:
         if not call:
             sys.exit('a call that failed, or that strace did not print whole: ' + row)
@@ -104,8 +104,9 @@ def print_calls(what, counts):
 
 
 def count_calls(room):
-    room.new('188', under=strace(room))
-    made, begun = parted(traced(room))
+    # a new game has another name until it is whole
+    room.new('188', under=strace(room, '-y'))
+    made, begun = parted(traced(room, '.part>'))
     print_calls('new on 188 sectors, its file', counted(made))
     print_calls('new on 188 sectors, its game', counted(begun))
     subprocess.run([*strace(room), *room.play(b'')], check=True, capture_output=True)
