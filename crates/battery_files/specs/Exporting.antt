@@ -1,5 +1,5 @@
 -- What `export_battery` gives, and when it refuses.
-use Rattle.std.specs.Prelude.{◌≡◌, ℕ, List, true, false, Some, Result, Ok, Err, ⊤}
+use Rattle.std.specs.Prelude.{◌≡◌, ◌≢◌, ℕ, List, true, false, Some, Result, Ok, Err, ⊤}
 use Rattle.cartridge.specs.Accepted.{IsAccepted, refusal_of}
 use Rattle.machine.specs.Machine.{MachineState}
 use Rattle.sector_device.specs.DiskState.{DiskState}
@@ -7,6 +7,7 @@ use Rattle.log_format.specs.Content.{content}
 use Rattle.session.specs.Calls.{faults_after}
 use Rattle.session.specs.Found.{IsLookCause}
 use Rattle.session.specs.Stands.{stands}
+use Rattle.session.specs.declared.error.SessionError.TheVariants.{Output}
 use Rattle.cartridge.specs.Header.{has_battery}
 use Rattle.battery_files.specs.Battery.{battery_of}
 use Rattle.battery_files.specs.declared.error.ExportError.{ExportError}
@@ -25,7 +26,8 @@ pub record IsExported (rom : List ℕ) (image : List (List ℕ)) (count : ℕ) (
 abbrev pub IsExportCause : (rom : List ℕ) → DiskState → ExportError → Type 0
 IsExportCause rom old (Cart fault) = refusal_of rom ≡ Some fault
 IsExportCause rom old NoBattery = IsAccepted rom × (has_battery rom ≡ false)
-IsExportCause rom old (Session why) = IsAccepted rom × (has_battery rom ≡ true) × (old.honest → IsLookCause rom (content old.sectors) why)
+IsExportCause rom old (Session why) =
+    IsAccepted rom × (has_battery rom ≡ true) × (old.honest → IsLookCause rom (content old.sectors) why) × (why ≢ Output)
 
 -- what is wrong with the cartridge is told before the device is touched
 abbrev pub IsUntouchedBy : {D : Type 0} → ExportError → (old now : D) → Type 0

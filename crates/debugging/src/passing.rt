@@ -16,7 +16,6 @@ use crate::order::{Place, Span};
 use crate::probe::{
     COPIED, DMA, copied_of, holds, indirect, instruction_reads, is_in, operand_reads,
 };
-use crate::run::Aim;
 use machine::{Processor, Watch};
 use memory_map::Bus;
 use opcode_table::{Instr, decode};
@@ -73,20 +72,89 @@ const ACCESSES: [bool; 256] = [
     true, true, true, false, false, true, false, true, false, false, true, false, false, false, false, true,
 ];
 
-impl Watch for Aim {
-    ghost use Rattle.debugging.specs.Quiet.{is_aim};
+/// A watch for one of these places, in whichever bank.
+#[derive(Clone, Copy)]
+pub(crate) struct PlaceWatch<'a> {
+    pub(crate) places: &'a [Place],
+}
 
-    ghost passes = { λ aim p. is_aim aim p ≡ false };
+/// A watch for an instruction with this opcode.
+#[derive(Clone, Copy)]
+pub(crate) struct OpcodeWatch {
+    pub(crate) opcode: u8,
+}
+
+/// A watch for another byte than this at an address.
+#[derive(Clone, Copy)]
+pub(crate) struct ChangeWatch {
+    pub(crate) address: u16,
+    pub(crate) byte: u8,
+}
+
+/// A watch for a step that writes one of these addresses.
+#[derive(Clone, Copy)]
+pub(crate) struct WriteWatch {
+    pub(crate) span: Span,
+}
+
+/// A watch for a step that reads one of these addresses.
+#[derive(Clone, Copy)]
+pub(crate) struct ReadWatch {
+    pub(crate) span: Span,
+}
+
+impl<'a> Watch for PlaceWatch<'a> {
+    ghost use Rattle.debugging.specs.Run.{is_at};
+
+    ghost passes = { λ watch p. is_at watch.places.now p ≡ false };
 
     #[inline(always)]
     fn may_end(&self, processor: &Processor<Bus>) -> bool {
-        match self {
-            Aim::Places(places) => may_be_at(places.as_slice(), processor),
-            Aim::Opcode(opcode) => will_run(*opcode, processor),
-            Aim::Changed(address, byte) => processor.memory.peek(*address) != *byte,
-            Aim::Writes(span) => may_write(processor, *span),
-            Aim::Reads(span) => may_read(processor, *span),
-        }
+        may_be_at(self.places, processor)
+    }
+}
+
+impl Watch for OpcodeWatch {
+    ghost use Rattle.debugging.specs.Run.{is_before};
+
+    ghost passes = { λ watch p. is_before watch.opcode p ≡ false };
+
+    #[inline(always)]
+    fn may_end(&self, processor: &Processor<Bus>) -> bool {
+        will_run(self.opcode, processor)
+    }
+}
+
+impl Watch for ChangeWatch {
+    ghost use Rattle.debugging.specs.Run.{is_changed};
+
+    ghost passes = { λ watch p. is_changed watch.address watch.byte p ≡ false };
+
+    #[inline(always)]
+    fn may_end(&self, processor: &Processor<Bus>) -> bool {
+        processor.memory.peek(self.address) != self.byte
+    }
+}
+
+impl Watch for WriteWatch {
+    ghost use Rattle.debugging.specs.Accesses.{is_writing};
+
+    ghost passes = { λ watch p. is_writing watch.span p ≡ false };
+
+    #[inline(always)]
+    fn may_end(&self, processor: &Processor<Bus>) -> bool {
+        may_write(processor, &self.span)
+    }
+}
+
+impl Watch for ReadWatch {
+    ghost use Rattle.debugging.specs.Accesses.{is_reading};
+
+    ghost passes = { λ watch p. is_reading watch.span p ≡ false };
+
+    #[inline(always)]
+    fn may_end(&self, processor: &Processor<Bus>) -> bool {
+        may_read(processor, &self.span)
     }
 }
 
@@ -117,9 +185,9 @@ fn is_copying(bus: &Bus) -> bool
 
 /// Whether the next step, which is fast, may write one of these addresses. A running copy to OAM is not looked at further.
 #[inline(always)]
-fn may_write(processor: &Processor<Bus>, span: Span) -> bool
+fn may_write(processor: &Processor<Bus>, span: &Span) -> bool
     requires { IsFast bus_rules processor.now }
-    ensures { result ≡ false → is_writing span processor.now ≡ false }
+    ensures { result ≡ false → is_writing span.now processor.now ≡ false }
 {
     if is_copying(&processor.memory) {
         return true;
@@ -136,9 +204,9 @@ fn may_write(processor: &Processor<Bus>, span: Span) -> bool
 
 /// Whether the next step, which is fast, may read one of these addresses. A running copy to OAM is not looked at further.
 #[inline(always)]
-fn may_read(processor: &Processor<Bus>, span: Span) -> bool
+fn may_read(processor: &Processor<Bus>, span: &Span) -> bool
     requires { IsFast bus_rules processor.now }
-    ensures { result ≡ false → is_reading span processor.now ≡ false }
+    ensures { result ≡ false → is_reading span.now processor.now ≡ false }
 {
     if is_copying(&processor.memory) {
         return true;
@@ -155,38 +223,38 @@ fn may_read(processor: &Processor<Bus>, span: Span) -> bool
 
 /// Whether the next instruction, of a step that is fast, writes one of these addresses, or begins a copy to OAM.
 #[inline(never)]
-fn writes_next(processor: &Processor<Bus>, span: Span) -> bool
+fn writes_next(processor: &Processor<Bus>, span: &Span) -> bool
     requires { IsFast bus_rules processor.now }
     ensures begins { result ≡ false →
         list_any (is_in only_dma)
         (instruction_writes (decoded_at bus_rules processor.now).instr processor.now.registers) ≡ false }
     ensures writes { result ≡ false →
-        list_any (is_in span) (instruction_writes (decoded_at bus_rules processor.now).instr processor.now.registers) ≡
+        list_any (is_in span.now) (instruction_writes (decoded_at bus_rules processor.now).instr processor.now.registers) ≡
         false }
 {
     let instr = next_instruction(processor);
     if begins_copy(instr, &processor.registers) {
         return true;
     }
-    instruction_writes(instr, &processor.registers, span)
+    instruction_writes(instr, &processor.registers, *span)
 }
 
 /// Whether the next instruction, of a step that is fast, reads one of these addresses, or begins a copy to OAM.
 #[inline(never)]
-fn reads_next(processor: &Processor<Bus>, span: Span) -> bool
+fn reads_next(processor: &Processor<Bus>, span: &Span) -> bool
     requires { IsFast bus_rules processor.now }
     ensures begins { result ≡ false →
         list_any (is_in only_dma)
         (instruction_writes (decoded_at bus_rules processor.now).instr processor.now.registers) ≡ false }
     ensures reads { result ≡ false →
-        list_any (is_in span) (instruction_reads (decoded_at bus_rules processor.now).instr processor.now.registers) ≡
+        list_any (is_in span.now) (instruction_reads (decoded_at bus_rules processor.now).instr processor.now.registers) ≡
         false }
 {
     let instr = next_instruction(processor);
     if begins_copy(instr, &processor.registers) {
         return true;
     }
-    instruction_reads(instr, &processor.registers, span)
+    instruction_reads(instr, &processor.registers, *span)
 }
 
 /// The instruction of the next step, which is fast.

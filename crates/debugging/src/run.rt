@@ -16,6 +16,7 @@ ghost use Rattle.debugging.specs.Quiet.{HasRom, IsQuietFor, Makes, MakesIn, Stop
 
 use crate::banks::bank_at;
 use crate::order::{Place, Span};
+use crate::passing::{ChangeWatch, OpcodeWatch, PlaceWatch, ReadWatch, WriteWatch};
 use crate::probe::{is_reading, is_writing};
 use crate::registers::{RegisterValue, with_register};
 use arrayvec::ArrayVec;
@@ -516,11 +517,28 @@ fn step_on(debugger: &mut Debugger, room: &mut RunRoom, aim: &Aim, limit: u32) -
     ensures made { MakesIn (is_aim aim.now) result debugger.old debugger.new }
     ensures most { result ≤ limit }
 {
-    if debugger.machine().is_fast() {
-        return debugger.run_watching(room, aim, limit);
+    if !debugger.machine().is_fast() {
+        let _ = debugger.step();
+        return 1;
     }
-    let _ = debugger.step();
-    1
+    match aim {
+        Aim::Places(places) => {
+            let watch = PlaceWatch {
+                places: places.as_slice(),
+            };
+            debugger.run_watching(room, &watch, limit)
+        }
+        Aim::Opcode(opcode) => debugger.run_watching(room, &OpcodeWatch { opcode: *opcode }, limit),
+        Aim::Changed(address, byte) => {
+            let watch = ChangeWatch {
+                address: *address,
+                byte: *byte,
+            };
+            debugger.run_watching(room, &watch, limit)
+        }
+        Aim::Writes(span) => debugger.run_watching(room, &WriteWatch { span: *span }, limit),
+        Aim::Reads(span) => debugger.run_watching(room, &ReadWatch { span: *span }, limit),
+    }
 }
 
 /// For how many steps no transfer can end, 170 at most: each takes six M-cycles at most.

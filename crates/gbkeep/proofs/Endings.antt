@@ -9,7 +9,7 @@ use Rattle.gbkeep.specs.declared.fault.Fault.{Fault}
 use Rattle.gbkeep.specs.declared.fault.Fault.TheVariants.{Cart, Memory, File, Output, Address, Word, Device, Script, Session, Line, Input, Snapshot, Recording, Behind, Ahead, Differ, RecordedGame, TestFailed, TestUndecided, NoBattery, BatteryLength}
 use Rattle.gbkeep.specs.Text.{Exchange, Text, IsUnread, IsUnwritten}
 use Rattle.gbkeep.specs.Request.{GivesInputs, HasAddress, HasDevice, HasScript, IsCompared, IsGameRefused, IsRecordingRefused, IsTestDecided, IsWithoutBattery, IsOtherLength}
-use Rattle.gbkeep.specs.Program.{HasEnded, HasLine, IsDebugRefused, IsRecordRefused, IsRefused, IsRefusedReading, IsStreamRefused, line_of, status_of}
+use Rattle.gbkeep.specs.Program.{HasEnded, HasLine, IsDebugRefused, IsRecordRefused, IsRefused, IsRefusedReading, IsStreamRefused, IsTrueOf, line_of, status_of}
 
 -- what never holds of a listing holds only of requests without an address
 elsewhere : (P : Request → Type 0) → ((cart address : Bor (List ℕ)) (count : ℕ) → P (Listing cart address count) → ⊥) → (request : Request) → P request → HasAddress request
@@ -31,11 +31,15 @@ elsewhere P never (Export cart save out) p = tt
 elsewhere P never (Import cart battery save sectors) p = tt
 elsewhere P never (Debug cart save) p = tt
 
-refused_by : (request : Request) (fault : Fault) (run : Exchange) → status_of fault ≡ 1 → HasAddress request → IsRefusedReading request fault run.input run.output → HasLine (line_of fault) run.errors.before run.errors.since
+-- its line, and what it tells as failed has failed
+abbrev Told : Request → Fault → Exchange → Type 0
+Told request fault run = HasLine (line_of fault) run.errors.before run.errors.since × IsTrueOf (Ok (Command request)) fault run
+
+refused_by : (request : Request) (fault : Fault) (run : Exchange) → status_of fault ≡ 1 → HasAddress request → IsRefusedReading request fault run.input run.output → Told request fault run
     → HasEnded (Ok (Command request)) run 1
-refused_by request fault run is address why line = record {
+refused_by request fault run is address why told = record {
   done = λ zero. absurd (cc);
-  refused = λ one. (fault, is, why, line);
+  refused = λ one. (fault, is, why, told.0, told.1);
   misuse = (λ two. absurd (cc), λ none. absurd (none address));
   misused = λ two. absurd (cc);
   bound = omega arith;
@@ -53,28 +57,28 @@ misused_by request run none unread unwritten line = record {
 
 -- a request that reads no input
 unread_by : (request : Request) (fault : Fault) (run : Exchange) → IsUnread run.input → IsRefused request fault run.output.before run.output.since → IsRefusedReading request fault run.input run.output
-    → HasLine (line_of fault) run.errors.before run.errors.since → HasEnded (Ok (Command request)) run (status_of fault)
-unread_by request (Cart fault) run unread is why line = refused_by request (Cart fault) run refl is.0 why line
-unread_by request Memory run unread is why line = refused_by request Memory run refl is.0 why line
-unread_by request File run unread is why line = refused_by request File run refl is.0 why line
-unread_by request Output run unread is why line = refused_by request Output run refl is.0 why line
-unread_by request Address run unread is why line = misused_by request run is.0 unread is.1 line
-unread_by request Word run unread is why line = absurd is
-unread_by request (Device fault) run unread is why line = refused_by request (Device fault) run refl (elsewhere (λ r. HasDevice r) (λ cart address count no. no) request is.0) why line
-unread_by request (Script fault) run unread is why line = refused_by request (Script fault) run refl (elsewhere (λ r. HasScript r) (λ cart address count no. no) request is.0) why line
-unread_by request (Session fault) run unread is why line = refused_by request (Session fault) run refl (elsewhere (λ r. IsGameRefused r fault run.output.before run.output.since) (λ cart address count no. no) request is) why line
-unread_by request (Line number) run unread is why line = absurd is
-unread_by request Input run unread is why line = absurd is
-unread_by request Snapshot run unread is why line = absurd is
-unread_by request (Recording fault) run unread is why line = refused_by request (Recording fault) run refl (elsewhere (λ r. IsRecordingRefused r fault run.output.before run.output.since) (λ cart address count no. no) request is) why line
-unread_by request (Behind count) run unread is why line = refused_by request (Behind count) run refl (elsewhere (λ r. IsCompared r (RecordingBehind count) run.output.before run.output.since) (λ cart address count no. no) request is) why line
-unread_by request (Ahead count) run unread is why line = absurd is
-unread_by request Differ run unread is why line = refused_by request Differ run refl (elsewhere (λ r. IsCompared r MachinesDiffer run.output.before run.output.since) (λ cart address count no. no) request is) why line
-unread_by request RecordedGame run unread is why line = refused_by request RecordedGame run refl (elsewhere (λ r. GivesInputs r) (λ cart address count no. no) request is.0) why line
-unread_by request TestFailed run unread is why line = refused_by request TestFailed run refl (elsewhere (λ r. IsTestDecided r Failed run.output.before run.output.since) (λ cart address count no. no) request is) why line
-unread_by request TestUndecided run unread is why line = refused_by request TestUndecided run refl (elsewhere (λ r. IsTestDecided r Undecided run.output.before run.output.since) (λ cart address count no. no) request is) why line
-unread_by request NoBattery run unread is why line = refused_by request NoBattery run refl (elsewhere (λ r. IsWithoutBattery r run.output.before run.output.since) (λ cart address count no. no) request is) why line
-unread_by request (BatteryLength found needed) run unread is why line = refused_by request (BatteryLength found needed) run refl (elsewhere (λ r. IsOtherLength r found needed run.output.before run.output.since) (λ cart address count no. no) request is) why line
+    → Told request fault run → HasEnded (Ok (Command request)) run (status_of fault)
+unread_by request (Cart fault) run unread is why told = refused_by request (Cart fault) run refl is.0 why told
+unread_by request Memory run unread is why told = refused_by request Memory run refl is.0 why told
+unread_by request File run unread is why told = refused_by request File run refl is.0 why told
+unread_by request Output run unread is why told = refused_by request Output run refl is.0 why told
+unread_by request Address run unread is why told = misused_by request run is.0 unread is.1 told.0
+unread_by request Word run unread is why told = absurd is
+unread_by request (Device fault) run unread is why told = refused_by request (Device fault) run refl (elsewhere (λ r. HasDevice r) (λ cart address count no. no) request is.0) why told
+unread_by request (Script fault) run unread is why told = refused_by request (Script fault) run refl (elsewhere (λ r. HasScript r) (λ cart address count no. no) request is.0) why told
+unread_by request (Session fault) run unread is why told = refused_by request (Session fault) run refl (elsewhere (λ r. IsGameRefused r fault run.output.before run.output.since) (λ cart address count no. no) request is) why told
+unread_by request (Line number) run unread is why told = absurd is
+unread_by request Input run unread is why told = absurd is
+unread_by request Snapshot run unread is why told = absurd is
+unread_by request (Recording fault) run unread is why told = refused_by request (Recording fault) run refl (elsewhere (λ r. IsRecordingRefused r fault run.output.before run.output.since) (λ cart address count no. no) request is) why told
+unread_by request (Behind count) run unread is why told = refused_by request (Behind count) run refl (elsewhere (λ r. IsCompared r (RecordingBehind count) run.output.before run.output.since) (λ cart address count no. no) request is) why told
+unread_by request (Ahead count) run unread is why told = absurd is
+unread_by request Differ run unread is why told = refused_by request Differ run refl (elsewhere (λ r. IsCompared r MachinesDiffer run.output.before run.output.since) (λ cart address count no. no) request is) why told
+unread_by request RecordedGame run unread is why told = refused_by request RecordedGame run refl (elsewhere (λ r. GivesInputs r) (λ cart address count no. no) request is.0) why told
+unread_by request TestFailed run unread is why told = refused_by request TestFailed run refl (elsewhere (λ r. IsTestDecided r Failed run.output.before run.output.since) (λ cart address count no. no) request is) why told
+unread_by request TestUndecided run unread is why told = refused_by request TestUndecided run refl (elsewhere (λ r. IsTestDecided r Undecided run.output.before run.output.since) (λ cart address count no. no) request is) why told
+unread_by request NoBattery run unread is why told = refused_by request NoBattery run refl (elsewhere (λ r. IsWithoutBattery r run.output.before run.output.since) (λ cart address count no. no) request is) why told
+unread_by request (BatteryLength found needed) run unread is why told = refused_by request (BatteryLength found needed) run refl (elsewhere (λ r. IsOtherLength r found needed run.output.before run.output.since) (λ cart address count no. no) request is) why told
 
 stream_status : (fault : Fault) (input output : Text) → IsStreamRefused fault input output → status_of fault ≡ 1
 stream_status (Cart fault) input output is = refl
@@ -145,28 +149,27 @@ debug_status save TestUndecided input output is = absurd is
 debug_status save NoBattery input output is = absurd is
 debug_status save (BatteryLength found needed) input output is = absurd is
 
-pub refused_ends : (request : Request) (fault : Fault) (run : Exchange) → IsRefusedReading request fault run.input run.output → HasLine (line_of fault) run.errors.before run.errors.since
-    → HasEnded (Ok (Command request)) run (status_of fault)
-refused_ends (Info cart) fault run why line = unread_by (Info cart) fault run why.0 why.1 why line
-refused_ends (Listing cart address count) fault run why line = unread_by (Listing cart address count) fault run why.0 why.1 why line
-refused_ends (Step cart count) fault run why line = unread_by (Step cart count) fault run why.0 why.1 why line
-refused_ends (New cart save sectors) fault run why line = unread_by (New cart save sectors) fault run why.0 why.1 why line
-refused_ends (Play cart save script) fault run why line = unread_by (Play cart save script) fault run why.0 why.1 why line
-refused_ends (Frame cart save out) fault run why line = unread_by (Frame cart save out) fault run why.0 why.1 why line
-refused_ends (Trace cart save count) fault run why line = unread_by (Trace cart save count) fault run why.0 why.1 why line
-refused_ends (Stream cart save) fault run why line =
+pub refused_ends : (request : Request) (fault : Fault) (run : Exchange) → IsRefusedReading request fault run.input run.output → Told request fault run → HasEnded (Ok (Command request)) run (status_of fault)
+refused_ends (Info cart) fault run why told = unread_by (Info cart) fault run why.0 why.1 why told
+refused_ends (Listing cart address count) fault run why told = unread_by (Listing cart address count) fault run why.0 why.1 why told
+refused_ends (Step cart count) fault run why told = unread_by (Step cart count) fault run why.0 why.1 why told
+refused_ends (New cart save sectors) fault run why told = unread_by (New cart save sectors) fault run why.0 why.1 why told
+refused_ends (Play cart save script) fault run why told = unread_by (Play cart save script) fault run why.0 why.1 why told
+refused_ends (Frame cart save out) fault run why told = unread_by (Frame cart save out) fault run why.0 why.1 why told
+refused_ends (Trace cart save count) fault run why told = unread_by (Trace cart save count) fault run why.0 why.1 why told
+refused_ends (Stream cart save) fault run why told =
     let is = stream_status fault run.input run.output why in
-    subst (λ (status : ℕ). HasEnded (Ok (Command (Stream cart save))) run status) (sym is) (refused_by (Stream cart save) fault run is tt why line)
-refused_ends (NewRecording cart recording sectors) fault run why line = unread_by (NewRecording cart recording sectors) fault run why.0 why.1 why line
-refused_ends (Record cart save recording) fault run why line =
+    subst (λ (status : ℕ). HasEnded (Ok (Command (Stream cart save))) run status) (sym is) (refused_by (Stream cart save) fault run is tt why told)
+refused_ends (NewRecording cart recording sectors) fault run why told = unread_by (NewRecording cart recording sectors) fault run why.0 why.1 why told
+refused_ends (Record cart save recording) fault run why told =
     let is = record_status fault run.input run.output why in
-    subst (λ (status : ℕ). HasEnded (Ok (Command (Record cart save recording))) run status) (sym is) (refused_by (Record cart save recording) fault run is tt why line)
-refused_ends (Recorded cart recording) fault run why line = unread_by (Recorded cart recording) fault run why.0 why.1 why line
-refused_ends (Verify cart save recording) fault run why line = unread_by (Verify cart save recording) fault run why.0 why.1 why line
-refused_ends (Test cart frames script) fault run why line = unread_by (Test cart frames script) fault run why.0 why.1 why line
-refused_ends (Show cart save) fault run why line = unread_by (Show cart save) fault run why.0 why.1 why line
-refused_ends (Export cart save out) fault run why line = unread_by (Export cart save out) fault run why.0 why.1 why line
-refused_ends (Import cart battery save sectors) fault run why line = unread_by (Import cart battery save sectors) fault run why.0 why.1 why line
-refused_ends (Debug cart save) fault run why line =
+    subst (λ (status : ℕ). HasEnded (Ok (Command (Record cart save recording))) run status) (sym is) (refused_by (Record cart save recording) fault run is tt why told)
+refused_ends (Recorded cart recording) fault run why told = unread_by (Recorded cart recording) fault run why.0 why.1 why told
+refused_ends (Verify cart save recording) fault run why told = unread_by (Verify cart save recording) fault run why.0 why.1 why told
+refused_ends (Test cart frames script) fault run why told = unread_by (Test cart frames script) fault run why.0 why.1 why told
+refused_ends (Show cart save) fault run why told = unread_by (Show cart save) fault run why.0 why.1 why told
+refused_ends (Export cart save out) fault run why told = unread_by (Export cart save out) fault run why.0 why.1 why told
+refused_ends (Import cart battery save sectors) fault run why told = unread_by (Import cart battery save sectors) fault run why.0 why.1 why told
+refused_ends (Debug cart save) fault run why told =
     let is = debug_status save fault run.input run.output why in
-    subst (λ (status : ℕ). HasEnded (Ok (Command (Debug cart save))) run status) (sym is) (refused_by (Debug cart save) fault run is tt why line)
+    subst (λ (status : ℕ). HasEnded (Ok (Command (Debug cart save))) run status) (sym is) (refused_by (Debug cart save) fault run is tt why told)

@@ -7,9 +7,7 @@ pub mod RecordTexts
 pub mod BatteryTexts
 pub mod DebugTexts
 pub mod Endings
-pub mod TestTexts
 pub mod BegunTexts
 pub mod FileTexts
-pub mod Failures
 pub mod LoopSteps
 pub mod Serving

@@ -4,7 +4,7 @@ use Rattle.cartridge.specs.Accepted.{IsAccepted}
 use Rattle.sector_device.specs.DiskState.{DiskState}
 use Rattle.sector_device.specs.FileDevice.{file_disk}
 use Rattle.sector_device.specs.declared.file.FileDevice.{FileDevice}
-use Rattle.replaying.specs.Verifying.{IsVerifyCause}
+use Rattle.replaying.specs.Verifying.{IsOfVerifying, IsVerifyCause}
 use Rattle.replaying.specs.declared.error.VerifyError.{VerifyError}
 use Rattle.replaying.specs.declared.error.VerifyError.TheVariants.{Save, Recording as Taped, Behind as IsBehind, Ahead as IsAhead, Memory as Lacked, Differ as Differing}
 use Rattle.recording_lines.specs.declared.error.VerifyLineError.TheVariants.{Verify as Compared}
@@ -37,13 +37,13 @@ module _ (rom : List ℕ) (accepted : IsAccepted rom) (save now_save recording n
 
 -- why a recording is not taken for that of a game
 pub not_of : (rom : List ℕ) (game tape : DiskState) (why : VerifyError)
-    → (game.honest → tape.honest → IsVerifyCause (Some record_limits) rom game tape why) → IsNotOf rom game tape (fault_of_verifying (Compared why))
-not_of rom game tape (Save why) cause = cause
-not_of rom game tape (Taped why) cause = cause
-not_of rom game tape (IsBehind count) cause = cause
-not_of rom game tape (IsAhead count) cause = cause
-not_of rom game tape Lacked cause = tt
-not_of rom game tape Differing cause = cause
+    → (game.honest → tape.honest → IsVerifyCause (Some record_limits) rom game tape why) → IsOfVerifying (Some record_limits) why → IsNotOf rom game tape (fault_of_verifying (Compared why))
+not_of rom game tape (Save why) cause kind = (cause, kind)
+not_of rom game tape (Taped why) cause kind = cause
+not_of rom game tape (IsBehind count) cause kind = cause
+not_of rom game tape (IsAhead count) cause kind = cause
+not_of rom game tape Lacked cause kind = tt
+not_of rom game tape Differing cause kind = cause
 
 module _ (rom : List ℕ) (accepted : IsAccepted rom) (game tape : FileDevice) (input output : Option (List ℕ)) where
   unbegun : (why : VerifyError) → ((file_disk game).honest → (file_disk tape).honest → IsVerifyCause (Some record_limits) rom (file_disk game) (file_disk tape) why)
@@ -53,7 +53,7 @@ module _ (rom : List ℕ) (accepted : IsAccepted rom) (game tape : FileDevice) (
   -- a game that was not taken up, since its recording is not its own
   pub not_belonging : (fault : Fault) → IsNotOf rom (file_disk game) (file_disk tape) fault
       → IsRecordRefused fault (record { before = input; since = input }) (record { before = output; since = output })
-  not_belonging (ASession why) cause = inr (unbegun (Save why) cause)
+  not_belonging (ASession why) cause = inr (unbegun (Save why) cause.0)
   not_belonging (ARecording why) cause = inr (unbegun (Taped why) cause)
   not_belonging (ABehind count) cause = inr (unbegun (IsBehind count) cause)
   not_belonging (AnAhead count) cause = unbegun (IsAhead count) cause

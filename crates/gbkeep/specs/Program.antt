@@ -202,7 +202,7 @@ IsPairFault fault = ⊥
 -- why a recording is not taken for that of a game
 abbrev pub IsNotOf : (rom : List ℕ) → (game tape : DiskState) → Fault → Type 0
 IsNotOf rom game tape Memory = ⊤
-IsNotOf rom game tape (Session why) = game.honest → tape.honest → IsVerifyCause (Some record_limits) rom game tape (NoSave why)
+IsNotOf rom game tape (Session why) = (game.honest → tape.honest → IsVerifyCause (Some record_limits) rom game tape (NoSave why)) × (why ≢ GameOutput)
 IsNotOf rom game tape (Recording why) = game.honest → tape.honest → IsVerifyCause (Some record_limits) rom game tape (NoRecording why)
 IsNotOf rom game tape (Behind count) = game.honest → tape.honest → IsVerifyCause (Some record_limits) rom game tape (RecordingBehind count)
 IsNotOf rom game tape (Ahead count) = game.honest → tape.honest → IsVerifyCause (Some record_limits) rom game tape (RecordingAhead count)
@@ -268,6 +268,17 @@ HasWarned true errors = HasLine (Some warning_line) errors.before errors.since
 -- where words are not understood, nothing goes to the output
 abbrev pub KeepsAtMisuse : Option (List ℕ) → Option (List ℕ) → ℕ → Type 0
 KeepsAtMisuse old new status = status ≡ 2 → Keeps old new
+
+-- a fault that is told as `output failed`
+abbrev pub IsOutputFault : Fault → Type 0
+IsOutputFault Output = ⊤
+IsOutputFault (Session GameOutput) = ⊤
+IsOutputFault fault = ⊥
+
+-- one that says so of the output, not of a file that a picture is written to
+abbrev pub TellsOutput : Request → Fault → Type 0
+TellsOutput (Frame cart save out) Output = ⊥
+TellsOutput request fault = IsOutputFault fault
 
 -- why a request was refused, and what went out then
 abbrev pub IsRefused : Request → Fault → Option (List ℕ) → Option (List ℕ) → Type 0
@@ -442,6 +453,12 @@ IsFaultOf (Ok (Help text)) fault input output = IsUnread input × (fault ≡ Out
 IsFaultOf (Err why) fault input output = IsUnread input × (fault ≡ why) × IsUnwritten output
 IsFaultOf asked fault input output = ⊥
 
+-- what it tells as failed has failed
+abbrev pub IsTrueOf : Result Asked Fault → Fault → Exchange → Type 0
+IsTrueOf (Ok (Command request)) fault run = (TellsOutput request fault → run.output_failed ≡ true) × (fault ≡ Input → run.input_failed ≡ true)
+IsTrueOf (Ok (Help text)) fault run = run.output_failed ≡ true
+IsTrueOf asked fault run = ⊤
+
 -- the line where the words are not understood; None where `clap` gives the text
 abbrev pub misuse_line : Result Asked Fault → Option (List ℕ)
 misuse_line (Ok (Command request)) = line_of Address
@@ -453,6 +470,7 @@ pub record HasEnded (asked : Result Asked Fault) (run : Exchange) (status : ℕ)
   pub done : status ≡ 0 → IsFulfilled asked run.input run.output × IsWarned asked run.errors
   pub refused : status ≡ 1 →
       (fault : Fault) × (status_of fault ≡ 1) × IsFaultOf asked fault run.input run.output × HasLine (line_of fault) run.errors.before run.errors.since
+      × IsTrueOf asked fault run
   pub misuse : (status ≡ 2) ↔ IsMisuse asked
   pub misused : status ≡ 2 → IsUnread run.input × IsUnwritten run.output × HasLine (misuse_line asked) run.errors.before run.errors.since
   pub bound : status ≤ 2

@@ -1,5 +1,5 @@
 -- What a call reads and writes, and the device that it is on.
-use Rattle.std.specs.Prelude.{◌≡◌, ℕ, List, Option}
+use Rattle.std.specs.Prelude.{◌≡◌, ℕ, List, Option, Bool}
 use Rattle.std.specs.Io.KnownBytes.{Keeps}
 use Rattle.sector_device.specs.DiskState.{DiskState}
 
@@ -27,3 +27,6 @@ pub record Exchange : Type 0 where
   pub input : Text
   pub output : Text
   pub errors : Text
+  -- whether a read of the input, and a write to the output, has failed by the end
+  pub input_failed : Bool
+  pub output_failed : Bool

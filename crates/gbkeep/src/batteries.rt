@@ -8,7 +8,7 @@ ghost use Rattle.cartridge.specs.Header.{ram_length_of};
 ghost use Rattle.snapshot.specs.Encoding.{snapshot_length};
 ghost use Rattle.session.specs.Accessors.{device_of};
 ghost use Rattle.session.specs.Found.{IsNewGameCause};
-ghost use Rattle.gbkeep.specs.Program.{IsBatteryFault, IsServed};
+ghost use Rattle.gbkeep.specs.Program.{IsBatteryFault, IsOutputFault, IsServed};
 ghost use Rattle.gbkeep.specs.Request.{IsBatteryTaken, IsImported, exported_line};
 
 use crate::begun::tell_begun;
@@ -38,8 +38,9 @@ pub(crate) fn export<R: Files<File = File> + AllocGlobal, O: Output>(
     battery: &str,
     out: &mut O,
 ) -> Result<(), Fault>
-    ensures { IsServed (Request.Export cart.entry save.entry battery.entry) result (O.contents out.old)
+    ensures served { IsServed (Request.Export cart.entry save.entry battery.entry) result (O.contents out.old)
         (O.contents out.new) }
+    ensures output { IfErr result (λ fault. IsOutputFault fault → O.has_failed out.new ≡ true) }
 {
     let rom = file_bytes(rt, cart, MOST_ROM)?;
     let device = FileDevice::attach(rt, Path::new(save))?;
@@ -85,8 +86,9 @@ pub(crate) fn import<R: Files<File = File> + AllocGlobal, O: Output>(
     sectors: Option<u32>,
     out: &mut O,
 ) -> Result<(), Fault>
-    ensures { IsServed (Request.Import cart.entry battery.entry save.entry sectors) result (O.contents out.old)
+    ensures served { IsServed (Request.Import cart.entry battery.entry save.entry sectors) result (O.contents out.old)
         (O.contents out.new) }
+    ensures output { IfErr result (λ fault. IsOutputFault fault → O.has_failed out.new ≡ true) }
 {
     let rom = file_bytes(rt, cart, MOST_ROM)?;
     let cartridge = Cartridge::read(rom)?;

@@ -3,6 +3,7 @@
 ghost use Rattle.std.specs.Prelude.{◌≡◌, true, IfErr, OnOk};
 ghost use Rattle.std.specs.Io.KnownBytes.{Appends};
 ghost use Rattle.gbkeep.specs.Beginning.{IsUntold, begun_line};
+ghost use Rattle.gbkeep.specs.Program.{IsOutputFault};
 
 use crate::fault::Fault;
 use crate::making::Making;
@@ -19,7 +20,7 @@ pub(crate) fn tell_begun<R: Files<File = File> + AllocGlobal, O: Output>(
 ) -> Result<(), Fault>
     ensures written { OnOk result (Appends (O.contents out.old) (O.contents out.new) begun_line) }
     ensures cause { IfErr result (IsUntold (O.contents out.old) (O.contents out.new)) }
-    ensures output { IfErr result (λ fault. fault ≡ Fault.Output → O.has_failed out.new ≡ true) }
+    ensures output { IfErr result (λ fault. IsOutputFault fault → O.has_failed out.new ≡ true) }
 {
     if making.finish(rt).is_err() {
         return Err(Fault::Device(DeviceFault::Device));

@@ -1,7 +1,7 @@
 //! A debugger over files.
 
 ghost use Rattle.std.specs.Prelude.{◌≡◌, true, IfErr};
-ghost use Rattle.gbkeep.specs.Program.{IsDebugServed};
+ghost use Rattle.gbkeep.specs.Program.{IsDebugServed, IsOutputFault};
 
 use crate::fault::Fault;
 use crate::files::{MOST_ROM, file_bytes};
@@ -22,8 +22,10 @@ pub(crate) fn debug<R: Files<File = File> + AllocGlobal, I: LineInput, O: Output
     input: &mut I,
     out: &mut O,
 ) -> Result<(), Fault>
-    ensures { IsDebugServed save.entry result (record { before = I.remaining input.old; since = I.remaining input.new })
+    ensures served { IsDebugServed save.entry result (record { before = I.remaining input.old; since = I.remaining input.new })
         (record { before = O.contents out.old; since = O.contents out.new }) }
+    ensures input { IfErr result (λ fault. fault ≡ Fault.Input → I.has_failed input.new ≡ true) }
+    ensures output { IfErr result (λ fault. IsOutputFault fault → O.has_failed out.new ≡ true) }
 {
     let rom = file_bytes(rt, cart, MOST_ROM)?;
     match save {
@@ -44,7 +46,7 @@ fn power_on<R: AllocGlobal, I: LineInput, O: Output>(
     })
         (record { before = O.contents out.old; since = O.contents out.new }) }
     ensures input { IfErr result (λ fault. fault ≡ Fault.Input → I.has_failed input.new ≡ true) }
-    ensures output { IfErr result (λ fault. fault ≡ Fault.Output → O.has_failed out.new ≡ true) }
+    ensures output { IfErr result (λ fault. IsOutputFault fault → O.has_failed out.new ≡ true) }
 {
     match debug_rom(rt.alloc(), rom, input, out) {
         Ok(()) => Ok(()),
@@ -59,11 +61,13 @@ fn resumed<R: Files<File = File> + AllocGlobal, I: LineInput, O: Output>(
     input: &mut I,
     out: &mut O,
 ) -> Result<(), Fault>
-    ensures { IsDebugServed (Some save.entry) result (record {
+    ensures served { IsDebugServed (Some save.entry) result (record {
       before = I.remaining input.old;
       since = I.remaining input.new;
     })
         (record { before = O.contents out.old; since = O.contents out.new }) }
+    ensures input { IfErr result (λ fault. fault ≡ Fault.Input → I.has_failed input.new ≡ true) }
+    ensures output { IfErr result (λ fault. IsOutputFault fault → O.has_failed out.new ≡ true) }
 {
     let device = FileDevice::attach(rt, Path::new(save))?;
     match debug_game(rt.alloc(), device, rom, input, out) {

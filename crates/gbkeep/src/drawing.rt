@@ -52,8 +52,7 @@ pub fn play_to_picture<D: SectorDevice, W: Output, P: Output>(
     ensures untouched { IfErr result (λ refused. IsUnplayable refused.why → refused.device ≡ device) }
     ensures undrawn { is_none out.entry ≡ true → IfErr result (λ refused. refused.why ≢ PlayError.Picture) }
     ensures output { IfErr result (λ refused.
-        refused.why ≡ PlayError.Session SessionError.Output → (D.disk device).honest →
-        W.has_failed report.new ≡ true) }
+        refused.why ≡ PlayError.Session SessionError.Output → W.has_failed report.new ≡ true) }
     ensures answered { HasAnswered (λ refused. faults_after_play refused.why) (D.disk device) (D.disk (left_by result))
         result }
 {
@@ -97,8 +96,7 @@ pub fn play_and_draw<D: SectorDevice, W: Output, P: Output>(
     ensures part { IfErr result (λ refused.
         HasDrawnPart rom.items script.now (D.disk device) (P.contents out.old) (P.contents out.new) refused.why) }
     ensures output { IfErr result (λ refused.
-        refused.why ≡ PlayError.Session SessionError.Output → (D.disk device).honest →
-        W.has_failed report.new ≡ true) }
+        refused.why ≡ PlayError.Session SessionError.Output → W.has_failed report.new ≡ true) }
     ensures drawing { IfErr result (λ refused. refused.why ≡ PlayError.Picture → P.has_failed out.new ≡ true) }
     ensures answered { HasAnswered (λ refused. faults_after_play refused.why) (D.disk device) (D.disk (left_by result))
         result }
@@ -137,8 +135,7 @@ fn play_script<D: SectorDevice, W: Output>(
     ensures last { IfOk result (λ s. IsLastMachine rom.items script.now (D.disk device) (machine_of s)) }
     ensures undrawn { IfErr result (λ refused. refused.why ≢ PlayError.Picture) }
     ensures output { IfErr result (λ refused.
-        refused.why ≡ PlayError.Session SessionError.Output → (D.disk device).honest →
-        W.has_failed report.new ≡ true) }
+        refused.why ≡ PlayError.Session SessionError.Output → W.has_failed report.new ≡ true) }
     ensures answered { HasAnswered (λ refused. faults_after_play refused.why) (D.disk device)
         (D.disk (left_by_session result)) result }
 {

@@ -1,7 +1,7 @@
 //! The commands over save files.
 
-ghost use Rattle.std.specs.Prelude.{◌≡◌, unwrap_or};
-ghost use Rattle.gbkeep.specs.Program.{IsServed, IsStreamServed};
+ghost use Rattle.std.specs.Prelude.{◌≡◌, true, unwrap_or, IfErr};
+ghost use Rattle.gbkeep.specs.Program.{IsOutputFault, IsServed, IsStreamServed, TellsOutput};
 
 use crate::begun::tell_begun;
 use crate::drawing::play_to_picture;
@@ -31,7 +31,8 @@ pub(crate) fn new<R: Files<File = File> + AllocGlobal, O: Output>(
     sectors: Option<u32>,
     out: &mut O,
 ) -> Result<(), Fault>
-    ensures { IsServed (Request.New cart.entry save.entry sectors) result (O.contents out.old) (O.contents out.new) }
+    ensures served { IsServed (Request.New cart.entry save.entry sectors) result (O.contents out.old) (O.contents out.new) }
+    ensures output { IfErr result (λ fault. IsOutputFault fault → O.has_failed out.new ≡ true) }
 {
     let rom = file_bytes(rt, cart, MOST_ROM)?;
     let cartridge = Cartridge::read(rom)?;
@@ -72,8 +73,9 @@ pub(crate) fn play<R: Files<File = File> + AllocGlobal, O: Output>(
     script: &str,
     out: &mut O,
 ) -> Result<(), Fault>
-    ensures { IsServed (Request.Play cart.entry save.entry script.entry) result (O.contents out.old)
+    ensures served { IsServed (Request.Play cart.entry save.entry script.entry) result (O.contents out.old)
         (O.contents out.new) }
+    ensures output { IfErr result (λ fault. IsOutputFault fault → O.has_failed out.new ≡ true) }
 {
     let rom = file_bytes(rt, cart, MOST_ROM)?;
     not_a_pipe(rt, script)?;
@@ -102,8 +104,10 @@ pub(crate) fn frame<R: Files<File = File> + AllocGlobal, O: Output>(
     picture: &str,
     out: &mut O,
 ) -> Result<(), Fault>
-    ensures { IsServed (Request.Frame cart.entry save.entry picture.entry) result (O.contents out.old)
+    ensures served { IsServed (Request.Frame cart.entry save.entry picture.entry) result (O.contents out.old)
         (O.contents out.new) }
+    ensures output { IfErr result (λ fault.
+        TellsOutput (Request.Frame cart.entry save.entry picture.entry) fault → O.has_failed out.new ≡ true) }
 {
     let rom = file_bytes(rt, cart, MOST_ROM)?;
     let device = FileDevice::attach(rt, Path::new(save))?;
@@ -122,7 +126,8 @@ pub(crate) fn show<R: Files<File = File> + AllocGlobal, O: Output>(
     save: &str,
     out: &mut O,
 ) -> Result<(), Fault>
-    ensures { IsServed (Request.Show cart.entry save.entry) result (O.contents out.old) (O.contents out.new) }
+    ensures served { IsServed (Request.Show cart.entry save.entry) result (O.contents out.old) (O.contents out.new) }
+    ensures output { IfErr result (λ fault. IsOutputFault fault → O.has_failed out.new ≡ true) }
 {
     let rom = file_bytes(rt, cart, MOST_ROM)?;
     let device = FileDevice::attach(rt, Path::new(save))?;
@@ -140,7 +145,8 @@ pub(crate) fn trace<R: Files<File = File> + AllocGlobal, O: Output>(
     count: u32,
     out: &mut O,
 ) -> Result<(), Fault>
-    ensures { IsServed (Request.Trace cart.entry save.entry count) result (O.contents out.old) (O.contents out.new) }
+    ensures served { IsServed (Request.Trace cart.entry save.entry count) result (O.contents out.old) (O.contents out.new) }
+    ensures output { IfErr result (λ fault. IsOutputFault fault → O.has_failed out.new ≡ true) }
 {
     let rom = file_bytes(rt, cart, MOST_ROM)?;
     let device = FileDevice::attach(rt, Path::new(save))?;
@@ -159,10 +165,12 @@ pub(crate) fn stream<R: Files<File = File> + AllocGlobal, I: LineInput, O: Outpu
     input: &mut I,
     out: &mut O,
 ) -> Result<(), Fault>
-    ensures { IsStreamServed result (record {
+    ensures served { IsStreamServed result (record {
       before = I.remaining input.old;
       since = I.remaining input.new;
     }) (record { before = O.contents out.old; since = O.contents out.new }) }
+    ensures input { IfErr result (λ fault. fault ≡ Fault.Input → I.has_failed input.new ≡ true) }
+    ensures output { IfErr result (λ fault. IsOutputFault fault → O.has_failed out.new ≡ true) }
 {
     let rom = file_bytes(rt, cart, MOST_ROM)?;
     let device = FileDevice::attach(rt, Path::new(save))?;

@@ -2,7 +2,7 @@
 
 ghost use Rattle.std.specs.Prelude.{◌≡◌, ◌≤◌, ◌⊎◌, IfErr, OnErr, map, true};
 ghost use Rattle.gbkeep.specs.Request.{is_battery_name, makes_battery_name};
-ghost use Rattle.gbkeep.specs.Program.{Ends, EndsOnSome, HasEnded, HasWarned, IsPossible, IsServed, IsServedReading, KeepsAtMisuse};
+ghost use Rattle.gbkeep.specs.Program.{Ends, EndsOnSome, HasEnded, HasWarned, IsOutputFault, IsPossible, IsServed, IsServedReading, KeepsAtMisuse, TellsOutput};
 
 use crate::batteries::{export, import};
 use crate::debugs::debug;
@@ -37,6 +37,8 @@ pub fn run_program<R: Env + Files<File = File> + AllocGlobal, I: LineInput, O: O
       input = record { before = I.remaining input.old; since = I.remaining input.new };
       output = record { before = O.contents out.old; since = O.contents out.new };
       errors = record { before = E.contents err.old; since = E.contents err.new };
+      input_failed = I.has_failed input.new;
+      output_failed = O.has_failed out.new;
     }) result }
 {
     match words(rt) {
@@ -74,6 +76,8 @@ pub fn run<R: Files<File = File> + AllocGlobal, S: AsStr, I: LineInput, O: Outpu
       input = record { before = I.remaining input.old; since = I.remaining input.new };
       output = record { before = O.contents out.old; since = O.contents out.new };
       errors = record { before = E.contents err.old; since = E.contents err.new };
+      input_failed = I.has_failed input.new;
+      output_failed = O.has_failed out.new;
     }) result }
 {
     answer(rt, read_words(rt.alloc(), words), input, out, err)
@@ -92,6 +96,8 @@ fn answer<R: Files<File = File> + AllocGlobal, I: LineInput, O: Output, E: Outpu
       input = record { before = I.remaining input.old; since = I.remaining input.new };
       output = record { before = O.contents out.old; since = O.contents out.new };
       errors = record { before = E.contents err.old; since = E.contents err.new };
+      input_failed = I.has_failed input.new;
+      output_failed = O.has_failed out.new;
     }) result }
 {
     match asked {
@@ -165,11 +171,13 @@ fn serve<R: Files<File = File> + AllocGlobal, I: LineInput, O: Output>(
     input: &mut I,
     out: &mut O,
 ) -> Result<(), Fault>
-    ensures { IsServedReading request.entry result (record {
+    ensures served { IsServedReading request.entry result (record {
       before = I.remaining input.old;
       since = I.remaining input.new;
     })
         (record { before = O.contents out.old; since = O.contents out.new }) }
+    ensures input { IfErr result (λ fault. fault ≡ Fault.Input → I.has_failed input.new ≡ true) }
+    ensures output { IfErr result (λ fault. TellsOutput request.entry fault → O.has_failed out.new ≡ true) }
 {
     match request {
         Request::Info { cart } => info(rt, cart, out),
@@ -234,7 +242,8 @@ fn info<R: Files<File = File> + AllocGlobal, O: Output>(
     cart: &str,
     out: &mut O,
 ) -> Result<(), Fault>
-    ensures { IsServed (Request.Info cart.entry) result (O.contents out.old) (O.contents out.new) }
+    ensures served { IsServed (Request.Info cart.entry) result (O.contents out.old) (O.contents out.new) }
+    ensures output { IfErr result (λ fault. IsOutputFault fault → O.has_failed out.new ≡ true) }
 {
     let rom = file_bytes(rt, cart, MOST_ROM)?;
     info_lines(rom, out)?;
@@ -248,7 +257,8 @@ fn list<R: Files<File = File> + AllocGlobal, O: Output>(
     count: u32,
     out: &mut O,
 ) -> Result<(), Fault>
-    ensures { IsServed (Request.List cart.entry address.entry count) result (O.contents out.old) (O.contents out.new) }
+    ensures served { IsServed (Request.List cart.entry address.entry count) result (O.contents out.old) (O.contents out.new) }
+    ensures output { IfErr result (λ fault. IsOutputFault fault → O.has_failed out.new ≡ true) }
 {
     let Some(first) = address_of(address) else {
         return Err(Fault::Address);
@@ -264,7 +274,8 @@ fn step<R: Files<File = File> + AllocGlobal, O: Output>(
     count: u32,
     out: &mut O,
 ) -> Result<(), Fault>
-    ensures { IsServed (Request.Step cart.entry count) result (O.contents out.old) (O.contents out.new) }
+    ensures served { IsServed (Request.Step cart.entry count) result (O.contents out.old) (O.contents out.new) }
+    ensures output { IfErr result (λ fault. IsOutputFault fault → O.has_failed out.new ≡ true) }
 {
     let rom = file_bytes(rt, cart, MOST_ROM)?;
     step_line(rt.alloc(), rom, count, out)?;

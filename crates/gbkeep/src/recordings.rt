@@ -1,8 +1,8 @@
 //! Recordings in files.
 
-ghost use Rattle.std.specs.Prelude.{IfErr};
+ghost use Rattle.std.specs.Prelude.{◌≡◌, true, IfErr};
 ghost use Rattle.sector_device.specs.FileDevice.{file_disk};
-ghost use Rattle.gbkeep.specs.Program.{IsServed, IsRecordServed, IsPairFault, IsNotOf};
+ghost use Rattle.gbkeep.specs.Program.{IsOutputFault, IsServed, IsRecordServed, IsPairFault, IsNotOf};
 
 use crate::begun::tell_begun;
 use crate::fault::Fault;
@@ -43,8 +43,9 @@ pub(crate) fn new_recording<R: Files<File = File> + AllocGlobal, O: Output>(
     sectors: u32,
     out: &mut O,
 ) -> Result<(), Fault>
-    ensures { IsServed (Request.NewRecording cart.entry recording.entry sectors) result (O.contents out.old)
+    ensures served { IsServed (Request.NewRecording cart.entry recording.entry sectors) result (O.contents out.old)
         (O.contents out.new) }
+    ensures output { IfErr result (λ fault. IsOutputFault fault → O.has_failed out.new ≡ true) }
 {
     let rom = file_bytes(rt, cart, MOST_ROM)?;
     let cartridge = Cartridge::read(rom)?;
@@ -72,10 +73,12 @@ pub(crate) fn record<R: Files<File = File> + AllocGlobal, I: LineInput, O: Outpu
     input: &mut I,
     out: &mut O,
 ) -> Result<(), Fault>
-    ensures { IsRecordServed result (record {
+    ensures served { IsRecordServed result (record {
       before = I.remaining input.old;
       since = I.remaining input.new;
     }) (record { before = O.contents out.old; since = O.contents out.new }) }
+    ensures input { IfErr result (λ fault. fault ≡ Fault.Input → I.has_failed input.new ≡ true) }
+    ensures output { IfErr result (λ fault. IsOutputFault fault → O.has_failed out.new ≡ true) }
 {
     let rom = file_bytes(rt, cart, MOST_ROM)?;
     let pair = game_and_recording(rt, save, recording)?;
@@ -119,7 +122,8 @@ pub(crate) fn recorded<R: Files<File = File> + AllocGlobal, O: Output>(
     recording: &str,
     out: &mut O,
 ) -> Result<(), Fault>
-    ensures { IsServed (Request.Recorded cart.entry recording.entry) result (O.contents out.old) (O.contents out.new) }
+    ensures served { IsServed (Request.Recorded cart.entry recording.entry) result (O.contents out.old) (O.contents out.new) }
+    ensures output { IfErr result (λ fault. IsOutputFault fault → O.has_failed out.new ≡ true) }
 {
     let rom = file_bytes(rt, cart, MOST_ROM)?;
     let device = attached(rt, recording)?;
@@ -137,8 +141,9 @@ pub(crate) fn verify<R: Files<File = File> + AllocGlobal, O: Output>(
     recording: &str,
     out: &mut O,
 ) -> Result<(), Fault>
-    ensures { IsServed (Request.Verify cart.entry save.entry recording.entry) result (O.contents out.old)
+    ensures served { IsServed (Request.Verify cart.entry save.entry recording.entry) result (O.contents out.old)
         (O.contents out.new) }
+    ensures output { IfErr result (λ fault. IsOutputFault fault → O.has_failed out.new ≡ true) }
 {
     let rom = file_bytes(rt, cart, MOST_ROM)?;
     let pair = game_and_recording(rt, save, recording)?;

@@ -44,7 +44,7 @@ pub fn stream_play<D: SectorDevice, R: LineInput, W: Output>(
     ensures untouched { IfErr result (λ refused.
         (fault : _) → refused.why ≡ StreamPlayError.Cart fault → refused.device ≡ device) }
     ensures output { IfErr result (λ refused.
-        refused.why ≡ StreamPlayError.Stream (StreamError.Session SessionError.Output) → (D.disk device).honest →
+        refused.why ≡ StreamPlayError.Stream (StreamError.Session SessionError.Output) →
         W.has_failed out.new ≡ true) }
     ensures input { IfErr result (λ refused.
         refused.why ≡ StreamPlayError.Stream StreamError.Input → R.has_failed input.new ≡ true) }

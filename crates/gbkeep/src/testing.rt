@@ -1,7 +1,7 @@
 //! Test ROMs in files.
 
 ghost use Rattle.std.specs.Prelude.{◌≡◌, true, IfErr};
-ghost use Rattle.gbkeep.specs.Program.{IsServed, IsTestServed};
+ghost use Rattle.gbkeep.specs.Program.{IsOutputFault, IsServed, IsTestServed};
 
 use crate::fault::Fault;
 use crate::files::{MOST_ROM, MOST_SCRIPT, file_bytes};
@@ -19,7 +19,8 @@ pub(crate) fn test<R: Files<File = File> + AllocGlobal, O: Output>(
     script: Option<&str>,
     out: &mut O,
 ) -> Result<(), Fault>
-    ensures { IsServed (Request.Test cart.entry frames script.entry) result (O.contents out.old) (O.contents out.new) }
+    ensures served { IsServed (Request.Test cart.entry frames script.entry) result (O.contents out.old) (O.contents out.new) }
+    ensures output { IfErr result (λ fault. IsOutputFault fault → O.has_failed out.new ≡ true) }
 {
     let rom = file_bytes(rt, cart, MOST_ROM)?;
     match script {
@@ -40,7 +41,7 @@ fn test_with<R: AllocGlobal, O: Output>(
     out: &mut O,
 ) -> Result<(), Fault>
     ensures served { IsTestServed rom.items script.now frames result (O.contents out.old) (O.contents out.new) }
-    ensures output { IfErr result (λ fault. fault ≡ Fault.Output → O.has_failed out.new ≡ true) }
+    ensures output { IfErr result (λ fault. IsOutputFault fault → O.has_failed out.new ≡ true) }
 {
     match run_test(rt.alloc(), rom, script, frames, out) {
         Ok(Verdict::Passed) => Ok(()),

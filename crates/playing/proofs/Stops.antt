@@ -1,11 +1,10 @@
 -- Why a play stops.
-use Rattle.std.proofs.Common.{◌≡◌, ◌==◌, ◌∙◌, true≢false, eq-eqb, ℕ, ◌≤◌, ◌<◌, ◌-◌, ◌^◌, List, Bool, false, true, inl, inr, ◌⊎◌, ⊎_elim, if◌then◌else◌, Option, Result, Ok, Err, refl, sym, ap, subst, arith}
+use Rattle.std.proofs.Common.{◌≡◌, ◌==◌, ◌∙◌, true≢false, eq-eqb, ℕ, ◌≤◌, ◌<◌, ◌-◌, ◌^◌, List, Bool, false, true, inl, inr, ◌⊎◌, ⊎_elim, if◌then◌else◌, Result, Ok, Err, refl, sym, ap, subst, arith}
 use Rattle.std.specs.Prelude.{IfOk, IfErr, IsErrAnd}
 use Rattle.std.proofs.lemmas.Bool.{eqb-true}
 use Rattle.sector_device.specs.DiskState.{DiskState}
-use Rattle.log_format.specs.Content.{ImageContent, generation_in}
+use Rattle.log_format.specs.Content.{generation_in}
 use Rattle.session.specs.Calls.{IsRestoreAnswer, IsSaveCause, input_answer}
-use Rattle.session.specs.Found.{IsResumeCause}
 use Rattle.session.specs.declared.error.Damage.{Damage}
 use Rattle.session.specs.declared.error.SessionError.{SessionError}
 use Rattle.session.specs.declared.error.SessionError.TheVariants.{Memory, Device, NoSession, TooSmall, OtherCartridge, Damaged, GenerationsUsedUp, Broken, SaveFirst, CountFull, Output}
@@ -41,11 +40,6 @@ save_stops Broken broken fits generation all now whole cause worn = cc
 save_stops SaveFirst broken fits generation all now whole cause worn = absurd cause
 save_stops CountFull broken fits generation all now whole cause worn = absurd cause
 save_stops Output broken fits generation all now whole cause worn = absurd cause
-
--- ---- a game that is not resumed
-
-pub resume_not_output : (rom : List ℕ) (generation : ℕ) (held : Option ImageContent) (why : SessionError) → IsResumeCause rom generation held why → why ≡ Output → ⊥
-resume_not_output rom generation held why cause is = subst (λ (w : SessionError). IsResumeCause rom generation held w) is cause
 
 -- ---- an input that is refused
 

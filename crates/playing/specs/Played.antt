@@ -94,6 +94,8 @@ pub record IsNotTakenUp (rom : List ℕ) (old now : DiskState) (why : SessionErr
   pub memory : why ≡ Memory → IsAsItWas old now ⊎ (old.honest → CanBeTakenUp rom old)
   -- where a call failed, nothing was written, or no other reason holds
   pub failed : why ≡ Device → old.honest → HasLooked old now ⊎ CanBeTakenUp rom old
+  -- whatever the device does, it is no report that failed
+  pub no_report : why ≢ Output
 
 -- Why a play that was taken up stops: the generations used up, a failed call, more inputs in all than can be counted, or the report.
 abbrev pub IsStop : SessionError → (all : ℕ) → (now : DiskState) → Type 0

@@ -51,8 +51,7 @@ pub fn play<D: SectorDevice, W: Output>(
         (W.contents report.old) (W.contents report.new)) }
 
     // only a write that failed is told as one
-    ensures output { IfErr result (λ refused. refused.why ≡ SessionError.Output → (D.disk device).honest →
-        W.has_failed report.new ≡ true) }
+    ensures output { IfErr result (λ refused. refused.why ≡ SessionError.Output → W.has_failed report.new ≡ true) }
 
     // at each moment
     ensures images { (D.disk device).honest →

@@ -1,5 +1,5 @@
 -- A game that was looked at, resumed, and given what its recording has beyond it.
-use Rattle.std.proofs.Common.{◌≡◌, inl, inr, ℕ, ◌+◌, ◌-◌, ◌^◌, List, [], length, drop, refl, sym, ap, subst, arith}
+use Rattle.std.proofs.Common.{◌≡◌, ◌≢◌, inl, inr, ℕ, ◌+◌, ◌-◌, ◌^◌, List, [], length, drop, refl, sym, ap, subst, arith}
 use Rattle.machine.specs.Machine.{MachineState, after}
 use Rattle.sector_device.specs.DiskState.{DiskState}
 use Rattle.sector_device.specs.Runs.{HoldsSince}
@@ -95,11 +95,11 @@ resume_stop CountFull generation all now worn cause = absurd cause
 resume_stop Output generation all now worn cause = absurd cause
 
 -- it was not resumed
-pub stops_resuming : (rom : List ℕ) (old now : DiskState) (recording : DiskState) (from : Position) (why : SessionError) → (old.honest → IsGoOnCause (Session why) (from.count + length (drop from.count (recorded_in recording))) now) → (old.honest → HoldsSince old now (StandsAsBefore rom old))
+pub stops_resuming : (rom : List ℕ) (old now : DiskState) (recording : DiskState) (from : Position) (why : SessionError) → (old.honest → IsGoOnCause (Session why) (from.count + length (drop from.count (recorded_in recording))) now) → why ≢ Output → (old.honest → HoldsSince old now (StandsAsBefore rom old))
     → StopsGoingOn rom old now recording recording from (Session why)
-stops_resuming rom old now recording from why cause images = record {
+stops_resuming rom old now recording from why cause kind images = record {
   cause = λ honest recording_honest. cause honest;
-  kind = tt;
+  kind = kind;
   images = λ honest recording_honest. since_weaker (images honest) (λ image stands. inl stands);
   looks = looked_self recording;
 }

@@ -219,7 +219,7 @@ pub fails_giving : (a b : Place) (old new : DiskState) (skip : ℕ) (passed reco
 fails_giving a b old new skip passed recorded why same looked answered fails = record {
   stopped = λ honest rom from given played. stopped_by (ap (λ (l : List Input). given ++ drop skip l) (same honest)) (fails.no_further.stopped rom from given played);
   cause = λ honest. (subst (λ (l : List Input). IsStop why (all_of a + length (drop skip l)) b.disk) (same honest) fails.no_further.cause, fails.silent);
-  kind = tt;
+  kind = fails.silent;
   looks = λ honest. looks_of (looked honest);
   later = fails.no_further.later;
   save_calls = answered_error fails.no_further.calls (λ n. refl);
@@ -366,7 +366,7 @@ module _ (a b c : Place) (old new : DiskState) (skip left : ℕ) (recorded : Lis
       record {
         stopped = λ honest rom from given played. stopped_by (ap (λ (l : List Input). given ++ l) (same honest)) (fails.no_further.stopped rom from given played);
         cause = λ honest. (subst (λ (l : List Input). IsStop why (all_of a + length l) c.disk) (same honest) fails.no_further.cause, fails.silent);
-        kind = tt;
+        kind = fails.silent;
         looks = one.looks;
         later = fails.no_further.later;
         save_calls = answered_error fails.no_further.calls (λ n. refl);

@@ -1,5 +1,5 @@
 -- A whole recorded play: from a game that is taken up to what is left.
-use Rattle.std.proofs.Common.{◌≡◌, inl, inr, ⊎_elim, true, false, true≢false, refl, ℕ, suc, ◌+◌, ◌-◌, List, [], ◌∷◌, ◌++◌, length, take, drop, Option, Some, sym, ap, ◌∙◌, subst, arith, length-append, length-drop}
+use Rattle.std.proofs.Common.{◌≡◌, inl, inr, true, false, true≢false, refl, ℕ, suc, ◌+◌, ◌-◌, List, [], ◌∷◌, ◌++◌, length, take, drop, Option, Some, sym, ap, ◌∙◌, subst, arith, length-append, length-drop}
 use Rattle.std.proofs.lemmas.List.{take_all, drop_all, take-append-drop}
 use Rattle.std.specs.Io.KnownBytes.{Appends}
 use Rattle.machine.specs.Machine.{MachineState, start, after}
@@ -31,7 +31,7 @@ use Rattle.streaming.specs.declared.obeying.End.{End}
 use Rattle.streaming.proofs.Wholes.{stream_at}
 use Rattle.recorded_play.specs.Agreeing.{AllAgree, recorded_inputs}
 use Rattle.recorded_play.specs.Steps.{Game, HoldsFirst, HoldsSaved, IsFull, IsInStep, IsOfDevices, Comes, Halts, IsRecordStop, told_as}
-use Rattle.recorded_play.specs.Whole.{behind, IsTakenUp, HoldsAll, HasTakenUp, HasRecorded, HasStopped, IsStopAtRecorded, IsTakeUpCause, IsEndCause}
+use Rattle.recorded_play.specs.Whole.{behind, IsTakenUp, HoldsAll, HasTakenUp, HasRecorded, HasStopped, IsEndCause}
 use Rattle.recorded_play.specs.declared.error.RecordError.{RecordError}
 use Rattle.recorded_play.specs.declared.error.RecordError.TheVariants.{Session, Recording, Behind, Line as WrongLine, Input as FailedInput}
 use Rattle.recorded_play.proofs.Stepping.{behind_after, behind_agree}
@@ -248,10 +248,8 @@ none_lacked own kept lines a b lacked = elim lacked.is.1 [
 pub devices_not_input : (why : RecordError) → IsOfDevices why → why ≡ FailedInput → ⊥
 devices_not_input why kind is = subst IsOfDevices is kind
 
-pub take_up_not_output : (rom : List ℕ) (old_save now_save recording : DiskState) (why : RecordError) → IsTakeUpCause why rom old_save now_save recording → why ≡ Session Output → ⊥
-take_up_not_output rom old_save now_save recording why cause is =
-    ⊎_elim (λ (never : ⊥). never) (λ (stop : IsStopAtRecorded rom Output now_save recording). stop.silent refl)
-    (subst (λ (w : RecordError). IsTakeUpCause w rom old_save now_save recording) is cause)
+pub devices_not_output : (why : RecordError) → IsOfDevices why → why ≡ Session Output → ⊥
+devices_not_output why kind is = subst IsOfDevices is kind refl
 
 pub stop_not_input : (why : RecordError) (all : ℕ) (now : DiskState) → IsRecordStop why all now → why ≡ FailedInput → ⊥
 stop_not_input why all now cause is = subst (λ (w : RecordError). IsRecordStop w all now) is cause

@@ -1,5 +1,5 @@
 -- How far a SAVE and a recording have come together.
-use Rattle.std.specs.Prelude.{◌≡◌, ◌≤◌, ◌+◌, ℕ, List, ◌++◌, length, take, drop, false, Some, Ok, Err, ⊤}
+use Rattle.std.specs.Prelude.{◌≡◌, ◌≢◌, ◌≤◌, ◌+◌, ℕ, List, ◌++◌, length, take, drop, false, Some, Ok, Err, ⊤}
 use Rattle.machine.specs.Machine.{start, after}
 use Rattle.machine.specs.Machine.{Input}
 use Rattle.sector_device.specs.DiskState.{DiskState, Settled, HasAnswered}
@@ -16,7 +16,7 @@ use Rattle.session.specs.Calls.{faults_after as faults_after_save}
 use Rattle.session.specs.Inputs.{inputs_of}
 use Rattle.session.specs.Stands.{Position}
 use Rattle.session.specs.declared.error.SessionError.{SessionError}
-use Rattle.session.specs.declared.error.SessionError.TheVariants.{Device as DeviceOfSession}
+use Rattle.session.specs.declared.error.SessionError.TheVariants.{Device as DeviceOfSession, Output}
 use Rattle.session.specs.declared.session.Session.{Session as PlaySession}
 use Rattle.playing.specs.Going.{Place, place, all_of, IsPlayedAt}
 use Rattle.playing.specs.Played.{IsStop, Going, Stopped, Reaches}
@@ -90,9 +90,9 @@ pub record IsFull (rom : List ℕ) (recording : DiskState) (all : List Input) : 
   pub unsaved_is : inputs_of unsaved ≡ drop saved (take given all)
   pub too_many : fits_image recording.sectors unsaved ≡ false
 
--- a refusal of one of the devices, or of what they hold, and of no line
+-- a refusal of one of the devices, or of what they hold: of no line, and of no output
 abbrev pub IsOfDevices : RecordError → Type 0
-IsOfDevices (Session why) = ⊤
+IsOfDevices (Session why) = why ≢ Output
 IsOfDevices (Recording why) = ⊤
 IsOfDevices (Behind count) = ⊤
 IsOfDevices (Line number) = ⊥

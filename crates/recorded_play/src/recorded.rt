@@ -70,7 +70,7 @@ pub fn record<D: SectorDevice, E: SectorDevice, R: LineInput, W: Output>(
     // only a read and a write that failed are told as such
     ensures input { IfErr result (λ refused. refused.why ≡ RecordError.Input → R.has_failed input.new ≡ true) }
     ensures output { IfErr result (λ refused. refused.why ≡ RecordError.Session SessionError.Output →
-        (D.disk save).honest → (E.disk recording).honest → W.has_failed out.new ≡ true) }
+        W.has_failed out.new ≡ true) }
 
     // Whatever a power cut leaves of both agrees.
     ensures agree { (D.disk save).honest → (E.disk recording).honest →

@@ -48,10 +48,14 @@ answered_save limits (Err Differ) kind first = answered_otherwise first (λ n. r
 -- what is no refusal of the look is one of `verify`
 pub of_verifying : (limits : Option Limits) (r : Result ℕ VerifyError) → IfErr r (IsOfComparing limits) → IfErr r (IsOfVerifying limits)
 of_verifying limits (Ok count) kind = tt
-of_verifying None (Err (Save why)) kind = tt
+of_verifying limits (Err (Save why)) kind = absurd kind
 of_verifying None (Err (Recording why)) kind = tt
 of_verifying None (Err (Behind count)) kind = tt
 of_verifying None (Err (Ahead count)) kind = kind
 of_verifying None (Err Memory) kind = tt
 of_verifying None (Err Differ) kind = tt
-of_verifying (Some limits) (Err why) kind = tt
+of_verifying (Some limits) (Err (Recording why)) kind = tt
+of_verifying (Some limits) (Err (Behind count)) kind = tt
+of_verifying (Some limits) (Err (Ahead count)) kind = tt
+of_verifying (Some limits) (Err Memory) kind = tt
+of_verifying (Some limits) (Err Differ) kind = tt

@@ -11,6 +11,7 @@ use Rattle.session.specs.Calls.{faults_after as faults_after_session}
 use Rattle.session.specs.Found.{IsLookCause}
 use Rattle.session.specs.Inputs.{inputs_of}
 use Rattle.session.specs.Stands.{Position, stands}
+use Rattle.session.specs.declared.error.SessionError.TheVariants.{Output}
 use Rattle.replaying.specs.Agreeing.{IsRecorded}
 use Rattle.replaying.specs.Within.{IsBeyond, LeadsUpTo}
 use Rattle.replaying.specs.declared.error.VerifyError.{VerifyError}
@@ -49,8 +50,9 @@ IsVerifyCause limits rom save recording Memory = ⊤
 IsVerifyCause limits rom save recording Differ =
     AreFound rom save.sectors recording.sectors (λ at entries. (at.count ≤ length entries) × (at.machine ≢ after (start rom) (inputs_of (take at.count entries))))
 
--- a recording is ahead only where there are limits
+-- a recording is ahead only where there are limits; and no report is written, so that none fails
 abbrev pub IsOfVerifying : (limits : Option Limits) → VerifyError → Type 0
+IsOfVerifying limits (Save why) = why ≢ Output
 IsOfVerifying None (Ahead count) = ⊥
 IsOfVerifying limits why = ⊤
 

@@ -1,5 +1,5 @@
 -- What `show_lines` writes, and when it refuses.
-use Rattle.std.specs.Prelude.{◌≡◌, ℕ, List, ◌++◌, codes, decimal, length, Option, Some, Result, Ok, Err}
+use Rattle.std.specs.Prelude.{◌≡◌, ◌≢◌, ℕ, List, ◌++◌, codes, decimal, length, Option, Some, Result, Ok, Err}
 use Rattle.std.specs.Io.KnownBytes.{Appends, Keeps}
 use Rattle.hex.specs.Hex.{encode_lower}
 use Rattle.sha2.specs.Sha256.{sha256}
@@ -17,6 +17,7 @@ use Rattle.session.specs.Calls.{faults_after}
 use Rattle.session.specs.Found.{IsLookCause}
 use Rattle.session.specs.Stands.{stands}
 use Rattle.session.specs.LookAccessors.{count_of_look, logged_of_look, generation_of_look, machine_of_look}
+use Rattle.session.specs.declared.error.SessionError.TheVariants.{Output as ReportFailed}
 use Rattle.session.specs.declared.look.Look.{Look}
 use Rattle.save_lines.specs.declared.error.ShowError.{ShowError}
 use Rattle.save_lines.specs.declared.error.ShowError.TheVariants.{Cart, Session, Output}
@@ -93,7 +94,7 @@ pub record IsUnwritten (rom : List ℕ) (old : DiskState) (before since : Option
 abbrev pub IsShowCause : (rom : List ℕ) → DiskState → (before since : Option (List ℕ)) → ShowError → Type 0
 IsShowCause rom old before since (Cart fault) = (refusal_of rom ≡ Some fault) × Keeps before since
 IsShowCause rom old before since (Session why) =
-    IsAccepted rom × Keeps before since × (old.honest → IsLookCause rom (content old.sectors) why)
+    IsAccepted rom × Keeps before since × (old.honest → IsLookCause rom (content old.sectors) why) × (why ≢ ReportFailed)
 IsShowCause rom old before since Output = IsAccepted rom × IsUnwritten rom old before since
 
 -- the device's count of failed calls after a refusal: one more after `Device`, and after no other

@@ -3,7 +3,6 @@ use crate::asserting::{OrStop, holds, same};
 use cartridge::Cartridge;
 use input_entries::Logged;
 use machine::{Input, Machine, Region};
-use recorded_play::{RecordedGame, record};
 use recording::{Recording, create_recording, open_recording};
 use sector_device::{MemoryDevice, SectorDevice};
 use session::{Look, look_at, new_game};
@@ -84,14 +83,6 @@ pub(crate) fn copy(rt: &impl Abort, alloc: Global, device: &MemoryDevice) -> Mem
 pub(crate) struct Pair {
     pub(crate) save: MemoryDevice,
     pub(crate) recording: MemoryDevice,
-}
-
-fn devices(game: RecordedGame<MemoryDevice, MemoryDevice>) -> Pair {
-    let RecordedGame { session, recording } = game;
-    Pair {
-        save: session.into_device(),
-        recording: recording.into_device(),
-    }
 }
 
 pub(crate) fn both(rt: &impl Abort, alloc: Global, pair: &Pair) -> Pair {

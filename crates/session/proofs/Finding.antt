@@ -22,10 +22,12 @@ use Rattle.log_format.specs.declared.content.Found.{Found}
 use Rattle.log_format.specs.declared.content.Found.TheVariants.{Nothing, Intact, Damaged as DamagedLog}
 use Rattle.log_format.specs.declared.content.Part.TheVariants.{Length, Count as TooMany}
 use Rattle.log_format.proofs.FoundLaws.{found_length, found_fits}
+use Rattle.sector_log.specs.declared.fault.LogFault.{LogFault}
+use Rattle.sector_log.specs.declared.fault.LogFault.TheVariants.{Memory as LogMemory, Device as LogDevice, TooSmall as LogTooSmall, GenerationsUsedUp as LogGenerationsUsedUp, LogFull, Broken as LogBroken}
 use Rattle.session.specs.Inputs.{logged}
 use Rattle.session.specs.Stands.{Position, is_snapshot, position_in, stands}
 use Rattle.session.specs.Resting.{IsOfItsRom}
-use Rattle.session.specs.Beginning.{IsBeginRefusal}
+use Rattle.session.specs.Beginning.{IsBeginRefusal, session_fault}
 use Rattle.session.specs.Found.{IsShort, IsResumeCause}
 use Rattle.session.specs.Recovery.{IsHeaderCause, IsRebuildCause, IsRecoveryCause, IsRecovered}
 use Rattle.session.specs.declared.error.Damage.TheVariants.{Count, Snapshot, Entry}
@@ -291,3 +293,25 @@ begin_cause rom generation held blob_length count last Broken enough unworn caus
 begin_cause rom generation held blob_length count last SaveFirst enough unworn cause = absurd cause
 begin_cause rom generation held blob_length count last CountFull enough unworn cause = absurd cause
 begin_cause rom generation held blob_length count last Output enough unworn cause = absurd cause
+
+-- ---- no report is written
+
+pub recovery_not_output : (rom : List ℕ) (seen : Seen) (generation : ℕ) (why : SessionError) → IsRecoveryCause rom seen generation why → why ≡ Output → ⊥
+recovery_not_output rom seen generation why cause is =
+    ⊎_elim
+    (λ header. header)
+    (⊎_elim
+    (λ long. let wrong : Output ≡ Damaged (Snapshot (SnapLength long.header.blob_length)) = long.why_is in cc)
+    (λ refusal. refusal.cause))
+    (subst (IsRecoveryCause rom seen generation) is cause)
+
+pub begin_not_output : (blob_length count last : ℕ) (why : SessionError) → IsBeginRefusal why blob_length count last → why ≡ Output → ⊥
+begin_not_output blob_length count last why cause is = subst (λ (w : SessionError). IsBeginRefusal w blob_length count last) is cause
+
+pub log_not_output : (why : LogFault) → session_fault why ≡ Output → ⊥
+log_not_output LogMemory is = cc
+log_not_output LogDevice is = cc
+log_not_output (LogTooSmall needed) is = cc
+log_not_output LogGenerationsUsedUp is = cc
+log_not_output LogFull is = cc
+log_not_output LogBroken is = cc

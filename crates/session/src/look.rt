@@ -1,5 +1,5 @@
 //! A game that was looked at, and resuming it.
-ghost use Rattle.std.specs.Prelude.{◌≡◌, ◌<◌, ◌-◌, ◌^◌, ◌⊎◌, [], false, length, IfOk, IfErr};
+ghost use Rattle.std.specs.Prelude.{◌≡◌, ◌≢◌, ◌<◌, ◌-◌, ◌^◌, ◌⊎◌, [], false, length, IfOk, IfErr};
 ghost use Rattle.cartridge.specs.Header.{ram_length_of};
 ghost use Rattle.snapshot.specs.Encoding.{encoded, snapshot_length};
 ghost use Rattle.snapshot.specs.Legal.{IsMachineOf};
@@ -12,7 +12,7 @@ ghost use Rattle.session.specs.Stands.{IsAtRest, StandsAsBefore};
 ghost use Rattle.session.specs.Found.{IsTakeUpCause};
 ghost use Rattle.session.specs.Recovery.{IsRecovered};
 ghost use Rattle.session.specs.Resting.{IsOfItsRom, own_prop, LooksAt, looks_prop};
-ghost use Rattle.session.specs.declared.error.SessionError.TheVariants.{Device};
+ghost use Rattle.session.specs.declared.error.SessionError.TheVariants.{Device, Output};
 
 use crate::begin::{begin_with, room_with};
 use crate::error::{Refused, SessionError};
@@ -157,6 +157,9 @@ impl<D: SectorDevice> Look<D> {
         ensures can { IfOk result (λ s. generation_of_look self < 2 ^ 64 - 1) }
         ensures cause { IfErr result (λ refused.
             (D.disk (device_of_look self)).honest → IsTakeUpCause (generation_of_look self) refused.why) }
+
+        // no report is written, so none fails
+        ensures no_report { IfErr result (λ refused. refused.why ≢ Output) }
 
         ensures answered { HasAnswered (λ refused. faults_after refused.why) (D.disk (device_of_look self))
             (D.disk (left_by result)) result }

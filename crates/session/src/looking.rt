@@ -1,5 +1,5 @@
 //! A look at a game, with which nothing is written.
-ghost use Rattle.std.specs.Prelude.{◌≡◌, ◌⊎◌, [], length, Ok, Err, Some, IfOk, IfErr};
+ghost use Rattle.std.specs.Prelude.{◌≡◌, ◌≢◌, ◌⊎◌, [], length, Ok, Err, Some, IfOk, IfErr};
 ghost use Rattle.snapshot.specs.Legal.{IsMachineOf};
 ghost use Rattle.sector_device.specs.DiskState.{HasAnswered};
 ghost use Rattle.sector_device.specs.Looking.{HasLooked};
@@ -10,7 +10,7 @@ ghost use Rattle.session.specs.Calls.{CanBeLookedAt, faults_after};
 ghost use Rattle.session.specs.Stands.{IsAtRest, stands};
 ghost use Rattle.session.specs.Found.{IsLookCause};
 ghost use Rattle.session.specs.LookAccessors.{device_of_look, machine_of_look, count_of_look, logged_of_look, generation_of_look, left_by_look};
-ghost use Rattle.session.specs.declared.error.SessionError.TheVariants.{Memory, Device};
+ghost use Rattle.session.specs.declared.error.SessionError.TheVariants.{Memory, Device, Output};
 
 use crate::begin::{blank_snapshot, fault_of, snapshot_length};
 use crate::error::{Refused, SessionError};
@@ -49,6 +49,9 @@ pub fn look_at<D: SectorDevice>(
         IsLookCause cartridge.now (content (D.disk device).sectors) refused.why) }
     ensures memory { IfErr result (λ refused. refused.why ≡ Memory → (refused.device ≡ device) ⊎
         ((D.disk device).honest → CanBeLookedAt cartridge.now (D.disk device))) }
+
+    // no report is written, so none fails
+    ensures no_report { IfErr result (λ refused. refused.why ≢ Output) }
 
     ensures answered { HasAnswered (λ refused. faults_after refused.why) (D.disk device) (D.disk (left_by_look result))
         result }

@@ -1,5 +1,5 @@
 //! Resuming a game.
-ghost use Rattle.std.specs.Prelude.{◌≡◌, ◌<◌, ◌-◌, ◌^◌, ◌⊎◌, [], false, length, Ok, Err, Some, None, IfOk, IfErr};
+ghost use Rattle.std.specs.Prelude.{◌≡◌, ◌≢◌, ◌<◌, ◌-◌, ◌^◌, ◌⊎◌, [], false, length, Ok, Err, Some, None, IfOk, IfErr};
 ghost use Rattle.snapshot.specs.Legal.{IsMachineOf};
 ghost use Rattle.sector_device.specs.DiskState.{HasAnswered};
 ghost use Rattle.sector_device.specs.Looking.{HasLooked};
@@ -9,7 +9,7 @@ ghost use Rattle.session.specs.Calls.{faults_after};
 ghost use Rattle.session.specs.Stands.{IsAtRest, CanBeTakenUp, StandsAsBefore, stands};
 ghost use Rattle.session.specs.Found.{IsResumeCause};
 ghost use Rattle.session.specs.Accessors.{device_of, machine_of, rom_of, pending_of, acknowledged_of, is_broken, left_by};
-ghost use Rattle.session.specs.declared.error.SessionError.TheVariants.{Memory, Device};
+ghost use Rattle.session.specs.declared.error.SessionError.TheVariants.{Memory, Device, Output};
 
 use crate::begin::{begin_with, fault_of, make_room, snapshot_length};
 use crate::error::{Refused, SessionError};
@@ -61,6 +61,9 @@ pub fn resume<D: SectorDevice>(
         ((D.disk device).honest → CanBeTakenUp cartridge.now (D.disk device))) }
     ensures failed { IfErr result (λ refused. refused.why ≡ Device → (D.disk device).honest →
         HasLooked (D.disk device) (D.disk refused.device) ⊎ CanBeTakenUp cartridge.now (D.disk device)) }
+
+    // no report is written, so none fails
+    ensures no_report { IfErr result (λ refused. refused.why ≢ Output) }
 
     ensures answered { HasAnswered (λ refused. faults_after refused.why) (D.disk device) (D.disk (left_by result))
         result }

@@ -58,7 +58,7 @@ pub fn stream<D: SectorDevice, R: LineInput, W: Output>(
     // only a read and a write that failed are told as such
     ensures input { IfErr result (λ refused. refused.why ≡ StreamError.Input → R.has_failed input.new ≡ true) }
     ensures output { IfErr result (λ refused. refused.why ≡ StreamError.Session SessionError.Output →
-        (D.disk device).honest → W.has_failed out.new ≡ true) }
+        W.has_failed out.new ≡ true) }
 
     ensures answered { HasAnswered (λ refused. faults_after_stream refused.why) (D.disk device)
         (D.disk (left_by result)) result }

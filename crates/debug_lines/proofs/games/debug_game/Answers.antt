@@ -46,7 +46,7 @@ returns-in-Err-resume-clause-cause g c =
     let refused = c.in-Err-resume.ensures in
     not_taken_up c.args.rom.items c.in-Ok.cartridge (g.D.SectorDevice.disk c.args.device) (g.D.SectorDevice.disk c.in-Err-resume.refused.device) c.in-Err-resume.refused.why
     (g.R.LineInput.remaining c.args.input.now) (g.W.Output.contents c.args.out.now) c.in-Ok.ensures.image (c.in-Ok.ensures.accepted.0 refl)
-    (record { cause = refused.cause; report = keeps_same (g.W.Output.contents c.args.out.now); images = refused.images; untouched = refused.untouched; memory = memory_at (g.D.SectorDevice.disk) refused.memory; failed = refused.failed })
+    (record { cause = refused.cause; report = keeps_same (g.W.Output.contents c.args.out.now); images = refused.images; untouched = refused.untouched; memory = memory_at (g.D.SectorDevice.disk) refused.memory; failed = refused.failed; no_report = refused.no_report })
 
 pub returns-clause-answered : goal.returns-clause-answered
 returns-clause-answered g c =

@@ -12,5 +12,5 @@ returns-clause-begins c = λ _.
 
 pub returns-clause-reads : goal.returns-clause-reads
 returns-clause-reads c = λ none.
-    ap (λ (i : Instr). list_any (is_in c.args.span) (instruction_reads i c.args.processor.now.registers)) (sym c.next_instruction-instr.ensures)
+    ap (λ (i : Instr). list_any (is_in c.args.span.now) (instruction_reads i c.args.processor.now.registers)) (sym c.next_instruction-instr.ensures)
     ∙ sym c.instruction_reads.ensures ∙ none

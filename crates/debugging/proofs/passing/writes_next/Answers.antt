@@ -12,5 +12,5 @@ returns-clause-begins c = λ _.
 
 pub returns-clause-writes : goal.returns-clause-writes
 returns-clause-writes c = λ none.
-    ap (λ (i : Instr). list_any (is_in c.args.span) (instruction_writes i c.args.processor.now.registers)) (sym c.next_instruction-instr.ensures)
+    ap (λ (i : Instr). list_any (is_in c.args.span.now) (instruction_writes i c.args.processor.now.registers)) (sym c.next_instruction-instr.ensures)
     ∙ sym c.instruction_writes.ensures ∙ none

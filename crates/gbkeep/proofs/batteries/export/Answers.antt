@@ -6,8 +6,8 @@ use Rattle.gbkeep.specs.declared.fault.Fault.{Fault}
 use Rattle.gbkeep.proofs.FileTexts.{export_refused}
 use Rattle.gbkeep.proofs.batteries.export.Goals as goal
 
-pub returns-in-Ok-write_exported : goal.returns-in-Ok-write_exported
-returns-in-Ok-write_exported g c = (
+pub returns-in-Ok-write_exported-clause-served : goal.returns-in-Ok-write_exported-clause-served
+returns-in-Ok-write_exported-clause-served g c = (
   c.in_ok-rom.rom.items,
   (
     c.in-Ok.ensures.accepted,
@@ -23,8 +23,8 @@ returns-in-Ok-write_exported g c = (
   ),
 )
 
-pub returns : goal.returns
-returns g c = (
+pub returns-clause-served : goal.returns-clause-served
+returns-clause-served g c = (
   tt,
   (
     c.in_ok-rom.rom.items,
@@ -41,7 +41,7 @@ returns g c = (
   ),
 )
 
-pub returns-in-Err : goal.returns-in-Err
-returns-in-Err g c =
+pub returns-in-Err-clause-served : goal.returns-in-Err-clause-served
+returns-in-Err-clause-served g c =
     subst (λ (fault : Fault). IsRefused (Export c.args.cart c.args.save c.args.battery) fault (g.O.Output.contents c.args.out.now) (g.O.Output.contents c.args.out.now)) (sym c.from.ensures)
     (export_refused c.args.cart c.args.save c.args.battery c.in_ok-rom.rom.items c.in_ok-device.device _ _ (keeps_same (g.O.Output.contents c.args.out.now)) c.in-Err.refused.why c.in-Err.ensures.cause)

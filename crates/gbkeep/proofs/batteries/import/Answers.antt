@@ -12,14 +12,14 @@ use Rattle.playing.proofs.Telling.{keeps_same}
 use Rattle.gbkeep.proofs.BatteryTexts.{accepted_image, battery_refused}
 use Rattle.gbkeep.proofs.batteries.import.Goals as goal
 
-pub returns-in-Err : goal.returns-in-Err
-returns-in-Err g c =
+pub returns-in-Err-clause-served : goal.returns-in-Err-clause-served
+returns-in-Err-clause-served g c =
     let kept = keeps_same (g.O.Output.contents c.args.out.now) in
     battery_refused c.in_ok-cartridge.cartridge (accepted_image _ _ c.in_ok-cartridge.ensures.image (c.in_ok-cartridge.ensures.accepted.0 refl))
     c.args.cart c.args.battery c.args.save c.args.sectors _ _ kept c.in-Err.fault c.in-Err.ensures.err
 
-pub returns-in-Ok : goal.returns-in-Ok
-returns-in-Ok g c =
+pub returns-in-Ok-clause-served : goal.returns-in-Ok-clause-served
+returns-in-Ok-clause-served g c =
     let rom = c.in_ok-cartridge.cartridge in
     let accepted = accepted_image _ _ c.in_ok-cartridge.ensures.image (c.in_ok-cartridge.ensures.accepted.0 refl) in
     let same = c.sectors_or-sectors.ensures ∙ ap (λ (n : ℕ). unwrap_or c.args.sectors n) c.sectors_needed-need.ensures in

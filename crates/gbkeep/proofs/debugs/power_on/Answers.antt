@@ -1,17 +1,10 @@
-use Rattle.std.proofs.Common.{◌∙◌, None, subst, sym}
+use Rattle.std.proofs.Common.{None, subst, sym}
 use Rattle.gbkeep.specs.Program.{IsDebugRefused}
 use Rattle.gbkeep.specs.declared.fault.Fault.{Fault}
 use Rattle.gbkeep.proofs.DebugTexts.{debug_rom_refused}
-use Rattle.gbkeep.proofs.Failures.{debug_rom_input, debug_rom_output}
 use Rattle.gbkeep.proofs.debugs.power_on.Goals as goal
 
 pub returns-in-Err-clause-served : goal.returns-in-Err-clause-served
 returns-in-Err-clause-served g c =
     subst (λ (fault : Fault). IsDebugRefused None fault (record { before = g.I.LineInput.remaining c.args.input.now; since = g.I.LineInput.remaining c.debug_rom.new.input }) (record { before = g.O.Output.contents c.args.out.now; since = g.O.Output.contents c.debug_rom.new.out })) (sym c.from.ensures)
     (debug_rom_refused c.args.rom.items _ _ c.in-Err.why c.in-Err.ensures.cause)
-
-pub returns-in-Err-clause-input : goal.returns-in-Err-clause-input
-returns-in-Err-clause-input g c = λ is. c.in-Err.ensures.input (debug_rom_input c.in-Err.why (sym c.from.ensures ∙ is))
-
-pub returns-in-Err-clause-output : goal.returns-in-Err-clause-output
-returns-in-Err-clause-output g c = λ is. c.in-Err.ensures.output (debug_rom_output c.in-Err.why (sym c.from.ensures ∙ is))

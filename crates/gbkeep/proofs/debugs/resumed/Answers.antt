@@ -4,10 +4,10 @@ use Rattle.gbkeep.specs.declared.fault.Fault.{Fault}
 use Rattle.gbkeep.proofs.DebugTexts.{debug_game_refused, game_debugged}
 use Rattle.gbkeep.proofs.debugs.resumed.Goals as goal
 
-pub returns-in-Ok : goal.returns-in-Ok
-returns-in-Ok g c = game_debugged c.args.save c.args.rom.items c.in_ok-device.device c.in-Ok._left _ _ c.in-Ok.ensures.accepted c.in-Ok.ensures.debugged
+pub returns-in-Ok-clause-served : goal.returns-in-Ok-clause-served
+returns-in-Ok-clause-served g c = game_debugged c.args.save c.args.rom.items c.in_ok-device.device c.in-Ok._left _ _ c.in-Ok.ensures.accepted c.in-Ok.ensures.debugged
 
-pub returns-in-Err : goal.returns-in-Err
-returns-in-Err g c =
+pub returns-in-Err-clause-served : goal.returns-in-Err-clause-served
+returns-in-Err-clause-served g c =
     subst (λ (fault : Fault). IsDebugRefused (Some c.args.save) fault (record { before = g.I.LineInput.remaining c.args.input.now; since = g.I.LineInput.remaining c.debug_game.new.input }) (record { before = g.O.Output.contents c.args.out.now; since = g.O.Output.contents c.debug_game.new.out })) (sym c.from.ensures)
     (debug_game_refused c.args.save c.args.rom.items c.in_ok-device.device c.in-Err.refused.device _ _ c.in-Err.refused.why c.in-Err.ensures.cause)

@@ -24,7 +24,7 @@ returns-in-Ok-clause-cause g c =
     c.picture_of.result c.picture_of.ensures.device c.picture_of.ensures.why c.in-Ok.ensures.playable c.in-Ok.ensures.report c.in-Ok.ensures.played
 
 pub returns-in-Ok-clause-output : goal.returns-in-Ok-clause-output
-returns-in-Ok-clause-output g c = undrawn_reported c.picture_of.result ((g.D.SectorDevice.disk c.args.device).honest → g.W.Output.has_failed c.play_script.new.report ≡ true) c.picture_of.ensures.why
+returns-in-Ok-clause-output g c = undrawn_reported c.picture_of.result (g.W.Output.has_failed c.play_script.new.report ≡ true) c.picture_of.ensures.why
 
 pub returns-in-Ok-clause-drawing : goal.returns-in-Ok-clause-drawing
 returns-in-Ok-clause-drawing g c = undrawn_failed c.picture_of.result (g.P.Output.has_failed c.picture_of.new.out ≡ true) c.picture_of.ensures.failed

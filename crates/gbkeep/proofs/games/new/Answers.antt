@@ -12,8 +12,8 @@ use Rattle.gbkeep.proofs.BegunTexts.{begun_served}
 use Rattle.gbkeep.proofs.FileTexts.{game_begun}
 use Rattle.gbkeep.proofs.games.new.Goals as goal
 
-pub returns-in-Ok : goal.returns-in-Ok
-returns-in-Ok g c =
+pub returns-in-Ok-clause-served : goal.returns-in-Ok-clause-served
+returns-in-Ok-clause-served g c =
     let rom = c.in_ok-cartridge.cartridge in
     let accepted = accepted_image _ _ c.in_ok-cartridge.ensures.image (c.in_ok-cartridge.ensures.accepted.0 refl) in
     let same = c.sectors_or-sectors.ensures ∙ ap (λ (n : ℕ). unwrap_or c.args.sectors n) c.sectors_needed-need.ensures in

@@ -4,10 +4,10 @@ use Rattle.gbkeep.specs.declared.fault.Fault.{Fault}
 use Rattle.gbkeep.proofs.StreamTexts.{streamed_to, stream_refused}
 use Rattle.gbkeep.proofs.games.stream.Goals as goal
 
-pub returns-in-Ok : goal.returns-in-Ok
-returns-in-Ok g c = streamed_to c.in_ok-rom.rom.items c.in_ok-device.device c.in-Ok._left _ _ _ _ _ c.in-Ok.ensures.accepted c.in-Ok.ensures.streamed
+pub returns-in-Ok-clause-served : goal.returns-in-Ok-clause-served
+returns-in-Ok-clause-served g c = streamed_to c.in_ok-rom.rom.items c.in_ok-device.device c.in-Ok._left _ _ _ _ _ c.in-Ok.ensures.accepted c.in-Ok.ensures.streamed
 
-pub returns-in-Err : goal.returns-in-Err
-returns-in-Err g c =
+pub returns-in-Err-clause-served : goal.returns-in-Err-clause-served
+returns-in-Err-clause-served g c =
     subst (λ (fault : Fault). IsStreamRefused fault (record { before = g.I.LineInput.remaining c.args.input.now; since = g.I.LineInput.remaining c.stream_play.new.input }) (record { before = g.O.Output.contents c.args.out.now; since = g.O.Output.contents c.stream_play.new.out })) (sym c.from.ensures)
     (stream_refused c.in_ok-rom.rom.items c.in_ok-device.device c.in-Err.stopped.device _ _ _ _ c.in-Err.stopped.why c.in-Err.ensures.cause)

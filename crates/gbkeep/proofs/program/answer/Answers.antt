@@ -13,8 +13,10 @@ returns-in-Err-serve g c =
       input = record { before = g.I.LineInput.remaining c.args.input.now; since = g.I.LineInput.remaining c.serve.new.input };
       output = record { before = g.O.Output.contents c.args.out.now; since = g.O.Output.contents c.serve.new.out };
       errors = record { before = g.E.Output.contents c.args.err.now; since = g.E.Output.contents c.report.new.err };
+      input_failed = g.I.LineInput.has_failed c.serve.new.input;
+      output_failed = g.O.Output.has_failed c.serve.new.out;
     } in
     let same : c.args.asked ≡ Ok (Command c.in-Ok-Command.request) = cc in
     subst (λ (asked : Result Asked Fault). HasEnded asked run c.report.result) (sym same)
     (subst (λ (status : ℕ). HasEnded (Ok (Command c.in-Ok-Command.request)) run status) (sym c.report.ensures.status)
-    (refused_ends c.in-Ok-Command.request c.in-Err-serve.fault run c.in-Err-serve.ensures c.report.ensures.line))
+    (refused_ends c.in-Ok-Command.request c.in-Err-serve.fault run c.in-Err-serve.ensures.served (c.report.ensures.line, (c.in-Err-serve.ensures.output, c.in-Err-serve.ensures.input))))

@@ -12,6 +12,8 @@ returns-in-Err-clause-ends g c =
       input = record { before = g.I.LineInput.remaining c.args.input.now; since = g.I.LineInput.remaining c.answer.new.input };
       output = record { before = g.O.Output.contents c.args.out.now; since = g.O.Output.contents c.answer.new.out };
       errors = record { before = g.E.Output.contents c.args.err.now; since = g.E.Output.contents c.answer.new.err };
+      input_failed = g.I.LineInput.has_failed c.answer.new.input;
+      output_failed = g.O.Output.has_failed c.answer.new.out;
     })
     c.answer.result in
     elim c.in-Err.ensures [

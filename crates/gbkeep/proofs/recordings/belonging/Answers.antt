@@ -1,6 +1,6 @@
 use Rattle.std.proofs.Common.{Some, subst, sym}
 use Rattle.sector_device.specs.FileDevice.{file_disk}
-use Rattle.replaying.specs.Verifying.{IsVerifyCause}
+use Rattle.replaying.specs.Verifying.{IsOfVerifying, IsVerifyCause}
 use Rattle.replaying.specs.declared.error.VerifyError.{VerifyError}
 use Rattle.gbkeep.specs.Program.{IsNotOf}
 use Rattle.gbkeep.specs.Request.{record_limits}
@@ -16,4 +16,5 @@ returns-in-Err c =
     subst (λ (fault : Fault). IsNotOf c.args.cartridge.now game tape fault) (sym c.from.ensures)
     (not_of c.args.cartridge.now game tape c.in-Err.why
     (err_at c.verify-found.result.answer c.in-Err.why (λ (why : VerifyError). game.honest → tape.honest → IsVerifyCause (Some record_limits) c.args.cartridge.now game tape why)
-    c.in-Err.is c.verify-found.ensures.cause))
+    c.in-Err.is c.verify-found.ensures.cause)
+    (err_at c.verify-found.result.answer c.in-Err.why (IsOfVerifying (Some record_limits)) c.in-Err.is c.verify-found.ensures.kind))

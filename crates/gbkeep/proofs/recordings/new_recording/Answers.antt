@@ -9,8 +9,8 @@ use Rattle.gbkeep.proofs.BegunTexts.{begun_served}
 use Rattle.gbkeep.proofs.FileTexts.{not_begun, recording_begun}
 use Rattle.gbkeep.proofs.recordings.new_recording.Goals as goal
 
-pub returns-in-Ok : goal.returns-in-Ok
-returns-in-Ok g c =
+pub returns-in-Ok-clause-served : goal.returns-in-Ok-clause-served
+returns-in-Ok-clause-served g c =
     let rom = c.in_ok-cartridge.cartridge in
     let accepted = accepted_image _ _ c.in_ok-cartridge.ensures.image (c.in_ok-cartridge.ensures.accepted.0 refl) in
     let enough : 2 ≤ c.args.sectors = omega (arith, c.if-sectors-lt-FEWEST_SECTORS.false) in
@@ -23,8 +23,8 @@ returns-in-Ok g c =
     (λ written. (rom, (accepted, (enough, begun), written))) (λ cut. (rom, accepted, (enough, begun), cut))
     c.tell_begun.result c.tell_begun.ensures.written c.tell_begun.ensures.cause
 
-pub returns : goal.returns
-returns g c =
+pub returns-clause-served : goal.returns-clause-served
+returns-clause-served g c =
     let rom = c.in_ok-cartridge.cartridge in
     let accepted = accepted_image _ _ c.in_ok-cartridge.ensures.image (c.in_ok-cartridge.ensures.accepted.0 refl) in
     let zero = c.in_ok-making.ensures.zero in

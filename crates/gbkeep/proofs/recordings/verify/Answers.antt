@@ -8,8 +8,8 @@ use Rattle.gbkeep.specs.declared.fault.Fault.{Fault}
 use Rattle.gbkeep.proofs.FileTexts.{err_at, ok_at, verify_refused}
 use Rattle.gbkeep.proofs.recordings.verify.Goals as goal
 
-pub returns-in-Ok : goal.returns-in-Ok
-returns-in-Ok g c =
+pub returns-in-Ok-clause-served : goal.returns-in-Ok-clause-served
+returns-in-Ok-clause-served g c =
     let answer = c.verify_line-compared.result.answer in
     let said = c.verify_line-compared.ensures in
     let rom = c.in_ok-rom.rom.items in (
@@ -28,8 +28,8 @@ returns-in-Ok g c =
       ),
     )
 
-pub returns : goal.returns
-returns g c =
+pub returns-clause-served : goal.returns-clause-served
+returns-clause-served g c =
     let rom = c.in_ok-rom.rom.items in
     subst (λ (fault : Fault). IsRefused (Verify c.args.cart c.args.save c.args.recording) fault (g.O.Output.contents c.args.out.now) (g.O.Output.contents c.verify_line-compared.new.out)) (sym c.from.ensures)
     (verify_refused c.args.cart c.args.save c.args.recording rom c.in_ok-pair.pair.save c.in_ok-pair.pair.recording _ _ c.in-Err.why

@@ -4,7 +4,6 @@ use Rattle.sector_device.specs.Runs.{HoldsSince}
 use Rattle.machine.specs.Machine.{Input, after}
 use Rattle.script.specs.declared.moves.Move.TheVariants.{Power}
 use Rattle.session.specs.declared.error.SessionError.TheVariants.{Memory}
-use Rattle.log_format.specs.Content.{content, generation_in}
 use Rattle.session.specs.Calls.{faults_after}
 use Rattle.session.specs.Stands.{Position}
 use Rattle.session.specs.Accessors.{device_of, machine_of, pending_of, acknowledged_of}
@@ -17,7 +16,6 @@ use Rattle.playing.proofs.Going.{goes_all, no_further_at_all, none_left}
 use Rattle.playing.proofs.Telling.{keeps_same, memory_at}
 use Rattle.playing.proofs.PlayLaws.{begun_played, all_saved, reaches_more}
 use Rattle.playing.proofs.ReportLaws.{front_of_moves}
-use Rattle.playing.proofs.Stops.{resume_not_output}
 use Rattle.playing.proofs.played.play.Goals as goal
 
 pub returns-in-Err-clause-images : goal.returns-in-Err-clause-images
@@ -25,12 +23,10 @@ returns-in-Err-clause-images g c = λ honest. since_weaker (c.in-Err.ensures.ima
 
 pub returns-in-Err-clause-refused : goal.returns-in-Err-clause-refused
 returns-in-Err-clause-refused g c =
-    inl (record { cause = c.in-Err.ensures.cause; report = keeps_same (g.W.Output.contents c.args.report.now); images = c.in-Err.ensures.images; untouched = c.in-Err.ensures.untouched; memory = memory_at (g.D.SectorDevice.disk) c.in-Err.ensures.memory; failed = c.in-Err.ensures.failed })
+    inl (record { cause = c.in-Err.ensures.cause; report = keeps_same (g.W.Output.contents c.args.report.now); images = c.in-Err.ensures.images; untouched = c.in-Err.ensures.untouched; memory = memory_at (g.D.SectorDevice.disk) c.in-Err.ensures.memory; failed = c.in-Err.ensures.failed; no_report = c.in-Err.ensures.no_report })
 
 pub returns-in-Err-clause-output : goal.returns-in-Err-clause-output
-returns-in-Err-clause-output g c = λ output honest.
-    let was = g.D.SectorDevice.disk c.args.device in
-    absurd (resume_not_output c.args.cartridge.now (generation_in was.sectors) (content was.sectors) c.in-Err.refused.why (c.in-Err.ensures.cause honest) output)
+returns-in-Err-clause-output g c = λ output. absurd (c.in-Err.ensures.no_report output)
 
 pub returns-in-Ok-true-clause-played : goal.returns-in-Ok-true-clause-played
 returns-in-Ok-true-clause-played g c = λ honest.
@@ -117,7 +113,7 @@ returns-in-Err-play_on-clause-refused g c =
     })))
 
 pub returns-in-Err-play_on-clause-output : goal.returns-in-Err-play_on-clause-output
-returns-in-Err-play_on-clause-output g c = λ output honest. c.in-Err-play_on.ensures.stopped.output output
+returns-in-Err-play_on-clause-output g c = λ output. c.in-Err-play_on.ensures.stopped.output output
 
 pub returns-in-Err-play_on-clause-images : goal.returns-in-Err-play_on-clause-images
 returns-in-Err-play_on-clause-images g c = λ honest.

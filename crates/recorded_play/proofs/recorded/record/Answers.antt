@@ -17,7 +17,7 @@ use Rattle.recorded_play.specs.declared.error.RecordError.{RecordError}
 use Rattle.recorded_play.specs.declared.error.RecordError.TheVariants.{Session, Line, Input}
 use Rattle.recorded_play.specs.declared.error.RecordRefused.{RecordRefused}
 use Rattle.recorded_play.proofs.Stepping.{comes_all, halts_all}
-use Rattle.recorded_play.proofs.WholePlays.{devices_not_input, none_damaged, none_lacked, recorded_to, stop_not_input, stopped_record, as_refusal, ended_agree, stopped_agree, take_up_not_output}
+use Rattle.recorded_play.proofs.WholePlays.{devices_not_input, devices_not_output, none_damaged, none_lacked, recorded_to, stop_not_input, stopped_record, as_refusal, ended_agree, stopped_agree}
 use Rattle.recorded_play.proofs.recorded.record.Goals as goal
 
 pub returns-in-Err-clause-refused : goal.returns-in-Err-clause-refused
@@ -27,9 +27,7 @@ pub returns-in-Err-clause-input : goal.returns-in-Err-clause-input
 returns-in-Err-clause-input g c = λ input. absurd (devices_not_input c.in-Err.refused.why c.in-Err.ensures.refused.kind input)
 
 pub returns-in-Err-clause-output : goal.returns-in-Err-clause-output
-returns-in-Err-clause-output g c = λ output honest other_honest.
-    let disk = g.D.SectorDevice.disk in
-    absurd (take_up_not_output c.args.cartridge.now (disk c.args.save) (disk c.in-Err.refused.save) (g.E.SectorDevice.disk c.args.recording) c.in-Err.refused.why (c.in-Err.ensures.refused.cause honest other_honest) output)
+returns-in-Err-clause-output g c = λ output. absurd (devices_not_output c.in-Err.refused.why c.in-Err.ensures.refused.kind output)
 
 pub stream_on-requires-clause-whole : goal.stream_on-requires-clause-whole
 stream_on-requires-clause-whole g c = (c.in-Ok-take_up.ensures.whole.1, c.in-Ok-take_up.ensures.whole.2, ap can_be_logged c.in-Ok-take_up.ensures.whole.0)
@@ -263,7 +261,7 @@ returns-clause-input g c = λ input.
     absurd (stop_not_input why _ (game now.session now.recording).save.disk halts.cause is)
 
 pub returns-clause-output : goal.returns-clause-output
-returns-clause-output g c = λ output honest other_honest.
+returns-clause-output g c = λ output.
     let is : c.in-Err-stream_on.why ≡ Session Output = sym (ap (λ (r : RecordRefused _ _). r.why) c.stopped-in-Err-stream_on.ensures) ∙ output in
     c.in-Err-stream_on.ensures.stopped.stops.output (ap told_as is)
 

@@ -28,6 +28,7 @@ returns-in-Err-clause-stops g c =
     (λ most worn now_honest.
     ⊎_elim (λ device. absurd (cc)) (λ same. ap (λ d. generation_in (disk d).sectors) same ∙ sym (c.requires.generation honest) ∙ most) c.in-Err.ensures.untouched)
     (c.in-Err.ensures.cause honest))
+    c.in-Err.ensures.no_report
     c.in-Err.ensures.images)
 
 pub returns-in-Err-clause-save_answered : goal.returns-in-Err-clause-save_answered

@@ -27,7 +27,7 @@ returns-in-Err-clause-refused g c =
     let other = g.E.SectorDevice.disk in
     let save = disk c.args.save in
     let recording = other c.args.recording in
-    refused_looking rom save (disk c.in-Err.refused.device) recording recording (Session c.in-Err.refused.why) (look_refused rom save (disk c.in-Err.refused.device) recording c.in-Err.refused.why c.in-Err.ensures.cause) tt c.in-Err.ensures.looked (looked_same recording (g.met.E.SectorDevice.only_now c.args.recording))
+    refused_looking rom save (disk c.in-Err.refused.device) recording recording (Session c.in-Err.refused.why) (look_refused rom save (disk c.in-Err.refused.device) recording c.in-Err.refused.why c.in-Err.ensures.cause) c.in-Err.ensures.no_report c.in-Err.ensures.looked (looked_same recording (g.met.E.SectorDevice.only_now c.args.recording))
 
 pub returns-in-Err-clause-agree : goal.returns-in-Err-clause-agree
 returns-in-Err-clause-agree g c =

@@ -10,7 +10,7 @@ use Rattle.sector_log.specs.Accessors.{device_under, found_generation, seen}
 use Rattle.session.specs.Stands.{IsAtRest, stands}
 use Rattle.session.specs.Recovery.{IsRecovered, IsRecoveryCause}
 use Rattle.session.specs.LookAccessors.{machine_of_look, count_of_look}
-use Rattle.session.proofs.Finding.{cause_found, memory_found, recovered_machine, recovered_stands}
+use Rattle.session.proofs.Finding.{cause_found, log_not_output, memory_found, recovered_machine, recovered_stands, recovery_not_output}
 use Rattle.session.proofs.Looks.{at_rest_by, look_cause, looks_by}
 use Rattle.session.proofs.looking.look_at.Goals as goal
 
@@ -76,3 +76,9 @@ returns-in-Err-recovered-clause-memory g c = λ wanted. inr (λ honest.
     let found = memory_found c.args.cartridge.now 0 c.snapshot_length.result (g.D.SectorDevice.disk c.args.device).sectors (seen c.in-Ok-open_log.opened) (c.in-Ok-open_log.ensures.opened.seen_is honest)
     (subst (λ why. IsRecoveryCause c.args.cartridge.now (seen c.in-Ok-open_log.opened) 0 why) wanted c.in-Err-recovered.ensures.err) in
     record { from = found.0.0; stood = found.0.1 })
+
+pub returns-in-Err-clause-no_report : goal.returns-in-Err-clause-no_report
+returns-in-Err-clause-no_report g c = λ output. log_not_output c.in-Err.refused.why (sym c.fault_of.ensures ∙ output)
+
+pub returns-in-Err-recovered-clause-no_report : goal.returns-in-Err-recovered-clause-no_report
+returns-in-Err-recovered-clause-no_report g c = recovery_not_output c.args.cartridge.now (seen c.in-Ok-open_log.opened) 0 c.in-Err-recovered.why c.in-Err-recovered.ensures.err

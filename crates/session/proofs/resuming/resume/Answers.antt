@@ -15,7 +15,7 @@ use Rattle.session.specs.Recovery.{IsRecoveryCause}
 use Rattle.session.specs.Accessors.{device_of, machine_of, left_by}
 use Rattle.session.proofs.Beginnings.{if_ok, if_ok_both, if_err, begun_at_rest, resume_images, looked_resume, looking_wants_memory}
 use Rattle.session.proofs.Answering.{answered_then}
-use Rattle.session.proofs.Finding.{cause_found, recovered_stands, recovered_machine, recovered_fits, memory_found, begin_cause}
+use Rattle.session.proofs.Finding.{cause_found, recovered_stands, recovered_machine, recovered_fits, memory_found, begin_cause, begin_not_output, log_not_output, recovery_not_output}
 use Rattle.session.proofs.resuming.resume.Goals as goal
 
 pub begin_with-requires-clause-rom : goal.begin_with-requires-clause-rom
@@ -151,3 +151,15 @@ returns-in-Ok-recovered-clause-failed g c =
           (c.in-Ok-open_log.ensures.opened.seen_is honest) c.in-Ok-recovered.ensures.ok;
       unworn = subst (λ (n : ℕ). n < 18446744073709551615) (c.generation-generation.ensures.generation ∙ c.in-Ok-open_log.ensures.opened.generation_is honest) c.in-Ok-recovered.ensures.ok.rebuilt.unworn;
     }))
+
+-- ---- no report is written
+
+pub returns-in-Err-clause-no_report : goal.returns-in-Err-clause-no_report
+returns-in-Err-clause-no_report g c = λ output. log_not_output c.in-Err.refused.why (sym c.fault_of.ensures ∙ output)
+
+pub returns-in-Err-recovered-clause-no_report : goal.returns-in-Err-recovered-clause-no_report
+returns-in-Err-recovered-clause-no_report g c =
+    recovery_not_output c.args.cartridge.now (seen c.in-Ok-open_log.opened) c.generation-generation.result c.in-Err-recovered.why c.in-Err-recovered.ensures.err
+
+pub returns-in-Ok-recovered-clause-no_report : goal.returns-in-Ok-recovered-clause-no_report
+returns-in-Ok-recovered-clause-no_report g c = if_err c.begin_with.result c.begin_with.ensures.cause (λ refused. begin_not_output _ _ _ refused.why)

@@ -1,11 +1,9 @@
 use Rattle.std.proofs.Common.{◌≡◌, Err, inl, inr, refl, sym, subst, ◌∙◌}
 use Rattle.sector_device.specs.DiskState.{HasAnswered}
-use Rattle.log_format.specs.Content.{content, generation_in}
 use Rattle.session.specs.declared.error.SessionError.TheVariants.{Output}
 use Rattle.session.specs.Calls.{faults_after}
 use Rattle.session.specs.Accessors.{pending_of, rom_of}
 use Rattle.playing.proofs.Going.{goes_all, no_further_at_all, none_left}
-use Rattle.playing.proofs.Stops.{resume_not_output}
 use Rattle.playing.proofs.Telling.{keeps_same, memory_at}
 use Rattle.playing.specs.Going.{place}
 use Rattle.streaming.specs.Answers.{inputs_of_deeds}
@@ -18,13 +16,12 @@ use Rattle.streaming.proofs.streamed.stream.Goals as goal
 
 pub returns-in-Err-clause-refused : goal.returns-in-Err-clause-refused
 returns-in-Err-clause-refused g c =
-    inl (record { cause = c.in-Err.ensures.cause; report = keeps_same (g.W.Output.contents c.args.out.now); images = c.in-Err.ensures.images; untouched = c.in-Err.ensures.untouched; memory = memory_at (g.D.SectorDevice.disk) c.in-Err.ensures.memory; failed = c.in-Err.ensures.failed }, refl)
+    inl (record { cause = c.in-Err.ensures.cause; report = keeps_same (g.W.Output.contents c.args.out.now); images = c.in-Err.ensures.images; untouched = c.in-Err.ensures.untouched; memory = memory_at (g.D.SectorDevice.disk) c.in-Err.ensures.memory; failed = c.in-Err.ensures.failed; no_report = c.in-Err.ensures.no_report }, refl)
 
 pub returns-in-Err-clause-output : goal.returns-in-Err-clause-output
-returns-in-Err-clause-output g c = λ output honest.
-    let was = g.D.SectorDevice.disk c.args.device in
+returns-in-Err-clause-output g c = λ output.
     let is : c.in-Err.refused.why ≡ Output = cc in
-    absurd (resume_not_output c.args.cartridge.now (generation_in was.sectors) (content was.sectors) c.in-Err.refused.why (c.in-Err.ensures.cause honest) is)
+    absurd (c.in-Err.ensures.no_report is)
 
 pub returns-in-Ok-Whole-clause-streamed : goal.returns-in-Ok-Whole-clause-streamed
 returns-in-Ok-Whole-clause-streamed g c =
@@ -173,7 +170,7 @@ returns-clause-refused g c =
     (stopped_stream rom old (place s) (place now) before_in since_in before since up streams.lines streams.deeds why streams.more (rom_of s) taken.begun.2 streams.asks streams.read streams.stops.told stop))
 
 pub returns-clause-output : goal.returns-clause-output
-returns-clause-output g c = λ output honest.
+returns-clause-output g c = λ output.
     let is : c.in-Err-stream_on.why ≡ Output = cc in
     c.in-Err-stream_on.ensures.stopped.stops.output is
 

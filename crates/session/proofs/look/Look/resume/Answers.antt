@@ -10,6 +10,7 @@ use Rattle.session.specs.Stands.{IsAtRest, StandsAsBefore}
 use Rattle.session.specs.Accessors.{device_of, machine_of, left_by}
 use Rattle.session.specs.LookAccessors.{device_of_look}
 use Rattle.session.proofs.Beginnings.{if_ok_both, if_err, begun_at_rest, looked_resume}
+use Rattle.session.proofs.Finding.{begin_not_output}
 use Rattle.session.proofs.Looks.{looked_nothing, stood_at_rest, take_up_cause, taken_up_images}
 use Rattle.session.proofs.look.Look.resume.Goals as goal
 
@@ -43,3 +44,6 @@ returns-clause-cause g c =
     let sectors = (g.D.SectorDevice.disk (device_of_look c.args.self)).sectors in
     take_up_cause (snapshot_length (ram_length_of c.args.cartridge.now)) (length sectors) (found_generation c.args.self.opened) refused.why
     (subst (λ (r : List ℕ). need (snapshot_length (ram_length_of r)) ≤ length sectors) c.requires (c.args.self.looks honest).enough) cause)
+
+pub returns-clause-no_report : goal.returns-clause-no_report
+returns-clause-no_report g c = if_err c.begin_with.result c.begin_with.ensures.cause (λ refused. begin_not_output _ _ _ refused.why)
