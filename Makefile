@@ -206,6 +206,8 @@ test:
 	python3 -B scripts/refusals.py
 	python3 -B scripts/definitions.py public
 	python3 -B scripts/unused_names.py
+	python3 -B scripts/no_memory.py
+	python3 -B scripts/no_memory.py --try
 	python3 -B scripts/edits.py --apply
 	$(RT) ci
 	python3 -B scripts/program_tests/run.py $(PROGRAM)/out/gbkeep_program

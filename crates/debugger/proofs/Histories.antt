@@ -3,11 +3,10 @@ use Rattle.std.proofs.Common.{◌≡◌, ◌∙◌, ℕ, zero, suc, ◌+◌, ◌
 use Rattle.std.proofs.lemmas.Bool.{cases_lt}
 use Rattle.std.proofs.lemmas.List.{drop-append-le, drop-drop}
 use Rattle.std.proofs.Math.Nat.{eq-or-lt_of_le}
-use Rattle.std.specs.List.{Contains}
 use Rattle.circular_buffer.specs.Buffer.{Buffer, buffer, keep_last}
 use Rattle.memory_map.specs.BusRules.{bus_rules}
 use Rattle.machine.specs.Machine.{MachineState}
-use Rattle.machine.specs.FastRuns.{HasPassed as HasPassedTo, HasReported, instruction_in, instructions_in}
+use Rattle.machine.specs.FastRuns.{HasPassed as HasPassedTo, instruction_in, instructions_in}
 use Rattle.machine.proofs.FastRuns.{no_instruction, instructions_more}
 use Rattle.sm83_processor.specs.Rules.{Rules}
 use Rattle.sm83_processor.specs.Steps.{step_of, after_steps}
@@ -17,7 +16,7 @@ use Rattle.sm83_processor.specs.declared.step.StepKind.{StepKind}
 use Rattle.sm83_processor.specs.declared.step.StepKind.TheVariants.{Dispatch, Wait, Ran}
 use Rattle.memory_map.specs.State.{BusState}
 use Rattle.sm83_processor.proofs.Runs.{after_steps-zero, after_steps-add_one}
-use Rattle.debugger.specs.Run.{HasPassed, HasRun, pc_after}
+use Rattle.debugger.specs.Run.{HasPassed}
 use Rattle.debugger.specs.History.{DebuggerState, HoldsAtMost, after_run}
 
 pub keep_last-all : {X : Type 0} (n : ℕ) (xs : List X) → length xs ≤ n → keep_last n xs ≡ xs
@@ -112,14 +111,6 @@ pub steps_kept : (n : ℕ) (m : MachineState) (b k : Buffer Executed) (seen : Li
 steps_kept n m b k seen is kept = rw (← is) (ap (history_as _) kept)
 
 -- a run of fast steps, whose instructions were put into the buffer together
-pub fast_steps_kept : (breaks : List ℕ) (n : ℕ) (m t : MachineState) (b k : Buffer Executed) (seen : List Executed) →
-    t ≡ record m { processor = after_steps bus_rules n m.processor } → HasReported breaks n m.processor t.processor seen →
-    k ≡ buffer (keep_last b.capacity (b.items ++ seen)) b.capacity → HasRun breaks n (history_as m b) (history_as t k)
-fast_steps_kept breaks n m t b k seen made reported kept = record {
-  run = ap (λ (x : MachineState). history_as x k) made ∙ steps_kept n m b k seen reported.ran kept;
-  past = reported.past;
-}
-
 pub watched_steps_kept : (passes : Processor BusState → Type 0) (n : ℕ) (m t : MachineState) (b k : Buffer Executed) (seen : List Executed) →
     t ≡ record m { processor = after_steps bus_rules n m.processor } → HasPassedTo passes n m.processor t.processor seen →
     k ≡ buffer (keep_last b.capacity (b.items ++ seen)) b.capacity → HasPassed passes n (history_as m b) (history_as t k)
@@ -136,25 +127,7 @@ runs (suc k) n d =
     ∙ sym (two_runs k (after_run n d)) ∙ ap (after_run 1) (runs k n d) ∙ two_runs (n + k) d
     ∙ ap (λ (j : ℕ). after_run j d) (omega arith)
 
--- a run, and one from there on that began at no break
-pub run_on : (breaks : List ℕ) (m n : ℕ) (d e f : DebuggerState) → HasRun breaks m d e → (0 < m → ¬ (Contains breaks e.machine.processor.registers.pc)) →
-    HasRun breaks n e f → HasRun breaks (m + n) d f
-run_on breaks m n d e f first here next = record {
-  run = next.run ∙ ap (after_run n) first.run ∙ runs n m d;
-  past = λ k some below. elim (cases_lt k m) [
-    | inl less ↦ first.past k some less
-    | inr more ↦ elim (eq-or-lt_of_le more) [
-      | inl same ↦ λ met. here (omega (arith, same, some))
-          (subst (Contains breaks) (sym (ap (λ (x : DebuggerState). x.machine.processor.registers.pc) first.run)) (subst (λ (j : ℕ). Contains breaks (pc_after j d)) (sym same) met))
-      | inr less ↦ λ met. next.past (k - m) (omega (arith, less)) (omega (arith, less, below))
-          (subst (Contains breaks) (sym (ap (λ (x : DebuggerState). pc_after (k - m) x) first.run
-          ∙ ap (λ (x : DebuggerState). x.machine.processor.registers.pc) (runs (k - m) m d)
-          ∙ ap (λ (j : ℕ). pc_after j d) (omega (arith, less)))) met)
-    ]
-  ];
-}
-
--- the same where a fact held before each step
+-- a run, and one from there on, where a fact held before each step
 pub pass_on : (passes : Processor BusState → Type 0) (m n : ℕ) (d e f : DebuggerState) → HasPassed passes m d e → (0 < m → passes e.machine.processor) →
     HasPassed passes n e f → HasPassed passes (m + n) d f
 pass_on passes m n d e f first here next = record {

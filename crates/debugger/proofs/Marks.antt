@@ -3,7 +3,7 @@ use Rattle.std.proofs.Common.{◌≤◌, ◌≡◌, ◌∙◌, inl, inr, ℕ, �
 use Rattle.std.proofs.lemmas.Bool.Decides.{eqb_tells}
 use Rattle.std.proofs.lemmas.List.{get_or_default}
 use Rattle.circular_buffer.proofs.Places.{slice_get-set_same, slice_get-set_other}
-use Rattle.machine.specs.FastRuns.{AreMarked}
+use Rattle.debugger.specs.Run.{AreMarked}
 
 -- the first of them are marked
 abbrev pub FirstAreMarked : List Bool → List ℕ → ℕ → Type 0

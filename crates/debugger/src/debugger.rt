@@ -1,11 +1,10 @@
 //! The machine with its history.
 
-ghost use Rattle.std.specs.Prelude.{◌≡◌, ◌<◌, ◌≤◌, ◌↔◌, IfErr, IfOk, IsTrue, true, OnErr, OnOk, [], length, slice_get};
+ghost use Rattle.std.specs.Prelude.{◌≡◌, ◌<◌, ◌≤◌, IfErr, IfOk, true, OnErr, OnOk, [], length, slice_get};
 ghost use Rattle.std.specs.Io.KnownBytes.{Appends};
-ghost use Rattle.std.specs.List.{Contains};
 ghost use Rattle.exact_text.specs.Written.{AppendsProperPrefix};
-ghost use Rattle.machine.specs.FastRuns.{AreMarked};
 
+use crate::breaks::Breaks;
 use crate::listing::write_lines;
 use crate::stop::Stop;
 use circular_buffer::HeapCircularBuffer;
@@ -77,7 +76,7 @@ impl Debugger {
     ghost use Rattle.sm83_processor.specs.FastStep.{IsFast};
     ghost use Rattle.debugger.specs.History.{after_run};
     ghost use Rattle.debugger.specs.Listing.{lines_from};
-    ghost use Rattle.debugger.specs.Run.{HasPassed, HasRun, IsStop};
+    ghost use Rattle.debugger.specs.Run.{HasPassed, IsStop};
 
     /// A debugger for this machine, which keeps the last `size` instructions, 1 to 1,024. If there
     /// is no memory for them, it hands the machine back as it was.
@@ -132,58 +131,24 @@ impl Debugger {
     pub fn run_until(&mut self, breaks: &[u16], limit: u32) -> Stop
         ensures { IsStop breaks.now limit self.old self.new result }
     {
-        self.run_until_in(&mut RunRoom::new(), breaks, limit)
-    }
-
-    /// As `run_until`, in room that many short runs share: making it takes as long as a hundred steps.
-    pub fn run_until_in(&mut self, room: &mut RunRoom, breaks: &[u16], limit: u32) -> Stop
-        ensures { IsStop breaks.now limit self.old self.new result }
-    {
         // the history is within its size, so a run of no step leaves it as it is
         prove!(self.history.len() <= self.history.capacity());
-        let marks = marks_of(breaks);
-        let mut is_fast = self.machine.is_fast();
+        let mut room = RunRoom::new();
+        let watch = Breaks::of(breaks);
         let mut made = 0;
         while made < limit {
             let pc = self.machine.registers().pc;
-            if made > 0 && is_break(&marks, breaks, pc) {
+            if made > 0 && watch.has(pc) {
                 return Stop::Break(pc);
             }
-            if is_fast {
-                let (more, is_more) = self.run_fast(&marks, breaks, limit - made, &mut room.kept);
-                made += more;
-                is_fast = is_more;
+            if self.machine.is_fast() {
+                made += self.run_watching(&mut room, &watch, limit - made);
             } else {
                 let _ = self.step();
                 made += 1;
-                is_fast = self.machine.is_fast();
             }
         }
         Stop::Limit
-    }
-
-    /// Makes fast steps, at least one, until one that is not the first would begin at a break, or may
-    /// not be fast; at most `limit`, and no more than are put into the history at once. Says how many,
-    /// and whether the next step is surely fast.
-    fn run_fast(
-        &mut self,
-        marks: &[bool; 256],
-        breaks: &[u16],
-        limit: u32,
-        kept: &mut [Executed; KEPT],
-    ) -> (u32, bool)
-        requires marks { AreMarked marks.now breaks.now }
-        requires some { 0 < limit }
-        requires fast { IsFast bus_rules self.old.machine.processor }
-        ensures run { HasRun breaks.now result.0 self.old self.new }
-        ensures some { 0 < result.0 }
-        ensures most { result.0 ≤ limit }
-        ensures fast { result.1 ≡ true → IsFast bus_rules self.new.machine.processor }
-    {
-        let most = (limit as usize).min(KEPT);
-        let (made, is_fast) = self.machine.run_fast(kept, most, marks, breaks);
-        self.history.extend_from_slice(&kept[..made]);
-        (made as u32, is_fast)
     }
 
     /// Makes fast steps, at least one, until one that is not the first may not be fast, or a watch may end
@@ -267,23 +232,4 @@ impl Debugger {
         prove!(history.len() <= history.capacity());
         Debugger { machine, history }
     }
-}
-
-/// Marks the low byte of each breakpoint, so that most steps check only one mark.
-fn marks_of(breaks: &[u16]) -> [bool; 256]
-    ensures { AreMarked result breaks.now }
-{
-    let mut marks = [false; 256];
-    for at in breaks {
-        marks[usize::from(*at % 256)] = true;
-    }
-    marks
-}
-
-#[inline(always)]
-fn is_break(marks: &[bool; 256], breaks: &[u16], pc: u16) -> bool
-    requires { AreMarked marks.now breaks.now }
-    ensures { IsTrue result ↔ Contains breaks.now pc }
-{
-    marks[usize::from(pc % 256)] && breaks.contains(&pc)
 }

@@ -5,12 +5,14 @@
 //! takes memory, for the history.
 #![tactic(auto)]
 
+pub mod breaks;
 pub mod debugger;
 mod listing;
 pub mod registers;
 pub mod stepped;
 pub mod stop;
 
+pub use breaks::Breaks;
 pub use debugger::{Debugger, RunRoom, WatchedStep};
 pub use exact_text::OutputFailed;
 pub use registers::{RegisterLine, register_line};

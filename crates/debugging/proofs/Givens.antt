@@ -1,10 +1,10 @@
 -- The next line of an input, with the bytes that it asks for.
 use Rattle.std.proofs.Common.{◌≡◌, ◌≢◌, inl, inr, ℕ, zero, suc, ◌<◌, false, List, [], length, Option, None, Some, refl, sym, ap, ◌∙◌, arith}
 use Rattle.std.specs.Prelude.{nat_le}
-use Rattle.std.proofs.KnownBytes.{Consumes-nil, prepend_known-nil}
+use Rattle.std.proofs.KnownBytes.{Consumes-nil}
 use Rattle.std.proofs.lemmas.Bool.{lt-leb}
 use Rattle.input_lines.specs.Newlines.{HasNoNewline}
-use Rattle.input_lines.specs.Reading.{left_of, TakesLine}
+use Rattle.input_lines.specs.Reading.{TakesLine}
 use Rattle.input_lines.specs.Given.{TakesGiven}
 use Rattle.input_lines.proofs.Givings.{takes_given, ends_within, unfinished}
 use Rattle.debugging.specs.Orders.{asked, asked_by, restore_of}

@@ -11,7 +11,7 @@ use Rattle.circular_buffer.specs.Buffer.{keep_last}
 use Rattle.exact_text.specs.Written.{AppendsProperPrefix}
 use Rattle.sm83_processor.specs.declared.step.Executed.{Executed}
 use Rattle.debugger.specs.Report.{line_seen}
-use Rattle.debugger.proofs.Lines.{IsWrittenBut, all_written, none_written, one_more_written, part_failed}
+use Rattle.debugger.proofs.Lines.{IsWrittenBut, none_written, one_more_written, part_failed}
 use Rattle.debugging.specs.Answers.{history_text, serial_text}
 use Rattle.machine_lines.specs.Texts.{count_line}
 

@@ -1,9 +1,9 @@
 -- Counts of M-cycles, and their lines.
 use Rattle.std.proofs.Common.{◌≡◌, ◌∙◌, inl, inr, ℕ, zero, suc, ◌+◌, ◌≤◌, ◌<◌, ◌^◌, Option, None, Some, true, false, List, [], ◌++◌, drop, length, ap, refl, sym, arith, add-one, drop-cons}
 use lib.ListN.{drop_of_length-le}
-use Rattle.std.specs.Prelude.{◌==◌, if◌then◌else◌, replicate, slice_index, slice_set}
-use Rattle.std.proofs.lemmas.Bool.{cases_eq, cases_lt, eq-eqb, ne_eqb}
-use Rattle.std.proofs.lemmas.List.{length-replicate, get_or_past, get_or-replicate, get_or-set_same, get_or-set_other}
+use Rattle.std.specs.Prelude.{◌==◌, if◌then◌else◌, replicate, slice_index}
+use Rattle.std.proofs.lemmas.Bool.{cases_lt, eq-eqb, ne_eqb}
+use Rattle.std.proofs.lemmas.List.{length-replicate, get_or_past, get_or-replicate}
 use Rattle.std.specs.Option.{option_map_or}
 use Rattle.cartridge.specs.Accepted.{IsAccepted}
 use Rattle.cartridge.specs.Controllers.{most_banks_of}

@@ -4,7 +4,6 @@ use Rattle.std.specs.Prelude.{◌==◌, nat_lt}
 use Rattle.std.specs.List.{Contains}
 use Rattle.std.proofs.lemmas.Bool.{lt-ltb, le-ltb}
 use Rattle.std.proofs.lemmas.Bool.Decides.{nat_tests}
-use Rattle.std.proofs.lemmas.List.Folds.{list_any_at}
 use Rattle.std.proofs.lemmas.Map.Views.{Contains-from_any}
 use Rattle.circular_buffer.specs.Buffer.{keep_last}
 use Rattle.memory_map.specs.State.{BusState}
@@ -14,9 +13,6 @@ use Rattle.sm83_processor.specs.declared.processor.Processor.{Processor}
 use Rattle.machine.specs.Sent.{sent_in, sent_in_step}
 use Rattle.machine.proofs.Sent.{nothing_is_sent_in}
 use Rattle.debugger.specs.History.{DebuggerState, after_run}
-use Rattle.debugger.specs.Run.{HasMet, HasRun, IsStop}
-use Rattle.debugger.specs.declared.stop.Stop.{Stop}
-use Rattle.debugger.specs.declared.stop.Stop.TheVariants.{Break, Limit}
 use Rattle.debugger.proofs.Histories.{keep_last-all, keep_last-again, not_begun, runs}
 use Rattle.debugging.specs.Quiet.{IsQuietFor, Makes, MakesIn, StopsBefore, StopsIn, has_pc}
 use Rattle.debugging.specs.Run.{RunState, after_steps_of, most_sent, processor_of, steps_before, steps_up_to}
@@ -92,14 +88,6 @@ quiet_run n k r d quiet few kept run =
 tells : (x y : ℕ) → (y == x) ≡ true → x ≡ y
 tells x y e = grind (arith, nat_tests)
 
-itself : (x : ℕ) → (x == x) ≡ true
-itself x = grind (arith, nat_tests)
-
-pub at_some : (addresses : List ℕ) (p : Processor BusState) → Contains addresses p.registers.pc → has_pc addresses p ≡ true
-at_some addresses p there =
-    let pc = p.registers.pc in
-    list_any_at (λ (address : ℕ). address == pc) addresses there.0 pc there.1 (ap (λ (address : ℕ). address == pc) there.2 ∙ itself pc)
-
 pub at_none : (addresses : List ℕ) (p : Processor BusState) → ¬ (Contains addresses p.registers.pc) → has_pc addresses p ≡ false
 at_none addresses p none = go (has_pc addresses p) refl
   where
@@ -112,24 +100,6 @@ at_none addresses p none = go (has_pc addresses p) refl
 pub one_made : (is_there : Processor BusState → Bool) (old new : RunState) → new ≡ after_steps_of 1 old → Makes is_there 1 old new
 one_made is_there old new run = record { some = omega arith; past = λ k some less. absurd (omega (arith, some, less)); run = run }
 
--- a debugger's run, in which no transfer can end
-pub quiet_made : (addresses : List ℕ) (n k : ℕ) (r : RunState) (d : DebuggerState) → IsQuietFor k (processor_of r) → 0 < n → n ≤ k → length r.sent ≤ most_sent
-    → HasRun addresses n r.debugger d → Makes (has_pc addresses) n r (record { debugger = d; sent = r.sent })
-quiet_made addresses n k r d quiet some few kept ran = record {
-  some = some;
-  past = λ j some less. at_none addresses (after_steps bus_rules j (processor_of r)) (ran.past j some less);
-  run = quiet_run n k r d quiet few kept ran.run;
-}
-
-quiet_stops : (addresses : List ℕ) (limit k pc : ℕ) (r : RunState) (d : DebuggerState) → IsQuietFor k (processor_of r) → (m : ℕ) → length r.sent ≤ most_sent
-    → m ≤ k → m ≤ limit → HasMet addresses m pc r.debugger d → StopsBefore (has_pc addresses) limit r (record { debugger = d; sent = r.sent })
-quiet_stops addresses limit k pc r d quiet m kept within few met = record {
-  steps = met.steps;
-  made = quiet_made addresses met.steps k r d quiet met.some (omega (arith, met.due, within)) kept met.ran;
-  due = omega (arith, met.due, few);
-  there = at_some addresses d.machine.processor (subst (Contains addresses) (met.here ∙ ap (λ (e : DebuggerState). e.machine.processor.registers.pc) (sym met.ran.run)) met.met);
-}
-
 pub stops_sooner : (is_there : Processor BusState → Bool) (m n : ℕ) (old new : RunState) → m ≤ n → StopsBefore is_there m old new → StopsBefore is_there n old new
 stops_sooner is_there m n old new less it = record { steps = it.steps; made = it.made; due = omega (arith, it.due, less); there = it.there }
 
@@ -137,21 +107,6 @@ module _ (limit : ℕ) (r inside : RunState) (d : DebuggerState) (same : inside 
   quiet_here : IsQuietFor limit (processor_of inside)
   quiet_here = subst (λ (x : RunState). IsQuietFor limit (processor_of x)) (sym same) quiet
 
-  -- up to an address
-  pub until_made : (addresses : List ℕ) (stop : Stop) → 0 < limit → IsStop addresses limit inside.debugger d stop → stop ≡ Limit
-      → Makes (has_pc addresses) limit r (record { debugger = d; sent = inside.sent })
-  until_made addresses stop some ran is =
-      subst (λ (x : RunState). Makes (has_pc addresses) limit x (record { debugger = d; sent = inside.sent })) same
-      (quiet_made addresses limit limit inside d quiet_here some (omega arith) kept (subst (IsStop addresses limit inside.debugger d) is ran))
-
-  pub until_stops : (addresses : List ℕ) (stop : Stop) (pc : ℕ) → IsStop addresses limit inside.debugger d stop → stop ≡ Break pc
-      → StopsBefore (has_pc addresses) limit r (record { debugger = d; sent = inside.sent })
-  until_stops addresses stop pc ran is =
-      let met : HasMet addresses limit pc inside.debugger d = subst (IsStop addresses limit inside.debugger d) is ran in
-      subst (λ (x : RunState). StopsBefore (has_pc addresses) limit x (record { debugger = d; sent = inside.sent })) same
-      (quiet_stops addresses limit limit pc inside d quiet_here limit kept (omega arith) (omega arith) met)
-
-  -- up to any place
   pub steps_made : (is_there : Processor BusState → Bool) → MakesIn is_there limit inside.debugger d → Makes is_there limit r (record { debugger = d; sent = inside.sent })
   steps_made is_there it =
       subst (λ (x : RunState). Makes is_there limit x (record { debugger = d; sent = inside.sent })) same

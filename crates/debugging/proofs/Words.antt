@@ -1,13 +1,13 @@
 -- The words of a line: places, one after another.
-use Rattle.std.proofs.Common.{◌≡◌, ℕ, ◌+◌, ◌<◌, ◌≤◌, ◌++◌, ◌&&◌, Bool, true, false, List, [], ◌∷◌, length, Option, None, Some, is_some, Bor, MatchOption, ap, sym, length-append, refl, ◌∙◌, if◌then◌else◌, arith, append_assoc, append-nil}
-use Rattle.std.specs.Prelude.{IfSome, ◌==◌, codes, nat_le}
+use Rattle.std.proofs.Common.{◌≡◌, ℕ, ◌+◌, ◌≤◌, ◌++◌, true, false, List, [], ◌∷◌, length, Option, None, Some, is_some, Bor, MatchOption, ap, sym, refl, ◌∙◌, arith, append-nil}
+use Rattle.std.specs.Prelude.{◌==◌, codes, nat_le}
 use Rattle.std.specs.Str.{bytes_eq}
 use Rattle.script.proofs.Words.{split_begins}
 use Rattle.std.specs.List.{slice_split}
-use Rattle.std.proofs.lemmas.Bool.{le-leb, lt-leb}
+use Rattle.std.proofs.lemmas.Bool.{le-leb}
 use Rattle.script.specs.Line.{words_of}
 use Rattle.debugging.specs.declared.order.Place.{Place}
-use Rattle.debugging.specs.Orders.{place_by, place_of, all_places, both, order_of_words, places_of, any_places_of, profile_order, restore_of_words, state_order_of_words}
+use Rattle.debugging.specs.Orders.{place_by, place_of, all_places, order_of_words, places_of, any_places_of, restore_of_words, state_order_of_words}
 use Rattle.debugging.specs.Words.{words_after}
 
 -- ---- places

@@ -9,7 +9,7 @@ use Rattle.debugger.specs.History.{DebuggerState, after_run}
 use Rattle.debugging.specs.Run.{RunState, after_steps_of, is_at, is_before, is_changed, processor_of}
 use Rattle.debugging.specs.Accesses.{is_reading, is_writing}
 use Rattle.debugging.specs.declared.run.Aim.{Aim}
-use Rattle.debugging.specs.declared.run.Aim.TheVariants.{Places, Opcode, Changed, Writes, Reads}
+use Rattle.debugging.specs.declared.run.Aim.TheVariants.{Addresses, Places, Opcode, Changed, Writes, Reads}
 
 -- no transfer can end in so many steps: each takes six M-cycles at most, and a transfer that begins 1,024
 pub record IsQuietFor (steps : ℕ) (p : Processor BusState) : Type 0 where
@@ -47,6 +47,7 @@ has_pc addresses p = list_any (λ address. address == p.registers.pc) addresses
 
 -- where a run stops
 abbrev pub is_aim : Aim → Processor BusState → Bool
+is_aim (Addresses addresses) p = has_pc addresses.items p
 is_aim (Places places) p = is_at places.items p
 is_aim (Opcode opcode) p = is_before opcode p
 is_aim (Changed address byte) p = is_changed address byte p

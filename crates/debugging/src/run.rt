@@ -22,7 +22,7 @@ use crate::registers::{RegisterValue, with_register};
 use arrayvec::ArrayVec;
 use cartridge::Cartridge;
 use circular_buffer::HeapCircularBuffer;
-use debugger::{Debugger, RunRoom, Stop, WatchedStep};
+use debugger::{Breaks, Debugger, RunRoom, WatchedStep};
 use machine::{Executed, Input, Machine, Memory, Processor, Stepped, Watched};
 use memory_map::Bus;
 use snapshot::{decode_into, powered};
@@ -86,6 +86,8 @@ pub(crate) struct RunRestored {
 /// Where a run stops.
 #[derive(Drop)]
 pub(crate) enum Aim {
+    /// At one of these addresses, in whichever bank.
+    Addresses(ArrayVec<u16, 16>),
     /// At one of these places.
     Places(ArrayVec<Place, 16>),
     /// Before an instruction with this opcode.
@@ -166,21 +168,8 @@ impl Run {
         }
     }
 
-    /// Steps in which no transfer can end, up to one of these addresses, but at most `limit`. The first is made wherever it begins. Returns
-    /// whether it stopped before all were made. Condition: `limit` is not 0.
-    fn quiet_until(&mut self, room: &mut RunRoom, addresses: &[u16], limit: u32) -> bool
-        requires some { 0 < limit }
-        requires quiet { IsQuietFor limit (processor_of self.old) }
-        ensures made { result ≡ false → Makes (has_pc addresses.now) limit self.old self.new }
-        ensures there { result ≡ true → StopsBefore (has_pc addresses.now) limit self.old self.new }
-    {
-        match self.debugger.run_until_in(room, addresses, limit) {
-            Stop::Break(_) => true,
-            Stop::Limit => false,
-        }
-    }
-
-    /// The same up to an aim. Condition: the ROM has so many bytes.
+    /// Steps in which no transfer can end, up to an aim, but at most `limit`. The first is made wherever it begins. Returns whether it stopped
+    /// before all were made. Conditions: `limit` is not 0, and the ROM has so many bytes.
     fn quiet_up_to(&mut self, room: &mut RunRoom, aim: &Aim, rom: usize, limit: u32) -> bool
         requires rom { HasRom rom (processor_of self.old).memory }
         requires some { 0 < limit }
@@ -203,7 +192,7 @@ impl Run {
         ensures there { result.is_there ≡ nat_lt (until_steps limit places.items self) limit }
     {
         match addresses_of(places.as_slice()) {
-            Some(addresses) => self.run_until(addresses.as_slice(), limit),
+            Some(addresses) => self.run_up_to(&Aim::Addresses(addresses), rom, limit),
             None => self.run_up_to(&Aim::Places(places), rom, limit),
         }
     }
@@ -246,48 +235,6 @@ impl Run {
         ensures there { result.is_there ≡ nat_lt (until_read_steps limit span self) limit }
     {
         self.run_up_to(&Aim::Reads(span), rom, limit)
-    }
-
-    /// Steps up to one of these addresses, but at most `limit`. The first step is made wherever it begins.
-    fn run_until(self, addresses: &[u16], limit: u32) -> RunUntil
-        ensures run { result.run ≡ after_steps_of (steps_up_to (has_pc addresses.now) limit (processor_of self)) self }
-        ensures there { result.is_there ≡ nat_lt (steps_up_to (has_pc addresses.now) limit (processor_of self)) limit }
-    {
-        self.no_step();
-        let mut room = RunRoom::new();
-        let mut run = self;
-        let mut left = limit;
-        while left > 0 {
-            let quiet = quiet_steps(run.processor()).min(left);
-            if quiet == 0 {
-                run = run.step().run;
-                left -= 1;
-                if left > 0 && has_pc(addresses, run.processor()) {
-                    return RunUntil {
-                        run,
-                        is_there: true,
-                    };
-                }
-                continue;
-            }
-            if run.quiet_until(&mut room, addresses, quiet) {
-                return RunUntil {
-                    run,
-                    is_there: true,
-                };
-            }
-            left -= quiet;
-            if left > 0 && has_pc(addresses, run.processor()) {
-                return RunUntil {
-                    run,
-                    is_there: true,
-                };
-            }
-        }
-        RunUntil {
-            run,
-            is_there: false,
-        }
     }
 
     /// Steps up to an aim, but at most `limit`. The first step is made wherever it begins. Condition: the ROM has so many bytes.
@@ -522,6 +469,9 @@ fn step_on(debugger: &mut Debugger, room: &mut RunRoom, aim: &Aim, limit: u32) -
         return 1;
     }
     match aim {
+        Aim::Addresses(addresses) => {
+            debugger.run_watching(room, &Breaks::of(addresses.as_slice()), limit)
+        }
         Aim::Places(places) => {
             let watch = PlaceWatch {
                 places: places.as_slice(),
@@ -578,6 +528,7 @@ fn is_aim(aim: &Aim, rom: usize, processor: &Processor<Bus>) -> bool
     ensures { result ≡ is_aim aim.now processor.now }
 {
     match aim {
+        Aim::Addresses(addresses) => has_pc(addresses.as_slice(), processor),
         Aim::Places(places) => is_at(places.as_slice(), rom, processor),
         Aim::Opcode(opcode) => is_before(*opcode, processor),
         Aim::Changed(address, byte) => processor.memory.peek(*address) != *byte,

@@ -1,6 +1,6 @@
 -- Laps of a loop that counts a register down, many at once, within a frame.
-use Rattle.std.proofs.Common.{◌≡◌, ◌∙◌, ℕ, zero, suc, ◌+◌, ◌-◌, ◌*◌, ◌%◌, ◌<◌, ◌≤◌, Bool, true, false, Option, Some, None, refl, sym, ap, subst, arith}
-use Rattle.std.specs.Prelude.{IfSome, not, ◌==◌}
+use Rattle.std.proofs.Common.{◌≡◌, ◌∙◌, ℕ, zero, suc, ◌+◌, ◌-◌, ◌*◌, ◌%◌, ◌<◌, ◌≤◌, Bool, true, false, refl, sym, ap, subst, arith}
+use Rattle.std.specs.Prelude.{not, ◌==◌}
 use Rattle.std.specs.Fn.{iterate}
 use Rattle.std.proofs.lemmas.Bool.Decides.{nat_tests}
 use Rattle.sm83_alu.specs.Arithmetic.{decrement_of}
@@ -18,7 +18,7 @@ use Rattle.machine.specs.Machine.{steps_until}
 use Rattle.machine.specs.declared.polling_loop.Source.{Source}
 use Rattle.machine.specs.declared.polling_loop.Source.TheVariants as source
 use Rattle.machine.specs.declared.polling_loop.Jump.{Jump}
-use Rattle.machine.specs.PollingLoop.{IsInstruction, operand_of, beyond, source_value, jumped}
+use Rattle.machine.specs.PollingLoop.{IsInstruction, beyond, source_value, jumped}
 use Rattle.machine.specs.CountingLoop.{decrement_by, back_by_three, IsCount, with_source, counted_to}
 use Rattle.machine.proofs.PollingLoop as polling
 use Rattle.machine.proofs.PollingLoop.{with_pc}

@@ -1,7 +1,6 @@
--- Fast steps that are reported, one by one.
-use Rattle.std.proofs.Common.{◌≡◌, ◌∙◌, ℕ, zero, suc, ◌+◌, ◌<◌, List, [], ◌∷◌, ◌++◌, Bool, true, false, length, take, append-nil, append_assoc, below_more, add-one, ap, refl, sym, subst, arith}
-use Rattle.std.specs.List.{Contains}
-use Rattle.std.specs.Prelude.{IsTrue, slice_set}
+-- Fast steps that a watch passes, one by one.
+use Rattle.std.proofs.Common.{◌≡◌, ◌∙◌, ℕ, zero, suc, ◌+◌, ◌<◌, List, [], ◌∷◌, ◌++◌, length, take, append-nil, append_assoc, below_more, add-one, ap, refl, sym, subst, arith}
+use Rattle.std.specs.Prelude.{slice_set}
 use Rattle.std.proofs.lemmas.List.{take_more_set}
 use Rattle.memory_map.specs.State.{BusState}
 use Rattle.memory_map.specs.BusRules.{bus_rules}
@@ -14,7 +13,7 @@ use Rattle.sm83_processor.specs.declared.step.StepKind.{StepKind}
 use Rattle.sm83_processor.specs.declared.step.StepKind.TheVariants.{Ran}
 use Rattle.sm83_processor.proofs.Runs.{after_steps-zero, after_steps-add_one}
 use Rattle.sm83_processor.proofs.FastSteps.{fast_step}
-use Rattle.machine.specs.FastRuns.{HasPassed, HasReported, IsPassing, IsReporting, instruction_in, instructions_in}
+use Rattle.machine.specs.FastRuns.{HasPassed, IsPassing, instruction_in, instructions_in}
 
 pub no_instruction : {M : Type 0} (rules : Rules M) (p : Processor M) → instructions_in rules 0 p ≡ []
 unfolding instructions_in
@@ -28,37 +27,7 @@ instructions_more rules (suc n) p =
     ap (λ (xs : List Executed). instruction_in (step_of rules p).stepped.kind ++ xs) (instructions_more rules n (step_of rules p).after)
     ∙ sym (append_assoc (instruction_in (step_of rules p).stepped.kind) _ _)
 
--- no step was reported yet
-pub none_reported : (breaks : List ℕ) (p : Processor BusState) (kept : List Executed) → IsReporting breaks 0 p p kept
-none_reported breaks p kept = record {
-  reported = record {
-    after = after_steps-zero bus_rules p;
-    ran = sym (no_instruction bus_rules p);
-    past = λ k some below. absurd (omega (arith, below));
-  };
-  here = λ some. absurd (omega (arith, some));
-}
-
--- one more step
-pub one_reported : (breaks : List ℕ) (n : ℕ) (p q t : Processor BusState) (kept : List Executed) (seen : Executed) → IsReporting breaks n p q kept → n < length kept
-    → (step_of bus_rules q).stepped.kind ≡ Ran seen → t ≡ (step_of bus_rules q).after → HasReported breaks (n + 1) p t (take (n + 1) (slice_set kept n seen))
-one_reported breaks n p q t kept seen so_far room is made =
-    let known = so_far.reported in record {
-      after = made ∙ after_steps-add_one bus_rules n p q known.after;
-      ran = take_more_set kept n seen room
-          ∙ ap (λ (xs : List Executed). xs ++ seen ∷ []) known.ran
-          ∙ ap (λ (what : StepKind). instructions_in bus_rules n p ++ instruction_in what) (sym (ap (λ (s : Processor BusState). (step_of bus_rules s).stepped.kind) (sym known.after) ∙ is))
-          ∙ sym (instructions_more bus_rules n p)
-          ∙ ap (λ (k : ℕ). instructions_in bus_rules k p) (sym (add-one n));
-      past = λ k some below.
-          below_more (λ j. 0 < j → ¬ (Contains breaks (after_steps bus_rules j p).registers.pc)) n
-          (λ j less some. known.past j some less)
-          (λ some met. so_far.here some (subst (λ (s : Processor BusState). Contains breaks s.registers.pc) (sym known.after) met))
-          k below some;
-    }
-
--- ---- the same where a fact holds before each step but the first
-
+-- no step passed yet
 pub none_passed : (passes : Processor BusState → Type 0) (p : Processor BusState) (kept : List Executed) → IsPassing passes 0 p p kept
 none_passed passes p kept = record {
   passed = record {
@@ -69,6 +38,7 @@ none_passed passes p kept = record {
   here = λ some. absurd (omega (arith, some));
 }
 
+-- one more step
 pub one_passed : (passes : Processor BusState → Type 0) (n : ℕ) (p q t : Processor BusState) (kept : List Executed) (seen : Executed) → IsPassing passes n p q kept → n < length kept
     → (step_of bus_rules q).stepped.kind ≡ Ran seen → t ≡ (step_of bus_rules q).after → HasPassed passes (n + 1) p t (take (n + 1) (slice_set kept n seen))
 one_passed passes n p q t kept seen so_far room is made =
@@ -89,7 +59,3 @@ one_passed passes n p q t kept seen so_far room is made =
 -- a fast step runs an instruction
 pub fast_runs : (p : Processor BusState) → IsFast bus_rules p → ((seen : Executed) → (step_of bus_rules p).stepped.kind ≡ Ran seen → ⊥) → ⊥
 fast_runs p fast other = other _ (ap (λ (s : Step BusState). s.stepped.kind) (fast_step bus_rules p fast))
-
-pub untrue : (b : Bool) → b ≡ false → IsTrue b → ⊥
-untrue true e t = cc
-untrue false e t = cc

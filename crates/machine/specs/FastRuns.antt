@@ -1,6 +1,5 @@
--- Fast steps of which each instruction is told, up to a break, or to one before which a watch ends them.
-use Rattle.std.specs.Prelude.{◌≡◌, ℕ, zero, suc, ◌<◌, ◌%◌, List, [], ◌∷◌, ◌++◌, Bool, true, slice_get, take, Some}
-use Rattle.std.specs.List.{Contains}
+-- Fast steps of which each instruction is told, up to one before which a watch ends them.
+use Rattle.std.specs.Prelude.{◌≡◌, ℕ, zero, suc, ◌<◌, List, [], ◌∷◌, ◌++◌, take}
 use Rattle.memory_map.specs.State.{BusState}
 use Rattle.memory_map.specs.BusRules.{bus_rules}
 use Rattle.sm83_processor.specs.Rules.{Rules}
@@ -20,21 +19,6 @@ instruction_in (Ran seen) = seen ∷ []
 unfoldable pub instructions_in : {M : Type 0} → Rules M → ℕ → Processor M → List Executed
 instructions_in rules zero p = []
 instructions_in rules (suc n) p = instruction_in (step_of rules p).stepped.kind ++ instructions_in rules n (step_of rules p).after
-
--- n steps led from one processor to another, these instructions ran in them, and none of them but the first began at a break
-pub record HasReported (breaks : List ℕ) (n : ℕ) (old new : Processor BusState) (instructions : List Executed) : Type 0 where
-  pub after : new ≡ after_steps bus_rules n old
-  pub ran : instructions ≡ instructions_in bus_rules n old
-  pub past : (k : ℕ) → 0 < k → k < n → ¬ (Contains breaks (after_steps bus_rules k old).registers.pc)
-
--- the low byte of each break is marked
-abbrev pub AreMarked : List Bool → List ℕ → Type 0
-AreMarked marks breaks = (at : ℕ) → Contains breaks at → slice_get marks (at % 256) ≡ Some true
-
--- so many steps were reported, and the next one doesn't begin at a break unless it is the first; for private functions alone
-pub record IsReporting (breaks : List ℕ) (n : ℕ) (old new : Processor BusState) (kept : List Executed) : Type 0 where
-  pub reported : HasReported breaks n old new (take n kept)
-  pub here : 0 < n → ¬ (Contains breaks new.registers.pc)
 
 -- n steps led from one processor to another, these instructions ran in them, and a fact held before each of them but the first
 pub record HasPassed (passes : Processor BusState → Type 0) (n : ℕ) (old new : Processor BusState) (instructions : List Executed) : Type 0 where

@@ -56,23 +56,14 @@ pub(crate) const COUNTED_IN_UPPER_ROM: u8 = FIRST_OWN_LOOP + 6;
 /// The loop of counted steps above ROM.
 pub(crate) const COUNTED_ABOVE_ROM: u8 = FIRST_OWN_LOOP + 7;
 
-/// The loop of reported steps in the lower half of ROM.
-pub(crate) const REPORTED_IN_LOWER_ROM: u8 = FIRST_OWN_LOOP + 8;
-
-/// The loop of reported steps in the upper half of ROM.
-pub(crate) const REPORTED_IN_UPPER_ROM: u8 = FIRST_OWN_LOOP + 9;
-
-/// The loop of reported steps above ROM.
-pub(crate) const REPORTED_ABOVE_ROM: u8 = FIRST_OWN_LOOP + 10;
-
 /// The loop of watching steps in the lower half of ROM.
-pub(crate) const WATCHING_IN_LOWER_ROM: u8 = FIRST_OWN_LOOP + 11;
+pub(crate) const WATCHING_IN_LOWER_ROM: u8 = FIRST_OWN_LOOP + 8;
 
 /// The loop of watching steps in the upper half of ROM.
-pub(crate) const WATCHING_IN_UPPER_ROM: u8 = FIRST_OWN_LOOP + 12;
+pub(crate) const WATCHING_IN_UPPER_ROM: u8 = FIRST_OWN_LOOP + 9;
 
 /// The loop of watching steps above ROM.
-pub(crate) const WATCHING_ABOVE_ROM: u8 = FIRST_OWN_LOOP + 13;
+pub(crate) const WATCHING_ABOVE_ROM: u8 = FIRST_OWN_LOOP + 10;
 
 /// The address of the joypad's register P1.
 const JOYPAD: u16 = 0xff00;
@@ -245,13 +236,11 @@ fn run_fast_steps_here(processor: &mut Processor<Bus>, passed: u32, until: u32) 
 pub(crate) fn is_there<const LOOP: u8>(pc: u16) -> bool {
     if LOOP == IN_LOWER_ROM
         || LOOP == COUNTED_IN_LOWER_ROM
-        || LOOP == REPORTED_IN_LOWER_ROM
         || LOOP == WATCHING_IN_LOWER_ROM
     {
         pc < 0x3ffe
     } else if LOOP == IN_UPPER_ROM
         || LOOP == COUNTED_IN_UPPER_ROM
-        || LOOP == REPORTED_IN_UPPER_ROM
         || LOOP == WATCHING_IN_UPPER_ROM
     {
         pc >= 0x4000 && pc < 0x7ffe

@@ -12,7 +12,6 @@ pub mod machine;
 pub mod machine_without_memory;
 mod passing;
 mod polling_loop;
-mod reported;
 mod steps;
 mod untimed;
 mod waiting_loop;

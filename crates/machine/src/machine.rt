@@ -4,13 +4,12 @@ ghost use Rattle.std.specs.Prelude.{◌≡◌, ◌<◌, ◌≤◌, IfOk, length,
 ghost use Rattle.memory_map.specs.BusRules.{bus_rules};
 ghost use Rattle.sm83_processor.specs.Steps.{step_of, after_steps};
 ghost use Rattle.sm83_processor.specs.FastStep.{IsFast};
-ghost use Rattle.machine.specs.FastRuns.{AreMarked, HasPassed, HasReported};
+ghost use Rattle.machine.specs.FastRuns.{HasPassed};
 
 use crate::frame::run_frame;
 use crate::input::Input;
 use crate::machine_without_memory::MachineWithoutMemory;
 use crate::passing::run_watching;
-use crate::reported::run_reported;
 use crate::steps::run_steps;
 use crate::watch::Watch;
 use cartridge::Cartridge;
@@ -134,37 +133,11 @@ impl Machine {
         self.processor.is_fast()
     }
 
-    /// Fast steps, faster than `step`, each with its instruction: puts those that ran into `kept`, from
-    /// its beginning. Makes one step, and then more until `most` were made, or the next one may not be
-    /// fast or begins at one of these addresses. Returns how many were made, and whether the next one is
-    /// surely fast. Conditions: the next step is fast, as `is_fast` tells; `most` is not 0, and `kept` has
-    /// as many places; the low byte of each address is marked.
-    pub fn run_fast(
-        &mut self,
-        kept: &mut [Executed],
-        most: usize,
-        marks: &[bool; 256],
-        breaks: &[u16],
-    ) -> (usize, bool)
-        requires some { 0 < most }
-        requires room { most ≤ length kept.old }
-        requires marks { AreMarked marks.now breaks.now }
-        requires fast { IsFast bus_rules self.old.processor }
-        ensures machine { self.new ≡ record self.old { processor = after_steps bus_rules result.0 self.old.processor } }
-        ensures run { HasReported breaks.now result.0 self.old.processor self.new.processor (take result.0 kept.new) }
-        ensures room { length kept.new ≡ length kept.old }
-        ensures some { 0 < result.0 }
-        ensures most { result.0 ≤ most }
-        ensures fast { result.1 ≡ true → IsFast bus_rules self.new.processor }
-    {
-        run_reported(&mut self.processor, kept, most, marks, breaks)
-    }
-
-    /// Fast steps, as `run_fast` makes them, but up to one before which a watch may end them: puts the
-    /// instructions that ran into `kept`, from its beginning. Makes one step, and then more until `most`
-    /// were made, or the next one may not be fast, or the watch does not let it pass. Returns how many
-    /// were made. Conditions: the next step is fast, as `is_fast` tells; `most` is not 0, and `kept` has
-    /// as many places.
+    /// Fast steps, faster than `step`, up to one before which a watch may end them: puts the instructions
+    /// that ran into `kept`, from its beginning. Makes one step, and then more until `most` were made, or
+    /// the next one may not be fast, or the watch does not let it pass. Returns how many were made.
+    /// Conditions: the next step is fast, as `is_fast` tells; `most` is not 0, and `kept` has as many
+    /// places.
     pub fn run_watching<W: Watch>(&mut self, kept: &mut [Executed], most: usize, watch: &W) -> usize
         requires some { 0 < most }
         requires room { most ≤ length kept.old }

@@ -2,20 +2,22 @@
 
 ghost use Rattle.std.specs.Prelude.{◌≡◌, ◌<◌, ◌≤◌, true, length, take};
 ghost use Rattle.memory_map.specs.State.{BusState};
+ghost use Rattle.memory_map.specs.Bus.{read_at};
 ghost use Rattle.memory_map.specs.BusRules.{bus_rules};
 ghost use Rattle.machine.specs.FastRuns.{HasPassed, IsPassing};
 ghost use Rattle.sm83_processor.specs.FastStep.{IsFast};
+ghost use Rattle.sm83_processor.specs.Steps.{step_of};
 ghost use Rattle.sm83_processor.specs.declared.processor.Processor.{Processor};
+ghost use Rattle.sm83_processor.specs.declared.step.StepKind.{StepKind};
 
 use crate::frame::{
     AfterStep, WATCHING_ABOVE_ROM, WATCHING_IN_LOWER_ROM, WATCHING_IN_UPPER_ROM, is_there,
     run_fast_step,
 };
-use crate::reported::report;
 use crate::steps::calm_within;
 use crate::watch::Watch;
 use memory_map::Bus;
-use sm83_processor::{Executed, Processor, StepKind};
+use sm83_processor::{Executed, Processor, StepKind, length_of_opcode};
 
 /// Makes fast steps, one at least, and puts their instructions into `kept`: until `most` were made, or
 /// the next one may not be fast or the watch may end before it. Returns how many were made.
@@ -168,4 +170,19 @@ fn run_calm_watching<W: Watch, const LOOP: u8>(
             return (made, true);
         }
     }
+}
+
+/// Puts the instruction of the next step, which is fast, into `ran` before it runs. Returns its opcode.
+#[inline(always)]
+fn report(processor: &Processor<Bus>, ran: &mut Executed) -> u8
+    requires { IsFast bus_rules processor.now }
+    ensures kind { (step_of bus_rules processor.now).stepped.kind ≡ StepKind.Ran ran.new }
+    ensures here { result ≡ read_at processor.now.memory processor.now.registers.pc }
+{
+    let pc = processor.registers.pc;
+    ran.pc = pc;
+    processor.memory.read_three(pc, &mut ran.bytes);
+    let opcode = ran.bytes[0];
+    ran.length = length_of_opcode(opcode);
+    opcode
 }

@@ -111,8 +111,8 @@ fn a_round_has_exactly_its_calls_of_the_save(rt: HostRuntime) {
     }
 }
 
-/// The recording's device gets so many calls up to the sync of a first save.
-const CALLS_TO_THE_SYNC: u64 = 11;
+/// The recording's device gets so many calls before the sync of a first save.
+const CALLS_TO_THE_SYNC: u64 = 12;
 
 /// The write of the recording is not synced, and the cut keeps it or not.
 #[test]

@@ -6,12 +6,13 @@ use Rattle.sm83_processor.specs.FastStep.{IsFast}
 use Rattle.sm83_processor.specs.Steps.{after_steps}
 use Rattle.sm83_processor.specs.declared.processor.Processor.{Processor}
 use Rattle.debugger.specs.History.{DebuggerState}
-use Rattle.debugger.specs.Run.{HasPassed}
+use Rattle.debugger.specs.Run.{HasPassed, IsElsewhere}
 use Rattle.debugging.specs.Accesses.{is_reading, is_writing}
-use Rattle.debugging.specs.Quiet.{MakesIn, is_aim}
+use Rattle.debugging.specs.Quiet.{MakesIn, has_pc, is_aim}
 use Rattle.debugging.specs.Run.{is_at, is_before, is_changed}
 use Rattle.debugging.specs.declared.order.Place.{Place}
 use Rattle.debugging.specs.declared.run.Aim.{Aim}
+use Rattle.debugging.proofs.Runs.{at_none}
 use Rattle.debugging.proofs.run.step_on.Goals as goal
 
 -- a watch for an aim passes what is none
@@ -25,10 +26,22 @@ run_watching-requires-clause-fast c = subst (λ (m : MachineState). IsFast bus_r
 pub returns-then-not-is_fast-clause-made : goal.returns-then-not-is_fast-clause-made
 returns-then-not-is_fast-clause-made c = record { some = omega arith; past = λ k some below. absurd (omega (arith, some, below)); run = c.step.ensures.debugger }
 
+pub returns-in-Addresses-clause-made : goal.returns-in-Addresses-clause-made
+returns-in-Addresses-clause-made c =
+    let ran = c.run_watching.ensures in
+    let at = (λ (k : ℕ). after_steps bus_rules k c.args.debugger.now.machine.processor) in
+    record {
+      some = ran.some;
+      past = λ k more less. ap (λ (aim : Aim). is_aim aim (at k)) c.in-Addresses.is ∙ ap (λ (addresses : List ℕ). has_pc addresses (at k)) (sym c.as_slice.ensures.value)
+          ∙ at_none c.as_slice.result.now (at k) (subst (λ (breaks : List ℕ). IsElsewhere breaks (at k)) c.of.ensures (ran.run.past k more less));
+      run = ran.run.run;
+    }
+
 pub returns-in-Places-clause-made : goal.returns-in-Places-clause-made
 returns-in-Places-clause-made c =
-    makes (is_at c.as_slice.result.now) _ _ _ _
-    (λ p. ap (λ aim. is_aim aim p) c.in-Places.is ∙ ap (λ (places : List Place). is_at places p) (sym c.as_slice.ensures.value)) c.run_watching.ensures.some c.run_watching.ensures.run
+    makes (is_at c.as_slice-in-Places.result.now) _ _ _ _
+    (λ p. ap (λ aim. is_aim aim p) c.in-Places.is ∙ ap (λ (places : List Place). is_at places p) (sym c.as_slice-in-Places.ensures.value))
+    c.run_watching-in-Places.ensures.some c.run_watching-in-Places.ensures.run
 
 pub returns-in-Opcode-clause-made : goal.returns-in-Opcode-clause-made
 returns-in-Opcode-clause-made c = makes (is_before _) _ _ _ _ (λ p. ap (λ aim. is_aim aim p) c.in-Opcode.is) c.run_watching-in-Opcode.ensures.some c.run_watching-in-Opcode.ensures.run

@@ -2,7 +2,7 @@ use Rattle.std.proofs.Common.{sym, ap, ◌∙◌, refl}
 use Rattle.memory_map.specs.BusRules.{bus_rules}
 use Rattle.sm83_processor.specs.declared.step.Stepped.{Stepped}
 use Rattle.sm83_processor.proofs.FastSteps.{fast_fetched, fast_reported}
-use Rattle.machine.proofs.reported.report.Goals as goal
+use Rattle.machine.proofs.passing.report.Goals as goal
 
 pub returns-clause-kind : goal.returns-clause-kind
 returns-clause-kind c =
