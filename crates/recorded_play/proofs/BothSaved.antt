@@ -9,7 +9,7 @@ use Rattle.input_entries.specs.declared.Entry.{Entry}
 use Rattle.recording.specs.Calls.{HoldsPrefix, IsAppended, IsAppendCause}
 use Rattle.recording.specs.Growing.{fits_image}
 use Rattle.recording.specs.declared.fault.RecordingFault.{RecordingFault}
-use Rattle.recording.specs.declared.fault.RecordingFault.TheVariants.{Memory, Device, TooSmall, NotBlank, NoRecording, OtherCartridge, Full, Broken}
+use Rattle.recording.specs.declared.fault.RecordingFault.TheVariants.{Device, Full, Broken}
 use Rattle.session.specs.Inputs.{inputs_of}
 use Rattle.session.proofs.Writes.{since_weaker}
 use Rattle.playing.specs.Played.{Reaches, Stopped}
@@ -17,29 +17,18 @@ use Rattle.playing.proofs.PlayLaws.{reaches_none}
 use Rattle.playing.specs.Going.{Place, all_of}
 use Rattle.replaying.specs.Agreeing.{Agrees}
 use Rattle.recorded_play.specs.Steps.{Game, power_on, HoldsFirst, HoldsSaved, Records, IsFull, IsInStep, IsBehind, StopsAppend}
-use Rattle.recorded_play.proofs.Recordings.{unsaved, holds_first, holds_here, saved_all, first_none, records_by}
+use Rattle.recorded_play.proofs.Recordings.{unsaved, holds_first, holds_here, saved_all, first_none}
 use Rattle.playing.proofs.Going.{IsNow}
-use Rattle.recorded_play.proofs.Stepping.{reached_agrees, save_reaches, behind_by}
+use Rattle.recorded_play.proofs.Stepping.{reached_agrees, save_reaches}
 
 -- why an append stops a play
 pub append_stops : (why : RecordingFault) (broken fits : Bool) → broken ≡ false → IsAppendCause why broken fits → StopsAppend why
-append_stops Memory broken fits unbroken cause = cause
 append_stops Device broken fits unbroken cause = tt
-append_stops TooSmall broken fits unbroken cause = cause
-append_stops NotBlank broken fits unbroken cause = cause
-append_stops NoRecording broken fits unbroken cause = cause
-append_stops OtherCartridge broken fits unbroken cause = cause
 append_stops Full broken fits unbroken cause = tt
 append_stops Broken broken fits unbroken cause = cc
+append_stops why broken fits unbroken cause = cause
 
 -- ---- the recording
-
--- what was given to the append is what is pending
-pub appending_of : (old new : DiskState) (pending given : List Entry) → given ≡ pending → HoldsSince old new (HoldsPrefix old.sectors given) → HoldsSince old new (HoldsPrefix old.sectors pending)
-appending_of old new pending given same held = subst (λ (l : List Entry). HoldsSince old new (HoldsPrefix old.sectors l)) same held
-
-pub appended_of : (old new : DiskState) (pending given : List Entry) → given ≡ pending → IsAppended old new given → IsAppended old new pending
-appended_of old new pending given same done = subst (IsAppended old new) same done
 
 module _ (rom : List ℕ) (old new : DiskState) (acknowledged : ℕ) (pending : List Entry) (all : List Input) (held : HoldsSaved rom old acknowledged pending all) (append : HoldsSince old new (HoldsPrefix old.sectors pending)) where
   pub appending : HoldsSince old new (HoldsFirst rom acknowledged all)
@@ -51,7 +40,7 @@ module _ (rom : List ℕ) (old new : DiskState) (acknowledged : ℕ) (pending : 
   -- what was recorded
   pub appended : (then : ℕ) (cleared : List Entry) → new.honest → then ≡ acknowledged + length pending → cleared ≡ [] → IsAppended old new pending → Records rom old new then cleared (all ++ [])
   appended then cleared honest then_is empty done =
-      records_by (sym (append-nil all)) (record { moments = appending_some; holds = saved_all rom old acknowledged pending all held new then cleared honest then_is empty done })
+      subst (Records rom old new then cleared) (sym (append-nil all)) (record { moments = appending_some; holds = saved_all rom old acknowledged pending all held new then cleared honest then_is empty done })
 
 -- the inputs that were refused are what is pending, and the recording is as it was
 pub is_full_of : (rom : List ℕ) (old new : DiskState) (acknowledged : ℕ) (pending given : List Entry) (all : List Input) → given ≡ pending → new ≡ old → HoldsSaved rom old acknowledged pending all → fits_image old.sectors given ≡ false → IsFull rom new (all ++ [])
@@ -92,7 +81,7 @@ module _ (rom : List ℕ) (a : Game) (all : List Input) (step : IsInStep rom a a
 
       -- an append that was refused
       pub behind_appended : new.honest → IsBehind rom a (record { save = a.save; recording = new }) (all ++ [])
-      behind_appended honest = behind_by (sym (append-nil all)) (record {
+      behind_appended honest = subst (IsBehind rom a (record { save = a.save; recording = new })) (sym (append-nil all)) (record {
         honest = honest;
         moments = appending_some rom a.recording new a.save.acknowledged a.save.pending all step.holds append;
         most = a.save.acknowledged;
@@ -123,7 +112,7 @@ module _ (rom : List ℕ) (a : Game) (all : List Input) (step : IsInStep rom a a
 
       -- a save that was refused
       pub behind_failed : (moved : Place) → moved.acknowledged ≡ a.save.acknowledged → Stopped rom a.save.disk moved.disk moved.acknowledged (power_on rom) all → IsBehind rom a (record { save = moved; recording = new }) (all ++ [])
-      behind_failed moved same stopped = behind_by (sym (append-nil all)) (record {
+      behind_failed moved same stopped = subst (IsBehind rom a (record { save = moved; recording = new })) (sym (append-nil all)) (record {
         honest = honest;
         moments = appending_some rom a.recording new a.save.acknowledged a.save.pending all step.holds append;
         most = all_of a.save;

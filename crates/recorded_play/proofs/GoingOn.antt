@@ -12,28 +12,15 @@ use Rattle.session.proofs.Writes.{since_weaker}
 use Rattle.session.proofs.Beginnings.{since_then}
 use Rattle.playing.proofs.PlayLaws.{begun_played, all_saved}
 use Rattle.playing.specs.Going.{Place, all_of, IsPlayedAt}
-use Rattle.session.specs.declared.error.SessionError.TheVariants.{Memory, Device, NoSession, TooSmall, OtherCartridge, Damaged, GenerationsUsedUp, Broken, SaveFirst, CountFull, Output}
+use Rattle.session.specs.declared.error.SessionError.TheVariants.{Memory, Device, GenerationsUsedUp, Output}
 use Rattle.recorded_play.specs.CatchingUp.{recorded_in, FailsRecorded, HasCaughtUp, IsCatchUpStop}
 use Rattle.recorded_play.specs.GoingOn.{GoesOn, StopsGoingOn, IsGoOnCause}
 use Rattle.recorded_play.specs.declared.error.RecordError.{RecordError}
-use Rattle.recorded_play.specs.declared.error.RecordError.TheVariants.{Session, Recording, Behind, Line, Input as FailedInput}
+use Rattle.recorded_play.specs.declared.error.RecordError.TheVariants.{Session}
 
 go_on_stop : (why : RecordError) (all : ℕ) (now : DiskState) → IsCatchUpStop why all now → IsGoOnCause why all now
 go_on_stop (Session Memory) all now stop = tt
-go_on_stop (Session Device) all now stop = stop
-go_on_stop (Session NoSession) all now stop = stop
-go_on_stop (Session (TooSmall needed)) all now stop = stop
-go_on_stop (Session OtherCartridge) all now stop = stop
-go_on_stop (Session (Damaged damage)) all now stop = stop
-go_on_stop (Session GenerationsUsedUp) all now stop = stop
-go_on_stop (Session Broken) all now stop = stop
-go_on_stop (Session SaveFirst) all now stop = stop
-go_on_stop (Session CountFull) all now stop = stop
-go_on_stop (Session Output) all now stop = stop
-go_on_stop (Recording why) all now stop = stop
-go_on_stop (Behind count) all now stop = stop
-go_on_stop (Line number) all now stop = stop
-go_on_stop FailedInput all now stop = stop
+go_on_stop why all now stop = stop
 
 -- a session that was just resumed
 pub record IsResumed (rom : List ℕ) (old : DiskState) (a : Place) : Type 0 where
@@ -43,15 +30,15 @@ pub record IsResumed (rom : List ℕ) (old : DiskState) (a : Place) : Type 0 whe
   pub rests : old.honest → IsAtRest rom a.disk a.acknowledged [] a.machine
   pub images : old.honest → HoldsSince old a.disk (StandsAsBefore rom old)
 
-module _ (rom : List ℕ) (old : DiskState) (a b : Place) (old_recording new_recording : DiskState) (up : IsResumed rom old a) where
+module _ {rom : List ℕ} {old : DiskState} {a : Place} (up : IsResumed rom old a) where
   abbrev at : Position
   at = record { count = a.acknowledged; machine = a.machine }
 
   begun : old.honest → IsPlayedAt rom a at []
   begun honest = begun_played rom a.disk a.acknowledged a.pending a.machine (up.honest honest) up.rom_is up.none (up.rests honest)
 
-  pub goes_on : b.pending ≡ [] → HasCaughtUp a b old_recording new_recording → GoesOn rom old b.disk old_recording new_recording at b.acknowledged b.machine
-  goes_on saved caught =
+  pub goes_on : {b : Place} {old_recording new_recording : DiskState} → b.pending ≡ [] → HasCaughtUp a b old_recording new_recording → GoesOn rom old b.disk old_recording new_recording at b.acknowledged b.machine
+  goes_on {b} saved caught =
       let count_is : b.acknowledged ≡ a.acknowledged + length caught.more = omega (arith, caught.goes.all_is, ap length saved, ap length up.none) in
       record {
         more = caught.more;
@@ -68,8 +55,8 @@ module _ (rom : List ℕ) (old : DiskState) (a b : Place) (old_recording new_rec
         looks = caught.looks;
       }
 
-  pub stops_catching_up : (why : RecordError) → FailsRecorded a b old_recording new_recording a.acknowledged (recorded_in old_recording) why → StopsGoingOn rom old b.disk old_recording new_recording at why
-  stops_catching_up why fails = record {
+  pub stops_catching_up : {b : Place} {old_recording new_recording : DiskState} {why : RecordError} → FailsRecorded a b old_recording new_recording a.acknowledged (recorded_in old_recording) why → StopsGoingOn rom old b.disk old_recording new_recording at why
+  stops_catching_up {b} {old_recording} {why = why} fails = record {
     cause = λ honest recording_honest.
         let all : all_of a + length (drop a.acknowledged (recorded_in old_recording)) ≡ a.acknowledged + length (drop a.acknowledged (recorded_in old_recording)) = omega (arith, ap length up.none) in
         go_on_stop why (a.acknowledged + length (drop a.acknowledged (recorded_in old_recording))) b.disk (subst (λ (n : ℕ). IsCatchUpStop why n b.disk) all (fails.cause recording_honest));
@@ -84,20 +71,13 @@ module _ (rom : List ℕ) (old : DiskState) (a b : Place) (old_recording new_rec
 pub resume_stop : (why : SessionError) (generation all : ℕ) (now : DiskState) → (generation ≡ 2 ^ 64 - 1 → why ≡ GenerationsUsedUp → now.honest → generation_in now.sectors ≡ 2 ^ 64 - 1) → IsTakeUpCause generation why → IsGoOnCause (Session why) all now
 resume_stop Memory generation all now worn cause = tt
 resume_stop Device generation all now worn cause = (tt, λ is. absurd (cc))
-resume_stop NoSession generation all now worn cause = absurd cause
-resume_stop (TooSmall needed) generation all now worn cause = absurd cause
-resume_stop OtherCartridge generation all now worn cause = absurd cause
-resume_stop (Damaged damage) generation all now worn cause = absurd cause
 resume_stop GenerationsUsedUp generation all now worn cause = (worn cause refl, λ is. absurd (cc))
-resume_stop Broken generation all now worn cause = absurd cause
-resume_stop SaveFirst generation all now worn cause = absurd cause
-resume_stop CountFull generation all now worn cause = absurd cause
-resume_stop Output generation all now worn cause = absurd cause
+resume_stop why generation all now worn cause = absurd cause
 
 -- it was not resumed
-pub stops_resuming : (rom : List ℕ) (old now : DiskState) (recording : DiskState) (from : Position) (why : SessionError) → (old.honest → IsGoOnCause (Session why) (from.count + length (drop from.count (recorded_in recording))) now) → why ≢ Output → (old.honest → HoldsSince old now (StandsAsBefore rom old))
+pub stops_resuming : {rom : List ℕ} {old now recording : DiskState} {from : Position} {why : SessionError} → (old.honest → IsGoOnCause (Session why) (from.count + length (drop from.count (recorded_in recording))) now) → why ≢ Output → (old.honest → HoldsSince old now (StandsAsBefore rom old))
     → StopsGoingOn rom old now recording recording from (Session why)
-stops_resuming rom old now recording from why cause kind images = record {
+stops_resuming {recording = recording} cause kind images = record {
   cause = λ honest recording_honest. cause honest;
   kind = kind;
   images = λ honest recording_honest. since_weaker (images honest) (λ image stands. inl stands);

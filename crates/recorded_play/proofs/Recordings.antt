@@ -1,16 +1,13 @@
 -- What an append, and no call at all, make of a recording.
-use Rattle.std.proofs.Common.{◌≡◌, inl, ℕ, ◌+◌, ◌-◌, List, [], ◌∷◌, ◌++◌, length, take, drop, Option, Some, None, sym, ap, ◌∙◌, subst, arith, length-append, length-drop, true}
+use Rattle.std.proofs.Common.{◌≡◌, inl, ℕ, ◌+◌, ◌-◌, List, [], ◌++◌, length, take, drop, Option, Some, None, sym, ap, ◌∙◌, subst, arith, length-append, length-drop}
 use Rattle.std.specs.Option.{option_map}
-use Rattle.std.specs.List.{list_all}
 use Rattle.std.proofs.Math.Seq.{take-add}
-use Rattle.std.proofs.lemmas.Bool.{and_parts}
 use Rattle.std.proofs.lemmas.List.{take_all, drop_all, drop-append-le, take-append-le, take-map, length-map, take-append-drop}
 use Rattle.sha2.specs.Sha256.{sha256}
 use Rattle.machine.specs.Machine.{Input}
 use Rattle.sector_device.specs.DiskState.{DiskState}
 use Rattle.sector_device.specs.Runs.{HoldsSince}
 use Rattle.sector_device.proofs.Runs.{holds_since}
-use Rattle.input_entries.specs.Inputs.{is_input, all_input}
 use Rattle.input_entries.specs.declared.Entry.{Entry}
 use Rattle.recording.specs.Calls.{with_more, HoldsPrefix, IsAppended}
 use Rattle.recording.specs.Recorded.{recorded}
@@ -20,13 +17,6 @@ use Rattle.session.proofs.Writes.{since_weaker}
 use Rattle.session.proofs.Beginnings.{since_then}
 use Rattle.recorded_play.specs.Agreeing.{recorded_inputs}
 use Rattle.recorded_play.specs.Steps.{HoldsFirst, HoldsSaved, Records}
-
--- unsaved inputs can be appended
-pub are_all_inputs : (list : List Entry) → list_all is_input list ≡ true → all_input list
-are_all_inputs [] all = tt
-are_all_inputs (e ∷ list) all =
-    let parts = and_parts (is_input e) (list_all is_input list) all in
-    (parts.0, are_all_inputs list parts.1)
 
 -- ---- the inputs of a list of entries
 
@@ -104,9 +94,6 @@ saved_more rom now acknowledged pending more all added held more_is = record {
   pending_is = more_is ∙ ap (λ (l : List Input). l ++ added) held.pending_is ∙ sym (drop-append-le acknowledged all added held.within);
   recorded_is = held.recorded_is ∙ ap (λ (l : List Input). Some l) (sym (take-append-le acknowledged all added held.within));
 }
-
-pub records_by : {rom : List ℕ} {old now : DiskState} {acknowledged : ℕ} {pending : List Entry} {all all' : List Input} → all ≡ all' → Records rom old now acknowledged pending all → Records rom old now acknowledged pending all'
-records_by {rom} {old} {now} {acknowledged} {pending} {all} {all'} same held = subst (Records rom old now acknowledged pending) same held
 
 -- one after the other
 pub records_then : (rom : List ℕ) (old mid new : DiskState) (acknowledged : ℕ) (pending : List Entry) (all more : List Input) → HoldsSince old mid (HoldsFirst rom 0 all) → Records rom mid new acknowledged pending (all ++ more) → Records rom old new acknowledged pending (all ++ more)

@@ -31,11 +31,11 @@ use Rattle.playing.proofs.PlayLaws.{going_nowhere, going_then, going_by, stopped
 use Rattle.playing.proofs.Stops.{stops_among}
 use Rattle.replaying.specs.Agreeing.{Agrees}
 use Rattle.recorded_play.specs.Agreeing.{AllAgree}
-use Rattle.recorded_play.specs.Steps.{Game, game, power_on, HoldsFirst, HoldsSaved, IsFull, IsInStep, IsBehind, Comes, Halts, IsRecordStop, told_as}
+use Rattle.recorded_play.specs.Steps.{Game, game, power_on, HoldsFirst, HoldsSaved, Records, IsFull, IsInStep, IsBehind, Comes, Halts, IsRecordStop, told_as}
 use Rattle.recorded_play.specs.declared.error.RecordError.{RecordError}
-use Rattle.recorded_play.specs.declared.error.RecordError.TheVariants.{Session, Recording, Behind, Line, Input as FailedInput}
+use Rattle.recorded_play.specs.declared.error.RecordError.TheVariants.{Session}
 use Rattle.recorded_play.specs.declared.recorded_game.RecordedGame.{RecordedGame}
-use Rattle.recorded_play.proofs.Recordings.{first_since_here, first_more, holds_here, records_by, records_then, saved_more}
+use Rattle.recorded_play.proofs.Recordings.{first_since_here, first_more, holds_here, records_then, saved_more}
 
 -- ---- what agrees
 
@@ -103,21 +103,6 @@ behind_here rom now all step only = record {
 
 -- ---- one after the other
 
-pub behind_then : (rom : List ℕ) (a b c : Game) (all more : List Input) → HoldsSince a.recording b.recording (HoldsFirst rom 0 all) → IsBehind rom b c (all ++ more) → IsBehind rom a c (all ++ more)
-behind_then rom a b c all more first second = record {
-  honest = second.honest;
-  moments = since_then (since_weaker first (first_more rom 0 all more)) second.moments;
-  most = second.most;
-  within = second.within;
-  least = second.least;
-  saves = second.saves;
-  recordings = second.recordings;
-}
-
-pub behind_by : {rom : List ℕ} {old now : Game} {all all' : List Input} → all ≡ all' → IsBehind rom old now all → IsBehind rom old now all'
-behind_by {rom} {old} {now} {all} {all'} same behind = subst (IsBehind rom old now) same behind
-
--- the same, with no more inputs
 pub behind_on : (rom : List ℕ) (a b c : Game) (all : List Input) → HoldsSince a.recording b.recording (HoldsFirst rom 0 all) → IsBehind rom b c all → IsBehind rom a c all
 behind_on rom a b c all first second = record {
   honest = second.honest;
@@ -153,7 +138,7 @@ module _ (rom : List ℕ) (a b : Game) (all more : List Input) (comes : Comes a 
 pub comes_nothing : (a : Game) → IsNow a.save.disk → IsNow a.recording → Comes a a []
 comes_nothing a only_save only_recording = record {
   going = λ rom from given played. going_nowhere rom a.save.disk a.save.acknowledged a.save.pending a.save.machine from given played only_save;
-  records = λ rom all held. records_by (sym (append-nil all)) (record { moments = first_since_here rom a.recording a.save.acknowledged a.save.pending all held only_recording; holds = held });
+  records = λ rom all held. subst (Records rom a.recording a.recording a.save.acknowledged a.save.pending) (sym (append-nil all)) (record { moments = first_since_here rom a.recording a.save.acknowledged a.save.pending all held only_recording; holds = held });
   machine_is = sym (after_none a.save.machine);
   all_is = omega arith;
   later = omega arith;
@@ -170,7 +155,7 @@ comes_then a b c first second one two = record {
       (going_then rom a.save.disk b.save.disk c.save.disk c.save.acknowledged c.save.pending c.save.machine from (given ++ first) second before.moments (two.going rom from (given ++ first) before.played));
   records = λ rom all held.
       let before = one.records rom all held in
-      records_by (append_assoc all first second)
+      subst (Records rom a.recording c.recording c.save.acknowledged c.save.pending) (append_assoc all first second)
       (records_then rom a.recording b.recording c.recording c.save.acknowledged c.save.pending (all ++ first) second before.moments (two.records rom (all ++ first) before.holds));
   machine_is = two.machine_is ∙ ap (λ (m : MachineState). after m second) one.machine_is ∙ after_append a.save.machine first second;
   all_is = omega (arith, two.all_is, one.all_is, length-append first second);
@@ -182,13 +167,7 @@ comes_then a b c first second one two = record {
 
 pub record_stops_among : (why : RecordError) (less all : ℕ) (now : DiskState) → less ≤ all → IsRecordStop why less now → IsRecordStop why all now
 record_stops_among (Session why) less all now more stop = stops_among why less all now more stop
-record_stops_among (Recording why) less all now more stop = stop
-record_stops_among (Behind count) less all now more stop = stop
-record_stops_among (Line number) less all now more stop = stop
-record_stops_among FailedInput less all now more stop = stop
-
-full_by : {rom : List ℕ} {recording : DiskState} {all all' : List Input} → all ≡ all' → IsFull rom recording all → IsFull rom recording all'
-full_by {rom} {recording} {all} {all'} same full = subst (IsFull rom recording) same full
+record_stops_among why less all now more stop = stop
 
 -- more inputs that were not given
 pub full_more : (rom : List ℕ) (recording : DiskState) (all more : List Input) → IsFull rom recording all → IsFull rom recording (all ++ more)
@@ -211,12 +190,12 @@ halts_then a b c first second why one two = record {
       stopped_by (append_assoc given first second)
       (stopped_then rom a.save.disk b.save.disk c.save.disk c.save.acknowledged from (given ++ first) second before.moments (two.stopped rom from (given ++ first) before.played));
   behind = λ rom all step.
-      behind_by (append_assoc all first second)
-      (behind_then rom a b c (all ++ first) second (one.records rom all step.holds).moments (two.behind rom (all ++ first) (in_step_then rom a b all first one step)));
+      subst (IsBehind rom a c) (append_assoc all first second)
+      (behind_on rom a b c ((all ++ first) ++ second) (since_weaker (one.records rom all step.holds).moments (first_more rom 0 (all ++ first) second)) (two.behind rom (all ++ first) (in_step_then rom a b all first one step)));
   cause =
       let size : all_of b.save + length second ≤ all_of a.save + length (first ++ second) = omega (arith, one.all_is, length-append first second) in
       record_stops_among why (all_of b.save + length second) (all_of a.save + length (first ++ second)) c.save.disk size two.cause;
-  full = λ is rom all held. full_by (append_assoc all first second) (two.full is rom (all ++ first) (one.records rom all held).holds);
+  full = λ is rom all held. subst (IsFull rom c.recording) (append_assoc all first second) (two.full is rom (all ++ first) (one.records rom all held).holds);
   later = omega (arith, one.later, two.later);
   save_calls = answered_refused one.save_calls two.save_calls (λ n. refl);
   recording_calls = answered_refused one.recording_calls two.recording_calls (λ n. refl);
@@ -227,11 +206,11 @@ pub halts_more : (a b : Game) (first second : List Input) (why : RecordError) �
 halts_more a b first second why halts = record {
   stopped = λ rom from given played.
       stopped_by (append_assoc given first second) (stopped_more rom a.save.disk b.save.disk b.save.acknowledged from (given ++ first) second (halts.stopped rom from given played));
-  behind = λ rom all step. behind_by (append_assoc all first second) (behind_more rom a b (all ++ first) second (halts.behind rom all step));
+  behind = λ rom all step. subst (IsBehind rom a b) (append_assoc all first second) (behind_more rom a b (all ++ first) second (halts.behind rom all step));
   cause =
       let size : all_of a.save + length first ≤ all_of a.save + length (first ++ second) = omega (arith, length-append first second) in
       record_stops_among why (all_of a.save + length first) (all_of a.save + length (first ++ second)) b.save.disk size halts.cause;
-  full = λ is rom all held. full_by (append_assoc all first second) (full_more rom b.recording (all ++ first) second (halts.full is rom all held));
+  full = λ is rom all held. subst (IsFull rom b.recording) (append_assoc all first second) (full_more rom b.recording (all ++ first) second (halts.full is rom all held));
   later = halts.later;
   save_calls = halts.save_calls;
   recording_calls = halts.recording_calls;
@@ -289,10 +268,7 @@ input_halts a b input why stop same only_recording = record {
 -- only a line that could not be written is told as one
 pub told_output : (why : RecordError) → told_as why ≡ Output → why ≡ Session Output
 told_output (Session why) is = ap Session is
-told_output (Recording why) is = cc
-told_output (Behind count) is = cc
-told_output (Line number) is = cc
-told_output FailedInput is = cc
+told_output why is = cc
 
 -- ---- all steps of a game
 

@@ -1,5 +1,5 @@
 -- A game that is taken up with its recording: both are in step then, and agree wherever it stops.
-use Rattle.std.proofs.Common.{◌≡◌, ◌⊎◌, inl, inr, ⊎_elim, ℕ, zero, suc, ◌+◌, ◌≤◌, ◌<◌, List, [], length, take, drop, Option, Some, refl, sym, ap, ◌∙◌, subst, arith, length-drop}
+use Rattle.std.proofs.Common.{◌≡◌, ◌⊎◌, inl, inr, ⊎_elim, ℕ, ◌+◌, ◌≤◌, ◌<◌, List, [], length, take, drop, Some, refl, sym, ap, ◌∙◌, subst, arith, length-drop}
 use Rattle.std.proofs.Math.Seq.{take-add}
 use Rattle.std.proofs.lemmas.List.{take_all, drop_all, length-map, take-map}
 use Rattle.std.specs.Option.{option_map}
@@ -10,7 +10,7 @@ use Rattle.sector_device.specs.DiskState.{DiskState, Settled}
 use Rattle.sector_device.specs.Looking.{HasLooked, LooksOnly}
 use Rattle.sector_device.proofs.Looking.{looked_then, looked_self, settled_looked, has_looked}
 use Rattle.sector_device.specs.Runs.{HoldsSince}
-use Rattle.log_format.specs.Content.{ImageContent, content, generation_in}
+use Rattle.log_format.specs.Content.{content, generation_in}
 use Rattle.input_entries.specs.Inputs.{inputs}
 use Rattle.input_entries.specs.declared.Entry.{Entry}
 use Rattle.recording.specs.Calls.{IsOpenCause}
@@ -21,7 +21,7 @@ use Rattle.session.specs.Stands.{IsAtRest, StandsAsBefore, Position, stands}
 use Rattle.session.specs.Found.{IsResumeCause, IsLookCause}
 use Rattle.session.specs.Inputs.{input_of, inputs_of}
 use Rattle.session.specs.declared.error.SessionError.{SessionError}
-use Rattle.session.specs.declared.error.SessionError.TheVariants.{Memory, Device, NoSession, TooSmall, OtherCartridge as SessionOtherCartridge, Damaged, GenerationsUsedUp, Broken as SessionBroken, SaveFirst, CountFull, Output}
+use Rattle.session.specs.declared.error.SessionError.TheVariants.{Memory, GenerationsUsedUp, Output}
 use Rattle.snapshot.specs.Legal.{IsMachineOf}
 use Rattle.session.proofs.Writes.{since_weaker}
 use Rattle.session.proofs.Beginnings.{since_then}
@@ -35,14 +35,10 @@ use Rattle.recorded_play.specs.CatchingUp.{recorded_in}
 use Rattle.recorded_play.specs.GoingOn.{GoesOn, StopsGoingOn, IsGoOnCause, GoesOnImage}
 use Rattle.recorded_play.specs.Whole.{IsTakenUp, HasTakenUp, IsNotTakenUp, IsTakeUpCause, IsForeign, IsStopAtRecorded, IsBehindBy}
 use Rattle.recorded_play.specs.declared.error.RecordError.{RecordError}
-use Rattle.recorded_play.specs.declared.error.RecordError.TheVariants.{Session, Recording, Behind, Line, Input as FailedInput}
+use Rattle.recorded_play.specs.declared.error.RecordError.TheVariants.{Session, Recording}
 use Rattle.playing.proofs.Going.{IsNow}
 use Rattle.recorded_play.proofs.Stepping.{entries_of, reached_agrees}
-use Rattle.recorded_play.proofs.Passing.{looks_of}
-
-none_taken : (n : ℕ) → take {A = Input} n [] ≡ []
-none_taken zero = refl
-none_taken (suc n) = refl
+use Rattle.replaying.proofs.Looking.{looks_only}
 
 -- a session at rest, whose machine is the one after these inputs from power-on
 pub begun_from : (rom : List ℕ) (now : DiskState) (acknowledged : ℕ) (pending : List Entry) (machine : MachineState) (given : List Input) → now.honest → machine.processor.memory.banks.rom ≡ rom → pending ≡ []
@@ -50,7 +46,7 @@ pub begun_from : (rom : List ℕ) (now : DiskState) (acknowledged : ℕ) (pendin
 begun_from rom now acknowledged pending machine given honest rom_is empty rests count_is machine_is =
     let begun = begun_played rom now acknowledged pending machine honest rom_is empty rests in
     let whole : take (length given) given ≡ given = take_all (length given) given (omega arith) in
-    let here : after machine (take begun.saved []) ≡ after (start rom) (take (length given) given) = ap (after machine) (none_taken begun.saved) ∙ after_none machine ∙ machine_is ∙ ap (after (start rom)) (sym whole) in
+    let here : after machine (take begun.saved []) ≡ after (start rom) (take (length given) given) = ap (after machine) (take_all {A = Input} begun.saved [] (omega arith)) ∙ after_none machine ∙ machine_is ∙ ap (after (start rom)) (sym whole) in
     record {
       honest = honest;
       rom_is = rom_is;
@@ -98,138 +94,130 @@ agree_reached rom at played s r enough machine_is holds reaches =
 
 -- ---- from the look to the end
 
-module _ (rom : List ℕ) (save looked now : DiskState) (recording opened now_recording : DiskState) (at : Position)
-    (look : save.honest → HasLooked save looked) (stood : save.honest → stands rom (content save.sectors) ≡ Some at)
-    (opens : recording.honest → HasLooked recording opened) (settled : recording.honest → Settled opened)
-    (held : recording.honest → recorded (sha256 rom) recording.sectors ≡ Some (inputs (entries recording.sectors)))
-    (enough : recording.honest → at.count ≤ length (inputs (entries recording.sectors))) where
+-- both were looked at: the SAVE stands for that, and the recording has so many inputs
+pub record AreLookedAt (rom : List ℕ) (save looked recording opened : DiskState) (at : Position) (count : ℕ) : Type 0 where
+  pub look : save.honest → HasLooked save looked
+  pub stood : save.honest → stands rom (content save.sectors) ≡ Some at
+  pub opens : recording.honest → HasLooked recording opened
+  pub settled : recording.honest → Settled opened
+  pub held : recording.honest → recorded (sha256 rom) recording.sectors ≡ Some (inputs (entries recording.sectors))
+  pub counted : recording.honest → count ≡ length (inputs (entries recording.sectors))
+
+module _ {rom : List ℕ} {save looked recording opened : DiskState} {at : Position} {count : ℕ} (both : AreLookedAt rom save looked recording opened at count) where
   recorded_here : recording.honest → recorded_in opened ≡ recorded_in recording
-  recorded_here honest = ap (λ (s : List (List ℕ)). inputs_of (inputs (entries s))) (opens honest).sectors
-
-  is_taken_up : (more : List Input) → (opened.honest → more ≡ drop at.count (recorded_in opened)) → save.honest → recording.honest → IsTakenUp rom save.sectors recording.sectors at more
-  is_taken_up more more_is honest recording_honest = record {
-    stands_is = stood honest;
-    played = recorded_in recording;
-    recorded_is = ap (option_map inputs_of) (held recording_honest);
-    enough = omega (arith, enough recording_honest, length-map (inputs (entries recording.sectors)) input_of);
-    more_is = more_is (opens recording_honest).honest ∙ ap (drop at.count) (recorded_here recording_honest);
-  }
-
-  as_before : (image : List (List ℕ)) → save.honest → StandsAsBefore rom looked image → StandsAsBefore rom save image
-  as_before image honest s = record { before = s.before; stood = (look honest).images s.before s.stood; is = s.is }
-
-  only_looked : (honest : save.honest) → HoldsSince save looked (StandsAsBefore rom save)
-  only_looked honest = since_weaker (look honest).since (λ image stood_before. record { before = image; stood = stood_before; is = refl })
-
-  recording_looked : IsNow recording → (opened.honest → LooksOnly opened now_recording) → recording.honest → HasLooked recording now_recording
-  recording_looked only looks honest = has_looked only (looked_then (looks_of (opens honest)) (looks (opens honest).honest))
-
-  pub taken_up : (count : ℕ) (machine : MachineState) → IsMachineOf rom at.machine → IsNow recording → GoesOn rom looked now opened now_recording at count machine → HasTakenUp rom save now recording now_recording count machine
-  taken_up count machine of_rom only goes = record {
-    at = at;
-    of_rom = of_rom;
-    stood = stood;
-    more = goes.more;
-    count_is = goes.count_is;
-    machine_is = goes.machine_is;
-    taken_up = is_taken_up goes.more goes.more_is;
-    rests = λ honest. goes.rests (look honest).honest;
-    images = λ honest.
-        since_then (since_weaker (only_looked honest) (λ image s. inl s))
-        (since_weaker (goes.images (look honest).honest)
-        (λ image one. ⊎_elim (λ s. inl (as_before image honest s)) (λ r. inr (record { from = at; stood = stood honest; reaches = r })) one));
-    looked = recording_looked only goes.looks;
-    settled = λ honest. settled_looked (settled honest) (goes.looks (opens honest).honest);
-  }
+  recorded_here honest = ap (λ (s : List (List ℕ)). inputs_of (inputs (entries s))) (both.opens honest).sectors
 
   all_recorded : recording.honest → recorded_inputs rom recording.sectors ≡ Some (recorded_in recording)
-  all_recorded honest = ap (option_map inputs_of) (held honest)
+  all_recorded honest = ap (option_map inputs_of) (both.held honest)
 
-  size_recorded : recording.honest → at.count ≤ length (recorded_in recording)
-  size_recorded honest = omega (arith, enough honest, length-map (inputs (entries recording.sectors)) input_of)
+  size_recorded : recording.honest → count ≡ length (recorded_in recording)
+  size_recorded honest = both.counted honest ∙ sym (length-map (inputs (entries recording.sectors)) input_of)
 
-  -- why it was not
-  stop_recorded : (why : SessionError) → recording.honest → IsStop why (at.count + length (drop at.count (recorded_in opened))) now → (why ≡ Output → ⊥) → IsStopAtRecorded rom why now recording
-  stop_recorded why honest stop silent =
-      let size : at.count + length (drop at.count (recorded_in opened)) ≡ length (recorded_in recording) =
-      omega (arith, length-drop at.count (recorded_in opened), ap length (recorded_here honest), size_recorded honest) in
-      record { played = recorded_in recording; recorded_is = all_recorded honest; stop = subst (λ (n : ℕ). IsStop why n now) size stop; silent = silent }
+  -- fewer inputs than the SAVE
+  pub is_behind : count < at.count → save.honest → recording.honest → IsBehindBy rom save.sectors recording.sectors count
+  is_behind less honest recording_honest =
+      record { at = at; stands_is = both.stood honest; played = recorded_in recording; recorded_is = all_recorded recording_honest; count_is = size_recorded recording_honest; fewer = less }
 
-  session_cause : (why : SessionError) → recording.honest → IsGoOnCause (Session why) (at.count + length (drop at.count (recorded_in opened))) now
-      → IsResumeCause rom (generation_in save.sectors) (content save.sectors) why ⊎ IsStopAtRecorded rom why now recording
-  session_cause Memory honest cause = inl tt
-  session_cause Device honest cause = inr (stop_recorded Device honest cause.0 cause.1)
-  session_cause NoSession honest cause = inr (stop_recorded NoSession honest cause.0 cause.1)
-  session_cause (TooSmall needed) honest cause = inr (stop_recorded (TooSmall needed) honest cause.0 cause.1)
-  session_cause SessionOtherCartridge honest cause = inr (stop_recorded SessionOtherCartridge honest cause.0 cause.1)
-  session_cause (Damaged damage) honest cause = inr (stop_recorded (Damaged damage) honest cause.0 cause.1)
-  session_cause GenerationsUsedUp honest cause = inr (stop_recorded GenerationsUsedUp honest cause.0 cause.1)
-  session_cause SessionBroken honest cause = inr (stop_recorded SessionBroken honest cause.0 cause.1)
-  session_cause SaveFirst honest cause = inr (stop_recorded SaveFirst honest cause.0 cause.1)
-  session_cause CountFull honest cause = inr (stop_recorded CountFull honest cause.0 cause.1)
-  session_cause Output honest cause = absurd (cause.1 refl)
+  module _ (enough : at.count ≤ count) where
+    is_taken_up : (more : List Input) → (opened.honest → more ≡ drop at.count (recorded_in opened)) → save.honest → recording.honest → IsTakenUp rom save.sectors recording.sectors at more
+    is_taken_up more more_is honest recording_honest = record {
+      stands_is = both.stood honest;
+      played = recorded_in recording;
+      recorded_is = all_recorded recording_honest;
+      enough = omega (arith, size_recorded recording_honest);
+      more_is = more_is (both.opens recording_honest).honest ∙ ap (drop at.count) (recorded_here recording_honest);
+    }
 
-  cause_is : (why : RecordError) → StopsGoingOn rom looked now opened now_recording at why → (save.honest → recording.honest → IsTakeUpCause why rom save now recording) × (IsForeign why → save.honest → recording.honest → HasLooked save now)
-  cause_is (Session why) stops = (λ honest recording_honest. session_cause why recording_honest (stops.cause (look honest).honest (opens recording_honest).honest), λ foreign. absurd foreign)
-  cause_is (Recording why) stops = (
-    λ honest recording_honest. subst (λ (w : RecordingFault). IsOpenCause w (sha256 rom) recording) (sym (stops.cause (look honest).honest (opens recording_honest).honest)) tt,
-    λ foreign honest recording_honest.
-        let device = stops.cause (look honest).honest (opens recording_honest).honest in
-        ⊎_elim (λ (none : why ≡ NoRecording). absurd (cc)) (λ (other : why ≡ OtherCartridge). absurd (cc)) foreign,
-  )
-  cause_is (Behind count) stops = (λ honest recording_honest. absurd (stops.cause (look honest).honest (opens recording_honest).honest), λ foreign honest recording_honest. absurd (stops.cause (look honest).honest (opens recording_honest).honest))
-  cause_is (Line number) stops = (λ honest recording_honest. absurd (stops.cause (look honest).honest (opens recording_honest).honest), λ foreign. absurd foreign)
-  cause_is FailedInput stops = (λ honest recording_honest. absurd (stops.cause (look honest).honest (opens recording_honest).honest), λ foreign. absurd foreign)
+    as_before : (image : List (List ℕ)) → save.honest → StandsAsBefore rom looked image → StandsAsBefore rom save image
+    as_before image honest s = record { before = s.before; stood = (both.look honest).images s.before s.stood; is = s.is }
 
-  pub not_taken_up : (why : RecordError) → IsNow recording → StopsGoingOn rom looked now opened now_recording at why → IsNotTakenUp rom save now recording now_recording why
-  not_taken_up why only stops = record {
-    cause = (cause_is why stops).0;
-    kind = stops.kind;
-    images = λ honest recording_honest.
-        since_then (since_weaker (only_looked honest) (λ image s. inl s))
-        (since_weaker (stops.images (look honest).honest (opens recording_honest).honest)
-        (λ image one. ⊎_elim (λ s. inl (as_before image honest s))
-        (λ r. inr (record { at = at; more = drop at.count (recorded_in opened); taken_up = is_taken_up (drop at.count (recorded_in opened)) (λ h. refl) honest recording_honest; reaches = r })) one));
-    looked = recording_looked only stops.looks;
-    untouched = (cause_is why stops).1;
-  }
+    -- each image since is one of before, or stands for some of these
+    images_since : {now : DiskState} {more : List Input} {P : List (List ℕ) → Type 0} → ((image : List (List ℕ)) → Reaches rom at 0 more image → P image) → save.honest → HoldsSince looked now (GoesOnImage rom looked at more)
+        → HoldsSince save now (λ image. StandsAsBefore rom save image ⊎ P image)
+    images_since reached honest images =
+        since_then (since_weaker (both.look honest).since (λ image stood. inl (record { before = image; stood = stood; is = refl })))
+        (since_weaker images (λ image one. ⊎_elim (λ s. inl (as_before image honest s)) (λ r. inr (reached image r)) one))
 
-  -- whatever is left agrees, where both agreed
-  pub agree_on : (more : List Input) → save.image save.sectors → recording.image recording.sectors → ((t : ℕ) (c : List (List ℕ)) → t ≤ now.moment → now.image c → now.since t c) → save.honest → recording.honest
-      → AllAgree rom save recording → more ≡ drop at.count (recorded_in opened) → HoldsSince looked now (GoesOnImage rom looked at more) → (opened.honest → LooksOnly opened now_recording) → AllAgree rom now now_recording
-  agree_on more save_here recording_here counts honest recording_honest agree more_is since looks = λ s r is_save is_recording.
-      let machine_is : at.machine ≡ after (start rom) (take at.count (recorded_in recording)) =
-      recorded_leads rom recording.sectors at (recorded_in recording) (all_recorded recording_honest) (agree save.sectors recording.sectors save_here recording_here at (stood honest)) in
-      let only = looks (opens recording_honest).honest in
-      let r_is : r ≡ recording.sectors = settled_looked (settled recording_honest) only r is_recording ∙ only.sectors ∙ (opens recording_honest).sectors in
-      let here : more ≡ drop at.count (recorded_in recording) = more_is ∙ ap (drop at.count) (recorded_here recording_honest) in
-      ⊎_elim
-      (λ before. let b = as_before s honest before in agree_one rom b.before s r recording.sectors b.is r_is (agree b.before recording.sectors b.stood recording_here))
-      (λ reaches.
-      subst (λ (i : List (List ℕ)). Agrees rom s i) (sym r_is)
-      (agree_reached rom at (recorded_in recording) s recording.sectors (size_recorded recording_honest) machine_is (all_recorded recording_honest) (subst (λ (l : List Input). Reaches rom at 0 l s) here reaches)))
-      (since.each s (counts looked.moment s since.moments.later is_save))
+    recording_looked : {now : DiskState} → IsNow recording → (opened.honest → LooksOnly opened now) → recording.honest → HasLooked recording now
+    recording_looked only looks honest = has_looked only (looked_then (looks_only (both.opens honest)) (looks (both.opens honest).honest))
+
+    pub taken_up : {now now_recording : DiskState} {acknowledged : ℕ} {machine : MachineState} → IsMachineOf rom at.machine → IsNow recording → GoesOn rom looked now opened now_recording at acknowledged machine
+        → HasTakenUp rom save now recording now_recording acknowledged machine
+    taken_up of_rom only goes = record {
+      at = at;
+      of_rom = of_rom;
+      stood = both.stood;
+      more = goes.more;
+      count_is = goes.count_is;
+      machine_is = goes.machine_is;
+      taken_up = is_taken_up goes.more goes.more_is;
+      rests = λ honest. goes.rests (both.look honest).honest;
+      images = λ honest. images_since (λ image r. record { from = at; stood = both.stood honest; reaches = r }) honest (goes.images (both.look honest).honest);
+      looked = recording_looked only goes.looks;
+      settled = λ honest. settled_looked (both.settled honest) (goes.looks (both.opens honest).honest);
+    }
+
+    -- why it was not
+    stop_recorded : (why : SessionError) (now : DiskState) → recording.honest → IsStop why (at.count + length (drop at.count (recorded_in opened))) now → (why ≡ Output → ⊥) → IsStopAtRecorded rom why now recording
+    stop_recorded why now honest stop silent =
+        let size : at.count + length (drop at.count (recorded_in opened)) ≡ length (recorded_in recording) =
+        omega (arith, length-drop at.count (recorded_in opened), ap length (recorded_here honest), size_recorded honest) in
+        record { played = recorded_in recording; recorded_is = all_recorded honest; stop = subst (λ (n : ℕ). IsStop why n now) size stop; silent = silent }
+
+    session_cause : (why : SessionError) (now : DiskState) → recording.honest → IsGoOnCause (Session why) (at.count + length (drop at.count (recorded_in opened))) now
+        → IsResumeCause rom (generation_in save.sectors) (content save.sectors) why ⊎ IsStopAtRecorded rom why now recording
+    session_cause Memory now honest cause = inl tt
+    session_cause Output now honest cause = absurd (cause.1 refl)
+    session_cause why now honest cause = inr (stop_recorded why now honest cause.0 cause.1)
+
+    cause_is : {now now_recording : DiskState} (why : RecordError) → StopsGoingOn rom looked now opened now_recording at why
+        → (save.honest → recording.honest → IsTakeUpCause why rom save now recording) × (IsForeign why → save.honest → recording.honest → HasLooked save now)
+    cause_is {now} (Session why) stops = (λ honest recording_honest. session_cause why now recording_honest (stops.cause (both.look honest).honest (both.opens recording_honest).honest), λ foreign. absurd foreign)
+    cause_is (Recording why) stops = (
+      λ honest recording_honest. subst (λ (w : RecordingFault). IsOpenCause w (sha256 rom) recording) (sym (stops.cause (both.look honest).honest (both.opens recording_honest).honest)) tt,
+      λ foreign honest recording_honest.
+          let device = stops.cause (both.look honest).honest (both.opens recording_honest).honest in
+          ⊎_elim (λ (none : why ≡ NoRecording). absurd (cc)) (λ (other : why ≡ OtherCartridge). absurd (cc)) foreign,
+    )
+    cause_is why stops =
+        let none = λ (honest : save.honest) (recording_honest : recording.honest). stops.cause (both.look honest).honest (both.opens recording_honest).honest in
+        (λ honest recording_honest. absurd (none honest recording_honest), λ foreign honest recording_honest. absurd (none honest recording_honest))
+
+    pub not_taken_up : {now now_recording : DiskState} {why : RecordError} → IsNow recording → StopsGoingOn rom looked now opened now_recording at why → IsNotTakenUp rom save now recording now_recording why
+    not_taken_up {why = why} only stops = record {
+      cause = (cause_is why stops).0;
+      kind = stops.kind;
+      images = λ honest recording_honest.
+          images_since (λ image r. record { at = at; more = drop at.count (recorded_in opened); taken_up = is_taken_up (drop at.count (recorded_in opened)) (λ h. refl) honest recording_honest; reaches = r }) honest
+          (stops.images (both.look honest).honest (both.opens recording_honest).honest);
+      looked = recording_looked only stops.looks;
+      untouched = (cause_is why stops).1;
+    }
+
+    -- whatever is left agrees, where both agreed
+    pub agree_on : {now now_recording : DiskState} (more : List Input) → save.image save.sectors → recording.image recording.sectors → ((t : ℕ) (c : List (List ℕ)) → t ≤ now.moment → now.image c → now.since t c) → save.honest → recording.honest
+        → AllAgree rom save recording → more ≡ drop at.count (recorded_in opened) → HoldsSince looked now (GoesOnImage rom looked at more) → (opened.honest → LooksOnly opened now_recording) → AllAgree rom now now_recording
+    agree_on more save_here recording_here counts honest recording_honest agree more_is since looks = λ s r is_save is_recording.
+        let machine_is : at.machine ≡ after (start rom) (take at.count (recorded_in recording)) =
+        recorded_leads rom recording.sectors at (recorded_in recording) (all_recorded recording_honest) (agree save.sectors recording.sectors save_here recording_here at (both.stood honest)) in
+        let only = looks (both.opens recording_honest).honest in
+        let r_is : r ≡ recording.sectors = settled_looked (both.settled recording_honest) only r is_recording ∙ only.sectors ∙ (both.opens recording_honest).sectors in
+        let here : more ≡ drop at.count (recorded_in recording) = more_is ∙ ap (drop at.count) (recorded_here recording_honest) in
+        ⊎_elim
+        (λ before. let b = as_before s honest before in agree_one rom b.before s r recording.sectors b.is r_is (agree b.before recording.sectors b.stood recording_here))
+        (λ reaches.
+        subst (λ (i : List (List ℕ)). Agrees rom s i) (sym r_is)
+        (agree_reached rom at (recorded_in recording) s recording.sectors (omega (arith, size_recorded recording_honest)) machine_is (all_recorded recording_honest) (subst (λ (l : List Input). Reaches rom at 0 l s) here reaches)))
+        (since.each s (counts looked.moment s since.moments.later is_save))
 
 -- ---- refused before anything was written
 
-look_is_resume : (rom : List ℕ) (generation : ℕ) (held : Option ImageContent) (why : SessionError) → IsLookCause rom held why → IsResumeCause rom generation held why
-look_is_resume rom generation held Memory cause = cause
-look_is_resume rom generation held Device cause = cause
-look_is_resume rom generation held NoSession cause = cause
-look_is_resume rom generation held (TooSmall needed) cause = cause
-look_is_resume rom generation held SessionOtherCartridge cause = cause
-look_is_resume rom generation held (Damaged damage) cause = cause
-look_is_resume rom generation held GenerationsUsedUp cause = absurd cause
-look_is_resume rom generation held SessionBroken cause = cause
-look_is_resume rom generation held SaveFirst cause = cause
-look_is_resume rom generation held CountFull cause = cause
-look_is_resume rom generation held Output cause = cause
-
 pub look_refused : (rom : List ℕ) (save now recording : DiskState) (why : SessionError) → (save.honest → IsLookCause rom (content save.sectors) why) → save.honest → recording.honest → IsTakeUpCause (Session why) rom save now recording
-look_refused rom save now recording why cause honest recording_honest = inl (look_is_resume rom (generation_in save.sectors) (content save.sectors) why (cause honest))
+look_refused rom save now recording GenerationsUsedUp cause honest recording_honest = absurd (cause honest)
+look_refused rom save now recording why cause honest recording_honest = inl (cause honest)
 
-pub refused_looking : (rom : List ℕ) (save now recording opened : DiskState) (why : RecordError) → (save.honest → recording.honest → IsTakeUpCause why rom save now recording) → IsOfDevices why → (save.honest → HasLooked save now) → (recording.honest → HasLooked recording opened) → IsNotTakenUp rom save now recording opened why
-refused_looking rom save now recording opened why cause kind look opens = record {
+pub refused_looking : {rom : List ℕ} {save now recording opened : DiskState} {why : RecordError} → (save.honest → recording.honest → IsTakeUpCause why rom save now recording) → IsOfDevices why → (save.honest → HasLooked save now) → (recording.honest → HasLooked recording opened) → IsNotTakenUp rom save now recording opened why
+refused_looking cause kind look opens = record {
   cause = cause;
   kind = kind;
   images = λ honest recording_honest. since_weaker (look honest).since (λ image stood. inl (record { before = image; stood = stood; is = refl }));
@@ -237,21 +225,9 @@ refused_looking rom save now recording opened why cause kind look opens = record
   untouched = λ foreign honest recording_honest. look honest;
 }
 
-pub agree_looking : (rom : List ℕ) (save now recording opened : DiskState) → (save.honest → HasLooked save now) → (recording.honest → HasLooked recording opened) → save.honest → recording.honest → AllAgree rom save recording → AllAgree rom now opened
-agree_looking rom save now recording opened look opens honest recording_honest agree =
+pub agree_looking : (rom : List ℕ) {save now recording opened : DiskState} → (save.honest → HasLooked save now) → (recording.honest → HasLooked recording opened) → save.honest → recording.honest → AllAgree rom save recording → AllAgree rom now opened
+agree_looking rom look opens honest recording_honest agree =
     λ s r is_save is_recording. agree s r ((look honest).images s is_save) ((opens recording_honest).images r is_recording)
 
-pub looked_same : (now : DiskState) → IsNow now → now.honest → HasLooked now now
-looked_same now only honest = has_looked only (looked_self now honest)
-
--- fewer inputs than the SAVE
-pub behind_by : (rom : List ℕ) (save recording : DiskState) (at : Position) (count : ℕ) → (save.honest → stands rom (content save.sectors) ≡ Some at) → (recording.honest → recorded (sha256 rom) recording.sectors ≡ Some (inputs (entries recording.sectors)))
-    → (recording.honest → count ≡ length (inputs (entries recording.sectors))) → count < at.count → save.honest → recording.honest → IsBehindBy rom save.sectors recording.sectors count
-behind_by rom save recording at count stood held counted less honest recording_honest = record {
-  at = at;
-  stands_is = stood honest;
-  played = recorded_in recording;
-  recorded_is = ap (option_map inputs_of) (held recording_honest);
-  count_is = counted recording_honest ∙ sym (length-map (inputs (entries recording.sectors)) input_of);
-  fewer = less;
-}
+pub looked_same : {now : DiskState} → IsNow now → now.honest → HasLooked now now
+looked_same {now} only honest = has_looked only (looked_self now honest)

@@ -1,8 +1,7 @@
 -- The inputs of entries, one entry after the other.
-use Rattle.std.proofs.Common.{◌≡◌, ℕ, suc, ◌+◌, ◌<◌, List, [], ◌∷◌, ◌++◌, length, take, drop, get_or, true, refl, sym, ap, subst, ◌∙◌, arith, append-nil}
+use Rattle.std.proofs.Common.{◌≡◌, ℕ, suc, ◌+◌, ◌<◌, List, [], ◌∷◌, ◌++◌, length, take, drop, get_or, true, sym, ap, subst, ◌∙◌, arith, append-nil}
 use Rattle.std.proofs.Math.Seq.{drop-cons, take-suc}
 use Rattle.std.proofs.lemmas.List.{take-append-drop}
-use Rattle.machine.specs.Machine.{Input}
 use Rattle.input_entries.specs.Inputs.{is_entry, inputs_in, inputs, all_entries}
 use Rattle.input_entries.specs.declared.StoredEntry.{StoredEntry}
 use Rattle.input_entries.proofs.Runs.{inputs-append, entries-drop}

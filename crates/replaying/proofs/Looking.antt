@@ -1,5 +1,4 @@
 -- Calls that only look, one after another.
-use Rattle.std.proofs.Common.{◌≡◌, Bool, true, false, refl}
 use Rattle.sector_device.specs.DiskState.{DiskState}
 use Rattle.sector_device.specs.Looking.{HasLooked, LooksOnly}
 
@@ -12,7 +11,3 @@ looks_only looked = record {
   time = looked.since.moments;
   past = looked.since.past;
 }
-
-pub false_by : (b : Bool) → (b ≡ true → ⊥) → b ≡ false
-false_by false wrong = refl
-false_by true wrong = absurd (wrong refl)

@@ -1,5 +1,5 @@
 -- A new game and a recording without inputs.
-use Rattle.std.proofs.Common.{◌≡◌, ◌≤◌, ℕ, [], Some, sym, ◌∙◌, subst, arith, length}
+use Rattle.std.proofs.Common.{◌≡◌, [], Some, sym, ◌∙◌, subst, arith}
 use Rattle.machine.specs.Machine.{start}
 use Rattle.session.specs.Stands.{Position}
 use Rattle.session.proofs.StandsLaws.{after_none}

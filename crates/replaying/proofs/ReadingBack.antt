@@ -1,8 +1,8 @@
 -- The lines of inputs, read as a script.
-use Rattle.std.proofs.Common.{◌≡◌, ◌==◌, ◌&&◌, ◌⊎◌, inl, inr, ℕ, zero, suc, ◌+◌, ◌*◌, ◌/◌, ◌%◌, ◌<◌, ◌≤◌, ◌^◌, List, [], ◌∷◌, ◌++◌, length, replicate, Bool, true, false, if◌then◌else◌, nat_lt, nat_le, Option, None, Some, Ok, Result, refl, sym, ap, subst, ◌∙◌, arith, lit<, lit≤, append_assoc, append-nil}
+use Rattle.std.proofs.Common.{◌≡◌, ◌==◌, ◌&&◌, inl, inr, ℕ, zero, suc, ◌+◌, ◌*◌, ◌/◌, ◌%◌, ◌<◌, ◌≤◌, ◌^◌, List, [], ◌∷◌, ◌++◌, length, replicate, Bool, true, false, if◌then◌else◌, nat_lt, nat_le, None, Some, Ok, refl, sym, ap, subst, ◌∙◌, arith, lit<, lit≤, append_assoc, append-nil}
 use Rattle.std.specs.Prelude.{codes, decimal}
 use Rattle.std.specs.Char.{digit_value, is_digit}
-use Rattle.std.specs.List.{All, list_all, slice_split}
+use Rattle.std.specs.List.{All, list_all}
 use Rattle.std.specs.Option.{option_map}
 use Rattle.std.specs.Str.Parse.{AllDigits, digits_value}
 use Rattle.std.proofs.lemmas.Bool.{cases_Bool, and_parts, ltb-true, lt-ltb, eqb-true}
@@ -19,7 +19,7 @@ use Rattle.script.specs.declared.moves.Move.{Move}
 use Rattle.script.specs.declared.moves.Move.TheVariants.{Frames, Seconds as PassSeconds}
 use Rattle.playing.specs.Inputs.{inputs_of_move, inputs_of_moves}
 use Rattle.replaying.specs.Laws.{HasWidth, TheScriptGivesTheInputsBack}
-use Rattle.replaying.specs.Script.{frames_line, lines_after, most_times, script_of, seconds_line}
+use Rattle.replaying.specs.Script.{frames_line, lines_after, most_times, seconds_line}
 
 -- ---- digits
 

@@ -1,8 +1,8 @@
 -- The steps of giving a machine the first inputs of a recording.
-use Rattle.std.proofs.Common.{◌≡◌, ℕ, zero, suc, ◌+◌, ◌-◌, ◌<◌, ◌≤◌, ◌^◌, min, List, [], ◌∷◌, ◌++◌, length, take, replicate, refl, sym, ap, subst, ◌∙◌, arith, append-nil, length-append}
-use Rattle.std.proofs.Math.Seq.{take-append-add, take-nil}
-use Rattle.std.proofs.lemmas.List.{take-append-le, take_all, take_min, take-replicate, length-replicate}
-use Rattle.std.proofs.lemmas.List.Elements.{All-append, All-cons, All-nil, All-replicate}
+use Rattle.std.proofs.Common.{◌≡◌, ℕ, zero, suc, ◌-◌, ◌<◌, ◌≤◌, ◌^◌, min, List, [], ◌∷◌, ◌++◌, length, take, replicate, refl, sym, ap, ◌∙◌, arith, length-append}
+use Rattle.std.proofs.Math.Seq.{take-nil}
+use Rattle.std.proofs.lemmas.List.{take_all, take_min, take-replicate, length-replicate}
+use Rattle.std.proofs.lemmas.List.Elements.{All-append, All-cons, All-nil}
 use Rattle.machine.specs.Machine.{MachineState, Input, Frame, Seconds, PassesTime, after, applied}
 use Rattle.input_entries.specs.Inputs.{frame, seconds}
 use Rattle.input_entries.specs.declared.Entry.{Entry}

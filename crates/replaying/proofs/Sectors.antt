@@ -1,5 +1,5 @@
 -- The entries of a recording, sector by sector.
-use Rattle.std.proofs.Common.{◌≡◌, ◌==◌, inl, inr, ℕ, zero, suc, ◌+◌, ◌<◌, ◌≤◌, List, [], ◌∷◌, ◌++◌, length, true, false, if◌then◌else◌, Bool, refl, sym, ap, subst, ◌∙◌, arith, append_assoc, append-nil}
+use Rattle.std.proofs.Common.{◌≡◌, inl, inr, ℕ, zero, suc, ◌+◌, ◌≤◌, List, [], ◌∷◌, ◌++◌, true, if◌then◌else◌, Bool, sym, ap, subst, ◌∙◌, arith, append_assoc, append-nil}
 use Rattle.std.specs.List.{list_all}
 use Rattle.std.proofs.lemmas.Bool.{cases_Bool, and_parts}
 use Rattle.std.proofs.lemmas.Bool.Decides.{eqb_tells}
@@ -32,9 +32,6 @@ inputs_up_to n image = inputs_of (inputs (entries_up_to n image))
 
 abbrev pub inputs_at : ℕ → List (List ℕ) → List Input
 inputs_at number image = inputs_of (inputs (entries_at number (sector_at image number)))
-
-pub none_up_to : (image : List (List ℕ)) → inputs_up_to 0 image ≡ []
-none_up_to image = refl
 
 pub one_more : (n : ℕ) (image : List (List ℕ)) → inputs_up_to (n + 1) image ≡ inputs_up_to n image ++ inputs_at (n + 1) image
 one_more n image =

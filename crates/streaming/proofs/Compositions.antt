@@ -49,14 +49,13 @@ deeds_asked = record {
   lines_append = lines_append;
 }
 
-module _ {G F : Type 0} (game : Ghosts G F) where
-  pub obeys_then : (a b c : G) (x y z : Option (List ℕ)) (first second : List Deed) → Obeys game a b x y first → Obeys game b c y z second → Obeys game a c x z (first ++ second)
-  obeys_then a b c x y z first second one two = does_then game deeds_asked a b c x y z first second one two
+module _ {G F : Type 0} {game : Ghosts G F} {a b : G} {x y : Option (List ℕ)} (first second : List Deed) where
+  pub obeys_then : {c : G} {z : Option (List ℕ)} → Obeys game a b x y first → Obeys game b c y z second → Obeys game a c x z (first ++ second)
+  obeys_then {c} {z} one two = does_then game deeds_asked a b c x y z first second one two
 
-  pub stops_then : (a b c : G) (x y z : Option (List ℕ)) (has_failed : Type 0) (first second : List Deed) (why : F) → Obeys game a b x y first → StopsAmong game b c y z has_failed second why
-      → StopsAmong game a c x z has_failed (first ++ second) why
-  stops_then a b c x y z has_failed first second why one two = stops_among_more game deeds_asked a b c x y z has_failed first second why one two
+  pub stops_then : {c : G} {z : Option (List ℕ)} {has_failed : Type 0} {why : F} → Obeys game a b x y first → StopsAmong game b c y z has_failed second why → StopsAmong game a c x z has_failed (first ++ second) why
+  stops_then {c} {z} {has_failed} {why} one two = stops_among_more game deeds_asked a b c x y z has_failed first second why one two
 
   -- and before others
-  pub stops_before : (a b : G) (x y : Option (List ℕ)) (has_failed : Type 0) (first second : List Deed) (why : F) → StopsAmong game a b x y has_failed first why → StopsAmong game a b x y has_failed (first ++ second) why
-  stops_before a b x y has_failed first second why stop = stops_before_more game deeds_asked a b x y has_failed first second why stop
+  pub stops_before : {has_failed : Type 0} {why : F} → StopsAmong game a b x y has_failed first why → StopsAmong game a b x y has_failed (first ++ second) why
+  stops_before {has_failed} {why} stop = stops_before_more game deeds_asked a b x y has_failed first second why stop

@@ -12,16 +12,15 @@ use Rattle.machine_lines.specs.KeptStates.{KeptMachine}
 use Rattle.machine_lines.specs.Slots.{AreKept}
 use Rattle.playing.specs.declared.playable.Playable.{Ghosts}
 use Rattle.playing.proofs.Making.{advances_machine, advances_rom, makes_nothing}
-use Rattle.streaming.specs.Orders.{asked, order_of, Deed, kept_behind}
+use Rattle.streaming.specs.Orders.{asked, asked_by, order_of, Deed, kept_behind}
 use Rattle.streaming.specs.Answers.{inputs_of_deeds}
 use Rattle.streaming.specs.Numbers.{IsNumbered}
-use Rattle.streaming.specs.Reading.{Asks, AsksUpTo, IsNext, ReadsTo}
+use Rattle.streaming.specs.Reading.{Asks, AsksUpTo, IsAsked, IsNext, ReadsTo}
 use Rattle.streaming.specs.Reading.Asks.{no_line, by_empty, by_deed}
 use Rattle.streaming.specs.Reading.AsksUpTo.{all_asked, by_bytes}
 use Rattle.streaming.specs.Obeying.{Obeys, ObeysLines, StopsAmongLines}
 use Rattle.streaming.specs.Steps.{IsObeyed, IsRefused, IsStep}
 use Rattle.streaming.specs.declared.order.Order.{Order}
-use Rattle.streaming.specs.declared.order.Order.TheVariants.{Restore}
 use Rattle.streaming.specs.declared.next_order.Next.TheVariants.{Line, Wrong}
 use Rattle.streaming.specs.declared.obeying.Went.TheVariants.{Wrong as WentWrong, Damaged as WentDamaged, NoMemory as WentNoMemory, Failed as WentFailed}
 use Rattle.streaming.specs.declared.obeying.End.{End as Ending}
@@ -38,20 +37,15 @@ pub record IsOrdered (states : Bool) (order : Order) (old new : Option (List ℕ
   pub numbered : IsNumbered order
   pub takes : TakesLine line old new
 
-ordered_so : (states : Bool) (order : Order) (old new since : Option (List ℕ)) → IsNext states (Line (Some order)) old new since → IsOrdered states order old new
-ordered_so states order old new since (line, one, asked, takes) = record { line = line; one_line = one; some = asked.0; order_is = asked.1; numbered = asked.2; takes = takes }
+asked_as : {states takes : Bool} {o p : Option Order} (line : List ℕ) → states ≡ takes → o ≡ p → IsAsked states (Line o) line → IsAsked takes (Line p) line
+asked_as {states} {takes} {o} {p} line same is asks = subst (λ (q : Option Order). IsAsked takes (Line q) line) is (subst (λ (s : Bool). IsAsked s (Line o) line) same asks)
 
-pub ordered : (states takes : Bool) (o : Option Order) (order : Order) (old new since : Option (List ℕ)) → states ≡ takes → o ≡ Some order → IsNext states (Line o) old new since → IsOrdered takes order old new
-ordered states takes o order old new since same is next =
-    ordered_so takes order old new since (subst (λ (p : Option Order). IsNext takes (Line p) old new since) is (subst (λ (s : Bool). IsNext s (Line o) old new since) same next))
-
-pub unasked : (states takes : Bool) (o : Option Order) (old new since : Option (List ℕ)) → states ≡ takes → o ≡ None → IsNext states (Line o) old new since → (line : List ℕ) × HasNoNewline line × (length line ≡ 0) × TakesLine line old new
-unasked states takes o old new since same is next = subst (λ (p : Option Order). IsNext takes (Line p) old new since) is (subst (λ (s : Bool). IsNext s (Line o) old new since) same next)
+pub ordered : {states takes : Bool} {o : Option Order} {order : Order} {old new : Option (List ℕ)} → states ≡ takes → o ≡ Some order → IsNext states (Line o) old new new → IsOrdered takes order old new
+ordered same is (line, one, asks, took) =
+    let asked = asked_as line same is asks in
+    record { line = line; one_line = one; some = asked.0; order_is = asked.1; numbered = asked.2; takes = took }
 
 module _ {G F : Type 0} (game : Ghosts G F) (rom : List ℕ) (start : G) (of : game.rom start ≡ rom) (before_in : Option (List ℕ)) (x : Option (List ℕ)) where
-  abbrev asks_for : List ℕ → ℕ
-  asks_for = asked game.takes_states
-
   -- before line `number`: the lines that were taken, and what was done for each
   pub record SoFar (now : G) (number : ℕ) (there y : Option (List ℕ)) (states : List (List ℕ)) : Type 0 where
     pub lines : List Given
@@ -59,7 +53,7 @@ module _ {G F : Type 0} (game : Ghosts G F) (rom : List ℕ) (start : G) (of : g
     pub kept : List KeptMachine
     pub asks : Asks game.takes_states rom (game.machine start) lines deeds kept
     pub count : number ≡ length lines + 1
-    pub taken : HasTakenGiven asks_for lines before_in there
+    pub taken : HasTakenGiven (asked game.takes_states) lines before_in there
     pub obeys : Obeys game start now x y deeds
     pub kept_is : AreKept rom states kept
 
@@ -70,218 +64,197 @@ module _ {G F : Type 0} (game : Ghosts G F) (rom : List ℕ) (start : G) (of : g
     kept = [];
     asks = no_line;
     count = refl;
-    taken = subst (λ (b : Option (List ℕ)). HasTakenGiven asks_for [] b (left_of items known)) (sym same) (given_none asks_for known items none);
+    taken = subst (λ (b : Option (List ℕ)). HasTakenGiven (asked game.takes_states) [] b (left_of items known)) (sym same) (given_none (asked game.takes_states) known items none);
     obeys = makes_nothing game start x;
     kept_is = kept;
   }
 
-  -- ---- behind some lines
+-- ---- behind some lines
 
-  module _ (now : G) (number : ℕ) (there y : Option (List ℕ)) (states : List (List ℕ)) (so_far : SoFar now number there y states) where
-    abbrev lines : List Given
-    lines = so_far.lines
+module _ {G F : Type 0} {game : Ghosts G F} {rom : List ℕ} {start : G} {of : game.rom start ≡ rom} {before_in x : Option (List ℕ)} {now : G} {number : ℕ} {there y : Option (List ℕ)} {states : List (List ℕ)}
+    (so_far : SoFar game rom start of before_in x now number there y states) where
+  abbrev asks_for : List ℕ → ℕ
+  asks_for = asked game.takes_states
 
-    pub rom_is : game.rom now ≡ rom
-    rom_is = advances_rom game so_far.obeys.advances ∙ of
+  abbrev lines : List Given
+  lines = so_far.lines
 
-    abbrev plain : List ℕ → Given
-    plain line = record { line = line; bytes = [] }
+  abbrev plain : List ℕ → Given
+  plain line = record { line = line; bytes = [] }
 
-    more_lines : (given : Given) → number + 1 ≡ length (lines ++ given ∷ []) + 1
-    more_lines given = omega (arith, so_far.count, length-append lines (given ∷ []))
+  pub rom_is : game.rom now ≡ rom
+  rom_is = advances_rom game so_far.obeys.advances ∙ of
 
-    -- a line that asks for no bytes
-    takes_plain : (line : List ℕ) (rest : Option (List ℕ)) → HasNoNewline line → asks_for line ≡ 0 → TakesLine line there rest → TakesGiven asks_for (plain line) there rest
-    takes_plain line rest one none took = takes_given asks_for line [] there rest rest one (sym none) took (Consumes-nil rest)
+  more_lines : (given : Given) → number + 1 ≡ length (lines ++ given ∷ []) + 1
+  more_lines given = omega (arith, so_far.count, length-append lines (given ∷ []))
 
-    pub empty_line : (line : List ℕ) (rest : Option (List ℕ)) → HasNoNewline line → length line ≡ 0 → TakesLine line there rest → SoFar now (number + 1) rest y states
-    empty_line line rest one none took = record {
-      lines = lines ++ plain line ∷ [];
-      deeds = so_far.deeds;
-      kept = so_far.kept;
-      asks = by_empty (plain line) so_far.asks (none, refl);
-      count = more_lines (plain line);
-      taken = given_more asks_for lines (plain line) before_in there rest so_far.taken (takes_plain line rest one (empty_asks game.takes_states line none) took);
-      obeys = so_far.obeys;
-      kept_is = so_far.kept_is;
-    }
+  -- a line that asks for no bytes
+  takes_plain : (line : List ℕ) (rest : Option (List ℕ)) → HasNoNewline line → asks_for line ≡ 0 → TakesLine line there rest → TakesGiven asks_for (plain line) there rest
+  takes_plain line rest one none took = takes_given asks_for line [] there rest rest one (sym none) took (Consumes-nil rest)
 
-    -- ---- a line with an order
+  pub empty_line : {takes : Bool} {o : Option Order} (rest : Option (List ℕ)) → takes ≡ game.takes_states → o ≡ None → IsNext takes (Line o) there rest rest → SoFar game rom start of before_in x now (number + 1) rest y states
+  empty_line rest same is (line, one, asks, took) =
+      let none = asked_as line same is asks in
+      record {
+        lines = lines ++ plain line ∷ [];
+        deeds = so_far.deeds;
+        kept = so_far.kept;
+        asks = by_empty (plain line) so_far.asks (none, refl);
+        count = more_lines (plain line);
+        taken = given_more asks_for lines (plain line) before_in there rest so_far.taken (takes_plain line rest one (empty_asks game.takes_states line none) took);
+        obeys = so_far.obeys;
+        kept_is = so_far.kept_is;
+      }
 
-    module _ (line : List ℕ) (order : Order) (mid : Option (List ℕ)) (one : HasNoNewline line) (is : 0 < length line) (order_is : order_of game.takes_states line ≡ Some order) (took : TakesLine line there mid) where
-      abbrev with_bytes : List ℕ → Given
-      with_bytes bytes = record { line = line; bytes = bytes }
+  -- an end, with nothing done since
+  ends : {after_it : G} {z known : Option (List ℕ)} {end : Ending} → after_it ≡ now → z ≡ y → ReadsTo game.takes_states rom so_far.kept end lines before_in known → ObeysLines game start after_it before_in known x z end
+  ends {z = z} {known = known} {end = end} same quiet read = record {
+    lines = lines;
+    deeds = so_far.deeds;
+    kept = so_far.kept;
+    asks = subst (λ (r : List ℕ). Asks game.takes_states r (game.machine start) lines so_far.deeds so_far.kept) (sym of) so_far.asks;
+    read = subst (λ (r : List ℕ). ReadsTo game.takes_states r so_far.kept end lines before_in known) (sym of) read;
+    obeys = subst (λ (g : G). Obeys game start g x z so_far.deeds) (sym same) (subst (λ (w : Option (List ℕ)). Obeys game start now x w so_far.deeds) (sym quiet) so_far.obeys);
+  }
 
-      asked_here : (deed_order : Order) → deed_order ≡ order → order_of game.takes_states line ≡ Some deed_order
-      asked_here deed_order same = order_is ∙ ap Some (sym same)
+  -- ---- a line with an order
 
-      takes_it : (bytes : List ℕ) (rest : Option (List ℕ)) → length bytes ≡ asks_for line → Consumes mid rest bytes → TakesGiven asks_for (with_bytes bytes) there rest
-      takes_it bytes rest all next = takes_given asks_for line bytes there mid rest one all took next
+  module _ {order : Order} {mid : Option (List ℕ)} (next : IsOrdered game.takes_states order there mid) where
+    abbrev with_bytes : List ℕ → Given
+    with_bytes bytes = record { line = next.line; bytes = bytes }
 
-      read_so : (bytes : List ℕ) (items : List ℕ) (known : Option (List ℕ)) → length bytes ≡ asks_for line → Consumes mid (left_of items known) bytes → HasReadGiven asks_for (lines ++ with_bytes bytes ∷ []) items before_in known
-      read_so bytes items known all next =
-          given_left asks_for (lines ++ with_bytes bytes ∷ []) items before_in known
-          (given_more asks_for lines (with_bytes bytes) before_in there (left_of items known) so_far.taken (takes_it bytes (left_of items known) all next))
+    asked_here : {deed_order : Order} → deed_order ≡ order → order_of game.takes_states next.line ≡ Some deed_order
+    asked_here same = next.order_is ∙ ap Some (sym same)
 
-      asks_n : (n : ℕ) → order ≡ Restore n → asks_for line ≡ n
-      asks_n n restores = asked_is game.takes_states line (Restore n) (order_is ∙ ap Some restores)
+    asks_so : {deed_order : Order} → deed_order ≡ order → asks_for next.line ≡ asked_by (Some deed_order)
+    asks_so {deed_order} same = asked_is game.takes_states next.line deed_order (asked_here same)
 
-      -- it was done
-      pub obeyed_line : (after_it : G) (z rest known : Option (List ℕ)) (more : List (List ℕ)) → IsObeyed game now after_it y z (record { before = mid; since = rest; unread = known }) rom so_far.kept order more → SoFar after_it (number + 1) rest z more
-      obeyed_line after_it z rest known more step =
-          let given = with_bytes step.bytes in
-          let asked_order = asked_here _ step.order_is in
-          let all = deed_asks rom so_far.kept step.bytes step.deed step.done ∙ sym (asked_is game.takes_states line _ asked_order) in
-          record {
-            lines = lines ++ given ∷ [];
-            deeds = so_far.deeds ++ step.deed ∷ [];
-            kept = kept_behind (after (game.machine start) (inputs_of_deeds so_far.deeds)) so_far.kept step.deed;
-            asks = by_deed given step.deed so_far.asks (record { one_line = one; some = is; order_is = asked_order; done = step.done });
-            count = more_lines given;
-            taken = given_more asks_for lines given before_in there rest so_far.taken (takes_it step.bytes rest all step.took);
-            obeys = obeys_then game start now after_it x y z so_far.deeds (step.deed ∷ []) so_far.obeys step.obeys;
-            kept_is = subst (λ (m : MachineState). AreKept rom more (kept_behind m so_far.kept step.deed)) (advances_machine game so_far.obeys.advances) step.kept_is;
-          }
+    takes_it : (bytes : List ℕ) (rest : Option (List ℕ)) → length bytes ≡ asks_for next.line → Consumes mid rest bytes → TakesGiven asks_for (with_bytes bytes) there rest
+    takes_it bytes rest all took = takes_given asks_for next.line bytes there mid rest next.one_line all next.takes took
 
-      -- it was refused
-      pub refused_line : (after_it : G) (z known : Option (List ℕ)) (items : List ℕ) (has_failed : Type 0) (why : F)
-          → IsRefused game now after_it y z (record { before = mid; since = left_of items known; unread = known }) rom so_far.kept order has_failed why
-          → StopsAmongLines game start after_it before_in known x z has_failed why
-      refused_line after_it z known items has_failed why stop =
-          let given = with_bytes stop.bytes in
-          let asked_order = asked_here _ stop.order_is in
-          let stops = stops_then game start now after_it x y z has_failed so_far.deeds (stop.deed ∷ []) why so_far.obeys stop.stops in
-          elim stop.asked [
-            | inl done ↦
-                let all = deed_asks rom so_far.kept stop.bytes stop.deed done ∙ sym (asked_is game.takes_states line _ asked_order) in
-                record {
-                  lines = lines ++ given ∷ [];
-                  deeds = so_far.deeds ++ stop.deed ∷ [];
-                  asks = subst (λ (r : List ℕ). AsksUpTo game.takes_states r (game.machine start) (lines ++ given ∷ []) (so_far.deeds ++ stop.deed ∷ [])) (sym of)
-                      (all_asked (by_deed given stop.deed so_far.asks (record { one_line = one; some = is; order_is = asked_order; done = done })));
-                  more = items;
-                  read = read_so stop.bytes items known all stop.took;
-                  stops = stops;
-                }
-            | inr (n, restores, size, deed_is) ↦
-                record {
-                  lines = lines ++ given ∷ [];
-                  deeds = so_far.deeds ++ stop.deed ∷ [];
-                  asks = subst (λ (r : List ℕ). AsksUpTo game.takes_states r (game.machine start) (lines ++ given ∷ []) (so_far.deeds ++ stop.deed ∷ [])) (sym of)
-                      (subst (λ (d : Deed). AsksUpTo game.takes_states rom (game.machine start) (lines ++ given ∷ []) (so_far.deeds ++ d ∷ [])) (sym deed_is)
-                      (by_bytes given n so_far.asks (order_is ∙ ap Some restores) size));
-                  more = items;
-                  read = read_so stop.bytes items known (size ∙ sym (asks_n n restores)) stop.took;
-                  stops = stops;
-                }
-          ]
+    read_so : (bytes items : List ℕ) (known : Option (List ℕ)) → length bytes ≡ asks_for next.line → Consumes mid (left_of items known) bytes → HasReadGiven asks_for (lines ++ with_bytes bytes ∷ []) items before_in known
+    read_so bytes items known all took =
+        given_left asks_for (lines ++ with_bytes bytes ∷ []) items before_in known
+        (given_more asks_for lines (with_bytes bytes) before_in there (left_of items known) so_far.taken (takes_it bytes (left_of items known) all took))
 
-      -- ---- where nothing was done
-
-      module _ (after_it : G) (z : Option (List ℕ)) (same : after_it ≡ now) (quiet : z ≡ y) where
-        still : Obeys game start after_it x z so_far.deeds
-        still = subst (λ (g : G). Obeys game start g x z so_far.deeds) (sym same) (subst (λ (w : Option (List ℕ)). Obeys game start now x w so_far.deeds) (sym quiet) so_far.obeys)
-
-        ends : (known : Option (List ℕ)) (end : Ending) → ReadsTo game.takes_states rom so_far.kept end lines before_in known → ObeysLines game start after_it before_in known x z end
-        ends known end read = record {
-          lines = lines;
-          deeds = so_far.deeds;
-          kept = so_far.kept;
-          asks = subst (λ (r : List ℕ). Asks game.takes_states r (game.machine start) lines so_far.deeds so_far.kept) (sym of) so_far.asks;
-          read = subst (λ (r : List ℕ). ReadsTo game.takes_states r so_far.kept end lines before_in known) (sym of) read;
-          obeys = still;
+    -- it was done
+    pub obeyed_line : {after_it : G} {z rest known : Option (List ℕ)} {more : List (List ℕ)} → IsObeyed game now after_it y z (record { before = mid; since = rest; unread = known }) rom so_far.kept order more
+        → SoFar game rom start of before_in x after_it (number + 1) rest z more
+    obeyed_line {rest = rest} {more = more} step =
+        let given = with_bytes step.bytes in
+        let all = deed_asks rom so_far.kept step.bytes step.deed step.done ∙ sym (asks_so step.order_is) in
+        record {
+          lines = lines ++ given ∷ [];
+          deeds = so_far.deeds ++ step.deed ∷ [];
+          kept = kept_behind (after (game.machine start) (inputs_of_deeds so_far.deeds)) so_far.kept step.deed;
+          asks = by_deed given step.deed so_far.asks (record { one_line = next.one_line; some = next.some; order_is = asked_here step.order_is; done = step.done });
+          count = more_lines given;
+          taken = given_more asks_for lines given before_in there rest so_far.taken (takes_it step.bytes rest all step.took);
+          obeys = obeys_then so_far.deeds (step.deed ∷ []) so_far.obeys step.obeys;
+          kept_is = subst (λ (m : MachineState). AreKept rom more (kept_behind m so_far.kept step.deed)) (advances_machine game so_far.obeys.advances) step.kept_is;
         }
 
-      pub went_wrong : (after_it : G) (z known : Option (List ℕ)) (items : List ℕ) (more : List (List ℕ)) → IsStep game now after_it y z (record { before = mid; since = left_of items known; unread = known }) rom so_far.kept order more WentWrong
-          → ObeysLines game start after_it before_in known x z (WrongLine number)
-      went_wrong after_it z known items more (still, (k, back, none), took_none) =
-          let here = order_is ∙ ap Some back in
-          ends after_it z still.same still.quiet known (WrongLine number)
-          (so_far.count, inl (record { given = plain line; is = (refl, inr (k, here, none)); more = items; read = read_so [] items known (sym (asked_is game.takes_states line _ here)) took_none }))
+    -- it was refused
+    pub refused_line : {after_it : G} {z known : Option (List ℕ)} {has_failed : Type 0} {why : F} (items : List ℕ) → IsRefused game now after_it y z (record { before = mid; since = left_of items known; unread = known }) rom so_far.kept order has_failed why
+        → StopsAmongLines game start after_it before_in known x z has_failed why
+    refused_line {known = known} items stop =
+        let given = with_bytes stop.bytes in
+        let found : (length stop.bytes ≡ asks_for next.line) × AsksUpTo game.takes_states rom (game.machine start) (lines ++ given ∷ []) (so_far.deeds ++ stop.deed ∷ []) = elim stop.asked [
+          | inl done ↦ (
+            deed_asks rom so_far.kept stop.bytes stop.deed done ∙ sym (asks_so stop.order_is),
+            all_asked (by_deed given stop.deed so_far.asks (record { one_line = next.one_line; some = next.some; order_is = asked_here stop.order_is; done = done })),
+          )
+          | inr (n, restores, size, deed_is) ↦ (
+            size ∙ sym (asks_so (sym restores)),
+            subst (λ (d : Deed). AsksUpTo game.takes_states rom (game.machine start) (lines ++ given ∷ []) (so_far.deeds ++ d ∷ [])) (sym deed_is)
+                (by_bytes given n so_far.asks (asked_here (sym restores)) size),
+          )
+        ] in
+        record {
+          lines = lines ++ given ∷ [];
+          deeds = so_far.deeds ++ stop.deed ∷ [];
+          asks = subst (λ (r : List ℕ). AsksUpTo game.takes_states r (game.machine start) (lines ++ given ∷ []) (so_far.deeds ++ stop.deed ∷ [])) (sym of) found.1;
+          more = items;
+          read = read_so stop.bytes items known found.0 stop.took;
+          stops = stops_then so_far.deeds (stop.deed ∷ []) so_far.obeys stop.stops;
+        }
 
-      pub lacked_memory : (after_it : G) (z known : Option (List ℕ)) (items : List ℕ) (more : List (List ℕ)) → IsStep game now after_it y z (record { before = mid; since = left_of items known; unread = known }) rom so_far.kept order more WentNoMemory
-          → ObeysLines game start after_it before_in known x z NoMemory
-      lacked_memory after_it z known items more (still, inl power, took_none) =
-          let here = order_is ∙ ap Some power in
-          ends after_it z still.same still.quiet known NoMemory
-          (record { given = plain line; is = (refl, inl here); more = items; read = read_so [] items known (sym (asked_is game.takes_states line _ here)) took_none })
-      lacked_memory after_it z known items more (still, inr (k, keeps, none), took_none) =
-          let here = order_is ∙ ap Some keeps in
-          ends after_it z still.same still.quiet known NoMemory
-          (record { given = plain line; is = (refl, inr (k, here, none)); more = items; read = read_so [] items known (sym (asked_is game.takes_states line _ here)) took_none })
+    -- nothing was done
 
-      pub was_damaged : (after_it : G) (z known : Option (List ℕ)) (items : List ℕ) (more : List (List ℕ)) → IsStep game now after_it y z (record { before = mid; since = left_of items known; unread = known }) rom so_far.kept order more WentDamaged
-          → ObeysLines game start after_it before_in known x z Damaged
-      was_damaged after_it z known items more (still, (n, restores, bad)) =
-          let here = order_is ∙ ap Some restores in
-          let given = with_bytes bad.bytes in
-          elim bad.bad [
-            | inl (all, illegal, took_all) ↦
-                ends after_it z still.same still.quiet known Damaged
-                (record { given = given; is = (n, here, inr illegal); more = items; read = read_so bad.bytes items known (all ∙ sym (asks_n n restores)) took_all })
-            | inr (few, took_few, is_end) ↦
-                ends after_it z still.same still.quiet known Damaged
-                (record {
-                  given = given;
-                  is = (n, here, inl (λ e. absurd (omega (arith, e, few))));
-                  more = [];
-                  read = given_last asks_for lines given before_in there known so_far.taken (ends_within asks_for line bad.bytes there mid known one (omega (arith, asks_n n restores, few)) took took_few is_end);
-                })
-          ]
+    pub went_wrong : {after_it : G} {z known : Option (List ℕ)} (items : List ℕ) → IsStep game now after_it y z (record { before = mid; since = left_of items known; unread = known }) rom so_far.kept order [] WentWrong
+        → ObeysLines game start after_it before_in known x z (WrongLine number)
+    went_wrong {known = known} items (still, (k, back, none), took_none) =
+        ends still.same still.quiet
+        (so_far.count, inl (record { given = plain next.line; is = (refl, inr (k, asked_here (sym back), none)); more = items; read = read_so [] items known (sym (asks_so (sym back))) took_none }))
 
-      pub bytes_failed : (after_it : G) (z known : Option (List ℕ)) (items : List ℕ) (more : List (List ℕ)) → IsStep game now after_it y z (record { before = mid; since = left_of items known; unread = known }) rom so_far.kept order more WentFailed
-          → ObeysLines game start after_it before_in known x z FailedRead
-      bytes_failed after_it z known items more (still, (n, restores, short)) =
-          let cut = unfinished asks_for line short.bytes there mid known one (omega (arith, asks_n n restores, short.few)) took short.took in
-          ends after_it z still.same still.quiet known FailedRead
-          (cut.0, cut.1, given_rest asks_for lines cut.0 before_in there known so_far.taken cut.2)
+    pub lacked_memory : {after_it : G} {z known : Option (List ℕ)} (items : List ℕ) → IsStep game now after_it y z (record { before = mid; since = left_of items known; unread = known }) rom so_far.kept order [] WentNoMemory
+        → ObeysLines game start after_it before_in known x z NoMemory
+    lacked_memory {known = known} items (still, inl power, took_none) =
+        ends still.same still.quiet
+        (record { given = plain next.line; is = (refl, inl (asked_here (sym power))); more = items; read = read_so [] items known (sym (asks_so (sym power))) took_none })
+    lacked_memory {known = known} items (still, inr (k, keeps, none), took_none) =
+        ends still.same still.quiet
+        (record { given = plain next.line; is = (refl, inr (k, asked_here (sym keeps), none)); more = items; read = read_so [] items known (sym (asks_so (sym keeps))) took_none })
 
-    -- ---- other ends
+    pub was_damaged : {after_it : G} {z known : Option (List ℕ)} (items : List ℕ) → IsStep game now after_it y z (record { before = mid; since = left_of items known; unread = known }) rom so_far.kept order [] WentDamaged
+        → ObeysLines game start after_it before_in known x z Damaged
+    was_damaged {known = known} items (still, (n, restores, bad)) =
+        let given = with_bytes bad.bytes in
+        ends still.same still.quiet
+        (elim bad.bad [
+          | inl (all, illegal, took_all) ↦
+              record { given = given; is = (n, asked_here (sym restores), inr illegal); more = items; read = read_so bad.bytes items known (all ∙ sym (asks_so (sym restores))) took_all }
+          | inr (few, took_few, is_end) ↦
+              record {
+                given = given;
+                is = (n, asked_here (sym restores), inl (λ e. absurd (omega (arith, e, few))));
+                more = [];
+                read = given_last asks_for lines given before_in there known so_far.taken (ends_within asks_for next.line bad.bytes there mid known next.one_line (omega (arith, asks_so (sym restores), few)) next.takes took_few is_end);
+              }
+        ])
 
-    ends_here : (known : Option (List ℕ)) (end : Ending) → ReadsTo game.takes_states rom so_far.kept end lines before_in known → ObeysLines game start now before_in known x y end
-    ends_here known end read = record {
-      lines = lines;
-      deeds = so_far.deeds;
-      kept = so_far.kept;
-      asks = subst (λ (r : List ℕ). Asks game.takes_states r (game.machine start) lines so_far.deeds so_far.kept) (sym of) so_far.asks;
-      read = subst (λ (r : List ℕ). ReadsTo game.takes_states r so_far.kept end lines before_in known) (sym of) read;
-      obeys = so_far.obeys;
-    }
+    pub bytes_failed : {after_it : G} {z known : Option (List ℕ)} (items : List ℕ) → IsStep game now after_it y z (record { before = mid; since = left_of items known; unread = known }) rom so_far.kept order [] WentFailed
+        → ObeysLines game start after_it before_in known x z FailedRead
+    bytes_failed {known = known} items (still, (n, restores, short)) =
+        let cut = unfinished asks_for next.line short.bytes there mid known next.one_line (omega (arith, asks_so (sym restores), short.few)) next.takes short.took in
+        ends still.same still.quiet (cut.0, cut.1, given_rest asks_for lines cut.0 before_in there known so_far.taken cut.2)
 
-    none_asked : (line : List ℕ) → order_of game.takes_states line ≡ None → asks_for line ≡ 0
-    none_asked line none = rw none refl
+  -- ---- other ends
 
-    pub wrong_line : (items : List ℕ) (known : Option (List ℕ)) → IsNext game.takes_states Wrong there (left_of items known) known → ObeysLines game start now before_in known x y (WrongLine number)
-    wrong_line items known (line, wrong, inl took) =
-        ends_here known (WrongLine number) (
-          so_far.count,
-          inl (record {
-            given = plain line;
-            is = (refl, inl wrong);
-            more = items;
-            read = given_left asks_for (lines ++ plain line ∷ []) items before_in known
-                (given_more asks_for lines (plain line) before_in there (left_of items known) so_far.taken (takes_plain line (left_of items known) wrong.one_line (none_asked line wrong.wrong) took));
-          }),
-        )
-    wrong_line items known (line, wrong, inr (long, took)) =
-        ends_here known (WrongLine number) (
-          so_far.count,
-          inr (inl (record {
-            line = line;
-            one_line = wrong.one_line;
-            long = long;
-            more = items;
-            read = given_rest asks_for lines (line ++ items) before_in there known so_far.taken (left_read there items known line took);
-          })),
-        )
+  none_asked : (line : List ℕ) → order_of game.takes_states line ≡ None → asks_for line ≡ 0
+  none_asked line none = rw none refl
 
-    pub at_the_end : (known : Option (List ℕ)) → Consumes there known [] × IsAtEnd known → ObeysLines game start now before_in known x y Whole
-    at_the_end known next = ends_here known Whole (given_rest asks_for lines [] before_in there known so_far.taken next.0, next.1)
+  pub wrong_line : {known : Option (List ℕ)} (items : List ℕ) → IsNext game.takes_states Wrong there (left_of items known) known → ObeysLines game start now before_in known x y (WrongLine number)
+  wrong_line {known} items (line, wrong, inl took) =
+      ends refl refl (
+        so_far.count,
+        inl (record {
+          given = plain line;
+          is = (refl, inl wrong);
+          more = items;
+          read = given_left asks_for (lines ++ plain line ∷ []) items before_in known
+              (given_more asks_for lines (plain line) before_in there (left_of items known) so_far.taken (takes_plain line (left_of items known) wrong.one_line (none_asked line wrong.wrong) took));
+        }),
+      )
+  wrong_line {known} items (line, wrong, inr (long, took)) =
+      ends refl refl (
+        so_far.count,
+        inr (inl (record {
+          line = line;
+          one_line = wrong.one_line;
+          long = long;
+          more = items;
+          read = given_rest asks_for lines (line ++ items) before_in there known so_far.taken (left_read there items known line took);
+        })),
+      )
 
-    pub read_failed : (known : Option (List ℕ)) → (rest : List ℕ) × HasNoNewline rest × Consumes there known rest → ObeysLines game start now before_in known x y FailedRead
-    read_failed known (rest, one, took) = ends_here known FailedRead (rest, inl one, given_rest asks_for lines rest before_in there known so_far.taken took)
+  pub at_the_end : {known : Option (List ℕ)} → Consumes there known [] × IsAtEnd known → ObeysLines game start now before_in known x y Whole
+  at_the_end {known} next = ends refl refl (given_rest asks_for lines [] before_in there known so_far.taken next.0, next.1)
 
-    pub last_number : (items : List ℕ) (known : Option (List ℕ)) → there ≡ left_of items known → number ≡ 2 ^ 64 - 1 → ObeysLines game start now before_in known x y (WrongLine number)
-    last_number items known same last =
-        ends_here known (WrongLine number)
-        (so_far.count, inr (inr (last, (items, given_left asks_for lines items before_in known (subst (HasTakenGiven asks_for lines before_in) same so_far.taken)))))
+  pub read_failed : {known : Option (List ℕ)} → (rest : List ℕ) × HasNoNewline rest × Consumes there known rest → ObeysLines game start now before_in known x y FailedRead
+  read_failed {known} (rest, one, took) = ends refl refl (rest, inl one, given_rest asks_for lines rest before_in there known so_far.taken took)
+
+  pub last_number : (items : List ℕ) (known : Option (List ℕ)) → there ≡ left_of items known → number ≡ 2 ^ 64 - 1 → ObeysLines game start now before_in known x y (WrongLine number)
+  last_number items known same last =
+      ends refl refl
+      (so_far.count, inr (inr (last, (items, given_left asks_for lines items before_in known (subst (HasTakenGiven asks_for lines before_in) same so_far.taken)))))

@@ -7,7 +7,7 @@ use Rattle.input_lines.specs.Given.{Given, text_of, texts_of, IsWhole, HasReadGi
 use Rattle.input_lines.proofs.Givings.{texts_more}
 use Rattle.streaming.specs.Orders.{order_of, asked, asked_by, Deed, Does, GoesOnWith, order_in, IsOwn, IsOther, IsDoneBy}
 use Rattle.streaming.specs.declared.order.Order.{Order}
-use Rattle.streaming.specs.declared.order.Order.TheVariants.{Make, Picture, State, Memory, Keep, Back, Restore}
+use Rattle.streaming.specs.declared.order.Order.TheVariants.{Back, Restore}
 use Rattle.machine_lines.specs.KeptStates.{KeptMachine}
 
 -- ---- the last of a list
@@ -53,22 +53,14 @@ pub asked_is : (states : Bool) (line : List ℕ) (order : Order) → order_of st
 asked_is states line order is = ap asked_by is
 
 own_asks : (order : Order) → IsOwn order → asked_by (Some order) ≡ 0
-own_asks (Make move) own = refl
-own_asks Picture own = refl
-own_asks State own = refl
-own_asks (Memory address count) own = refl
-own_asks (Keep k) own = refl
 own_asks (Back k) own = absurd own
 own_asks (Restore n) own = absurd own
+own_asks order own = refl
 
 other_asks : (rom : List ℕ) (kept : List KeptMachine) (bytes : List ℕ) (order : Order) (machine : _) → IsOther rom kept bytes order machine → length bytes ≡ asked_by (Some order)
 other_asks rom kept bytes (Back k) machine other = ap length other.0
 other_asks rom kept bytes (Restore n) machine other = other.0
-other_asks rom kept bytes (Make move) machine other = absurd other
-other_asks rom kept bytes Picture machine other = absurd other
-other_asks rom kept bytes State machine other = absurd other
-other_asks rom kept bytes (Memory address count) machine other = absurd other
-other_asks rom kept bytes (Keep k) machine other = absurd other
+other_asks rom kept bytes order machine other = absurd other
 
 -- as many bytes as the order of a deed asks for
 pub deed_asks : (rom : List ℕ) (kept : List KeptMachine) (bytes : List ℕ) (deed : Deed) → IsDoneBy rom kept bytes deed → length bytes ≡ asked_by (Some (order_in deed))

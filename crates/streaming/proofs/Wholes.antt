@@ -45,34 +45,21 @@ ended_gives unsaved deeds =
     inputs_append deeds (last_deeds (unsaved_behind_deeds unsaved deeds))
     ∙ ap (λ (l : List Input). inputs_of_deeds deeds ++ l) (last_gives_none (unsaved_behind_deeds unsaved deeds)) ∙ append-nil (inputs_of_deeds deeds)
 
-module _ {G F : Type 0} (game : Ghosts G F) where
-  -- what comes behind these at the end
-  abbrev pub last_behind : G → List Deed → List Deed
-  last_behind a deeds = last_deeds (unsaved_behind_deeds (game.unsaved a) deeds)
+module _ {G F : Type 0} {game : Ghosts G F} {a b : G} {x y z : Option (List ℕ)} (deeds : List Deed) where
+  pub ended_obeyed : {m : G} → Obeys game a m x y deeds → Obeys game m b y z (last_deeds (game.unsaved m)) → Obeys game a b x z (ended (game.unsaved a) deeds)
+  ended_obeyed {m} one two = subst (λ (n : ℕ). Obeys game a b x z (deeds ++ last_deeds n)) one.unsaved_is (obeys_then deeds (last_deeds (game.unsaved m)) one two)
 
-  pub ended_obeyed : (a m b : G) (x y z : Option (List ℕ)) (deeds : List Deed) → Obeys game a m x y deeds → Obeys game m b y z (last_deeds (game.unsaved m)) → Obeys game a b x z (ended (game.unsaved a) deeds)
-  ended_obeyed a m b x y z deeds one two =
-      subst (λ (n : ℕ). Obeys game a b x z (deeds ++ last_deeds n)) one.unsaved_is (obeys_then game a m b x y z deeds (last_deeds (game.unsaved m)) one two)
-
-  pub ended_stopped : (a m b : G) (x y z : Option (List ℕ)) (has_failed : Type 0) (deeds : List Deed) (why : F) → Obeys game a m x y deeds → StopsAmong game m b y z has_failed (last_deeds (game.unsaved m)) why
-      → StopsAmong game a b x z has_failed (ended (game.unsaved a) deeds) why
-  ended_stopped a m b x y z has_failed deeds why one two =
-      subst (λ (n : ℕ). StopsAmong game a b x z has_failed (deeds ++ last_deeds n) why) one.unsaved_is (stops_then game a m b x y z has_failed deeds (last_deeds (game.unsaved m)) why one two)
+  pub ended_stopped : {m : G} {has_failed : Type 0} {why : F} → Obeys game a m x y deeds → StopsAmong game m b y z has_failed (last_deeds (game.unsaved m)) why → StopsAmong game a b x z has_failed (ended (game.unsaved a) deeds) why
+  ended_stopped {m} {has_failed} {why} one two = subst (λ (n : ℕ). StopsAmong game a b x z has_failed (deeds ++ last_deeds n) why) one.unsaved_is (stops_then deeds (last_deeds (game.unsaved m)) one two)
 
   -- behind the line of the resume
-  module _ (a : G) (x y : Option (List ℕ)) (resumed : Makes game a a x y [] (game.unsaved a) (resumed_line (game.acknowledged a) ∷ [])) (b : G) (z : Option (List ℕ)) (deeds : List Deed) where
-    abbrev all_deeds : List Deed
-    all_deeds = ended (game.unsaved a) deeds
-
-    gives : inputs_of_deeds all_deeds ≡ inputs_of_deeds deeds
-    gives = ended_gives (game.unsaved a) deeds
-
-    pub streams_behind : game.unsaved b ≡ 0 → Obeys game a b y z all_deeds → Makes game a b x z (inputs_of_deeds deeds) 0 (stream_from game a deeds)
-    streams_behind saved obeyed = makes_by game gives (sym obeyed.unsaved_is ∙ saved) refl (makes_then game resumed obeyed)
+  module _ (resumed : Makes game a a x y [] (game.unsaved a) (resumed_line (game.acknowledged a) ∷ [])) where
+    pub streams_behind : game.unsaved b ≡ 0 → Obeys game a b y z (ended (game.unsaved a) deeds) → Makes game a b x z (inputs_of_deeds deeds) 0 (stream_from game a deeds)
+    streams_behind saved obeyed = makes_by game (ended_gives (game.unsaved a) deeds) (sym obeyed.unsaved_is ∙ saved) refl (makes_then game resumed obeyed)
 
     -- what was refused
-    pub stops_behind : (has_failed : Type 0) (why : F) → StopsAmong game a b y z has_failed all_deeds why → StopsMaking game a b x z has_failed (inputs_of_deeds deeds) (stream_from game a deeds) why
-    stops_behind has_failed why stop = stops_by game gives refl (behind game resumed stop)
+    pub stops_behind : {has_failed : Type 0} {why : F} → StopsAmong game a b y z has_failed (ended (game.unsaved a) deeds) why → StopsMaking game a b x z has_failed (inputs_of_deeds deeds) (stream_from game a deeds) why
+    stops_behind stop = stops_by game (ended_gives (game.unsaved a) deeds) refl (behind game resumed stop)
 
 -- whatever the end, the lines before it were read
 pub reads_some : (states : Bool) (rom : List ℕ) (kept : List KeptMachine) (end : End) (lines : List Given) (a b : Option (List ℕ)) → ReadsTo states rom kept end lines a b → (more : List ℕ) × HasReadGiven (asked states) lines more a b
@@ -99,7 +86,13 @@ pub record TakenUp (rom : List ℕ) (old : DiskState) (a : Place) : Type 0 where
 abbrev pub stream_at : Place → List Deed → List Line
 stream_at a deeds = resumed_line a.acknowledged ∷ lines_of_deeds a.machine (all_of a) (length a.pending) (ended (length a.pending) deeds)
 
-module _ (rom : List ℕ) (old : DiskState) (a b : Place) (before_in since_in before since : Option (List ℕ)) (up : TakenUp rom old a) (lines : List Given) (deeds : List Deed) where
+pub lines_resumed : (a : Place) → a.pending ≡ [] → (deeds : List Deed) → stream_at a deeds ≡ stream_lines (record { count = a.acknowledged; machine = a.machine }) deeds
+lines_resumed a none deeds =
+    let all : all_of a ≡ a.acknowledged = omega (arith, ap length none) in
+    ap (λ (n : ℕ). resumed_line a.acknowledged ∷ lines_of_deeds a.machine n (length a.pending) (ended (length a.pending) deeds)) all
+    ∙ ap (λ (n : ℕ). resumed_line a.acknowledged ∷ lines_of_deeds a.machine a.acknowledged n (ended n deeds)) (ap length none)
+
+module _ {rom : List ℕ} {old : DiskState} {a : Place} (up : TakenUp rom old a) (deeds : List Deed) where
   abbrev pub from : Position
   from = record { count = a.acknowledged; machine = a.machine }
 
@@ -112,54 +105,40 @@ module _ (rom : List ℕ) (old : DiskState) (a b : Place) (before_in since_in be
   all_from : all_of a ≡ from.count
   all_from = omega (arith, ap length up.none)
 
-  pub lines_from : stream_at a deeds ≡ stream_lines from deeds
-  lines_from =
-      ap (λ (n : ℕ). resumed_line from.count ∷ lines_of_deeds a.machine n (length a.pending) (ended (length a.pending) deeds)) all_from
-      ∙ ap (λ (n : ℕ). resumed_line from.count ∷ lines_of_deeds a.machine from.count n (ended n deeds)) (ap length up.none)
-
-  pub images_since : old.honest → HoldsSince a.disk b.disk (Reaches rom from 0 inputs) → HoldsSince old b.disk (PlayImage rom old inputs)
+  pub images_since : {now : DiskState} → old.honest → HoldsSince a.disk now (Reaches rom from 0 inputs) → HoldsSince old now (PlayImage rom old inputs)
   images_since honest held =
       since_then (since_weaker (up.images honest) (λ image stands. inl stands))
       (since_weaker held (λ image reaches. inr (record { from = from; stood = up.stood honest; reaches = reaches })))
 
   -- to an end
-  module _ (answered : Appends before since (texts (stream_at a deeds))) (goes : Goes a b inputs) (saved : length b.pending ≡ 0) where
-    abbrev streamed_with : (end : End) (kept : List KeptMachine) → Asks true rom a.machine lines deeds kept → ReadsTo true rom kept end lines before_in since_in → HasStreamed rom old b.disk end before_in since_in before since
-    streamed_with end kept asks read = record {
-      from = from;
-      lines = lines;
-      deeds = deeds;
-      kept = kept;
-      asks = asks;
-      read = read;
-      of_rom = up.of_rom;
-      stood = up.stood;
-      answered = subst (λ (l : List Line). Appends before since (texts l)) lines_from answered;
-      rests = λ honest. all_saved rom b.disk b.acknowledged b.pending b.machine from inputs (goes.going rom from [] (begun honest)).played (none_left b.pending saved);
-      images = λ honest. images_since honest (goes.going rom from [] (begun honest)).moments;
-    }
+  abbrev pub streamed_to : {b : Place} {before_in since_in before since : Option (List ℕ)} {own : List ℕ} {lines : List Given} {kept : List KeptMachine} {found end : End} → Goes a b inputs → length b.pending ≡ 0 → Appends before since (texts (stream_at a deeds))
+      → own ≡ rom → Asks true own a.machine lines deeds kept → found ≡ end → ReadsTo true own kept found lines before_in since_in → HasStreamed rom old b.disk end before_in since_in before since
+  streamed_to {b} {before_in} {since_in} {before} {since} {own} {lines} {kept} {found} {end} goes saved answered own_is asks end_is read = record {
+    from = from;
+    lines = lines;
+    deeds = deeds;
+    kept = kept;
+    asks = subst (λ (r : List ℕ). Asks true r a.machine lines deeds kept) own_is asks;
+    read = subst (λ (e : End). ReadsTo true rom kept e lines before_in since_in) end_is (subst (λ (r : List ℕ). ReadsTo true r kept found lines before_in since_in) own_is read);
+    of_rom = up.of_rom;
+    stood = up.stood;
+    answered = subst (λ (l : List Line). Appends before since (texts l)) (lines_resumed a up.none deeds) answered;
+    rests = λ honest. all_saved rom b.disk b.acknowledged b.pending b.machine from inputs (goes.going rom from [] (begun honest)).played (none_left b.pending saved);
+    images = λ honest. images_since honest (goes.going rom from [] (begun honest)).moments;
+  }
 
-    -- by the ROM of the session that was taken up
-    module _ (own : List ℕ) (own_is : own ≡ rom) (kept : List KeptMachine) (asks : Asks true own a.machine lines deeds kept) (found : End) (read : ReadsTo true own kept found lines before_in since_in) (end : End) (end_is : found ≡ end) where
-      pub streamed_to : HasStreamed rom old b.disk end before_in since_in before since
-      streamed_to =
-          streamed_with end kept (subst (λ (r : List ℕ). Asks true r a.machine lines deeds kept) own_is asks)
-          (subst (λ (e : End). ReadsTo true rom kept e lines before_in since_in) end_is (subst (λ (r : List ℕ). ReadsTo true r kept found lines before_in since_in) own_is read))
-
-    pub streamed_all : (own : List ℕ) (own_is : own ≡ rom) (kept : List KeptMachine) (asks : Asks true own a.machine lines deeds kept) (found : End) (read : ReadsTo true own kept found lines before_in since_in) → found ≡ Whole
-        → HasStreamedAll rom old b.disk b.acknowledged b.machine before_in since_in before since
-    streamed_all own own_is kept asks found read end_is =
-        record {
-          streamed = streamed_with Whole kept (subst (λ (r : List ℕ). Asks true r a.machine lines deeds kept) own_is asks)
-              (subst (λ (e : End). ReadsTo true rom kept e lines before_in since_in) end_is (subst (λ (r : List ℕ). ReadsTo true r kept found lines before_in since_in) own_is read));
-          count_is = omega (arith, goes.all_is, saved, ap length up.none);
-          machine_is = goes.machine_is;
-        }
+  pub streamed_all : {b : Place} {before_in since_in before since : Option (List ℕ)} {own : List ℕ} {lines : List Given} {kept : List KeptMachine} {found : End} → Goes a b inputs → length b.pending ≡ 0 → Appends before since (texts (stream_at a deeds))
+      → own ≡ rom → Asks true own a.machine lines deeds kept → found ≡ Whole → ReadsTo true own kept found lines before_in since_in → HasStreamedAll rom old b.disk b.acknowledged b.machine before_in since_in before since
+  streamed_all goes saved answered own_is asks end_is read = record {
+    streamed = streamed_to goes saved answered own_is asks end_is read;
+    count_is = omega (arith, goes.all_is, saved, ap length up.none);
+    machine_is = goes.machine_is;
+  }
 
   -- stopped
-  pub stopped_stream : (why : SessionError) (more : List ℕ) (own : List ℕ) → own ≡ rom → AsksUpTo true own a.machine lines deeds → HasReadGiven (asked true) lines more before_in since_in → HasTold why b.acknowledged (stream_at a deeds) before since → GoesNoFurther a b inputs why
-      → HasStopped rom old b.disk why before_in since_in before since
-  stopped_stream why more own own_is asks read told stop =
+  pub stopped_stream : {b : Place} {before_in since_in before since : Option (List ℕ)} {own : List ℕ} {lines : List Given} {why : SessionError} (more : List ℕ) → own ≡ rom → AsksUpTo true own a.machine lines deeds → HasReadGiven (asked true) lines more before_in since_in
+      → HasTold why b.acknowledged (stream_at a deeds) before since → GoesNoFurther a b inputs why → HasStopped rom old b.disk why before_in since_in before since
+  stopped_stream {b} {before_in} {since_in} {before} {since} {own} {lines} {why} more own_is asks read told stop =
       let least : ℕ = b.acknowledged - a.acknowledged in
       let saved_is : b.acknowledged ≡ from.count + least = omega (arith, stop.later) in
       record {
@@ -173,7 +152,7 @@ module _ (rom : List ℕ) (old : DiskState) (a b : Place) (before_in since_in be
         stood = up.stood;
         cause = subst (λ (n : ℕ). IsStop why (n + length inputs) b.disk) all_from stop.cause;
         least = least;
-        told = told_by lines_from (subst (λ (n : ℕ). HasTold why n (stream_at a deeds) before since) saved_is told);
+        told = told_by (lines_resumed a up.none deeds) (subst (λ (n : ℕ). HasTold why n (stream_at a deeds) before since) saved_is told);
         images = λ honest. images_since honest (stop.stopped rom from [] (begun honest)).moments;
         left = λ honest.
             let stopped = stop.stopped rom from [] (begun honest) in

@@ -3,7 +3,7 @@ use Rattle.recording.specs.Accessors.{device_of as device_of_recording, is_broke
 use Rattle.session.specs.Accessors.{pending_of, is_broken}
 use Rattle.playing.specs.Going.{place}
 use Rattle.recorded_play.specs.CatchingUp.{PassesRecorded}
-use Rattle.recorded_play.proofs.Passing.{given_up_to}
+use Rattle.replaying.proofs.Sectors.{inputs_up_to}
 use Rattle.recorded_play.proofs.catching_up.pass_all.Given as goal
 
 -- the sectors so far were passed over
@@ -18,5 +18,5 @@ invariant-loop-number g l =
       few : length (pending_of now) < 3200;
       same : used_of l.recording ≡ used_of l.initial.recording;
       passes : PassesRecorded (place first) (place now) old (g.E.SectorDevice.disk (device_of_recording l.recording))
-          l.skip l.left (given_up_to l.number old.sectors);
+          l.skip l.left (inputs_up_to l.number old.sectors);
     }

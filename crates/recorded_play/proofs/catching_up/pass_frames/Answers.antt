@@ -1,6 +1,5 @@
-use Rattle.std.proofs.Common.{◌≡◌, ◌∷◌, [], ℕ, replicate, subst, arith}
+use Rattle.std.proofs.Common.{◌≡◌, ℕ, replicate, subst, arith}
 use Rattle.std.proofs.lemmas.List.{replicate-append-replicate}
-use Rattle.machine.specs.Machine.{Input}
 use Rattle.machine.specs.Machine.{Frame}
 use Rattle.session.specs.Accessors.{device_of}
 use Rattle.playing.specs.Going.{place}
@@ -9,39 +8,23 @@ use Rattle.recorded_play.proofs.Passing.{passes_nothing, passes_then, passes_by,
 use Rattle.recorded_play.proofs.catching_up.pass_frames.Goals as goal
 
 pub loop-i-init : goal.loop-i-init
-loop-i-init g c =
-    let first = c.args.session.now in
-    record {
-      whole = c.requires.whole;
-      few = c.requires.few;
-      passes = passes_nothing (place first) c.args.skip (g.met.D.SectorDevice.only_now (device_of first));
-    }
+loop-i-init g c = record {
+  whole = c.requires.whole;
+  few = c.requires.few;
+  passes = passes_nothing (g.met.D.SectorDevice.only_now (device_of c.args.session.now));
+}
 
 pub loop-i-preserved : goal.loop-i-preserved
-loop-i-preserved g c =
-    let first = c.args.session.now in
-    let there = c.loop-i.session in
-    let now = c.pass.new.session in
-    let frame : Input = Frame c.args.buttons in
-    record {
-      whole = c.in-Ok.ensures.whole.0;
-      few = c.in-Ok.ensures.whole.1;
-      passes = passes_by (replicate-append-replicate c.loop-i._i 1 frame)
-          (passes_then (place first) (place there) (place now)
-          c.args.skip c.loop-i.left c.in-Ok.next (replicate c.loop-i._i frame) (frame ∷ []) c.loop-i.invariant.passes c.in-Ok.ensures.passes);
-    }
+loop-i-preserved g c = record {
+  whole = c.in-Ok.ensures.whole.0;
+  few = c.in-Ok.ensures.whole.1;
+  passes = passes_by (replicate-append-replicate c.loop-i._i 1 (Frame c.args.buttons)) (passes_then c.loop-i.invariant.passes c.in-Ok.ensures.passes);
+}
 
 pub returns-clause-passes : goal.returns-clause-passes
 returns-clause-passes g c =
-    let first = c.args.session.now in
-    let now = c.loop-i.session in
     let all : c.loop-i._i ≡ c.args.times = omega (arith, c.loop-i-test.false, c.loop-i.auto._i-end) in
-    subst (λ (n : ℕ). Passes (place first) (place now) c.args.skip c.loop-i.left (replicate n (Frame c.args.buttons))) all c.loop-i.invariant.passes
+    subst (λ (n : ℕ). Passes (place c.args.session.now) (place c.loop-i.session) c.args.skip c.loop-i.left (replicate n (Frame c.args.buttons))) all c.loop-i.invariant.passes
 
 pub returns-in-Err-clause-fails : goal.returns-in-Err-clause-fails
-returns-in-Err-clause-fails g c =
-    let first = c.args.session.now in
-    let there = c.loop-i.session in
-    let now = c.pass.new.session in
-    fails_frames (place first) (place there) (place now)
-    c.args.skip c.loop-i.left (Frame c.args.buttons) c.loop-i._i c.args.times c.in-Err.why c.loop-i-test.true c.loop-i.invariant.passes c.in-Err.ensures.fails
+returns-in-Err-clause-fails g c = fails_frames (Frame c.args.buttons) c.loop-i._i c.args.times c.loop-i-test.true c.loop-i.invariant.passes c.in-Err.ensures.fails

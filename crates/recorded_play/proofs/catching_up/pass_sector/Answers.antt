@@ -1,37 +1,40 @@
-use Rattle.std.proofs.Common.{ap, ◌∙◌}
+use Rattle.std.proofs.Common.{ap, ◌∙◌, drop, refl, arith}
 use Rattle.sector_device.specs.DiskState.{sector_at}
 use Rattle.recording.specs.Format.{entries_at}
 use Rattle.recording.specs.Accessors.{device_of as device_of_recording, is_broken as is_broken_recording}
-use Rattle.session.specs.Accessors.{device_of}
-use Rattle.playing.specs.Going.{place}
+use Rattle.session.specs.Accessors.{device_of, acknowledged_of, machine_of, pending_of}
+use Rattle.session.proofs.Answering.{answered_error, answered_refusal, answered_value}
+use Rattle.playing.proofs.PlayLaws.{stopped_here, stopped_more}
+use Rattle.replaying.proofs.Looking.{looks_only}
 use Rattle.recorded_play.specs.CatchingUp.{given_by_all}
-use Rattle.recorded_play.proofs.Passing.{fails_reading, passes_reading, fails_giving, read_fails}
+use Rattle.recorded_play.proofs.Passing.{fails_giving, read_fails}
 use Rattle.recorded_play.proofs.catching_up.pass_sector.Goals as goal
 
 pub returns-in-Err-clause-fails : goal.returns-in-Err-clause-fails
 returns-in-Err-clause-fails g c =
     let was = c.args.session.now in
-    let old = g.E.SectorDevice.disk (device_of_recording c.args.recording.now) in
-    let new = g.E.SectorDevice.disk (device_of_recording c.read_sector.new.self) in
-    fails_reading (place was) old new c.args.skip (given_by_all (entries_at c.args.number (sector_at old.sectors c.args.number))) c.in-Err.why
-    (g.met.D.SectorDevice.only_now (device_of was)) (read_fails c.in-Err.why (is_broken_recording c.args.recording.now) c.requires.open c.in-Err.ensures.cause) c.read_sector.ensures.looked c.in-Err.ensures.answered
+    record {
+      stopped = λ honest rom from given played.
+          stopped_more rom _ _ _ from given _ (stopped_here rom (g.D.SectorDevice.disk (device_of was)) (acknowledged_of was) (pending_of was) (machine_of was) from given played (g.met.D.SectorDevice.only_now (device_of was)));
+      cause = λ honest. read_fails c.in-Err.why (is_broken_recording c.args.recording.now) c.requires.open c.in-Err.ensures.cause;
+      kind = tt;
+      looks = λ honest. looks_only (c.read_sector.ensures.looked honest);
+      later = omega arith;
+      save_calls = answered_refusal (λ n. refl);
+      recording_calls = answered_error c.in-Err.ensures.answered (λ n. refl);
+    }
 
 pub returns-in-Ok-clause-passes : goal.returns-in-Ok-clause-passes
-returns-in-Ok-clause-passes g c =
-    let was = c.args.session.now in
-    let now = c.pass_entries.new.session in
-    let old = g.E.SectorDevice.disk (device_of_recording c.args.recording.now) in
-    let new = g.E.SectorDevice.disk (device_of_recording c.read_sector.new.self) in
-    passes_reading (place was) (place now) old new c.args.skip c.in-Ok.left
-    (given_by_all c.entries.result.now) (given_by_all (entries_at c.args.number (sector_at old.sectors c.args.number)))
-    (λ honest. ap given_by_all (c.entries.ensures ∙ c.in_default.ensures.page honest)) c.read_sector.ensures.looked c.in_default.ensures.answered c.in-Ok.ensures.passes
+returns-in-Ok-clause-passes g c = record {
+  passed = given_by_all c.entries.result.now;
+  passes = c.in-Ok.ensures.passes;
+  passed_is = λ honest. ap given_by_all (c.entries.ensures ∙ c.in_default.ensures.page honest);
+  looks = λ honest. looks_only (c.read_sector.ensures.looked honest);
+  calls = answered_value c.in_default.ensures.answered;
+}
 
 pub returns-in-Err-pass_entries-clause-fails : goal.returns-in-Err-pass_entries-clause-fails
 returns-in-Err-pass_entries-clause-fails g c =
-    let was = c.args.session.now in
-    let now = c.pass_entries.new.session in
     let old = g.E.SectorDevice.disk (device_of_recording c.args.recording.now) in
-    let new = g.E.SectorDevice.disk (device_of_recording c.read_sector.new.self) in
-    fails_giving (place was) (place now) old new c.args.skip
-    (given_by_all c.entries.result.now) (given_by_all (entries_at c.args.number (sector_at old.sectors c.args.number))) c.in-Err-pass_entries.why
-    (λ honest. ap given_by_all (c.entries.ensures ∙ c.in_default.ensures.page honest)) c.read_sector.ensures.looked c.in_default.ensures.answered c.in-Err-pass_entries.ensures.fails
+    fails_giving c.args.skip (given_by_all (entries_at c.args.number (sector_at old.sectors c.args.number)))
+    (λ honest. ap (λ entries. drop c.args.skip (given_by_all entries)) (c.entries.ensures ∙ c.in_default.ensures.page honest)) (λ honest. looks_only (c.read_sector.ensures.looked honest)) c.in_default.ensures.answered c.in-Err-pass_entries.ensures.fails

@@ -1,4 +1,4 @@
-use Rattle.std.proofs.Common.{◌≡◌, ◌+◌, [], ◌∷◌, take, drop, get_or, sym, subst, List}
+use Rattle.std.proofs.Common.{◌+◌, [], take, drop, get_or, sym, subst, List}
 use Rattle.machine.specs.Machine.{Input}
 use Rattle.input_entries.specs.Inputs.{inputs, inputs_in}
 use Rattle.session.specs.Inputs.{inputs_of}

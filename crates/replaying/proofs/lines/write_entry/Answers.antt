@@ -1,4 +1,4 @@
-use Rattle.std.proofs.Common.{◌≡◌, [], ◌∷◌, ap, sym, subst, ◌∙◌, List}
+use Rattle.std.proofs.Common.{[], ◌∷◌, ap, sym, subst, ◌∙◌, List}
 use Rattle.machine.specs.Machine.{Input}
 use Rattle.session.specs.Inputs.{inputs_of}
 use Rattle.session.proofs.Replaying.{frames_of, seconds_back}

@@ -1,16 +1,15 @@
-use Rattle.std.proofs.Common.{◌≡◌, ◌+◌, ◌∙◌, ⊎_elim, ℕ, List, true, false, refl, sym, ap, subst, arith}
+use Rattle.std.proofs.Common.{◌≡◌, ◌+◌, ◌∙◌, ⊎_elim, ℕ, List, true, false, refl, sym, ap, subst}
+use Rattle.std.proofs.lemmas.Bool.{false_from_ne_true}
 use Rattle.sector_device.specs.DiskState.{sector_at}
 use Rattle.sector_device.proofs.Looking.{looked_self, looked_then}
-use Rattle.machine.specs.Machine.{after}
 use Rattle.input_entries.specs.Inputs.{inputs, all_entries}
 use Rattle.input_entries.specs.declared.Entry.{Entry}
 use Rattle.input_entries.specs.declared.StoredEntry.{StoredEntry}
 use Rattle.recording.specs.Format.{entries_at}
-use Rattle.recording.specs.Recorded.{entries_up_to}
 use Rattle.recording.specs.Accessors.{device_of, is_broken}
 use Rattle.session.proofs.Answering.{answered_nothing, answered_both}
 use Rattle.replaying.specs.Replayed.{HasReplayed}
-use Rattle.replaying.proofs.Looking.{looks_only, false_by}
+use Rattle.replaying.proofs.Looking.{looks_only}
 use Rattle.replaying.proofs.Replayed.{played_nothing, played_then, replayed_nothing, replayed_then}
 use Rattle.replaying.proofs.Sectors.{entries_more, sector_entries}
 use Rattle.replaying.proofs.replay.replay.Goals as goal
@@ -31,7 +30,7 @@ loop-index-preserved g c =
     let image = (g.D.SectorDevice.disk (device_of c.args.recording.now)).sectors in
     let before = c.loop-index.invariant in
     record {
-      whole = false_by (is_broken c.read_sector.new.self) (λ broken. ⊎_elim (λ was. let wrong : false ≡ true = sym before.whole ∙ was in cc) (λ failed. cc) (c.in_default.ensures.broken.0 broken));
+      whole = false_from_ne_true (is_broken c.read_sector.new.self) (λ broken. ⊎_elim (λ was. let wrong : false ≡ true = sym before.whole ∙ was in cc) (λ failed. cc) (c.in_default.ensures.broken.0 broken));
       same = (c.read_sector.ensures.same.0 ∙ before.same.0, c.read_sector.ensures.same.1 ∙ before.same.1);
       answered = answered_both before.answered c.in_default.ensures.answered;
       looked = λ honest. looked_then (before.looked honest) (looks_only (c.read_sector.ensures.looked (before.answered.honest.1 honest)));

@@ -1,4 +1,4 @@
-use Rattle.std.proofs.Common.{◌≡◌, List, [], take, sym, subst}
+use Rattle.std.proofs.Common.{List, [], sym, subst}
 use Rattle.std.proofs.lemmas.List.{take_all}
 use Rattle.input_entries.specs.Inputs.{inputs}
 use Rattle.input_entries.specs.declared.Entry.{Entry}

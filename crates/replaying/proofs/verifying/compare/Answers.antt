@@ -1,5 +1,5 @@
-use Rattle.std.proofs.Common.{◌≡◌, ◌≤◌, ◌∙◌, ℕ, List, length, take, sym, ap, arith}
-use Rattle.machine.specs.Machine.{MachineState, after, start}
+use Rattle.std.proofs.Common.{◌≡◌, ◌≤◌, ◌∙◌, length, take, sym, ap, arith}
+use Rattle.machine.specs.Machine.{after, start}
 use Rattle.snapshot.specs.Encoding.{encoded}
 use Rattle.snapshot.proofs.Machines.{one_machine}
 use Rattle.input_entries.specs.Inputs.{inputs}

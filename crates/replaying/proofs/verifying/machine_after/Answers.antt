@@ -1,4 +1,4 @@
-use Rattle.std.proofs.Common.{◌≡◌, ◌∙◌, sym, ap, subst}
+use Rattle.std.proofs.Common.{◌∙◌, sym, ap, subst}
 use Rattle.bank_controllers.specs.CartridgeState.{IsSameCartridge}
 use Rattle.machine.specs.Machine.{MachineState}
 use Rattle.machine.proofs.KeptByInputs.{by_inputs}

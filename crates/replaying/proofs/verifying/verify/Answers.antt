@@ -1,14 +1,12 @@
-use Rattle.std.proofs.Common.{◌≡◌, ◌∙◌, ℕ, List, Some, sym, ap, subst}
-use Rattle.sha2.specs.Sha256.{sha256}
+use Rattle.std.proofs.Common.{◌≡◌, ℕ, List, Some, sym, subst}
 use Rattle.sector_device.specs.DiskState.{HasAnswered}
 use Rattle.sector_device.specs.Looking.{HasLooked}
 use Rattle.sector_device.proofs.Looking.{has_looked, looked_then}
 use Rattle.input_entries.specs.Inputs.{inputs}
 use Rattle.recording.specs.Calls.{IsOpenCause}
 use Rattle.recording.specs.Recorded.{entries, recorded}
-use Rattle.recording.specs.Accessors.{device_of}
 use Rattle.session.specs.Stands.{Position}
-use Rattle.session.specs.LookAccessors.{device_of_look, machine_of_look, count_of_look}
+use Rattle.session.specs.LookAccessors.{machine_of_look, count_of_look}
 use Rattle.session.proofs.Answering.{answered_then}
 use Rattle.session.proofs.Beginnings.{if_ok_both, if_err}
 use Rattle.replaying.specs.Replayed.{LeadsWithin, IsCompareCauseWithin}

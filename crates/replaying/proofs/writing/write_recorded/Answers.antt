@@ -1,17 +1,16 @@
-use Rattle.std.proofs.Common.{◌≡◌, ◌+◌, ◌≤◌, ◌++◌, ◌∙◌, ⊎_elim, refl, sym, ap, subst, arith, ℕ, List, [], Err, Option}
+use Rattle.std.proofs.Common.{◌≡◌, ◌+◌, ◌≤◌, ◌++◌, ◌∙◌, ⊎_elim, refl, sym, ap, subst, arith, ℕ, List, Err, Option}
+use Rattle.std.proofs.lemmas.Bool.{false_from_ne_true}
 use Rattle.std.specs.Io.KnownBytes.{Appends}
 use Rattle.exact_text.specs.Written.{AppendsProperPrefix}
 use Rattle.machine.specs.Machine.{Input}
-use Rattle.sector_device.proofs.Looking.{looked_self, looked_then, has_looked}
+use Rattle.sector_device.proofs.Looking.{looked_self, looked_then}
 use Rattle.recording.specs.Accessors.{device_of, is_broken}
-use Rattle.session.proofs.Answering.{answered_nothing, answered_both, answered_then}
+use Rattle.session.proofs.Answering.{answered_nothing, answered_both}
 use Rattle.replaying.specs.Lines.{HasWritten, HasStopped}
 use Rattle.replaying.specs.Script.{lines_after}
 use Rattle.replaying.specs.Writing.{AppendsPrefix, WritesPart, script_in}
-use Rattle.replaying.specs.declared.error.WriteRecordedError.{WriteRecordedError}
-use Rattle.replaying.specs.declared.error.WriteRecordedError.TheVariants.{Device, Output}
-use Rattle.replaying.proofs.Looking.{looks_only, false_by}
-use Rattle.replaying.proofs.Sectors.{inputs_up_to, inputs_at, none_up_to, one_more, more_sectors, all_up_to}
+use Rattle.replaying.proofs.Looking.{looks_only}
+use Rattle.replaying.proofs.Sectors.{inputs_up_to, inputs_at, one_more, more_sectors, all_up_to}
 use Rattle.replaying.proofs.Written.{written_nothing, written_then, written_stopped, script_ends, script_stops, script_stops_last, script_prefix}
 use Rattle.replaying.proofs.writing.write_recorded.Goals as goal
 
@@ -33,7 +32,7 @@ loop-index-preserved g c =
     let last = g.W.Output.contents c.write_sector.new.out in
     let before = c.loop-index.invariant in
     record {
-      whole = false_by (is_broken c.write_sector.new.recording) (λ broken. let wrong = c.in_default.ensures.broken.0 broken in cc);
+      whole = false_from_ne_true (is_broken c.write_sector.new.recording) (λ broken. let wrong = c.in_default.ensures.broken.0 broken in cc);
       same = (c.write_sector.ensures.same.0 ∙ before.same.0, c.write_sector.ensures.same.1 ∙ before.same.1, c.write_sector.ensures.same.2 ∙ before.same.2);
       answered = answered_both before.answered c.in_default.ensures.answered;
       looked = λ honest. looked_then (before.looked honest) (looks_only (c.write_sector.ensures.looked (before.answered.honest.1 honest)));

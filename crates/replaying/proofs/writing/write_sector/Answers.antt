@@ -1,4 +1,4 @@
-use Rattle.std.proofs.Common.{◌≡◌, ◌∙◌, sym, subst, List}
+use Rattle.std.proofs.Common.{◌∙◌, sym, subst, List}
 use Rattle.sector_device.specs.DiskState.{sector_at}
 use Rattle.input_entries.specs.Inputs.{inputs, all_entries}
 use Rattle.input_entries.specs.declared.StoredEntry.{StoredEntry}

@@ -1,18 +1,16 @@
-use Rattle.std.proofs.Common.{◌≡◌, Err, inl, inr, refl, sym, subst, ◌∙◌}
-use Rattle.sector_device.specs.DiskState.{HasAnswered}
+use Rattle.std.proofs.Common.{◌≡◌, inl, inr, refl, ◌∙◌}
 use Rattle.session.specs.declared.error.SessionError.TheVariants.{Output}
 use Rattle.session.specs.Calls.{faults_after}
-use Rattle.session.specs.Accessors.{pending_of, rom_of}
+use Rattle.session.specs.Accessors.{pending_of}
 use Rattle.playing.proofs.Going.{goes_all, no_further_at_all, none_left}
 use Rattle.playing.proofs.Telling.{keeps_same, memory_at}
 use Rattle.playing.specs.Going.{place}
 use Rattle.streaming.specs.Answers.{inputs_of_deeds}
-use Rattle.streaming.specs.Streamed.{HasStreamed, HasStopped, faults_after_stream}
-use Rattle.streaming.specs.declared.error.StreamError.TheVariants.{Session, Line, Input, Snapshot, Memory}
 use Rattle.session.proofs.Answering.{answered_both, answered_otherwise, answered_refused}
-use Rattle.streaming.specs.declared.obeying.End.TheVariants.{Wrong, Failed, Damaged, NoMemory}
 use Rattle.streaming.proofs.Wholes.{TakenUp, streamed_all, streamed_to, stopped_stream}
+use Rattle.streaming.proofs.streamed.stream.Given.{Over}
 use Rattle.streaming.proofs.streamed.stream.Goals as goal
+use Rattle.streaming.proofs.streamed.stream.Goals.{In-Ok-resume}
 
 pub returns-in-Err-clause-refused : goal.returns-in-Err-clause-refused
 returns-in-Err-clause-refused g c =
@@ -23,171 +21,96 @@ returns-in-Err-clause-output g c = λ output.
     let is : c.in-Err.refused.why ≡ Output = cc in
     absurd (c.in-Err.ensures.no_report is)
 
+-- the session that was taken up
+up : (g : Over) (c : In-Ok-resume g) → TakenUp c.args.cartridge.now (g.D.SectorDevice.disk c.args.device) (place c.in-Ok-resume.session)
+up g c =
+    let taken = c.in-Ok-resume.ensures in
+    record { none = taken.begun.0; rom_is = taken.begun.2; of_rom = taken.of; honest = taken.answered.honest.1; rests = taken.rests; stood = taken.stands; images = taken.images }
+
 pub returns-in-Ok-Whole-clause-streamed : goal.returns-in-Ok-Whole-clause-streamed
 returns-in-Ok-Whole-clause-streamed g c =
-    let s = c.in-Ok-resume.session in
-    let now = c.stream_on.new.game in
-    let old = g.D.SectorDevice.disk c.args.device in
-    let rom = c.args.cartridge.now in
-    let before_in = g.R.LineInput.remaining c.args.input.now in
-    let since_in = g.R.LineInput.remaining c.stream_on.new.input in
-    let before = g.W.Output.contents c.args.out.now in
-    let since = g.W.Output.contents c.stream_on.new.out in
-    let taken = c.in-Ok-resume.ensures in
-    let up : TakenUp rom old (place s) = record { none = taken.begun.0; rom_is = taken.begun.2; of_rom = taken.of; honest = taken.answered.honest.1; rests = taken.rests; stood = taken.stands; images = taken.images } in
     let streams = c.in-Ok-Whole.ensures.streamed in
-    let goes = goes_all g.met.D.SectorDevice.only_now (λ a b input one. one) (λ a b one. one) s now (inputs_of_deeds streams.deeds) streams.makes.advances in
-    streamed_all rom old (place s) (place now) before_in since_in before since up streams.lines streams.deeds streams.makes.answered goes streams.makes.unsaved_is (rom_of s) taken.begun.2 streams.kept streams.asks c.in-Ok-Whole.field-0 streams.read c.in-Ok-Whole.field-0-is
+    let goes = goes_all g.met.D.SectorDevice.only_now (λ a b input one. one) (λ a b one. one) c.in-Ok-resume.session c.stream_on.new.game (inputs_of_deeds streams.deeds) streams.makes.advances in
+    streamed_all (up g (goal.at.returns-in-Ok-Whole-clause-streamed g c).In-Ok-resume) streams.deeds goes streams.makes.unsaved_is streams.makes.answered c.in-Ok-resume.ensures.begun.2 streams.asks c.in-Ok-Whole.field-0-is streams.read
 
 pub returns-in-Ok-Whole-clause-whole : goal.returns-in-Ok-Whole-clause-whole
 returns-in-Ok-Whole-clause-whole g c =
-    let s = c.in-Ok-resume.session in
-    let now = c.stream_on.new.game in
     let streams = c.in-Ok-Whole.ensures.streamed in
-    let goes = goes_all g.met.D.SectorDevice.only_now (λ a b input one. one) (λ a b one. one) s now (inputs_of_deeds streams.deeds) streams.makes.advances in
-    (none_left (pending_of now) streams.makes.unsaved_is, c.in-Ok-Whole.ensures.whole, goes.rom ∙ c.in-Ok-resume.ensures.begun.2)
+    let goes = goes_all g.met.D.SectorDevice.only_now (λ a b input one. one) (λ a b one. one) c.in-Ok-resume.session c.stream_on.new.game (inputs_of_deeds streams.deeds) streams.makes.advances in
+    (none_left (pending_of c.stream_on.new.game) streams.makes.unsaved_is, c.in-Ok-Whole.ensures.whole, goes.rom ∙ c.in-Ok-resume.ensures.begun.2)
+
+pub returns-in-Ok-Whole-clause-answered : goal.returns-in-Ok-Whole-clause-answered
+returns-in-Ok-Whole-clause-answered g c =
+    let streams = c.in-Ok-Whole.ensures.streamed in
+    let goes = goes_all g.met.D.SectorDevice.only_now (λ a b input one. one) (λ a b one. one) c.in-Ok-resume.session c.stream_on.new.game (inputs_of_deeds streams.deeds) streams.makes.advances in
+    answered_both c.in-Ok-resume.ensures.answered goes.calls
 
 pub returns-in-Ok-Wrong-clause-refused : goal.returns-in-Ok-Wrong-clause-refused
 returns-in-Ok-Wrong-clause-refused g c =
-    let s = c.in-Ok-resume.session in
-    let now = c.stream_on.new.game in
-    let old = g.D.SectorDevice.disk c.args.device in
-    let rom = c.args.cartridge.now in
-    let before_in = g.R.LineInput.remaining c.args.input.now in
-    let since_in = g.R.LineInput.remaining c.stream_on.new.input in
-    let before = g.W.Output.contents c.args.out.now in
-    let since = g.W.Output.contents c.stream_on.new.out in
-    let taken = c.in-Ok-resume.ensures in
-    let up : TakenUp rom old (place s) = record { none = taken.begun.0; rom_is = taken.begun.2; of_rom = taken.of; honest = taken.answered.honest.1; rests = taken.rests; stood = taken.stands; images = taken.images } in
     let streams = c.in-Ok-Wrong.ensures.streamed in
-    let goes = goes_all g.met.D.SectorDevice.only_now (λ a b input one. one) (λ a b one. one) s now (inputs_of_deeds streams.deeds) streams.makes.advances in
-    subst (λ d. HasStreamed rom old (g.D.SectorDevice.disk d) (Wrong c.in-Ok-Wrong.number) before_in since_in before since) (sym c.into_device.ensures.device)
-    (streamed_to rom old (place s) (place now) before_in since_in before since up streams.lines streams.deeds streams.makes.answered goes streams.makes.unsaved_is (rom_of s) taken.begun.2 streams.kept streams.asks c.in-Ok-Wrong.field-0 streams.read (Wrong c.in-Ok-Wrong.number) c.in-Ok-Wrong.field-0-is)
+    let goes = goes_all g.met.D.SectorDevice.only_now (λ a b input one. one) (λ a b one. one) c.in-Ok-resume.session c.stream_on.new.game (inputs_of_deeds streams.deeds) streams.makes.advances in
+    rw c.into_device.ensures.device
+    (streamed_to (up g (goal.at.returns-in-Ok-Wrong-clause-refused g c).In-Ok-resume) streams.deeds goes streams.makes.unsaved_is streams.makes.answered c.in-Ok-resume.ensures.begun.2 streams.asks c.in-Ok-Wrong.field-0-is streams.read)
 
 pub returns-in-Ok-Wrong-clause-answered : goal.returns-in-Ok-Wrong-clause-answered
 returns-in-Ok-Wrong-clause-answered g c =
-    let s = c.in-Ok-resume.session in
-    let now = c.stream_on.new.game in
     let streams = c.in-Ok-Wrong.ensures.streamed in
-    let goes = goes_all g.met.D.SectorDevice.only_now (λ a b input one. one) (λ a b one. one) s now (inputs_of_deeds streams.deeds) streams.makes.advances in
-    subst (λ d. HasAnswered (λ refused. faults_after_stream refused.why) (g.D.SectorDevice.disk c.args.device) (g.D.SectorDevice.disk d) (Err (record { why = Line c.in-Ok-Wrong.number; device = d }))) (sym c.into_device.ensures.device)
-    (answered_otherwise (answered_both {V = Unit {0}} {faults_after = faults_after} {value = tt} c.in-Ok-resume.ensures.answered goes.calls) (λ n. refl))
+    let goes = goes_all g.met.D.SectorDevice.only_now (λ a b input one. one) (λ a b one. one) c.in-Ok-resume.session c.stream_on.new.game (inputs_of_deeds streams.deeds) streams.makes.advances in
+    rw c.into_device.ensures.device (answered_otherwise (answered_both {V = Unit {0}} {faults_after = faults_after} {value = tt} c.in-Ok-resume.ensures.answered goes.calls) (λ n. refl))
 
 pub returns-in-Ok-Failed-clause-refused : goal.returns-in-Ok-Failed-clause-refused
 returns-in-Ok-Failed-clause-refused g c =
-    let s = c.in-Ok-resume.session in
-    let now = c.stream_on.new.game in
-    let old = g.D.SectorDevice.disk c.args.device in
-    let rom = c.args.cartridge.now in
-    let before_in = g.R.LineInput.remaining c.args.input.now in
-    let since_in = g.R.LineInput.remaining c.stream_on.new.input in
-    let before = g.W.Output.contents c.args.out.now in
-    let since = g.W.Output.contents c.stream_on.new.out in
-    let taken = c.in-Ok-resume.ensures in
-    let up : TakenUp rom old (place s) = record { none = taken.begun.0; rom_is = taken.begun.2; of_rom = taken.of; honest = taken.answered.honest.1; rests = taken.rests; stood = taken.stands; images = taken.images } in
     let streams = c.in-Ok-Failed.ensures.streamed in
-    let goes = goes_all g.met.D.SectorDevice.only_now (λ a b input one. one) (λ a b one. one) s now (inputs_of_deeds streams.deeds) streams.makes.advances in
-    subst (λ d. HasStreamed rom old (g.D.SectorDevice.disk d) Failed before_in since_in before since) (sym c.into_device-in-Ok-Failed.ensures.device)
-    (streamed_to rom old (place s) (place now) before_in since_in before since up streams.lines streams.deeds streams.makes.answered goes streams.makes.unsaved_is (rom_of s) taken.begun.2 streams.kept streams.asks c.in-Ok-Failed.field-0 streams.read Failed c.in-Ok-Failed.field-0-is)
+    let goes = goes_all g.met.D.SectorDevice.only_now (λ a b input one. one) (λ a b one. one) c.in-Ok-resume.session c.stream_on.new.game (inputs_of_deeds streams.deeds) streams.makes.advances in
+    rw c.into_device-in-Ok-Failed.ensures.device
+    (streamed_to (up g (goal.at.returns-in-Ok-Failed-clause-refused g c).In-Ok-resume) streams.deeds goes streams.makes.unsaved_is streams.makes.answered c.in-Ok-resume.ensures.begun.2 streams.asks c.in-Ok-Failed.field-0-is streams.read)
 
 pub returns-in-Ok-Failed-clause-answered : goal.returns-in-Ok-Failed-clause-answered
 returns-in-Ok-Failed-clause-answered g c =
-    let s = c.in-Ok-resume.session in
-    let now = c.stream_on.new.game in
     let streams = c.in-Ok-Failed.ensures.streamed in
-    let goes = goes_all g.met.D.SectorDevice.only_now (λ a b input one. one) (λ a b one. one) s now (inputs_of_deeds streams.deeds) streams.makes.advances in
-    subst (λ d. HasAnswered (λ refused. faults_after_stream refused.why) (g.D.SectorDevice.disk c.args.device) (g.D.SectorDevice.disk d) (Err (record { why = Input; device = d }))) (sym c.into_device-in-Ok-Failed.ensures.device)
-    (answered_otherwise (answered_both {V = Unit {0}} {faults_after = faults_after} {value = tt} c.in-Ok-resume.ensures.answered goes.calls) (λ n. refl))
+    let goes = goes_all g.met.D.SectorDevice.only_now (λ a b input one. one) (λ a b one. one) c.in-Ok-resume.session c.stream_on.new.game (inputs_of_deeds streams.deeds) streams.makes.advances in
+    rw c.into_device-in-Ok-Failed.ensures.device (answered_otherwise (answered_both {V = Unit {0}} {faults_after = faults_after} {value = tt} c.in-Ok-resume.ensures.answered goes.calls) (λ n. refl))
 
 pub returns-in-Ok-Damaged-clause-refused : goal.returns-in-Ok-Damaged-clause-refused
 returns-in-Ok-Damaged-clause-refused g c =
-    let s = c.in-Ok-resume.session in
-    let now = c.stream_on.new.game in
-    let old = g.D.SectorDevice.disk c.args.device in
-    let rom = c.args.cartridge.now in
-    let before_in = g.R.LineInput.remaining c.args.input.now in
-    let since_in = g.R.LineInput.remaining c.stream_on.new.input in
-    let before = g.W.Output.contents c.args.out.now in
-    let since = g.W.Output.contents c.stream_on.new.out in
-    let taken = c.in-Ok-resume.ensures in
-    let up : TakenUp rom old (place s) = record { none = taken.begun.0; rom_is = taken.begun.2; of_rom = taken.of; honest = taken.answered.honest.1; rests = taken.rests; stood = taken.stands; images = taken.images } in
     let streams = c.in-Ok-Damaged.ensures.streamed in
-    let goes = goes_all g.met.D.SectorDevice.only_now (λ a b input one. one) (λ a b one. one) s now (inputs_of_deeds streams.deeds) streams.makes.advances in
-    subst (λ d. HasStreamed rom old (g.D.SectorDevice.disk d) Damaged before_in since_in before since) (sym c.into_device-in-Ok-Damaged.ensures.device)
-    (streamed_to rom old (place s) (place now) before_in since_in before since up streams.lines streams.deeds streams.makes.answered goes streams.makes.unsaved_is (rom_of s) taken.begun.2 streams.kept streams.asks c.in-Ok-Damaged.field-0 streams.read Damaged c.in-Ok-Damaged.field-0-is)
+    let goes = goes_all g.met.D.SectorDevice.only_now (λ a b input one. one) (λ a b one. one) c.in-Ok-resume.session c.stream_on.new.game (inputs_of_deeds streams.deeds) streams.makes.advances in
+    rw c.into_device-in-Ok-Damaged.ensures.device
+    (streamed_to (up g (goal.at.returns-in-Ok-Damaged-clause-refused g c).In-Ok-resume) streams.deeds goes streams.makes.unsaved_is streams.makes.answered c.in-Ok-resume.ensures.begun.2 streams.asks c.in-Ok-Damaged.field-0-is streams.read)
 
 pub returns-in-Ok-Damaged-clause-answered : goal.returns-in-Ok-Damaged-clause-answered
 returns-in-Ok-Damaged-clause-answered g c =
-    let s = c.in-Ok-resume.session in
-    let now = c.stream_on.new.game in
     let streams = c.in-Ok-Damaged.ensures.streamed in
-    let goes = goes_all g.met.D.SectorDevice.only_now (λ a b input one. one) (λ a b one. one) s now (inputs_of_deeds streams.deeds) streams.makes.advances in
-    subst (λ d. HasAnswered (λ refused. faults_after_stream refused.why) (g.D.SectorDevice.disk c.args.device) (g.D.SectorDevice.disk d) (Err (record { why = Snapshot; device = d }))) (sym c.into_device-in-Ok-Damaged.ensures.device)
-    (answered_otherwise (answered_both {V = Unit {0}} {faults_after = faults_after} {value = tt} c.in-Ok-resume.ensures.answered goes.calls) (λ n. refl))
+    let goes = goes_all g.met.D.SectorDevice.only_now (λ a b input one. one) (λ a b one. one) c.in-Ok-resume.session c.stream_on.new.game (inputs_of_deeds streams.deeds) streams.makes.advances in
+    rw c.into_device-in-Ok-Damaged.ensures.device (answered_otherwise (answered_both {V = Unit {0}} {faults_after = faults_after} {value = tt} c.in-Ok-resume.ensures.answered goes.calls) (λ n. refl))
 
 pub returns-in-Ok-NoMemory-clause-refused : goal.returns-in-Ok-NoMemory-clause-refused
 returns-in-Ok-NoMemory-clause-refused g c =
-    let s = c.in-Ok-resume.session in
-    let now = c.stream_on.new.game in
-    let old = g.D.SectorDevice.disk c.args.device in
-    let rom = c.args.cartridge.now in
-    let before_in = g.R.LineInput.remaining c.args.input.now in
-    let since_in = g.R.LineInput.remaining c.stream_on.new.input in
-    let before = g.W.Output.contents c.args.out.now in
-    let since = g.W.Output.contents c.stream_on.new.out in
-    let taken = c.in-Ok-resume.ensures in
-    let up : TakenUp rom old (place s) = record { none = taken.begun.0; rom_is = taken.begun.2; of_rom = taken.of; honest = taken.answered.honest.1; rests = taken.rests; stood = taken.stands; images = taken.images } in
     let streams = c.in-Ok-NoMemory.ensures.streamed in
-    let goes = goes_all g.met.D.SectorDevice.only_now (λ a b input one. one) (λ a b one. one) s now (inputs_of_deeds streams.deeds) streams.makes.advances in
-    subst (λ d. HasStreamed rom old (g.D.SectorDevice.disk d) NoMemory before_in since_in before since) (sym c.into_device-in-Ok-NoMemory.ensures.device)
-    (streamed_to rom old (place s) (place now) before_in since_in before since up streams.lines streams.deeds streams.makes.answered goes streams.makes.unsaved_is (rom_of s) taken.begun.2 streams.kept streams.asks c.in-Ok-NoMemory.field-0 streams.read NoMemory c.in-Ok-NoMemory.field-0-is)
+    let goes = goes_all g.met.D.SectorDevice.only_now (λ a b input one. one) (λ a b one. one) c.in-Ok-resume.session c.stream_on.new.game (inputs_of_deeds streams.deeds) streams.makes.advances in
+    rw c.into_device-in-Ok-NoMemory.ensures.device
+    (streamed_to (up g (goal.at.returns-in-Ok-NoMemory-clause-refused g c).In-Ok-resume) streams.deeds goes streams.makes.unsaved_is streams.makes.answered c.in-Ok-resume.ensures.begun.2 streams.asks c.in-Ok-NoMemory.field-0-is streams.read)
 
 pub returns-in-Ok-NoMemory-clause-answered : goal.returns-in-Ok-NoMemory-clause-answered
 returns-in-Ok-NoMemory-clause-answered g c =
-    let s = c.in-Ok-resume.session in
-    let now = c.stream_on.new.game in
     let streams = c.in-Ok-NoMemory.ensures.streamed in
-    let goes = goes_all g.met.D.SectorDevice.only_now (λ a b input one. one) (λ a b one. one) s now (inputs_of_deeds streams.deeds) streams.makes.advances in
-    subst (λ d. HasAnswered (λ refused. faults_after_stream refused.why) (g.D.SectorDevice.disk c.args.device) (g.D.SectorDevice.disk d) (Err (record { why = Memory; device = d }))) (sym c.into_device-in-Ok-NoMemory.ensures.device)
-    (answered_otherwise (answered_both {V = Unit {0}} {faults_after = faults_after} {value = tt} c.in-Ok-resume.ensures.answered goes.calls) (λ n. refl))
+    let goes = goes_all g.met.D.SectorDevice.only_now (λ a b input one. one) (λ a b one. one) c.in-Ok-resume.session c.stream_on.new.game (inputs_of_deeds streams.deeds) streams.makes.advances in
+    rw c.into_device-in-Ok-NoMemory.ensures.device (answered_otherwise (answered_both {V = Unit {0}} {faults_after = faults_after} {value = tt} c.in-Ok-resume.ensures.answered goes.calls) (λ n. refl))
 
 pub returns-clause-refused : goal.returns-clause-refused
 returns-clause-refused g c =
-    let s = c.in-Ok-resume.session in
-    let now = c.stream_on.new.game in
-    let old = g.D.SectorDevice.disk c.args.device in
-    let rom = c.args.cartridge.now in
-    let before_in = g.R.LineInput.remaining c.args.input.now in
-    let since_in = g.R.LineInput.remaining c.stream_on.new.input in
-    let before = g.W.Output.contents c.args.out.now in
-    let since = g.W.Output.contents c.stream_on.new.out in
-    let taken = c.in-Ok-resume.ensures in
-    let up : TakenUp rom old (place s) = record { none = taken.begun.0; rom_is = taken.begun.2; of_rom = taken.of; honest = taken.answered.honest.1; rests = taken.rests; stood = taken.stands; images = taken.images } in
     let streams = c.in-Err-stream_on.ensures.stopped in
-    let why = c.in-Err-stream_on.why in
-    let stop = no_further_at_all g.met.D.SectorDevice.only_now (λ a b input one. one) (λ a b one. one) (λ a b input why one. one) (λ a b why one. one) refl s now (inputs_of_deeds streams.deeds) why streams.stops.stops in
-    inr (subst (λ d. HasStopped rom old (g.D.SectorDevice.disk d) why before_in since_in before since) (sym c.into_device-in-Err-stream_on.ensures.device)
-    (stopped_stream rom old (place s) (place now) before_in since_in before since up streams.lines streams.deeds why streams.more (rom_of s) taken.begun.2 streams.asks streams.read streams.stops.told stop))
+    let stop = no_further_at_all g.met.D.SectorDevice.only_now (λ a b input one. one) (λ a b one. one) (λ a b input why one. one) (λ a b why one. one) refl c.in-Ok-resume.session c.stream_on.new.game (inputs_of_deeds streams.deeds) c.in-Err-stream_on.why streams.stops.stops in
+    inr (rw c.into_device-in-Err-stream_on.ensures.device
+    (stopped_stream (up g (goal.at.returns-clause-refused g c).In-Ok-resume) streams.deeds streams.more c.in-Ok-resume.ensures.begun.2 streams.asks streams.read streams.stops.told stop))
 
 pub returns-clause-output : goal.returns-clause-output
 returns-clause-output g c = λ output.
     let is : c.in-Err-stream_on.why ≡ Output = cc in
     c.in-Err-stream_on.ensures.stopped.stops.output is
 
-pub returns-in-Ok-Whole-clause-answered : goal.returns-in-Ok-Whole-clause-answered
-returns-in-Ok-Whole-clause-answered g c =
-    let s = c.in-Ok-resume.session in
-    let now = c.stream_on.new.game in
-    let streams = c.in-Ok-Whole.ensures.streamed in
-    let goes = goes_all g.met.D.SectorDevice.only_now (λ a b input one. one) (λ a b one. one) s now (inputs_of_deeds streams.deeds) streams.makes.advances in
-    answered_both c.in-Ok-resume.ensures.answered goes.calls
-
 pub returns-clause-answered : goal.returns-clause-answered
 returns-clause-answered g c =
-    let s = c.in-Ok-resume.session in
-    let now = c.stream_on.new.game in
     let streams = c.in-Err-stream_on.ensures.stopped in
-    let why = c.in-Err-stream_on.why in
-    let stop = no_further_at_all g.met.D.SectorDevice.only_now (λ a b input one. one) (λ a b one. one) (λ a b input why one. one) (λ a b why one. one) refl s now (inputs_of_deeds streams.deeds) why streams.stops.stops in
-    subst (λ d. HasAnswered (λ refused. faults_after_stream refused.why) (g.D.SectorDevice.disk c.args.device) (g.D.SectorDevice.disk d) (Err (record { why = Session why; device = d }))) (sym c.into_device-in-Err-stream_on.ensures.device)
-    (answered_refused c.in-Ok-resume.ensures.answered stop.calls (λ n. refl))
+    let stop = no_further_at_all g.met.D.SectorDevice.only_now (λ a b input one. one) (λ a b one. one) (λ a b input why one. one) (λ a b why one. one) refl c.in-Ok-resume.session c.stream_on.new.game (inputs_of_deeds streams.deeds) c.in-Err-stream_on.why streams.stops.stops in
+    rw c.into_device-in-Err-stream_on.ensures.device (answered_refused c.in-Ok-resume.ensures.answered stop.calls (λ n. refl))
