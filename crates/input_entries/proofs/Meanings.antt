@@ -74,14 +74,32 @@ pub none_counts : (s : StoredEntry) → is_run s ≡ false → is_seconds s ≡ 
 unfolding is_entry
 none_counts s run seconds = sym ((λ i. if run i || seconds i then length (inputs_in s) else 0))
 
+pub inputs_size : (s : StoredEntry) → length (inputs_in s) ≡ (if is_run s then run_length s else 1)
+unfolding inputs_in
+inputs_size s = go (is_run s)
+  where
+    go : (b : Bool) → length (if b then replicate (run_length s) (frame (byte 1 s.code)) else record { code = take 5 s.code } ∷ []) ≡ (if b then run_length s else 1)
+    go true = length-replicate (run_length s) (frame (byte 1 s.code))
+    go false = refl
+
 pub some_inputs : (s : StoredEntry) → is_entry s ≡ true → 1 ≤ length (inputs_in s)
-unfolding is_entry inputs_in
+unfolding is_entry
 some_inputs s entry = elim (cases_Bool (is_run s)) [
-  | inl run ↦
-      let low : 1 ≤ run_length s = grind (arith, nat_tests) in
-      let size : length (inputs_in s) ≡ run_length s = ap (λ (t : Bool). length (if t then replicate (run_length s) (frame (byte 1 s.code)) else record { code = take 5 s.code } ∷ [])) run ∙ length-replicate (run_length s) (frame (byte 1 s.code)) in
-      omega (arith, low, size)
-  | inr fails ↦
-      let size : length (inputs_in s) ≡ 1 = ap (λ (t : Bool). length (if t then replicate (run_length s) (frame (byte 1 s.code)) else record { code = take 5 s.code } ∷ [])) fails in
-      omega (arith, size)
+  | inl run ↦ let low : 1 ≤ run_length s = grind (arith, nat_tests) in omega (arith, low, inputs_size s ∙ ap (λ (t : Bool). if t then run_length s else 1) run)
+  | inr fails ↦ omega (arith, inputs_size s ∙ ap (λ (t : Bool). if t then run_length s else 1) fails)
 ]
+
+pub not_entry : (s : StoredEntry) → 0 ≡ own_count s → is_entry s ≡ false
+not_entry s none = elim (cases_Bool (is_entry s)) [
+  | inl entry ↦ let same : 0 ≡ length (inputs_in s) = none ∙ ap (λ (t : Bool). if t then length (inputs_in s) else 0) entry in absurd (omega (arith, same, some_inputs s entry))
+  | inr fails ↦ fails
+]
+
+pub an_entry : (s : StoredEntry) (n : ℕ) → n ≡ own_count s → 0 < n → is_entry s ≡ true
+an_entry s n is some = elim (cases_Bool (is_entry s)) [
+  | inl entry ↦ entry
+  | inr fails ↦ absurd (omega (arith, is ∙ ap (λ (t : Bool). if t then length (inputs_in s) else 0) fails, some))
+]
+
+pub counts_all : (s : StoredEntry) (n : ℕ) → n ≡ own_count s → is_entry s ≡ true → n ≡ length (inputs_in s)
+counts_all s n is entry = is ∙ ap (λ (t : Bool). if t then length (inputs_in s) else 0) entry

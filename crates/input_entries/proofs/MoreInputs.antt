@@ -202,28 +202,16 @@ last_snoc [] s = refl
 last_snoc (x ∷ []) s = refl
 last_snoc (x ∷ y ∷ front) s = last_snoc (y ∷ front) s
 
-unwrapped : StoredEntry → Option StoredEntry → StoredEntry
-unwrapped d None = d
-unwrapped d (Some s) = s
-
-some_last : (list : List StoredEntry) (s : StoredEntry) → last_of list ≡ Some s → 0 < length list
-some_last [] s is = absurd (cc)
-some_last (x ∷ list) s is = omega arith
-
 pub no_last : (list : List StoredEntry) → last_of list ≡ None → list ≡ []
 no_last [] is = refl
-no_last (x ∷ list) is =
-    let v = snoc (x ∷ list) (omega arith) in
-    let has : None ≡ Some v.last = sym is ∙ ap last_of v.is ∙ last_snoc v.front v.last in
-    absurd (cc)
+no_last (x ∷ []) is = absurd (cc)
+no_last (x ∷ y ∷ list) is = let none = no_last (y ∷ list) is in absurd (cc)
 
 -- the entries before the last one, which is this
 pub ends_in : (list : List StoredEntry) (s : StoredEntry) → last_of list ≡ Some s → (front : List StoredEntry) × (list ≡ front ++ s ∷ [])
-unfolding snoc unwrapped
-ends_in list s is =
-    let v = snoc list (some_last list s is) in
-    let same : v.last ≡ s = ap (unwrapped v.last) (sym (ap last_of v.is ∙ last_snoc v.front v.last) ∙ is) in
-    (v.front, v.is ∙ ap (λ x. v.front ++ x ∷ []) same)
+ends_in [] s is = absurd (cc)
+ends_in (x ∷ []) s is = let same : x ≡ s = cc in ([], ap (λ y. y ∷ []) same)
+ends_in (x ∷ y ∷ list) s is = let r = ends_in (y ∷ list) s is in (x ∷ r.0, ap (λ l. x ∷ l) r.1)
 
 pub last_goes : (list : List StoredEntry) (s : StoredEntry) (e : Entry) → last_of list ≡ Some s → lengthens s e ≡ true → set list (length list - 1) (longer s) ≡ with_input list e
 last_goes list s e is holds =

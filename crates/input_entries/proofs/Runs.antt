@@ -1,5 +1,5 @@
 -- A run with one frame more, and the entry of one input.
-use Rattle.std.proofs.Common.{◌≡◌, ◌==◌, ◌&&◌, ◌||◌, inl, inr, ℕ, zero, suc, ◌+◌, ◌<◌, ◌≤◌, List, [], ◌∷◌, ◌++◌, length, take, drop, Bool, true, false, if◌then◌else◌, nat_le, refl, sym, ap, ◌∙◌, subst, arith, append_assoc}
+use Rattle.std.proofs.Common.{◌≡◌, ◌==◌, ◌&&◌, ◌||◌, inl, inr, ℕ, zero, suc, ◌+◌, ◌<◌, ◌≤◌, List, [], ◌∷◌, ◌++◌, length, take, drop, Bool, true, false, if◌then◌else◌, nat_le, refl, sym, ap, ◌∙◌, arith, append_assoc}
 use Rattle.std.proofs.lemmas.List.{replicate-append-replicate}
 use Rattle.std.proofs.lemmas.Bool.{cases_eq}
 use Rattle.std.proofs.lemmas.Bool.Decides.{nat_tests}
@@ -11,22 +11,15 @@ use Rattle.input_entries.specs.Inputs.{frame, is_input, run_length, is_run, is_s
 use Rattle.input_entries.specs.declared.Entry.{Entry}
 use Rattle.input_entries.specs.declared.StoredEntry.{StoredEntry}
 
-pub record Five (code : List ℕ) : Type 0 where
-  pub a : ℕ
-  pub b : ℕ
-  pub c : ℕ
-  pub d : ℕ
-  pub e : ℕ
-  pub is : code ≡ a ∷ b ∷ c ∷ d ∷ e ∷ []
-
-pub five : (code : List ℕ) → length code ≡ 5 → Five code
-five [] size = absurd (omega arith)
-five (a ∷ []) size = absurd (omega arith)
-five (a ∷ b ∷ []) size = absurd (omega arith)
-five (a ∷ b ∷ c ∷ []) size = absurd (omega arith)
-five (a ∷ b ∷ c ∷ d ∷ []) size = absurd (omega arith)
-five (a ∷ b ∷ c ∷ d ∷ e ∷ []) size = record { a = a; b = b; c = c; d = d; e = e; is = refl }
-five (a ∷ b ∷ c ∷ d ∷ e ∷ f ∷ code) size = absurd (omega arith)
+-- what holds of five bytes holds of an input that has five
+by_five : (P : Entry → Type 0) → ((a b c d e : ℕ) → P (record { code = a ∷ b ∷ c ∷ d ∷ e ∷ [] })) → (code : List ℕ) → length code ≡ 5 → P (record { code = code })
+by_five P at [] size = absurd (omega arith)
+by_five P at (a ∷ []) size = absurd (omega arith)
+by_five P at (a ∷ b ∷ []) size = absurd (omega arith)
+by_five P at (a ∷ b ∷ c ∷ []) size = absurd (omega arith)
+by_five P at (a ∷ b ∷ c ∷ d ∷ []) size = absurd (omega arith)
+by_five P at (a ∷ b ∷ c ∷ d ∷ e ∷ []) size = at a b c d e
+by_five P at (a ∷ b ∷ c ∷ d ∷ e ∷ f ∷ code) size = absurd (omega arith)
 
 -- a frame with its buttons, or seconds
 frame_of : (a b c d e : ℕ) → a ≡ 0 → is_input (record { code = a ∷ b ∷ c ∷ d ∷ e ∷ [] }) ≡ true → record { code = a ∷ b ∷ c ∷ d ∷ e ∷ [] } ≡ frame b
@@ -52,10 +45,7 @@ single_at a b c d e is = elim (cases_eq a 0) [
 ]
 
 pub single_inputs : (e : Entry) → length e.code ≡ 5 → is_input e ≡ true → inputs_in (single e) ≡ e ∷ []
-single_inputs e size is =
-    let f = five e.code size in
-    let same : e ≡ record { code = f.a ∷ f.b ∷ f.c ∷ f.d ∷ f.e ∷ [] } = ap (λ (l : List ℕ). record { code = l }) f.is in
-    subst (λ (x : Entry). inputs_in (single x) ≡ x ∷ []) (sym same) (single_at f.a f.b f.c f.d f.e (ap is_input (sym same) ∙ is))
+single_inputs e size is = by_five (λ x. is_input x ≡ true → inputs_in (single x) ≡ x ∷ []) single_at e.code size is
 
 single_entry_at : (a b c d e : ℕ) → is_input (record { code = a ∷ b ∷ c ∷ d ∷ e ∷ [] }) ≡ true → is_entry (single (record { code = a ∷ b ∷ c ∷ d ∷ e ∷ [] })) ≡ true
 unfolding single is_entry is_input
@@ -71,10 +61,7 @@ single_entry_at a b c d e is = elim (cases_eq a 0) [
 ]
 
 pub single_entry : (e : Entry) → length e.code ≡ 5 → is_input e ≡ true → is_entry (single e) ≡ true
-single_entry e size is =
-    let f = five e.code size in
-    let same : e ≡ record { code = f.a ∷ f.b ∷ f.c ∷ f.d ∷ f.e ∷ [] } = ap (λ (l : List ℕ). record { code = l }) f.is in
-    ap (λ (x : Entry). is_entry (single x)) same ∙ single_entry_at f.a f.b f.c f.d f.e (ap is_input (sym same) ∙ is)
+single_entry e size is = by_five (λ x. is_input x ≡ true → is_entry (single x) ≡ true) single_entry_at e.code size is
 
 -- a run that an input joins
 pub record Joined (s : StoredEntry) (e : Entry) : Type 0 where
@@ -98,10 +85,7 @@ joined_at s a b c d e entry input join =
     }
 
 pub joined : (s : StoredEntry) (e : Entry) → length e.code ≡ 5 → is_entry s ≡ true → is_input e ≡ true → joins s e ≡ true → Joined s e
-joined s e size entry input join =
-    let f = five e.code size in
-    let same : e ≡ record { code = f.a ∷ f.b ∷ f.c ∷ f.d ∷ f.e ∷ [] } = ap (λ (l : List ℕ). record { code = l }) f.is in
-    subst (Joined s) (sym same) (joined_at s f.a f.b f.c f.d f.e entry (ap is_input (sym same) ∙ input) (ap (joins s) (sym same) ∙ join))
+joined s e size entry = by_five (λ x. is_input x ≡ true → joins s x ≡ true → Joined s x) (λ a b c d e. joined_at s a b c d e entry) e.code size
 
 is_run_now : (b n : ℕ) → 1 ≤ n → n ≤ 216000 → is_run (record { code = 0 ∷ b ∷ to_le_bytes w32 n }) ≡ true
 is_run_now b n low high =

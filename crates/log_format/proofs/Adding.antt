@@ -1,24 +1,12 @@
 -- Inputs added one by one behind the entries of full sectors.
-use Rattle.std.proofs.Common.{◌≡◌, ℕ, zero, suc, ◌+◌, ◌-◌, ◌<◌, ◌≤◌, List, [], ◌∷◌, ◌++◌, length, take, drop, get_or, set, true, false, refl, sym, ap, ◌∙◌, arith, append_assoc, length-append, length-drop}
-use Rattle.std.proofs.lemmas.List.{take_at, drop_at, take_all, take-append-drop, length-take-le}
-use Rattle.std.proofs.Math.Seq.{set-append_seam, get_or-append_seam}
-use Rattle.input_entries.specs.Growing.{lengthens, with_input, with_inputs}
+use Rattle.std.proofs.Common.{◌≡◌, ℕ, ◌+◌, ◌-◌, ◌<◌, ◌≤◌, List, [], ◌∷◌, ◌++◌, length, take, drop, get_or, set, true, false, Some, sym, ap, ◌∙◌, arith, append_assoc, length-append, length-drop}
+use Rattle.std.proofs.lemmas.List.{take_at, drop_at, take_all, drop_all, get_or-drop, take-set-le, drop-set-add, take-append-drop, length-take-le}
+use Rattle.input_entries.specs.Growing.{lengthens, last_of, with_input, with_inputs}
 use Rattle.input_entries.specs.Inputs.{single, longer}
 use Rattle.log_format.specs.Inputs.{sealed, grown}
 use Rattle.input_entries.specs.declared.Entry.{Entry}
 use Rattle.input_entries.specs.declared.StoredEntry.{StoredEntry}
-use Rattle.input_entries.proofs.MoreInputs.{Snoc, snoc, goes_then, goes_else, length-with_inputs, with_inputs-append, next_input}
-
--- the last of a list
-pub last_is : (log : List StoredEntry) (d : StoredEntry) (v : Snoc log) → get_or log (length log - 1) d ≡ v.last
-last_is log d v =
-    let at : length log - 1 ≡ length v.front = omega (arith, ap length v.is, length-append v.front (v.last ∷ [])) in
-    (λ i. get_or (v.is i) (at i) d) ∙ get_or-append_seam v.front v.last [] d
-
-pub set_last : (log : List StoredEntry) (x : StoredEntry) (v : Snoc log) → set log (length log - 1) x ≡ v.front ++ x ∷ []
-set_last log x v =
-    let at : length log - 1 ≡ length v.front = omega (arith, ap length v.is, length-append v.front (v.last ∷ [])) in
-    (λ i. set (v.is i) (at i) x) ∙ set-append_seam v.front v.last [] x
+use Rattle.input_entries.proofs.MoreInputs.{last_at, last_goes, last_stays, length-with_inputs, with_inputs-append, next_input}
 
 -- behind entries that stay
 module _ (log : List StoredEntry) (n : ℕ) (within : n ≤ length log) where
@@ -32,40 +20,26 @@ module _ (log : List StoredEntry) (n : ℕ) (within : n ≤ length log) where
   whole = take-append-drop n log
 
   module _ (d : StoredEntry) (more : n < length log) where
-    abbrev some : 0 < length back
-    some = omega (arith, length-drop n log)
+    abbrev s : StoredEntry
+    s = get_or log (length log - 1) d
 
-    abbrev v : Snoc back
-    v = snoc back some
+    at : n + (length back - 1) ≡ length log - 1
+    at = omega (arith, length-drop n log)
 
-    abbrev v_log : Snoc log
-    v_log = record { front = front ++ v.front; last = v.last; is = sym whole ∙ ap (λ l. front ++ l) v.is ∙ sym (append_assoc front v.front (v.last ∷ [])) }
+    last_here : last_of back ≡ Some s
+    last_here = last_at back d (omega (arith, length-drop n log)) ∙ ap Some (get_or-drop n log (length back - 1) d ∙ ap (λ k. get_or log k d) at)
 
-    pub back_last : get_or log (length log - 1) d ≡ v.last
-    back_last = last_is log d v_log
-
-    pub last_longer : (e : Entry) → lengthens (get_or log (length log - 1) d) e ≡ true → set log (length log - 1) (longer (get_or log (length log - 1) d)) ≡ front ++ with_input back e
+    pub last_longer : (e : Entry) → lengthens s e ≡ true → set log (length log - 1) (longer s) ≡ front ++ with_input back e
     last_longer e join =
-        set_last log (longer (get_or log (length log - 1) d)) v_log
-        ∙ append_assoc front v.front (longer (get_or log (length log - 1) d) ∷ [])
-        ∙ ap (λ x. front ++ (v.front ++ longer x ∷ [])) back_last
-        ∙ ap (λ l. front ++ l) (sym (ap (λ l. with_input l e) v.is ∙ goes_then v.front v.last e (ap (λ x. lengthens x e) (sym back_last) ∙ join)))
+        ap (λ k. set log k (longer s)) (sym at) ∙ sym (take-append-drop n (set log (n + (length back - 1)) (longer s)))
+        ∙ (λ i. take-set-le n log (n + (length back - 1)) (longer s) (omega arith) i ++ drop-set-add n log (length back - 1) (longer s) i)
+        ∙ ap (λ l. front ++ l) (last_goes back s e last_here join)
 
-    pub adds_new : (e : Entry) → lengthens (get_or log (length log - 1) d) e ≡ false → log ++ single e ∷ [] ≡ front ++ with_input back e
-    adds_new e join =
-        ap (λ l. l ++ single e ∷ []) (sym whole) ∙ append_assoc front back (single e ∷ [])
-        ∙ ap (λ l. front ++ l) (sym (ap (λ l. with_input l e) v.is ∙ goes_else v.front v.last e (ap (λ x. lengthens x e) (sym back_last) ∙ join) ∙ ap (λ l. l ++ single e ∷ []) (sym v.is)))
+    pub adds_new : (e : Entry) → lengthens s e ≡ false → log ++ single e ∷ [] ≡ front ++ with_input back e
+    adds_new e join = ap (λ l. l ++ single e ∷ []) (sym whole) ∙ append_assoc front back (single e ∷ []) ∙ ap (λ l. front ++ l) (sym (last_stays back s e last_here join))
 
   pub adds_first : (e : Entry) → length log ≡ n → log ++ single e ∷ [] ≡ front ++ with_input back e
-  adds_first e size =
-      let none : back ≡ [] = drop_all_here log n size in
-      ap (λ l. l ++ single e ∷ []) (sym (take_all n log (omega arith))) ∙ ap (λ l. front ++ with_input l e) (sym none)
-    where
-      drop_all_here : (l : List StoredEntry) (k : ℕ) → length l ≡ k → drop k l ≡ []
-      drop_all_here [] zero is = refl
-      drop_all_here [] (suc k) is = refl
-      drop_all_here (x ∷ l) zero is = absurd (omega arith)
-      drop_all_here (x ∷ l) (suc k) is = drop_all_here l k (omega arith)
+  adds_first e size = ap (λ l. l ++ single e ∷ []) (sym (take_all n log (omega arith))) ∙ ap (λ l. front ++ with_input l e) (sym (drop_all n log (omega arith)))
 
 -- no fewer entries later on
 pub fewer_before : (log : List StoredEntry) (es : List Entry) (k : ℕ) → length (with_inputs log (take k es)) ≤ length (with_inputs log es)

@@ -1,5 +1,5 @@
 -- The sectors of an area: those of its log, and those of its blob.
-use Rattle.std.proofs.Common.{◌≡◌, ℕ, zero, suc, ◌+◌, ◌-◌, ◌*◌, ◌/◌, ◌<◌, ◌≤◌, min, List, [], length, take, drop, get_or, refl, ap, ◌∙◌, arith, length-append, length-drop}
+use Rattle.std.proofs.Common.{◌≡◌, ℕ, zero, suc, ◌+◌, ◌-◌, ◌*◌, ◌/◌, ◌<◌, ◌≤◌, min, List, [], length, take, drop, refl, ap, ◌∙◌, arith, length-append, length-drop}
 use Rattle.std.proofs.lemmas.List.{get_or_append_left, get_or-append_right, drop-drop, take_min, drop_min}
 use Rattle.sector_device.specs.DiskState.{sector_at}
 use Rattle.log_format.specs.Log.{log_sector, log_sectors, log_area, padded, blob_area, fresh_area}
@@ -27,10 +27,13 @@ pub log_area_at : (k : ℕ) (entries : List StoredEntry) → k < 32 → sector_a
 unfolding log_area
 log_area_at k entries le = let e : 0 + k ≡ k = omega arith in log_sectors_at 32 0 k entries le ∙ ap (λ i. log_sector i (take 84 (drop (84 * k) entries))) e
 
+pub part_is : {X : Type 0} (n : ℕ) (xs : List X) (from to : ℕ) → to ≡ min (from + n) (length xs) → take (to - from) (drop from xs) ≡ take n (drop from xs)
+part_is n xs from to t =
+    let width : to - from ≡ min n (length (drop from xs)) = omega (arith, length-drop from xs) in
+    ap (λ m. take m (drop from xs)) width ∙ take_min n (drop from xs)
+
 pub chunk_is : {X : Type 0} (log : List X) (at from to : ℕ) → from ≡ min at (length log) → to ≡ min (from + 84) (length log) → take (to - from) (drop from log) ≡ take 84 (drop at log)
-chunk_is log at from to f t =
-    let width : to - from ≡ min 84 (length (drop from log)) = omega (arith, length-drop from log) in
-    ap (λ n. take n (drop from log)) width ∙ take_min 84 (drop from log) ∙ ap (take 84) (ap (λ n. drop n log) f ∙ drop_min at log)
+chunk_is log at from to f t = part_is 84 log from to t ∙ ap (take 84) (ap (λ n. drop n log) f ∙ drop_min at log)
 
 pub length-blob_area : (n : ℕ) (blob : List ℕ) → length (blob_area n blob) ≡ n
 length-blob_area zero blob = refl
@@ -62,19 +65,3 @@ unfolding fresh_area
 fresh_blob_at k blob from to =
     get_or-append_right (log_area []) (blob_area ((length blob + 511) / 512) blob) 32 k [] (length-log_area []) from
     ∙ blob_area_at ((length blob + 511) / 512) (k - 32) blob (omega arith)
-
-pub part_is : (blob : List ℕ) (from to : ℕ) → to ≡ min (from + 512) (length blob) → take (to - from) (drop from blob) ≡ take 512 (drop from blob)
-part_is blob from to t =
-    let width : to - from ≡ min 512 (length (drop from blob)) = omega (arith, length-drop from blob) in
-    ap (λ n. take n (drop from blob)) width ∙ take_min 512 (drop from blob)
-
--- the front of a fresh area is a blank log, and the blob follows
-pub fresh_in_log : (k : ℕ) (blob : List ℕ) → k < 32 → sector_at (fresh_area blob) k ≡ sector_at (log_area []) k
-unfolding fresh_area
-fresh_in_log k blob le = get_or_append_left (log_area []) (blob_area ((length blob + 511) / 512) blob) [] k (omega (arith, length-log_area []))
-
-pub fresh_in_blob : (k : ℕ) (blob : List ℕ) → sector_at (fresh_area blob) (32 + k) ≡ sector_at (blob_area ((length blob + 511) / 512) blob) k
-unfolding fresh_area
-fresh_in_blob k blob =
-    let e : 32 + k - 32 ≡ k = omega arith in
-    get_or-append_right (log_area []) (blob_area ((length blob + 511) / 512) blob) 32 (32 + k) [] (length-log_area []) (omega arith) ∙ ap (λ n. get_or (blob_area ((length blob + 511) / 512) blob) n []) e

@@ -10,7 +10,7 @@ use Rattle.log_format.specs.Log.{log_from}
 use Rattle.log_format.specs.declared.root.Version.TheVariants.{Two}
 use Rattle.std.proofs.lemmas.Bool.Decides.{nat_tests}
 use Rattle.std.specs.List.{flat_map}
-use Rattle.std.proofs.lemmas.Bool.{cases_Bool}
+use Rattle.std.proofs.lemmas.Bool.{cases_eq}
 
 pub area_same : (g : ℕ) (image c : List (List ℕ)) → length c ≡ length image
     → ((k : ℕ) → area_start g image ≤ k → k < area_start g image + area_length image → sector_at c k ≡ sector_at image k) → area g c ≡ area g image
@@ -80,21 +80,21 @@ few_sectors image few = let fails : nat_le 2 (length image) ≡ false = grind (a
 pub enough_sectors : (image : List (List ℕ)) → 2 ≤ length image → chosen image ≡ newer (root_at 0 image) (root_at 1 image)
 enough_sectors image many = let holds : nat_le 2 (length image) ≡ true = grind (arith, nat_tests) in ap (λ (t : Bool). if t then newer (root_at 0 image) (root_at 1 image) else None) holds
 
+pub start_even : (g : ℕ) (image : List (List ℕ)) → g % 2 ≡ 0 → area_start g image ≡ 2
+start_even g image even = omega (arith, ap (λ n. 2 + n * area_length image) even)
+
+pub start_odd : (g : ℕ) (image : List (List ℕ)) → g % 2 ≡ 1 → area_start g image ≡ 2 + area_length image
+start_odd g image odd = omega (arith, ap (λ n. 2 + n * area_length image) odd)
+
 pub area_size : (image : List (List ℕ)) (g : ℕ) → 2 ≤ length image → length (area g image) ≡ area_length image
-area_size image g many = elim (parity g) [
+area_size image g many = elim (cases_eq (g % 2) 0) [
   | inl even ↦
-      let start : area_start g image ≡ 2 = omega (arith, ap (λ n. 2 + n * area_length image) even) in
+      let start : area_start g image ≡ 2 = start_even g image even in
       omega (arith, length-take (area_length image) (drop (area_start g image) image), length-drop (area_start g image) image, start)
-  | inr odd ↦
-      let start : area_start g image ≡ 2 + area_length image = omega (arith, ap (λ n. 2 + n * area_length image) odd) in
+  | inr other ↦
+      let start : area_start g image ≡ 2 + area_length image = start_odd g image (omega (arith, other)) in
       omega (arith, length-take (area_length image) (drop (area_start g image) image), length-drop (area_start g image) image, start)
 ]
-  where
-    parity : (n : ℕ) → (n % 2 ≡ 0) ⊎ (n % 2 ≡ 1)
-    parity n = elim (cases_Bool (n % 2 == 0)) [
-      | inl holds ↦ let e : n % 2 ≡ 0 = grind (arith, nat_tests) in inl e
-      | inr fails ↦ let e : n % 2 ≡ 1 = grind (arith, nat_tests) in inr e
-    ]
 
 pub body_is : (root : Root) (sectors : List (List ℕ)) → root.version ≡ Two → 32 + blob_sectors root.blob_length ≤ length sectors
     → content_in root sectors ≡ record { header = header_of root; body = Some (record { blob = take root.blob_length (flat_map (λ (s : List ℕ). s) (drop 32 sectors)); log = log_from Two 0 (take 32 sectors) }) }

@@ -7,7 +7,7 @@ pub mod ContentLaw
 mod Counting
 pub mod FoundLaws
 pub mod Grown
-mod OpenLaw
+pub mod OpenLaw
 mod Parsing
 pub mod Roots
 pub mod Wrong

@@ -7,7 +7,7 @@ use Rattle.input_entries.specs.Inputs.{is_entry, inputs_in, inputs, all_entries}
 use Rattle.log_format.specs.Inputs.{wrong_from}
 use Rattle.log_format.specs.Laws.{ALogOfInputsHasNoneWrong}
 use Rattle.input_entries.specs.declared.StoredEntry.{StoredEntry}
-use Rattle.input_entries.proofs.Meanings.{own_count, some_inputs}
+use Rattle.input_entries.proofs.Meanings.{own_count, not_entry, an_entry, counts_all}
 
 abbrev goes_on : ℕ → StoredEntry → Bool
 goes_on before s = is_entry s && nat_le (before + length (inputs_in s)) 216000
@@ -24,12 +24,7 @@ wrong_here log k before d t less is =
 pub wrong_none : (log : List StoredEntry) (k before : ℕ) (d : StoredEntry) → k < length log → 0 ≡ own_count (get_or log k d) → wrong_from k before (drop k log) ≡ Some k
 wrong_none log k before d less none =
     let s = get_or log k d in
-    elim (cases_Bool (is_entry s)) [
-      | inl entry ↦
-          let same : 0 ≡ length (inputs_in s) = none ∙ ap (λ (t : Bool). if t then length (inputs_in s) else 0) entry in
-          absurd (omega (arith, same, some_inputs s entry))
-      | inr fails ↦ wrong_here log k before d false less (ap (λ (t : Bool). t && nat_le (before + length (inputs_in s)) 216000) fails)
-    ]
+    wrong_here log k before d false less (ap (λ (t : Bool). t && nat_le (before + length (inputs_in s)) 216000) (not_entry s none))
 
 module _ (log : List StoredEntry) (k before n : ℕ) (d : StoredEntry) (less : k < length log) (is : n ≡ own_count (get_or log k d)) (some : 0 < n) where
   s : StoredEntry
@@ -37,27 +32,22 @@ module _ (log : List StoredEntry) (k before n : ℕ) (d : StoredEntry) (less : k
 
   stands : is_entry s ≡ true
   unfolding s
-  stands = elim (cases_Bool (is_entry s)) [
-    | inl entry ↦ entry
-    | inr fails ↦ absurd (omega (arith, is ∙ ap (λ (t : Bool). if t then length (inputs_in s) else 0) fails, some))
-  ]
+  stands = an_entry (get_or log k d) n is some
 
   same : n ≡ length (inputs_in s)
   unfolding s
-  same = is ∙ ap (λ (t : Bool). if t then length (inputs_in s) else 0) stands
+  same = counts_all (get_or log k d) n is stands
 
   -- there would be too many
   pub wrong_many : 216000 < before + n → wrong_from k before (drop k log) ≡ Some k
   unfolding s
   wrong_many many =
-      let size = same in
       let fails : nat_le (before + length (inputs_in s)) 216000 ≡ false = grind (arith, nat_tests) in
       wrong_here log k before d false less ((λ i. stands i && fails i))
 
   pub wrong_next : before + n ≤ 216000 → wrong_from k before (drop k log) ≡ wrong_from (k + 1) (before + n) (drop (k + 1) log)
   unfolding s
   wrong_next few =
-      let size = same in
       let holds : nat_le (before + length (inputs_in s)) 216000 ≡ true = grind (arith, nat_tests) in
       wrong_here log k before d true less ((λ i. stands i && holds i)) ∙ ap (λ m. wrong_from (k + 1) (before + m) (drop (k + 1) log)) (sym same)
 

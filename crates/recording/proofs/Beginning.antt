@@ -4,10 +4,10 @@ use Rattle.std.proofs.lemmas.List.{drop_at, get_or-set_same, get_or-set_other, e
 use Rattle.std.proofs.lemmas.Bool.{cases_eq, and_parts}
 use Rattle.std.proofs.lemmas.Bool.Decides.{nat_tests}
 use lib.ListN.{replicate}
-use Rattle.sector_device.specs.DiskState.{DiskState, Settled, Throughout, HasWritten, sector_at}
+use Rattle.sector_device.specs.DiskState.{DiskState, Settled, HasWritten, sector_at}
 use Rattle.sector_device.specs.Looking.{LooksOnly}
 use Rattle.sector_device.specs.Runs.{HoldsThroughout, Mixed, WrittenUpTo}
-use Rattle.sector_device.proofs.Runs.{begun, has_written, mixed_set, mixed_old, throughout_weaker, throughout_then}
+use Rattle.sector_device.proofs.Runs.{has_written, mixed_set, mixed_old, throughout_weaker}
 use Rattle.input_entries.specs.Bytes.{begins_with, zeros}
 use Rattle.input_entries.specs.Inputs.{inputs}
 use Rattle.recording.specs.Calls.{IsBlank, IsOldOrEmpty}
@@ -16,8 +16,8 @@ use Rattle.recording.specs.Keeping.{EndsAt, IsStored, HasBegun}
 use Rattle.recording.specs.Recorded.{entries, recorded}
 use Rattle.recording.specs.Sizes.{most_sectors, list_sectors}
 use Rattle.recording.proofs.Images.{list_sector_in}
-use Rattle.recording.proofs.ListBytes.{blank_has_none, nothing_has_none}
-use Rattle.recording.proofs.ListLaw.{list_last}
+use Rattle.recording.proofs.ListBytes.{list_packing, blank_has_none, nothing_has_none}
+use Rattle.input_entries.proofs.Sectors.{short_last}
 
 -- ---- zeros
 
@@ -34,17 +34,6 @@ zeros_replicate (suc n) = zeros_replicate n
 
 pub blank_of_zeros : (l : List ℕ) → length l ≡ 512 → zeros l ≡ true → l ≡ blank
 blank_of_zeros l size is = zeros_are l is ∙ ap (λ n. replicate n 0) size
-
--- one sector more is as it is to be
-pub written_same : (old new image : List (List ℕ)) (n : ℕ) → sector_at image n ≡ sector_at new n → WrittenUpTo old new n image → WrittenUpTo old new (n + 1) image
-written_same old new image n is w = record {
-  size = w.size;
-  done = λ k le. elim (cases_eq k n) [
-    | inl here ↦ ap (sector_at image) here ∙ is ∙ ap (sector_at new) (sym here)
-    | inr other ↦ w.done k (omega arith)
-  ];
-  left = λ k le. w.left k (omega arith);
-}
 
 -- ---- the head
 
@@ -78,7 +67,7 @@ no_entries image is = go (list_sectors image) refl
         let some : 0 < length (list_sectors image) = omega (arith, ap length same) in
         let in_image : 1 < length image = omega (arith, some, length-take most_sectors (drop 1 image), length-drop 1 image) in
         let first : s ≡ blank = ap (λ (l : List (List ℕ)). sector_at l 0) (sym same) ∙ list_sector_in image 0 some ∙ is 1 (omega arith) in_image in
-        list_last 1 s ss [] (ap (entries_at 1) first ∙ blank_has_none 1) (omega arith)
+        short_last list_packing 1 s ss [] (ap (entries_at 1) first ∙ blank_has_none 1) (omega arith)
 
 pub ends_empty : (image : List (List ℕ)) → ((k : ℕ) → 1 ≤ k → k < length image → sector_at image k ≡ blank) → EndsAt image 0 []
 ends_empty image is = record {
@@ -131,14 +120,17 @@ module _ (old mid : DiskState) (id : List ℕ) (size : length id ≡ 32) (looked
   abbrev new_image : List (List ℕ)
   new_image = set mid.sectors 0 (head id)
 
-  pub head_written : {E : Type 0} {now : DiskState} {bytes : List ℕ} {r : Result Unit E} → bytes ≡ head id → HasWritten 0 bytes mid now r → HoldsThroughout mid now (Mixed mid.sectors new_image) (Mixed mid.sectors new_image)
-  head_written {now} {bytes} is wrote =
-      has_written (begun mid (Mixed mid.sectors new_image) (Mixed mid.sectors new_image) looked.honest (λ c i. subst (Mixed mid.sectors new_image) (sym (settled c i)) (mixed_old mid.sectors new_image)) (λ c m. m)) wrote
-      (λ d mixed. mixed_set mid.sectors new_image d 0 bytes (omega arith) (is ∙ sym (new_first mid.sectors id size some is_blank)) mixed)
+  begun : HoldsThroughout old mid (IsOldOrEmpty old id) (Mixed mid.sectors new_image)
+  begun = record {
+    honest = looked.honest;
+    throughout = throughout_weaker looked.time (λ c i. inl i);
+    images = λ c i. subst (Mixed mid.sectors new_image) (sym (settled c i)) (mixed_old mid.sectors new_image);
+    entails = old_or_empty mid.sectors id size some is_blank old (looked.images mid.sectors reads);
+    past = looked.past;
+  }
 
-  pub all_moments : (now : DiskState) → HoldsThroughout mid now (Mixed mid.sectors new_image) (Mixed mid.sectors new_image) → Throughout old now (IsOldOrEmpty old id)
-  all_moments now held =
-      throughout_then (throughout_weaker looked.time (λ c i. inl i)) (throughout_weaker held.throughout (old_or_empty mid.sectors id size some is_blank old (looked.images mid.sectors reads)))
+  pub head_written : {E : Type 0} {now : DiskState} {bytes : List ℕ} {r : Result Unit E} → bytes ≡ head id → HasWritten 0 bytes mid now r → HoldsThroughout old now (IsOldOrEmpty old id) (Mixed mid.sectors new_image)
+  head_written {bytes} is wrote = has_written begun wrote (λ d mixed. mixed_set mid.sectors new_image d 0 bytes (omega arith) (is ∙ sym (new_first mid.sectors id size some is_blank)) mixed)
 
 pub begun_stored : (old : List (List ℕ)) (now : DiskState) (id : List ℕ) → length id ≡ 32 → 2 ≤ length now.sectors → HasBegun old now id → IsStored now 0 [] 0 true
 begun_stored old now id size some b =

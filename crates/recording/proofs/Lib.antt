@@ -2,5 +2,4 @@ mod Appending
 mod Beginning
 mod Images
 mod ListBytes
-mod ListLaw
 mod Turns

@@ -1,6 +1,6 @@
 -- One turn of the loop that writes the sectors of an append.
 use Rattle.std.proofs.Common.{◌≡◌, ◌⊎◌, inl, inr, min, ℕ, ◌+◌, ◌-◌, ◌*◌, ◌<◌, ◌≤◌, List, [], ◌∷◌, ◌++◌, length, take, drop, refl, sym, ap, ◌∙◌, subst, arith, append_assoc, length-append, length-drop}
-use Rattle.std.proofs.lemmas.List.{append-nil, length-take-le, take_at, drop_at, take_all, drop_all}
+use Rattle.std.proofs.lemmas.List.{append-nil, length-take-le, take_at, drop_at, take_all, drop_all, get_or_past}
 use Rattle.std.proofs.lemmas.Bool.{cases_lt}
 use lib.Seq.{take-add}
 use Rattle.input_entries.specs.declared.Entry.{Entry}
@@ -12,8 +12,7 @@ use Rattle.input_entries.specs.Growing.{with_inputs}
 use Rattle.recording.specs.Keeping.{AreGood, BlankFrom, grown_image, HasPacked}
 use Rattle.recording.specs.Sizes.{sectors_for}
 use Rattle.input_entries.proofs.MoreInputs.{some-with_inputs}
-use Rattle.recording.proofs.Images.{grown_before, grown_after, length-grown, beyond}
-use Rattle.recording.proofs.ListBytes.{none_is_blank}
+use Rattle.recording.proofs.Images.{grown_before, grown_after, grown_past, length-grown}
 
 -- The entries `now` fill the sector behind the first `at` entries of a list, of which `tail` and these inputs are the rest.
 module _ (list tail now : List StoredEntry) (rest : List Entry) (at r : ℕ) (within : at ≤ length list) (is : list ≡ take at list ++ with_inputs tail rest) (some : r ≤ length rest)
@@ -34,26 +33,19 @@ module _ (list tail now : List StoredEntry) (rest : List Entry) (at r : ℕ) (wi
     | inr le ↦ ap (take 83) (behind_at ∙ ended le) ∙ take_all 83 now short
   ]
 
+  goes_on : with_inputs tail rest ≡ now ++ with_inputs [] (drop r rest)
+  goes_on = elim (cases_lt r (length rest)) [
+    | inl lt ↦ (more lt).1
+    | inr le ↦ ended le ∙ sym (append-nil now) ∙ ap (λ l. now ++ with_inputs [] l) (sym (drop_all r rest le))
+  ]
+
   pub turned_full : length now ≡ 83 → list ≡ take (at + 83) list ++ with_inputs [] (drop r rest)
   turned_full full =
-      let front : take (at + 83) list ≡ take at list ++ now = take-add at 83 list ∙ ap (λ l. take at list ++ l) chunk_is in
-      elim (cases_lt r (length rest)) [
-        | inl lt ↦
-            is ∙ ap (λ l. take at list ++ l) (more lt).1 ∙ sym (append_assoc (take at list) now (with_inputs [] (drop r rest)))
-            ∙ ap (λ l. l ++ with_inputs [] (drop r rest)) (sym front)
-        | inr le ↦
-            is ∙ ap (λ l. take at list ++ l) (ended le) ∙ sym front ∙ sym (append-nil (take (at + 83) list))
-            ∙ ap (λ l. take (at + 83) list ++ with_inputs [] l) (sym (drop_all r rest le))
-      ]
+      is ∙ ap (λ l. take at list ++ l) goes_on ∙ sym (append_assoc (take at list) now (with_inputs [] (drop r rest)))
+      ∙ ap (λ l. l ++ with_inputs [] (drop r rest)) (sym (take-add at 83 list ∙ ap (λ l. take at list ++ l) chunk_is))
 
   pub within_full : length now ≡ 83 → at + 83 ≤ length list
-  within_full full = omega (arith, ap length is, length-append (take at list) (with_inputs tail rest), size, full, at_least)
-    where
-      at_least : length now ≤ length (with_inputs tail rest)
-      at_least = elim (cases_lt r (length rest)) [
-        | inl lt ↦ omega (arith, ap length (more lt).1, length-append now (with_inputs [] (drop r rest)))
-        | inr le ↦ omega (arith, ap length (ended le))
-      ]
+  within_full full = omega (arith, ap length is, length-append (take at list) (with_inputs tail rest), size, full, ap length goes_on, length-append now (with_inputs [] (drop r rest)))
 
   all_done : length now < 83 → length rest ≤ r
   all_done less = elim (cases_lt r (length rest)) [
@@ -135,21 +127,14 @@ written_to full full' done r now tail' (inr p) some more = omega (arith, p.1, ap
 
 -- ---- the end
 
-pub packed : (first full : ℕ) (list tail : List StoredEntry) (rest : List Entry) → Turned first full list tail rest → length rest ≡ 0 → HasPacked first list full tail
-packed first full list tail [] t none = record { later = t.later; short = t.short; good = t.good; within = t.within; is = t.is }
-packed first full list tail (e ∷ rest) t none = absurd (omega arith)
-
 -- the sectors behind are blank in both
 pub same_behind : (s : List (List ℕ)) (first full done : ℕ) (list tail0 tail : List StoredEntry) → HasPacked first list full tail → 0 < length list → 0 < done → length tail0 < 83 → first + 1 ≤ length s
     → BlankFrom s (1 + first + sectors_for (length tail0)) → (k : ℕ) → full + 1 + min (sectors_for (length tail)) done ≤ k → sector_at (grown_image first list s) k ≡ sector_at s k
 same_behind s first full done list tail0 tail p some more short within blank_after k le = elim (cases_lt k (length s)) [
   | inl less ↦
       let size : length list ≡ 83 * (full - first) + length tail = omega (arith, ap length p.is, length-append (take (83 * (full - first)) list) tail, length-take-le (83 * (full - first)) list p.within) in
-      let e : first + 1 + (k - (first + 1)) ≡ k = omega (arith, le, p.later) in
       let past : length list ≤ 83 * (k - (first + 1)) = omega (arith, size, le, p.later, p.short, more) in
       let from : 1 + first + sectors_for (length tail0) ≤ k = omega (arith, size, le, p.later, p.short, more, some, short) in
-      ap (sector_at (grown_image first list s)) (sym e) ∙ grown_after first list s within (k - (first + 1)) (omega (arith, e, less))
-      ∙ ap (λ l. list_sector (first + 1 + (k - (first + 1))) (take 83 l)) (drop_all (83 * (k - (first + 1))) list past)
-      ∙ none_is_blank (first + 1 + (k - (first + 1))) ∙ sym (blank_after k from less)
-  | inr over ↦ beyond (grown_image first list s) k (omega (arith, over, length-grown first list s within)) ∙ sym (beyond s k over)
+      grown_past first list s within k (omega (arith, le, p.later)) past less ∙ sym (blank_after k from less)
+  | inr over ↦ get_or_past (grown_image first list s) k [] (omega (arith, over, length-grown first list s within)) ∙ sym (get_or_past s k [] over)
 ]

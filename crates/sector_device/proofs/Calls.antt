@@ -1,21 +1,18 @@
 -- The calls of a device in memory keep the promises of `SectorDevice`.
-use Rattle.std.proofs.Common.{◌≡◌, ◌<◌, ℕ, zero, suc, List, length, Bool, true, false, nat_eq, refl, sym, ap, ◌∙◌, Result, Ok, Err, OnOk, ltb-true}
+use Rattle.std.proofs.Common.{◌≡◌, ◌<◌, ℕ, zero, suc, List, length, Bool, true, false, nat_eq, refl, sym, ap, ◌∙◌, Result, Ok, Err, ltb-true}
 use Rattle.std.proofs.lemmas.Bool.{and_parts}
 use Rattle.std.specs.Prelude.{◌&&◌, IsTrue, replicate, is_ok, if◌then◌else◌, ◌++◌, ◌∷◌, [], not, ◌||◌}
-use Rattle.sector_device.specs.DiskState.{HasRead, HasWritten, HasSynced, sector_at}
+use Rattle.sector_device.specs.DiskState.{HasWritten, HasSynced}
 use Rattle.sector_device.specs.Records.{replayed, is_sector, are_sectors, is_recordable, are_recordable}
 use Rattle.sector_device.specs.RecordLaws.{sound}
-use Rattle.sector_device.specs.Memory.{MemoryState, memory_disk, fuse_fails, passes, has_room, call_counted, failed, with_record, done_or_failed, read_called, write_called, sync_called}
+use Rattle.sector_device.specs.Memory.{MemoryState, memory_disk, fuse_fails, passes, has_room, call_counted, failed, with_record, done_or_failed, write_called, sync_called}
 use Rattle.sector_device.specs.declared.recorded.Recorded.{Recorded}
 use Rattle.sector_device.specs.declared.recorded.Recorded.TheVariants.{Write, Sync}
-use Rattle.sector_device.proofs.Record.{wrote, lost_write, synced, lost_sync, read, no_write, no_sync}
-
-true_is_false : true ≡ false → ⊥
-true_is_false e = cc
+use Rattle.sector_device.proofs.Record.{wrote, lost_write, synced, lost_sync, no_write, no_sync}
 
 no_room : (p : Bool) → true ≡ (p && false) → ⊥
-no_room true e = true_is_false e
-no_room false e = true_is_false e
+no_room true e = cc
+no_room false e = cc
 
 module _ {E : Type 0} (m : MemoryState) where
   -- a write
@@ -30,11 +27,11 @@ module _ {E : Type 0} (m : MemoryState) where
           else failed (call_counted m))) r
       go fused fails keeps false (Ok u) e = absurd (no_room (not fused && not fails) e)
       go fused fails keeps false (Err x) e = no_write (Unit {0}) tt m.at_start m.recorded m.faults (failed m).faults at bytes x
-      go true fails keeps true (Ok u) e = absurd (true_is_false e)
+      go true fails keeps true (Ok u) e = absurd (cc)
       go true fails keeps true (Err x) e = lost_write (Unit {0}) tt m.at_start m.recorded m.faults (failed m).faults at bytes x
       go false false keeps true r e = wrote (Unit {0}) tt m.at_start m.recorded m.faults m.faults at bytes r
       go false true true true r e = wrote (Unit {0}) tt m.at_start m.recorded m.faults (failed m).faults at bytes r
-      go false true false true (Ok u) e = absurd (true_is_false e)
+      go false true false true (Ok u) e = absurd (cc)
       go false true false true (Err x) e = lost_write (Unit {0}) tt m.at_start m.recorded m.faults (failed m).faults at bytes x
 
   -- a sync
@@ -47,8 +44,8 @@ module _ {E : Type 0} (m : MemoryState) where
       go p false (Ok u) e = absurd (no_room p e)
       go p false (Err x) e = no_sync (Unit {0}) tt m.at_start m.recorded m.faults (failed m).faults x
       go true true (Ok u) e = synced (Unit {0}) tt m.at_start m.recorded m.faults m.faults (Ok u) tt
-      go true true (Err x) e = absurd (true_is_false (sym e))
-      go false true (Ok u) e = absurd (true_is_false e)
+      go true true (Err x) e = absurd (cc)
+      go false true (Ok u) e = absurd (cc)
       go false true (Err x) e = lost_sync (Unit {0}) tt m.at_start m.recorded m.faults (failed m).faults x
 
 -- what stood at the start stays

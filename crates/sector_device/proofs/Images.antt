@@ -1,9 +1,9 @@
 -- The image that a record and a choice of its writes give.
 use Rattle.std.proofs.Common.{◌≡◌, ◌<◌, ◌+◌, ℕ, zero, suc, List, [], ◌∷◌, ◌++◌, length, take, drop, get_or, set, Bool, true, false, if◌then◌else◌, refl, sym, ap, ◌∙◌, subst, arith, length-set}
 use Rattle.std.specs.Prelude.{◌&&◌, IsTrue}
-use Rattle.std.proofs.Math.Seq.{take-suc, drop-cons}
+use Rattle.std.proofs.Math.Seq.{take-suc}
 use Rattle.std.proofs.lemmas.Bool.{and_parts}
-use Rattle.std.proofs.lemmas.List.{take-append-drop, append-nil, append_assoc, get_or-drop, length-drop}
+use Rattle.std.proofs.lemmas.List.{drop_more, take-append-drop, append-nil, append_assoc, get_or-drop, length-drop}
 use Rattle.sector_device.specs.Records.{Replayed, after, after_all, replayed, cut, writes_in, reads_after_all, is_done_sync, IsLastSync, are_recordable}
 use Rattle.sector_device.specs.declared.recorded.Recorded.{Recorded}
 use Rattle.sector_device.specs.declared.recorded.Recorded.TheVariants.{Write, Sync}
@@ -18,13 +18,10 @@ reads_of_all : (d : Replayed) (xs : List Recorded) → (after_all d xs).reads �
 reads_of_all d [] = refl
 reads_of_all d (x ∷ xs) = reads_of_all (after d x) xs ∙ ap (λ (s : List (List ℕ)). reads_after_all s xs) (reads_of_after d x)
 
-true_is_false : true ≡ false → ⊥
-true_is_false e = cc
-
 after_done : (d : Replayed) (c : Recorded) → is_done_sync c ≡ true → after d c ≡ record { synced = d.reads; writes = []; reads = d.reads }
-after_done d (Write at bytes kept) e = absurd (true_is_false (sym e))
+after_done d (Write at bytes kept) e = absurd (cc)
 after_done d (Sync true) e = refl
-after_done d (Sync false) e = absurd (true_is_false (sym e))
+after_done d (Sync false) e = absurd (cc)
 
 abbrev settled_replay : Replayed → Type 0
 settled_replay d = (d.synced ≡ d.reads) × (d.writes ≡ [])
@@ -42,7 +39,7 @@ settled_at a calls (suc k) l =
 
 not_done : (d : Replayed) (c : Recorded) → is_done_sync c ≡ false → ((after d c).synced ≡ d.synced) × ((after d c).writes ≡ d.writes ++ writes_in (c ∷ []))
 not_done d (Write at bytes kept) e = (refl, refl)
-not_done d (Sync true) e = absurd (true_is_false e)
+not_done d (Sync true) e = absurd (cc)
 not_done d (Sync false) e = (refl, sym (append-nil d.writes))
 
 writes_cons : (c : Recorded) (ys : List Recorded) → writes_in (c ∷ []) ++ writes_in ys ≡ writes_in (c ∷ ys)
@@ -88,9 +85,7 @@ recordable_split n k calls all = recordable_parts n (take k calls) (drop k calls
 -- ---- a turn of the loop that applies chosen writes
 
 drop_next : (calls : List Recorded) (i : ℕ) (d x : Recorded) → i < length calls → get_or calls i d ≡ x → drop i calls ≡ x ∷ drop (i + 1) calls
-drop_next calls i d x lt e =
-    let n : suc i ≡ i + 1 = omega arith in
-    drop-cons calls i d lt ∙ ap (λ (y : Recorded). y ∷ drop (suc i) calls) e ∙ ap (λ (k : ℕ). x ∷ drop k calls) n
+drop_next calls i d x lt e = drop_more calls i d lt ∙ ap (λ (y : Recorded). y ∷ drop (i + 1) calls) e
 
 chosen_step : (s : List (List ℕ)) (ws : List (ℕ × List ℕ)) (kept : List Bool) (j at : ℕ) (bytes : List ℕ)
     → cut s ((at, bytes) ∷ ws) (drop j kept) ≡ cut (if get_or kept j false then set s at bytes else s) ws (drop (suc j) kept)

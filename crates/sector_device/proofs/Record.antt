@@ -2,7 +2,7 @@
 use Rattle.std.proofs.Common.{◌≡◌, inl, inr, ⊎_elim, ℕ, ◌+◌, List, [], ◌∷◌, ◌++◌, length, set, Bool, true, false, refl, sym, ap, ◌∙◌, subst, arith, Result, Ok, Err, OnOk, OnErr}
 use Rattle.std.proofs.lemmas.Bool.{cases_lt}
 use Rattle.std.proofs.lemmas.List.{take-append-le, take_all, length_push}
-use Rattle.sector_device.specs.DiskState.{DiskState, NoLostImage, Replaces, MayBeReplaced, Settled, KeepsHonesty, HasRead, HasWritten, HasSynced, sector_at}
+use Rattle.sector_device.specs.DiskState.{DiskState, NoLostImage, Replaces, MayBeReplaced, Settled, KeepsHonesty, HasWritten, HasSynced, sector_at}
 use Rattle.sector_device.specs.Records.{Replayed, after, after_all, replayed, cut, IsCutOf, recorded_disk, reads_after}
 use Rattle.sector_device.specs.RecordLaws.{within}
 use Rattle.sector_device.specs.declared.recorded.Recorded.{Recorded}
@@ -124,9 +124,6 @@ module _ (H : Type 0) (honest : H) (at_start : List (List ℕ)) (calls : List Re
     time = record { later = omega arith; each = λ t c le since. inl since };
     past = λ t c le since. since;
   }
-
-  pub read : {E : Type 0} (at : ℕ) (bytes : List ℕ) (r : Result Unit E) → OnOk r (bytes ≡ sector_at d.reads at) → HasRead at bytes was same r
-  read at bytes r is = record { goes = stays; bytes_are = is; sectors = refl; images = λ c i. i; kept = λ c i. i }
 
   pub no_write : {E : Type 0} (at : ℕ) (bytes : List ℕ) (e : E) → HasWritten at bytes was same (Err e)
   no_write at bytes e = record { goes = stays; written = tt; old_or_new = inl refl; images = λ c i. (c, i, inl refl); kept = λ c i. i; replaced = tt }

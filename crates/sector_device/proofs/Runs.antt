@@ -1,9 +1,8 @@
 -- How a run of device calls goes on, one lemma for each call.
-use Rattle.std.proofs.Common.{◌≡◌, ◌↔◌, inl, inr, ⊎_elim, ℕ, ◌≤◌, ◌<◌, ◌+◌, List, [], length, set, refl, sym, ap, ◌∙◌, subst, arith, length-set, Result, Ok, Err, ◌-◌, ◌^◌}
+use Rattle.std.proofs.Common.{◌≡◌, ◌↔◌, inl, inr, ⊎_elim, ℕ, ◌≤◌, ◌<◌, ◌+◌, List, [], length, set, refl, sym, ap, ◌∙◌, subst, arith, length-set, Result, Ok, Err, OnOk, IsOk, ◌-◌}
 use Rattle.std.proofs.lemmas.Bool.{cases_eq, cases_lt}
 use Rattle.std.proofs.lemmas.List.{get_or-set_same, get_or-set_other, ext_get_or}
-use Rattle.std.specs.Prelude.{IsErr}
-use Rattle.sector_device.specs.DiskState.{DiskState, Throughout, Remembers, KeepsHonesty, HasRead, HasWritten, HasSynced, sector_at, CountsFaults, HasCause}
+use Rattle.sector_device.specs.DiskState.{DiskState, Settled, Throughout, Remembers, KeepsHonesty, HasCalled, HasRead, HasWritten, HasSynced, sector_at}
 use Rattle.sector_device.specs.Runs.{HoldsThroughout, HoldsSince, Mixed, WrittenUpTo}
 
 abbrev Images : Type 1
@@ -64,14 +63,14 @@ pub throughout_weaker : {old new : DiskState} {P Q : List (List ℕ) → Type 0}
 throughout_weaker t to = record { later = t.later; each = λ m c le since. ⊎_elim (λ before. inl before) (λ p. inr (to c p)) (t.each m c le since) }
 
 -- one sector more is written
-pub written_more : (old new image : List (List ℕ)) (n : ℕ) (bytes : List ℕ) → n < length old → bytes ≡ sector_at new n → WrittenUpTo old new n image → WrittenUpTo old new (n + 1) (set image n bytes)
-written_more old new image n bytes within is w = record {
-  size = length-set image n bytes ∙ w.size;
-  done = λ k le. elim (cases_eq k n) [
-    | inl here ↦ ap (sector_at (set image n bytes)) here ∙ get_or-set_same image n bytes [] (omega (arith, w.size)) ∙ is ∙ ap (sector_at new) (sym here)
-    | inr other ↦ get_or-set_other image n k bytes [] other ∙ w.done k (omega arith)
+pub written_more : (old new before after : List (List ℕ)) (n next : ℕ) (bytes : List ℕ) → n < length old → bytes ≡ sector_at new n → after ≡ set before n bytes → n + 1 ≡ next → WrittenUpTo old new n before → WrittenUpTo old new next after
+written_more old new before after n next bytes within is put more w = record {
+  size = ap length put ∙ length-set before n bytes ∙ w.size;
+  done = λ k le. ap (λ s. sector_at s k) put ∙ elim (cases_eq k n) [
+    | inl here ↦ ap (sector_at (set before n bytes)) here ∙ get_or-set_same before n bytes [] (omega (arith, w.size)) ∙ is ∙ ap (sector_at new) (sym here)
+    | inr other ↦ get_or-set_other before n k bytes [] other ∙ w.done k (omega arith)
   ];
-  left = λ k le. get_or-set_other image n k bytes [] (λ same. omega arith) ∙ w.left k (omega arith);
+  left = λ k le. ap (λ s. sector_at s k) put ∙ get_or-set_other before n k bytes [] (λ same. omega arith) ∙ w.left k (omega arith);
 }
 
 -- the rest is as it is to be
@@ -94,8 +93,36 @@ each_since {old} only t here c since = ⊎_elim (λ was. here c (only c was)) (�
 pub holds_since : {old new : DiskState} {P : List (List ℕ) → Type 0} → ((c : List (List ℕ)) → old.since old.moment c → old.image c) → Throughout old new P → Remembers old new → ((c : List (List ℕ)) → old.image c → P c) → HoldsSince old new P
 holds_since only t past here = record { each = each_since only t here; moments = t; past = past }
 
+-- one image was left at the start, and each since has sectors of it and of another
+pub since_mixed : {old now : DiskState} {P : List (List ℕ) → Type 0} (new : List (List ℕ)) → ((c : List (List ℕ)) → old.since old.moment c → old.image c) → Settled old → HoldsThroughout old now (Mixed old.sectors new) (Mixed old.sectors new)
+    → ((c : List (List ℕ)) → Mixed old.sectors new c → P c) → HoldsSince old now P
+since_mixed {old} new only settled held to = holds_since only (throughout_weaker held.throughout to) held.past (λ c i. to c (subst (Mixed old.sectors new) (sym (settled c i)) (mixed_old old.sectors new)))
+
+-- and nothing was done
+pub since_settled : {old : DiskState} {P : List (List ℕ) → Type 0} → ((c : List (List ℕ)) → old.since old.moment c → old.image c) → Settled old → P old.sectors → HoldsSince old old P
+since_settled {old} {P} only settled p = holds_since only (record { later = omega arith; each = λ t c le since. inl since }) (λ t c le since. since) (λ c i. subst P (sym (settled c i)) p)
+
 -- ---- honesty
 
 -- one equivalence after another
 pub both_then : {A B C : Type 0} → A ↔ B → B ↔ C → A ↔ C
 both_then p q = (λ a. q.0 (p.0 a), λ c. p.1 (q.1 c))
+
+-- each call of a run succeeded
+pub record AllWell (start now : DiskState) : Type 0 where
+  pub count : length now.sectors ≡ length start.sectors
+  pub faults : now.faults ≡ start.faults
+  pub honest : now.honest ↔ start.honest
+
+pub one_more : {E : Type 0} {u : Unit {0}} {start mid now : DiskState} → AllWell start mid → HasCalled {E = E} mid now (Ok u) → AllWell start now
+one_more w called = record { count = called.count ∙ w.count; faults = called.faults.ok ∙ w.faults; honest = both_then called.honest w.honest }
+
+-- ---- of a result that is known later
+
+pub on_ok : {T E : Type 0} {P : Type 0} (r : Result T E) → (IsOk r → P) → OnOk r P
+on_ok (Ok v) p = p refl
+on_ok (Err e) p = tt
+
+pub ok_of : {T E : Type 0} {P : Type 0} (r : Result T E) → IsOk r → OnOk r P → P
+ok_of (Ok v) ok p = p
+ok_of (Err e) ok p = absurd (cc)

@@ -6,12 +6,6 @@ use Rattle.input_entries.specs.Growing.{with_inputs, last_of}
 use Rattle.input_entries.proofs.MoreInputs.{next_input, five_more}
 use Rattle.input_entries.proofs.growing.grown_length.Goals as goal
 
-pub overflow_add-count : goal.overflow_add-count
-overflow_add-count c =
-    let long : length c.args.more.now < 2 ^ 63 = search rules in
-    let short : length c.args.entries.now < 2 ^ 63 = search rules in
-    omega (arith, long, short, c.loop-input.invariant.few, c.grow-count.ensures.few, c.loop-input-test.true)
-
 pub loop-input-preserved : goal.loop-input-preserved
 loop-input-preserved c =
     let es = c.args.more.now in
@@ -25,9 +19,3 @@ loop-input-preserved c =
       few = omega (arith, c.loop-input.invariant.few, c.grow-count.ensures.few);
       five = five_more es i d c.loop-input-test.true c.loop-input.invariant.five c.grow-count.ensures.five;
     }
-
-pub returns-clause-five : goal.returns-clause-five
-returns-clause-five c = subst AllFive (take_all c.loop-input.input-index c.args.more.now c.loop-input-test.false) c.loop-input.invariant.five
-
-pub returns-clause-length : goal.returns-clause-length
-returns-clause-length c = c.loop-input.invariant.count ∙ ap (λ l. length (with_inputs c.args.entries.now l)) (take_all c.loop-input.input-index c.args.more.now c.loop-input-test.false)

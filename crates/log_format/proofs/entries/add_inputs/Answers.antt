@@ -53,6 +53,3 @@ returns-clause-items c =
     let count : c.len.result ≡ length log = search rules in
     let end : take c.loop-input.input-index es ≡ es = take_all c.loop-input.input-index es c.loop-input-test.false in
     c.loop-input.invariant.items ∙ ap (λ l. take n log ++ with_inputs (drop n log) l) end ∙ grown_by log es n (omega (arith, count))
-
-pub returns-clause-five : goal.returns-clause-five
-returns-clause-five c = subst AllFive (take_all c.loop-input.input-index c.args.more.now c.loop-input-test.false) c.loop-input.invariant.five

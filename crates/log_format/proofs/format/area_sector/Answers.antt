@@ -11,5 +11,5 @@ returns c =
     let blob = c.args.blob.now in
     let from = 512 * (c.args.index - 32) in
     c.padded_sector-2.ensures
-    ∙ ap padded (part_is blob from c.min-to.result c.min-to.ensures)
+    ∙ ap padded (part_is 512 blob from c.min-to.result c.min-to.ensures)
     ∙ sym (fresh_blob_at c.args.index blob c.if-index-lt-LOG_SECTORS_PER_AREA.false c.requires.within)

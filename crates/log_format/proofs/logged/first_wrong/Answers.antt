@@ -24,8 +24,3 @@ loop-index-preserved c =
       rest = c.loop-index.invariant.rest ∙ wrong_next c.args.log.now i c.loop-index.before c.inputs_of-inputs.result (record { code = [] }) c.loop-index-test.true c.inputs_of-inputs.ensures some few;
       bound = few;
     }
-
-pub returns : goal.returns
-returns c =
-    let i = c.loop-index.index in
-    sym (c.loop-index.invariant.rest ∙ ap (wrong_from i c.loop-index.before) (drop_all i c.args.log.now c.loop-index-test.false))

@@ -1,7 +1,8 @@
 use Rattle.std.proofs.Common.{◌≡◌, [], length, get_or, ap, ◌∙◌, arith}
 use Rattle.std.proofs.lemmas.List.{take_all}
 use Rattle.input_entries.specs.Inputs.{inputs, inputs_in}
-use Rattle.recording.proofs.ListBytes.{few_inputs, inputs_more, counts_all}
+use Rattle.input_entries.proofs.Meanings.{counts_all}
+use Rattle.recording.proofs.ListBytes.{few_inputs, inputs_more}
 use Rattle.recording.proofs.packing.count_inputs.Goals as goal
 
 pub overflow_add-count : goal.overflow_add-count
@@ -22,6 +23,3 @@ loop-entry-preserved c =
       count = omega (arith, c.loop-entry.invariant.count, one, inputs_more es i (record { code = [] }) c.loop-entry-test.true);
       few = omega (arith, one, few_inputs s, c.loop-entry.invariant.few);
     }
-
-pub returns-clause-count : goal.returns-clause-count
-returns-clause-count c = c.loop-entry.invariant.count ∙ ap (λ l. length (inputs l)) (take_all c.loop-entry.entry-index c.args.entries.now c.loop-entry-test.false)

@@ -4,10 +4,6 @@ use Rattle.input_entries.specs.Bytes.{zeros}
 use Rattle.recording.specs.Format.{is_head}
 use Rattle.recording.proofs.parse.is_head.Goals as goal
 
-pub returns-then-not-begins_with : goal.returns-then-not-begins_with
-unfolding is_head
-returns-then-not-begins_with c = sym (ap (λ (b : Bool). b && zeros (drop 44 c.args.sector.now)) (sym c.begins_with.ensures ∙ c.if-not-begins_with.true))
-
 pub returns : goal.returns
 unfolding is_head
 returns c =

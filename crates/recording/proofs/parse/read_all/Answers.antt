@@ -21,8 +21,3 @@ loop-i-preserved c =
           ∙ sym (entries_more i (drop 10 sector));
       capacity = omega (arith, c.loop-i.invariant.capacity, c.push_reserved.ensures.capacity);
     }
-
-pub returns-clause-items : goal.returns-clause-items
-returns-clause-items c =
-    let end : c.loop-i.i ≡ c.args.count = omega (arith, c.loop-i.auto, c.loop-i-test.false) in
-    c.loop-i.invariant.items ∙ ap (λ n. entries_from n (drop 10 c.args.sector.now)) end

@@ -2,7 +2,7 @@ use Rattle.std.proofs.Common.{rules, ◌≡◌, inl, inr, length, sym, ap, ◌�
 use Rattle.std.proofs.lemmas.Bool.{cases_eq}
 use Rattle.sector_device.specs.DiskState.{sector_at}
 use Rattle.sector_device.proofs.Looking.{looked_read, looked_then}
-use Rattle.sector_device.proofs.Runs.{both_then}
+use Rattle.sector_device.proofs.Runs.{one_more}
 use Rattle.recording.proofs.Beginning.{blank_of_zeros}
 use Rattle.recording.proofs.reading.is_blank.Goals as goal
 
@@ -10,9 +10,7 @@ pub loop-at-preserved : goal.loop-at-preserved
 loop-at-preserved g c =
     let old = g.D.SectorDevice.disk c.args.device.now in
     record {
-      count = c.read.ensures.called.count ∙ c.loop-at.invariant.count;
-      faults = c.in_ok-read.ensures.called.faults.ok ∙ c.loop-at.invariant.faults;
-      honest = both_then c.read.ensures.called.honest c.loop-at.invariant.honest;
+      called = one_more c.loop-at.invariant.called c.in_ok-read.ensures.called;
       looked = λ honest. let looked = c.loop-at.invariant.looked honest in looked_then looked (looked_read (c.read.ensures.read looked.honest));
       blank = λ honest k le. elim (cases_eq k c.loop-at.at) [
         | inl here ↦

@@ -2,6 +2,7 @@ use Rattle.std.proofs.Common.{◌≡◌, ◌↔◌, ◌<◌, ℕ, length}
 use Rattle.sector_device.specs.DiskState.{sector_at}
 use Rattle.sector_device.specs.Looking.{LooksOnly}
 use Rattle.recording.specs.Format.{blank}
+use Rattle.sector_device.proofs.Runs.{AllWell}
 use Rattle.recording.proofs.reading.is_blank.Given as goal
 
 abbrev pub invariant-loop-at : goal.invariant-loop-at
@@ -9,9 +10,7 @@ invariant-loop-at g l =
     let start = g.D.SectorDevice.disk l.fn.device in
     let now = g.D.SectorDevice.disk l.device in
     record {
-      count : length now.sectors ≡ length start.sectors;
-      faults : now.faults ≡ start.faults;
-      honest : now.honest ↔ start.honest;
+      called : AllWell start now;
       looked : start.honest → LooksOnly start now;
       blank : start.honest → (k : ℕ) → k < l.at → sector_at start.sectors k ≡ blank;
     }

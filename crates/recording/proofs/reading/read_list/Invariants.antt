@@ -4,6 +4,7 @@ use Rattle.sector_device.specs.Looking.{LooksOnly}
 use Rattle.input_entries.specs.Inputs.{inputs}
 use Rattle.recording.specs.Format.{entries_at, list_from}
 use Rattle.recording.specs.Sizes.{list_sectors}
+use Rattle.sector_device.proofs.Runs.{AllWell}
 use Rattle.recording.proofs.reading.read_list.Given as goal
 
 abbrev pub invariant-loop-full : goal.invariant-loop-full
@@ -11,9 +12,7 @@ invariant-loop-full g l =
     let start = g.D.SectorDevice.disk l.fn.device in
     let now = g.D.SectorDevice.disk l.device in
     record {
-      count : length now.sectors ≡ length start.sectors;
-      faults : now.faults ≡ start.faults;
-      honest : now.honest ↔ start.honest;
+      called : AllWell start now;
       capacity : vec_capacity l.fn.tail ≤ vec_capacity l.tail;
       few : l.input_count ≤ 17928000 * l.full;
       looked : start.honest → LooksOnly start now;

@@ -2,6 +2,7 @@ use Rattle.std.proofs.Common.{◌≡◌, ◌↔◌, length}
 use Rattle.sector_device.specs.DiskState.{Settled}
 use Rattle.sector_device.specs.Runs.{HoldsThroughout, Mixed, WrittenUpTo}
 use Rattle.recording.specs.Keeping.{blanked}
+use Rattle.sector_device.proofs.Runs.{AllWell}
 use Rattle.recording.proofs.writes.clear_rest.Given as goal
 
 abbrev pub invariant-loop-at : goal.invariant-loop-at
@@ -10,9 +11,7 @@ invariant-loop-at g l =
     let now = g.D.SectorDevice.disk l.device in
     let new = blanked l.from start.sectors in
     record {
-      count : length now.sectors ≡ length start.sectors;
-      faults : now.faults ≡ start.faults;
-      honest : now.honest ↔ start.honest;
+      called : AllWell start now;
       moments : start.honest → Settled start → HoldsThroughout start now (Mixed start.sectors new) (Mixed start.sectors new);
       written : start.honest → Settled start → WrittenUpTo start.sectors new l.at now.sectors;
     }

@@ -4,6 +4,7 @@ use Rattle.sector_device.specs.Runs.{HoldsThroughout, Mixed, WrittenUpTo}
 use Rattle.input_entries.specs.Growing.{with_inputs}
 use Rattle.recording.specs.Keeping.{AreGood, grown_image}
 use Rattle.recording.specs.Sizes.{sectors_for}
+use Rattle.sector_device.proofs.Runs.{AllWell}
 use Rattle.recording.proofs.writes.write_inputs.Given as goal
 
 abbrev pub invariant-loop-done : goal.invariant-loop-done
@@ -13,9 +14,7 @@ invariant-loop-done g l =
     let list = with_inputs l.initial.tail.items l.more in
     let new = grown_image l.initial.full list start.sectors in
     record {
-      count : length now.sectors ≡ length start.sectors;
-      faults : now.faults ≡ start.faults;
-      honest : now.honest ↔ start.honest;
+      called : AllWell start now;
       capacity : vec_capacity l.initial.tail ≤ vec_capacity l.tail;
       later : l.initial.full ≤ l.full;
       short : length l.tail.items < 83;

@@ -1,5 +1,5 @@
 use Rattle.std.proofs.Common.{rules, ◌≡◌, ◌<◌, ◌+◌, ◌-◌, ◌*◌, ◌++◌, ℕ, List, length, take, drop, sym, ap, ◌∙◌, arith, append_assoc, length-append, length-take}
-use Rattle.sector_device.proofs.Runs.{both_then}
+use Rattle.sector_device.proofs.Runs.{one_more}
 use Rattle.std.specs.List.{flat_map}
 use Rattle.sector_device.specs.DiskState.{sector_at}
 use Rattle.sector_device.proofs.Looking.{looked_read, looked_then}
@@ -16,9 +16,7 @@ loop-index-preserved g c =
     let less : index < c.args.room = omega (arith, c.loop-index-test.true, c.requires.size) in
     let pushed : c.push_bytes.new.blob.items ≡ c.loop-index.blob.items ++ take c.min-part.result bytes = c.push_bytes.ensures.items in
     record {
-      count = c.read.ensures.called.count ∙ c.loop-index.invariant.count;
-      faults = c.in_ok-read.ensures.called.faults.ok ∙ c.loop-index.invariant.faults;
-      honest = both_then c.read.ensures.called.honest c.loop-index.invariant.honest;
+      called = one_more c.loop-index.invariant.called c.in_ok-read.ensures.called;
       capacity = omega (arith, c.loop-index.invariant.capacity, c.push_bytes.ensures.capacity);
       done = omega (arith, ap length pushed, length-append c.loop-index.blob.items (take c.min-part.result bytes), length-take c.min-part.result bytes, long, c.loop-index.invariant.done, c.min-part.ensures, c.loop-index-test.true);
       looked = λ honest. let looked = c.loop-index.invariant.looked honest in looked_then looked (looked_read (c.read.ensures.read looked.honest));

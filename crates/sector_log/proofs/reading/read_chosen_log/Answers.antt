@@ -1,12 +1,18 @@
 use Rattle.std.proofs.Common.{◌≡◌, ◌≤◌, ◌+◌, ◌-◌, ◌*◌, ◌/◌, ◌%◌, Some, None, length, take, drop, true, false, sym, ap, ◌∙◌, subst, arith}
 use Rattle.sector_device.specs.DiskState.{Settled}
+use Rattle.sector_device.specs.Looking.{LooksOnly}
 use Rattle.log_format.specs.Log.{log_from}
 use Rattle.log_format.specs.Content.{chosen, area_length, area_start}
 use Rattle.sector_log.specs.Reading.{IsFound}
 use Rattle.sector_device.proofs.Looking.{looked_synced, looked_then, settled_looked}
 use Rattle.sector_log.proofs.Looking.{nothing_chosen, found_short, found_log}
 use Rattle.log_format.proofs.ContentLaw.{enough_sectors}
+use Rattle.sector_log.proofs.reading.read_chosen_log.Given.{Over}
+use Rattle.sector_log.proofs.reading.read_chosen_log.Goals.{In_ok-chosen}
 use Rattle.sector_log.proofs.reading.read_chosen_log.Goals as goal
+
+looked : (g : Over) (c : In_ok-chosen g) → (g.D.SectorDevice.disk c.args.device.now).honest → LooksOnly (g.D.SectorDevice.disk c.args.device.now) (g.D.SectorDevice.disk c.read_chosen.new.device)
+looked g c honest = let sync = c.in_ok-sync_once.ensures.synced honest in looked_then (looked_synced sync) (c.read_chosen.ensures.looked sync.goes.honest)
 
 pub returns-then-area-root-clause-found : goal.returns-then-area-root-clause-found
 returns-then-area-root-clause-found g c = λ honest.
@@ -23,21 +29,14 @@ returns-then-area-root-clause-found g c = λ honest.
     subst (λ l. IsFound s2 (Some c.in-Some.root) true l) (sym c.requires.empty) (found_short s2 c.in-Some.root settled many is (omega (arith, area, c.if-area-root.true)))
 
 pub returns-in_err-read_log-clause-looked : goal.returns-in_err-read_log-clause-looked
-returns-in_err-read_log-clause-looked g c = λ honest.
-    let sync = c.in_ok-sync_once.ensures.synced honest in
-    let looked = c.read_chosen.ensures.looked sync.goes.honest in
-    looked_then (looked_synced sync) (looked_then looked (c.read_log.ensures.looked looked.honest))
+returns-in_err-read_log-clause-looked g c = λ honest. let l = looked g (goal.at.returns-in_err-read_log-clause-looked g c).In_ok-chosen honest in looked_then l (c.read_log.ensures.looked l.honest)
 
 pub returns-clause-looked : goal.returns-clause-looked
-returns-clause-looked g c = λ honest.
-    let sync = c.in_ok-sync_once.ensures.synced honest in
-    let looked = c.read_chosen.ensures.looked sync.goes.honest in
-    looked_then (looked_synced sync) (looked_then looked (c.read_log.ensures.looked looked.honest))
+returns-clause-looked g c = λ honest. let l = looked g (goal.at.returns-clause-looked g c).In_ok-chosen honest in looked_then l (c.read_log.ensures.looked l.honest)
 
 pub returns-clause-found : goal.returns-clause-found
 returns-clause-found g c = λ honest.
     let s1 = g.D.SectorDevice.disk c.sync_once.new.device in
-    let s2 = g.D.SectorDevice.disk c.read_chosen.new.device in
     let s3 = g.D.SectorDevice.disk c.read_log.new.device in
     let root = c.in-Some.root in
     let sync = c.in_ok-sync_once.ensures.synced honest in
@@ -65,6 +64,4 @@ returns-in_default-clause-found g c = λ honest.
     subst (IsFound s2 None false) (sym c.requires.empty) (nothing_chosen s2 (settled_looked sync.settled looked) none)
 
 pub returns-then-area-root-clause-looked : goal.returns-then-area-root-clause-looked
-returns-then-area-root-clause-looked g c = λ honest.
-    let sync = c.in_ok-sync_once.ensures.synced honest in
-    looked_then (looked_synced sync) (c.read_chosen.ensures.looked sync.goes.honest)
+returns-then-area-root-clause-looked g c = looked g (goal.at.returns-then-area-root-clause-looked g c).In_ok-chosen

@@ -1,5 +1,5 @@
 use Rattle.std.proofs.Common.{◌≡◌, ◌+◌, take, drop, sym, ap, ◌∙◌, arith}
-use Rattle.sector_device.proofs.Runs.{both_then}
+use Rattle.sector_device.proofs.Runs.{one_more}
 use Rattle.sector_device.specs.DiskState.{sector_at}
 use Rattle.log_format.specs.Log.{log_from}
 use Rattle.sector_device.proofs.Looking.{looked_read, looked_then}
@@ -20,9 +20,7 @@ pub loop-index-preserved : goal.loop-index-preserved
 loop-index-preserved g c =
     let old = g.D.SectorDevice.disk c.args.device.now in
     record {
-      count = c.read.ensures.called.count ∙ c.loop-index.invariant.count;
-      faults = c.in_ok-read.ensures.called.faults.ok ∙ c.loop-index.invariant.faults;
-      honest = both_then c.read.ensures.called.honest c.loop-index.invariant.honest;
+      called = one_more c.loop-index.invariant.called c.in_ok-read.ensures.called;
       capacity = omega (arith, c.loop-index.invariant.capacity, c.read_entries.ensures.capacity);
       few = omega (arith, c.loop-index.invariant.few, c.read_entries.ensures.few);
       looked = λ honest. let looked = c.loop-index.invariant.looked honest in looked_then looked (looked_read (c.read.ensures.read looked.honest));

@@ -1,6 +1,7 @@
 use Rattle.std.proofs.Common.{◌≡◌, ◌↔◌, ◌≤◌, ◌*◌, ◌++◌, length, take, drop, vec_capacity}
 use Rattle.log_format.specs.Log.{log_from}
 use Rattle.sector_device.specs.Looking.{LooksOnly}
+use Rattle.sector_device.proofs.Runs.{AllWell}
 use Rattle.sector_log.proofs.reading.read_log.Given as goal
 
 abbrev pub invariant-loop-index : goal.invariant-loop-index
@@ -9,9 +10,7 @@ invariant-loop-index g l =
     let now = g.D.SectorDevice.disk l.device in
     let all = take 32 (drop l.start start.sectors) in
     record {
-      count : length now.sectors ≡ length start.sectors;
-      faults : now.faults ≡ start.faults;
-      honest : now.honest ↔ start.honest;
+      called : AllWell start now;
       capacity : vec_capacity l.fn.log ≤ vec_capacity l.log;
       few : length l.log.items ≤ 100 * l.index;
       looked : start.honest → LooksOnly start now;

@@ -1,7 +1,6 @@
-use Rattle.std.proofs.Common.{◌≡◌, ◌≤◌, ◌<◌, ◌+◌, length, sym, ◌∙◌, subst, arith}
-use Rattle.sector_device.proofs.Runs.{both_then}
+use Rattle.std.proofs.Common.{◌≡◌, ◌≤◌, ◌<◌, ◌+◌, length, sym, ◌∙◌, arith}
+use Rattle.sector_device.proofs.Runs.{one_more}
 use Rattle.sector_device.specs.DiskState.{sector_at}
-use Rattle.sector_device.specs.Runs.{WrittenUpTo}
 use Rattle.sector_device.proofs.Runs.{has_written, mixed_set, written_more, written_all}
 use Rattle.log_format.specs.Log.{fresh_area}
 use Rattle.sector_log.specs.Layout.{replaced}
@@ -31,16 +30,13 @@ loop-index-preserved g c =
     let within : at < length old = omega (arith, c.requires.room, c.loop-index-test.true) in
     let is : c.area_sector.result ≡ sector_at new at = c.area_sector.ensures ∙ sym (replaced_at c.args.start (fresh_area blob) old fit c.loop-index.index (omega (arith, length-fresh_area blob, c.loop-index-test.true))) in
     record {
-      count = c.write.ensures.called.count ∙ c.loop-index.invariant.count;
-      faults = c.in_ok-write.ensures.called.faults.ok ∙ c.loop-index.invariant.faults;
-      honest = both_then c.write.ensures.called.honest c.loop-index.invariant.honest;
+      called = one_more c.loop-index.invariant.called c.in_ok-write.ensures.called;
       moments = λ honest settled. let held = c.loop-index.invariant.moments honest settled in
           has_written held (c.write.ensures.written held.honest) (λ d mixed. mixed_set old new d at c.area_sector.result within is mixed);
       written = λ honest settled.
           let held = c.loop-index.invariant.moments honest settled in
-          let next : at + 1 ≡ c.args.start + (c.loop-index.index + 1) = omega arith in
-          let put = written_more old new (g.D.SectorDevice.disk c.loop-index.device).sectors at c.area_sector.result within is (c.loop-index.invariant.written honest settled) in
-          subst (λ n. WrittenUpTo old new n (g.D.SectorDevice.disk c.write.new.self).sectors) next (subst (WrittenUpTo old new (at + 1)) (sym ((c.in_ok-write.ensures).written held.honest).written) put);
+          written_more old new (g.D.SectorDevice.disk c.loop-index.device).sectors (g.D.SectorDevice.disk c.write.new.self).sectors at (c.args.start + (c.loop-index.index + 1)) c.area_sector.result within is
+          ((c.in_ok-write.ensures).written held.honest).written (omega arith) (c.loop-index.invariant.written honest settled);
     }
 
 pub returns-clause-written : goal.returns-clause-written

@@ -1,6 +1,7 @@
 use Rattle.std.proofs.Common.{◌≡◌, ◌↔◌, ◌+◌, length}
 use Rattle.sector_device.specs.DiskState.{Settled}
 use Rattle.sector_device.specs.Runs.{HoldsThroughout, Mixed, WrittenUpTo}
+use Rattle.sector_device.proofs.Runs.{AllWell}
 use Rattle.log_format.specs.Log.{fresh_area}
 use Rattle.sector_log.specs.Layout.{replaced}
 use Rattle.sector_log.proofs.writes.fill_area.Given as goal
@@ -11,9 +12,7 @@ invariant-loop-index g l =
     let now = g.D.SectorDevice.disk l.device in
     let new = replaced l.start (fresh_area l.blob) start.sectors in
     record {
-      count : length now.sectors ≡ length start.sectors;
-      faults : now.faults ≡ start.faults;
-      honest : now.honest ↔ start.honest;
+      called : AllWell start now;
       moments : start.honest → Settled start → HoldsThroughout start now (Mixed start.sectors new) (Mixed start.sectors new);
       written : start.honest → Settled start → WrittenUpTo start.sectors new (l.start + l.index) now.sectors;
     }

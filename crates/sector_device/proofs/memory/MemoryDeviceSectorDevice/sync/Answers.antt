@@ -1,4 +1,4 @@
-use Rattle.std.proofs.Common.{subst, sym, ap, ◌∙◌, Ok, Err, rules}
+use Rattle.std.proofs.Common.{◌≡◌, length, subst, sym, ap, ◌∙◌, Ok, Err, rules}
 use Rattle.sector_device.specs.DiskState.{HasSynced}
 use Rattle.sector_device.specs.Memory.{MemoryState, memory_disk, passes, call_counted}
 use Rattle.sector_device.specs.MemoryDevice.{memory}
@@ -6,18 +6,19 @@ use Rattle.sector_device.specs.declared.recorded.Recorded.TheVariants.{Sync}
 use Rattle.sector_device.specs.declared.device.DeviceFault.{DeviceFault}
 use Rattle.sector_device.specs.declared.device.DeviceFault.TheVariants.{Device}
 use Rattle.sector_device.proofs.Calls.{sync_meets, same_count, start_of_done}
+use Rattle.sector_device.specs.Records.{replayed}
+use Rattle.sector_device.proofs.memory.MemoryDeviceSectorDevice.sync.Goals.{After-sync_all}
 use Rattle.sector_device.proofs.memory.MemoryDeviceSectorDevice.sync.Goals as goal
 
-pub returns-then-sync_all-clause-called : goal.returns-then-sync_all-clause-called
-returns-then-sync_all-clause-called c =
+count : (c : After-sync_all) → length (replayed c.sync_all.new.self.at_start.items c.sync_all.new.self.recorded.items).reads ≡ length (replayed c.args.self.now.at_start.items c.args.self.now.recorded.items).reads
+count c =
     let old = c.args.self.now in
     let new = c.sync_all.new.self in
-    record {
-      count = same_count old.at_start.items new.at_start.items old.recorded.items new.recorded.items old.start_sized new.start_sized old.recordable new.recordable
-          (ap (λ (m : MemoryState). m.at_start) c.sync_all.ensures.state ∙ start_of_done (passes (memory old)) (Sync (passes (memory old))) (call_counted (memory old)));
-      honest = search rules;
-      faults = search rules;
-    }
+    same_count old.at_start.items new.at_start.items old.recorded.items new.recorded.items old.start_sized new.start_sized old.recordable new.recordable
+    (ap (λ (m : MemoryState). m.at_start) c.sync_all.ensures.state ∙ start_of_done (passes (memory old)) (Sync (passes (memory old))) (call_counted (memory old)))
+
+pub returns-then-sync_all-clause-called : goal.returns-then-sync_all-clause-called
+returns-then-sync_all-clause-called c = record { count = count (goal.at.returns-then-sync_all-clause-called c).After-sync_all; honest = search rules; faults = search rules }
 
 pub returns-then-sync_all-clause-synced : goal.returns-then-sync_all-clause-synced
 returns-then-sync_all-clause-synced c = λ _.
@@ -26,15 +27,7 @@ returns-then-sync_all-clause-synced c = λ _.
     (sync_meets old (Ok tt) (sym c.if-sync_all.true ∙ c.sync_all.ensures.passes))
 
 pub returns-else-sync_all-clause-called : goal.returns-else-sync_all-clause-called
-returns-else-sync_all-clause-called c =
-    let old = c.args.self.now in
-    let new = c.sync_all.new.self in
-    record {
-      count = same_count old.at_start.items new.at_start.items old.recorded.items new.recorded.items old.start_sized new.start_sized old.recordable new.recordable
-          (ap (λ (m : MemoryState). m.at_start) c.sync_all.ensures.state ∙ start_of_done (passes (memory old)) (Sync (passes (memory old))) (call_counted (memory old)));
-      honest = search rules;
-      faults = search rules;
-    }
+returns-else-sync_all-clause-called c = record { count = count (goal.at.returns-else-sync_all-clause-called c).After-sync_all; honest = search rules; faults = search rules }
 
 pub returns-else-sync_all-clause-synced : goal.returns-else-sync_all-clause-synced
 returns-else-sync_all-clause-synced c = λ _.

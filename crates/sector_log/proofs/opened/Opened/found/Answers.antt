@@ -18,9 +18,7 @@ returns-then-self-clause-seen g c =
 
 pub returns-then-self-clause-reads : goal.returns-then-self-clause-reads
 unfolding seen
-returns-then-self-clause-reads g c = λ honest.
-    let self = c.args.self.now in
-    returns-then-self-clause-seen g c ∙ found_with_is (g.D.SectorDevice.disk self.device) self.root self.too_small self.log.items (self.found honest)
+returns-then-self-clause-reads g c = λ honest. returns-then-self-clause-seen g c ∙ found_with_is (g.D.SectorDevice.disk c.args.self.now.device) c.args.self.now.root c.args.self.now.too_small c.args.self.now.log.items (c.args.self.now.found honest)
 
 pub returns-then-counted-root-clause-seen : goal.returns-then-counted-root-clause-seen
 unfolding seen
@@ -35,9 +33,7 @@ returns-then-counted-root-clause-seen g c =
 
 pub returns-then-counted-root-clause-reads : goal.returns-then-counted-root-clause-reads
 unfolding seen
-returns-then-counted-root-clause-reads g c = λ honest.
-    let self = c.args.self.now in
-    returns-then-counted-root-clause-seen g c ∙ found_with_is (g.D.SectorDevice.disk self.device) self.root self.too_small self.log.items (self.found honest)
+returns-then-counted-root-clause-reads g c = λ honest. returns-then-counted-root-clause-seen g c ∙ found_with_is (g.D.SectorDevice.disk c.args.self.now.device) c.args.self.now.root c.args.self.now.too_small c.args.self.now.log.items (c.args.self.now.found honest)
 
 pub returns-clause-seen : goal.returns-clause-seen
 unfolding seen
@@ -53,9 +49,7 @@ returns-clause-seen g c =
 
 pub returns-clause-reads : goal.returns-clause-reads
 unfolding seen
-returns-clause-reads g c = λ honest.
-    let self = c.args.self.now in
-    returns-clause-seen g c ∙ found_with_is (g.D.SectorDevice.disk self.device) self.root self.too_small self.log.items (self.found honest)
+returns-clause-reads g c = λ honest. returns-clause-seen g c ∙ found_with_is (g.D.SectorDevice.disk c.args.self.now.device) c.args.self.now.root c.args.self.now.too_small c.args.self.now.log.items (c.args.self.now.found honest)
 
 pub returns-in_default-clause-seen : goal.returns-in_default-clause-seen
 unfolding seen
@@ -63,6 +57,4 @@ returns-in_default-clause-seen g c = ap (λ (r : Option Root). found_with r c.ar
 
 pub returns-in_default-clause-reads : goal.returns-in_default-clause-reads
 unfolding seen
-returns-in_default-clause-reads g c = λ honest.
-    let self = c.args.self.now in
-    returns-in_default-clause-seen g c ∙ found_with_is (g.D.SectorDevice.disk self.device) self.root self.too_small self.log.items (self.found honest)
+returns-in_default-clause-reads g c = λ honest. returns-in_default-clause-seen g c ∙ found_with_is (g.D.SectorDevice.disk c.args.self.now.device) c.args.self.now.root c.args.self.now.too_small c.args.self.now.log.items (c.args.self.now.found honest)
