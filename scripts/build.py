@@ -25,7 +25,7 @@ RT, PROGRAM = os.environ.get('RT', 'rt'), 'gbkeep_program'
 BUILT = Path('bin/gbkeep')
 BYTES_A_JOB = 2_500_000_000
 # about how many seconds the proof of a crate takes, of those that take much longer than their text says; and the bytes that others do in one
-SECONDS = {'sm83_processor': 500, 'debugging': 500, 'gbkeep': 450, 'session': 250, 'command_line': 230, 'streaming': 210, 'replaying': 180,
+SECONDS = {'sm83_processor': 500, 'debugging': 500, 'gbkeep': 450, 'session': 250, 'command_line': 134, 'streaming': 210, 'replaying': 180,
            'recorded_play': 170, 'opcode_table': 160, 'test_run': 150}
 BYTES_A_SECOND = 1500
 # what a proof does not read

@@ -42,11 +42,14 @@ def with_n(text):
 def commands_of(texts):
     """Each command with its operands and the ranges of its numbers."""
     found = {}
-    for made, name in re.findall(r'^\w+ = (.*over_(?:cart|save) \(codes "([\w-]+)"\).*)$', texts[COMMANDS], re.M):
-        operands = ['CART'] + ['SAVE'] * ('over_save' in made) + re.findall(r'\((?:operand|number|optional_number|new_rule) \(codes "(\w+)"\)', made)
-        optional = re.findall(r'\((?:optional_number|new_rule) \(codes "(\w+)"\)', made)
-        ranges = [f'{int(least):,} to {int(most):,}' for least, most in re.findall(r'\) (\d+) (\d+)\)', made)]
-        found[name] = (tuple(f'[{one}]' if one in optional else one for one in operands), tuple(ranges))
+    for name, made in re.findall(r'usage \(codes "([\w-]+)"\) \((.*) ∷ \[\]\)', texts[COMMANDS]):
+        operands, ranges = [], []
+        for one in made.split(' ∷ '):
+            shown = one.replace('cart_operand', '"CART"').replace('save_operand', '"SAVE"')
+            operand = re.search(r'"(\w+)"', shown)[1]
+            operands.append(f'[{operand}]' if 'optional' in one else operand)
+            ranges += [f'{int(least):,} to {int(most):,}' for least, most in re.findall(r'\) (\d+) (\d+)', one)]
+        found[name] = (tuple(operands), tuple(ranges))
     return found
 
 
@@ -212,7 +215,7 @@ def deletions(texts):
             yield MAN, entry, ''
     for name in commands_of(texts):
         yield COMPLETION, f'{name} ' if f'{name} ' in texts[COMPLETION] else name, ''
-        yield COMMANDS, re.search(r'^\w+ = .*over_(?:cart|save) \(codes "%s"\).*\n' % name, texts[COMMANDS], re.M)[0], ''
+        yield COMMANDS, re.search(r'usage \(codes "%s"\).*\n' % name, texts[COMMANDS])[0], ''
     for path in FAULT_FILES:
         for line in re.findall(r'^ *#\[error\("[^"{][^"]*"\)\]\n', texts[path], re.M):
             # a line that another crate's table has too is not gone

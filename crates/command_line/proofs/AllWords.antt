@@ -1,36 +1,29 @@
 -- What the whole program makes of its words: it refuses all that ask for no request, and enters the command of all others.
-use Rattle.std.proofs.Common.{◌≡◌, ◌∙◌, ◌⊎◌, inl, inr, ℕ, Bool, true, false, refl, sym, ap, ap₂, arith, List, [], ◌∷◌, Option, Some, None, codes, subst, is_some, pos}
-use Rattle.std.specs.Prelude.{◌^◌, ◌<◌, FitsSigned, find, fold}
+use Rattle.std.proofs.Common.{rules, ◌≡◌, ◌∙◌, ◌⊎◌, inl, inr, ℕ, Bool, true, false, refl, sym, ap, ap₂, arith, List, [], ◌∷◌, ◌++◌, Option, Some, None, MatchOption, codes, cond, subst, is_some, map, ◌||◌, option_map, pos}
+use Rattle.std.specs.Prelude.{◌^◌, ◌<◌, FitsSigned, Err, Ok, Result, find, fold, ⊤}
 use Rattle.std.specs.Int.{w64}
+use Rattle.std.specs.List.{AllByRecursion, list_all}
+use Rattle.std.specs.Option.{option_map_or, option_or}
+use Rattle.std.specs.Result.{IsErrAnd}
 use Rattle.std.specs.Str.{bytes_eq}
-use Rattle.std.specs.List.{list_all}
 use Rattle.std.proofs.lemmas.Int.{ints}
 use Rattle.std.proofs.lemmas.Slice.Eq.{bytes_eq-Decides}
-use Rattle.clap.specs.Faults.{check_fault, defaults_fault, entered_fault, fault_of, level_fault, settle_fault, step_fault, walk_fault}
+use Rattle.clap.specs.Faults.{is_simple_and_free, check_fault, defaults_fault, entered_fault, fault_of, level_fault, settle_fault, walk_fault}
 use Rattle.clap.specs.Kinds.{Kinds, or_else}
-use Rattle.clap.specs.Simple.{App, Shape, built, entered, label_of, names_of, subcommand_of}
+use Rattle.clap.specs.Simple.{App, Shape, built, built_leaf, entered, help_shape, label_of, names_of, subcommand_of}
 use Rattle.clap.specs.Values.{Accepts}
-use Rattle.clap.specs.Walk.{Held, Names, Row, Step, Text, Walk, finished, idle, nothing_held, answers_to, rows_after, settled, subcommand_met, walk, walk_from, walked}
+use Rattle.clap.specs.Walk.{Names, Text, Walk, finished, idle, nothing_held, answers_to, rows_after, settled, subcommand_met, walk, walk_from, walked}
+use Rattle.clap.specs.Words.{FailsBy, HasKind, kind_of}
 use Rattle.clap.specs.declared.builder.value_parser.ValueParser.TheVariants.{Signed}
-use Rattle.clap.proofs.FaultLemmas.{stopped_fault}
-use Rattle.std.specs.Prelude.{Result, Ok, Err}
-use Rattle.std.specs.Result.{IsErrAnd}
-use Rattle.clap.specs.Words.{FailsBy, HasKind, HasMatchesOf, is_simple_and_free, kind_of, subcommand_rows_of}
 use Rattle.clap.specs.declared.error.Error.{Error}
-use Rattle.clap.specs.declared.error.kind.ErrorKind.TheVariants.{OutOfMemory}
-use Rattle.clap.specs.declared.parser.matches.ArgMatches.{ArgMatches}
-use Rattle.clap.proofs.WalkLemmas.{walk_stopped}
-use Rattle.command_line.specs.Commands.{IsFrameRow, IsInfoRow, IsListRow, IsNewRow, IsPlayRow, IsMatched, IsRead, IsStepRow, IsStreamRow, IsTraceRow, frame, gbkeep, info, list, new, play, step, stream, trace}
-use Rattle.command_line.specs.Commands.{IsTestRow, IsNewRecordingRow, IsRecordRow, IsRecordedRow, IsVerifyRow, test_rom, new_recording, record_game, recorded, verify}
-use Rattle.command_line.specs.Commands.{IsShowRow, IsExportRow, IsImportRow, IsDebugRow, show, export, import, debug}
-use Rattle.command_line.specs.Words.{AsksFor, AskForSome, IsAnswer, IsCommand, Word, WritesWithin, is_option, operands_of}
+use Rattle.clap.proofs.FaultLemmas.{stopped_fault}
+use Rattle.clap.proofs.WalkLemmas.{find-map, walk_stopped}
+use Rattle.command_line.specs.Commands.{IsRead, Passes, Usage, commands, gbkeep, is_named, words_in, words_of}
+use Rattle.command_line.specs.Words.{AsksFor, IsAnswer, IsCommand, Word, WritesWithin, is_option, operands_of}
 use Rattle.command_line.specs.declared.Request.{Request}
 use Rattle.command_line.specs.declared.Request.TheVariants.{Info, List as Listing, Step as Steps, New, Play, Frame, Trace, Stream, Test, NewRecording, Record, Recorded, Verify, Show, Export, Import, Debug}
-use Rattle.command_line.proofs.CommandOperands.{Wants, fault_is, leaf, leaf_fault, or_nothing, refused_without, rows_are}
-use Rattle.command_line.proofs.CommandOperands.{info_is_plain, info_passes, info_wants, list_is_plain, list_passes, list_wants, step_is_plain, step_passes, step_wants, new_is_plain, new_passes, new_unsized_passes, new_wants, play_is_plain, play_passes, play_wants, frame_is_plain, frame_passes, frame_wants, trace_is_plain, trace_passes, trace_wants, stream_is_plain, stream_passes, stream_wants}
-use Rattle.command_line.proofs.CommandOperands.{test_rom_is_plain, test_rom_passes, test_rom_wants, test_rom_short_passes, new_recording_is_plain, new_recording_passes, new_recording_wants, record_game_is_plain, record_game_passes, record_game_wants, recorded_is_plain, recorded_passes, recorded_wants, verify_is_plain, verify_passes, verify_wants}
-use Rattle.command_line.proofs.CommandOperands.{show_is_plain, show_passes, show_wants, export_is_plain, export_passes, export_wants, import_is_plain, import_passes, import_unsized_passes, import_wants, debug_is_plain, debug_passes, debug_short_passes, debug_wants}
-use Rattle.command_line.proofs.ClapWalks.{Classified, Fails, classify, dashes, first_fails, is_plain_rule, later_fails, option_fails, value_met}
+use Rattle.command_line.proofs.ClapWalks.{Fails, dashes, first_fails, is_plain_rule, option_turns, word_moves}
+use Rattle.command_line.proofs.CommandOperands.{Fits, Takes, Stands, fault_from, leaf, or_nothing, takes}
 
 abbrev top : Shape
 top = (built gbkeep).top
@@ -50,106 +43,83 @@ fault_by w walking = or_else walking (or_else (entered_fault (built gbkeep) w.st
     (or_else (settle_fault top.rules top.args_override_self w.held) (or_else (defaults_fault (settled top.rules w.held).rows top.rules)
     (check_fault top (finished top.rules w.held) (is_some (entered (built gbkeep) w.stopped))))))
 
--- the name is that of a command, which is built so
-pub record IsNameOf (name : Text) (s : Shape) : Type 0 where
-  pub met : subcommand_met names idle name ≡ Some name
-  pub is_not_help : bytes_eq name (codes "help") ≡ false
-  pub found : find (λ (t : Shape). answers_to name (label_of t)) (built gbkeep).subs ≡ Some s
-  pub named : s.name ≡ name
+-- a command is one that the lemmas on operands are about, and is not `help`
+abbrev IsKnown : Usage → Type 0
+IsKnown u = (list_all is_plain_rule (leaf u).rules ≡ true) × (bytes_eq u.name (codes "help") ≡ false) × Stands (leaf u) u.operands 1 [] [] u.operands
 
-module _ (name : Text) (s : Shape) (known : IsNameOf name s) where
+known : AllByRecursion IsKnown commands
+unfolding defaults_fault
+known = search rules
+
+-- the subcommand that answers to a word
+abbrev sub_named : Text → List Shape → Option Shape
+sub_named word subs = find (λ (s : Shape). answers_to word (label_of s)) subs
+
+-- those of the program that is built are the commands, and `help`
+sub_among : (word : Text) (us : List Usage) (more : List Shape) → sub_named word (map leaf us ++ more) ≡ option_or (option_map leaf (find (is_named word) us)) (sub_named word more)
+sub_among word [] more = refl
+sub_among word (u ∷ us) more = go (bytes_eq u.name word) _ (find (is_named word) us) (sub_among word us more)
+  where
+    go : (b : Bool) (later : Option Shape) (found : Option Usage) → later ≡ option_or (option_map leaf found) (sub_named word more)
+        → cond (b || false) (Some (leaf u)) later ≡ option_or (option_map leaf (cond b (Some u) found)) (sub_named word more)
+    go true later found e = refl
+    go false later found e = e
+
+sub_found : (word : Text) (o : Option Usage) → find (is_named word) commands ≡ o
+    → sub_named word (built gbkeep).subs ≡ option_or (option_map leaf o) (sub_named word (built_leaf help_shape ∷ []))
+sub_found word o is =
+    sub_among word commands (built_leaf help_shape ∷ []) ∙ ap (λ (u : Option Usage). option_or (option_map leaf u) (sub_named word (built_leaf help_shape ∷ []))) is
+
+met_by : (word : Text) (o : Option Shape) → sub_named word (built gbkeep).subs ≡ o → subcommand_met names idle word ≡ option_map (λ (s : Text × List Text). s.0) (option_map label_of o)
+met_by word o is = ap (option_map (λ (s : Text × List Text). s.0)) (sym (find-map (answers_to word) label_of (built gbkeep).subs) ∙ ap (option_map label_of) is)
+
+-- what a search finds passes its test, and is what each element is
+found_is : {X : Type 0} (p : X → Bool) (P : X → Type 0) (xs : List X) (x : X) → AllByRecursion P xs → find p xs ≡ Some x → (p x ≡ true) × P x
+found_is p P [] x all found = cc
+found_is {X} p P (y ∷ ys) x all found = go (p y) refl (found_is p P ys x all.1)
+  where
+    go : (b : Bool) → p y ≡ b → (find p ys ≡ Some x → (p x ≡ true) × P x) → (p x ≡ true) × P x
+    go true e later =
+        let same : Some y ≡ Some x = rw e at found in
+        let is : y ≡ x = cc in
+        (ap p (sym is) ∙ e, subst P is all.0)
+    go false e later = later (rw e at found)
+
+module _ (name : Text) (u : Usage) (is : find (is_named name) commands ≡ Some u) where
+  has : (is_named name u ≡ true) × IsKnown u
+  has = found_is (is_named name) IsKnown commands u known is
+
+  named : u.name ≡ name
+  named = (bytes_eq-Decides u.name name).0 has.0
+
+  met : subcommand_met names idle name ≡ Some name
+  met = met_by name (Some (leaf u)) (sub_found name (Some u) is) ∙ ap (λ (word : Text). Some word) named
+
+  is_not_help : bytes_eq name (codes "help") ≡ false
+  is_not_help = subst (λ (word : Text). bytes_eq word (codes "help") ≡ false) named has.1.1
+
   enters : (rest : List Text) → walk top.rules names nothing_held (name ∷ rest) ≡ stopped_at name rest
   unfolding walked
   enters rest =
-      let first : walked top.rules names (walk_from nothing_held) name ≡ stopped_at name [] = rw known.met refl in
+      let first : walked top.rules names (walk_from nothing_held) name ≡ stopped_at name [] = rw met refl in
       ap (λ (w : Walk). fold (walked top.rules names) w rest) first ∙ sym (walk_stopped top.rules names (walk_from nothing_held) name [] rest)
 
   walk_passes : (rest : List Text) → walk_fault top names (walk_from nothing_held) (name ∷ rest) ≡ []
   unfolding walk_fault walked
-  walk_passes rest = rw (known.met, known.is_not_help) (stopped_fault top names (walk_from nothing_held) (name, []) rest)
+  walk_passes rest = rw (met, is_not_help) (stopped_fault top names (walk_from nothing_held) (name, []) rest)
 
-  by_command : (rest : List Text) → fault_by (stopped_at name rest) [] ≡ level_fault s [] nothing_held rest false []
+  by_command : (rest : List Text) → fault_by (stopped_at name rest) [] ≡ level_fault (leaf u) [] nothing_held rest false []
   unfolding defaults_fault
-  by_command rest = rw known.found (or_nothing _)
+  by_command rest = rw (sub_found name (Some u) is) (or_nothing _)
 
-  pub command_fault : (program : Text) (rest : List Text) → fault_of gbkeep (program ∷ name ∷ rest) ≡ level_fault s [] nothing_held rest false []
+  command_fault : (program : Text) (rest : List Text) → fault_of gbkeep (program ∷ name ∷ rest) ≡ level_fault (leaf u) [] nothing_held rest false []
   command_fault program rest = ap₂ fault_by (enters rest) (walk_passes rest) ∙ by_command rest
 
-  pub command_rows : (program : Text) (rest : List Text) → subcommand_of gbkeep (program ∷ name ∷ rest) ≡ Some (name, rows_after s.rules [] rest)
-  command_rows program rest = ap (λ (w : Walk). entered (built gbkeep) w.stopped) (enters rest) ∙ rw (known.found, known.named) refl
+  command_rows : (program : Text) (rest : List Text) → subcommand_of gbkeep (program ∷ name ∷ rest) ≡ Some (name, rows_after (leaf u).rules [] rest)
+  command_rows program rest = ap (λ (w : Walk). entered (built gbkeep) w.stopped) (enters rest) ∙ rw (sub_found name (Some u) is, named) refl
 
-  -- what a command's operands are that it does not refuse
-  pub command_matches : list_all is_plain_rule s.rules ≡ true → (IsRow : List Row → List Text → Type 0) → Wants s IsRow
-      → (program : Text) (rest : List Text) → fault_of gbkeep (program ∷ name ∷ rest) ≡ []
-      → (operands : List Text) × (operands_of rest ≡ Some operands) × IsRow (rows_after s.rules [] rest) operands
-  command_matches rules IsRow wants program rest none = go (operands_of rest) refl (sym (command_fault program rest) ∙ none)
-    where
-      go : (o : Option (List Text)) → operands_of rest ≡ o → level_fault s [] nothing_held rest false [] ≡ []
-          → (operands : List Text) × (operands_of rest ≡ Some operands) × IsRow (rows_after s.rules [] rest) operands
-      go None e passes = absurd (refused_without s rules rest e passes)
-      go (Some operands) e passes =
-          let fits = wants operands (sym (fault_is s rules rest operands e) ∙ passes) in
-          (operands, e, subst (λ (rows : List Row). IsRow rows operands) (sym (rows_are s rules rest operands e)) fits)
-
-  -- and one that fits is not refused
-  pub command_passes : list_all is_plain_rule s.rules ≡ true → (words : List Word) (operands : List Text) → leaf_fault s operands ≡ []
-      → IsCommand words name operands → fault_of gbkeep words ≡ []
-  command_passes rules [] operands passes h = absurd h
-  command_passes rules (program ∷ []) operands passes h = absurd h
-  command_passes rules (program ∷ first ∷ rest) operands passes h =
-      subst (λ (word : Word). fault_of gbkeep (program ∷ word ∷ rest) ≡ []) (sym h.0)
-      (command_fault program rest ∙ fault_is s rules rest operands h.1 ∙ passes)
-
-info_known : IsNameOf (codes "info") (leaf info)
-info_known = record { met = refl; is_not_help = refl; found = refl; named = refl }
-
-list_known : IsNameOf (codes "list") (leaf list)
-list_known = record { met = refl; is_not_help = refl; found = refl; named = refl }
-
-step_known : IsNameOf (codes "step") (leaf step)
-step_known = record { met = refl; is_not_help = refl; found = refl; named = refl }
-
-new_known : IsNameOf (codes "new") (leaf new)
-new_known = record { met = refl; is_not_help = refl; found = refl; named = refl }
-
-play_known : IsNameOf (codes "play") (leaf play)
-play_known = record { met = refl; is_not_help = refl; found = refl; named = refl }
-
-frame_known : IsNameOf (codes "frame") (leaf frame)
-frame_known = record { met = refl; is_not_help = refl; found = refl; named = refl }
-
-trace_known : IsNameOf (codes "trace") (leaf trace)
-trace_known = record { met = refl; is_not_help = refl; found = refl; named = refl }
-
-stream_known : IsNameOf (codes "stream") (leaf stream)
-stream_known = record { met = refl; is_not_help = refl; found = refl; named = refl }
-
-test_rom_known : IsNameOf (codes "test") (leaf test_rom)
-test_rom_known = record { met = refl; is_not_help = refl; found = refl; named = refl }
-
-new_recording_known : IsNameOf (codes "new-recording") (leaf new_recording)
-new_recording_known = record { met = refl; is_not_help = refl; found = refl; named = refl }
-
-record_game_known : IsNameOf (codes "record") (leaf record_game)
-record_game_known = record { met = refl; is_not_help = refl; found = refl; named = refl }
-
-recorded_known : IsNameOf (codes "recorded") (leaf recorded)
-recorded_known = record { met = refl; is_not_help = refl; found = refl; named = refl }
-
-verify_known : IsNameOf (codes "verify") (leaf verify)
-verify_known = record { met = refl; is_not_help = refl; found = refl; named = refl }
-
-show_known : IsNameOf (codes "show") (leaf show)
-show_known = record { met = refl; is_not_help = refl; found = refl; named = refl }
-
-export_known : IsNameOf (codes "export") (leaf export)
-export_known = record { met = refl; is_not_help = refl; found = refl; named = refl }
-
-import_known : IsNameOf (codes "import") (leaf import)
-import_known = record { met = refl; is_not_help = refl; found = refl; named = refl }
-
-debug_known : IsNameOf (codes "debug") (leaf debug)
-debug_known = record { met = refl; is_not_help = refl; found = refl; named = refl }
+  taken : (rest : List Text) → Takes [] (fault_from (leaf u) (walk_from nothing_held) rest) u.operands [] (rows_after (leaf u).rules [] rest) u.operands (operands_of rest)
+  taken rest = takes (leaf u) has.1.0 u.operands rest 1 [] None [] u.operands has.1.2
 
 -- ---- a word that is no command
 
@@ -173,117 +143,42 @@ dashes_fail word program (next ∷ rest) unknown is = rw (unknown, is) (λ e. cc
 
 other_fails : (word : Text) (program : Text) (rest : List Text) → NoCommand word → bytes_eq word dashes ≡ false → Fails (fault_of gbkeep (program ∷ word ∷ rest))
 unfolding walk_fault
-other_fails word program rest unknown differs = go (is_option word) (classify word differs)
+other_fails word program rest unknown differs = go (is_option word) refl
   where
-    go : (b : Bool) → Classified word b → Fails (fault_of gbkeep (program ∷ word ∷ rest))
-    go true classes = first_fails _ _ (first_fails _ _ (first_fails _ _ (option_fails top names word differs nothing_held refl refl unknown classes)))
-    go false is =
-        let met = value_met top names word differs nothing_held 1 unknown refl is in
-        first_fails _ _ (first_fails _ _ (later_fails _ _ (subst (λ (m : Held × Step). Fails (step_fault top 1 m.0 m.1)) (sym met) (λ e. cc))))
+    go : (b : Bool) → is_option word ≡ b → Fails (fault_of gbkeep (program ∷ word ∷ rest))
+    go true is = first_fails _ _ (first_fails _ _ (option_turns top names word unknown [] None 1 refl differs is))
+    go false is = first_fails _ _ (first_fails _ _ (subst Fails (sym (word_moves top names word unknown [] None 1 false (differs, is)).0) (λ none. cc)))
 
-unknown_fails : (word : Text) (program : Text) (rest : List Text) → NoCommand word → Fails (fault_of gbkeep (program ∷ word ∷ rest))
-unknown_fails word program rest unknown = go (bytes_eq word dashes) refl
+unknown_fails : (word : Text) (program : Text) (rest : List Text) → find (is_named word) commands ≡ None → Fails (fault_of gbkeep (program ∷ word ∷ rest))
+unknown_fails word program rest e = help (bytes_eq (codes "help") word) refl
   where
-    go : (b : Bool) → bytes_eq word dashes ≡ b → Fails (fault_of gbkeep (program ∷ word ∷ rest))
-    go true e = dashes_fail word program rest unknown e
-    go false e = other_fails word program rest unknown e
+    go : NoCommand word → (b : Bool) → bytes_eq word dashes ≡ b → Fails (fault_of gbkeep (program ∷ word ∷ rest))
+    go unknown true is = dashes_fail word program rest unknown is
+    go unknown false is = other_fails word program rest unknown is
+
+    help : (b : Bool) → bytes_eq (codes "help") word ≡ b → Fails (fault_of gbkeep (program ∷ word ∷ rest))
+    help true is = subst (λ (w : Text). Fails (fault_of gbkeep (program ∷ w ∷ rest))) ((bytes_eq-Decides (codes "help") word).0 is) (help_fails program rest)
+    help false is = go (met_by word None (sub_found word None e ∙ rw is refl)) (bytes_eq word dashes) refl
 
 -- ---- words that are not refused
 
-abbrev Reads : Text → List Text → Text → Type 0
-Reads program rest word = fault_of gbkeep (program ∷ word ∷ rest) ≡ [] → IsRead (program ∷ word ∷ rest) (subcommand_of gbkeep (program ∷ word ∷ rest))
-
--- the matches of a command, of which `holds` says which one it is
-read_as : (name : Text) (s : Shape) → IsNameOf name s → list_all is_plain_rule s.rules ≡ true → (IsRow : List Row → List Text → Type 0) → Wants s IsRow
-    → ((rows : List Row) (operands : List Word) → IsRow rows operands → IsMatched name rows operands)
-    → (program : Text) (rest : List Text) → Reads program rest name
-read_as name s known rules IsRow wants holds program rest none =
-    let m = command_matches name s known rules IsRow wants program rest none in
-    (name, rows_after s.rules [] rest, m.0, command_rows name s known program rest, (refl, m.1), holds _ _ m.2)
-
-info_reads : (program : Text) (rest : List Text) → Reads program rest (codes "info")
-info_reads = read_as _ (leaf info) info_known info_is_plain IsInfoRow info_wants (λ rows operands row. inl (refl, row))
-
-list_reads : (program : Text) (rest : List Text) → Reads program rest (codes "list")
-list_reads = read_as _ (leaf list) list_known list_is_plain IsListRow list_wants (λ rows operands row. inr (inl (refl, row)))
-
-step_reads : (program : Text) (rest : List Text) → Reads program rest (codes "step")
-step_reads = read_as _ (leaf step) step_known step_is_plain IsStepRow step_wants (λ rows operands row. inr (inr (inl (refl, row))))
-
-new_reads : (program : Text) (rest : List Text) → Reads program rest (codes "new")
-new_reads = read_as _ (leaf new) new_known new_is_plain IsNewRow new_wants (λ rows operands row. inr (inr (inr (inl (refl, row)))))
-
-play_reads : (program : Text) (rest : List Text) → Reads program rest (codes "play")
-play_reads = read_as _ (leaf play) play_known play_is_plain IsPlayRow play_wants (λ rows operands row. inr (inr (inr (inr (inl (refl, row))))))
-
-frame_reads : (program : Text) (rest : List Text) → Reads program rest (codes "frame")
-frame_reads = read_as _ (leaf frame) frame_known frame_is_plain IsFrameRow frame_wants (λ rows operands row. inr (inr (inr (inr (inr (inl (refl, row)))))))
-
-trace_reads : (program : Text) (rest : List Text) → Reads program rest (codes "trace")
-trace_reads = read_as _ (leaf trace) trace_known trace_is_plain IsTraceRow trace_wants (λ rows operands row. inr (inr (inr (inr (inr (inr (inl (refl, row))))))))
-
-stream_reads : (program : Text) (rest : List Text) → Reads program rest (codes "stream")
-stream_reads = read_as _ (leaf stream) stream_known stream_is_plain IsStreamRow stream_wants (λ rows operands row. inr (inr (inr (inr (inr (inr (inr (inl (refl, row)))))))))
-
-test_rom_reads : (program : Text) (rest : List Text) → Reads program rest (codes "test")
-test_rom_reads = read_as _ (leaf test_rom) test_rom_known test_rom_is_plain IsTestRow test_rom_wants (λ rows operands row. inr (inr (inr (inr (inr (inr (inr (inr (inl (refl, row))))))))))
-
-new_recording_reads : (program : Text) (rest : List Text) → Reads program rest (codes "new-recording")
-new_recording_reads = read_as _ (leaf new_recording) new_recording_known new_recording_is_plain IsNewRecordingRow new_recording_wants (λ rows operands row. inr (inr (inr (inr (inr (inr (inr (inr (inr (inl (refl, row)))))))))))
-
-record_game_reads : (program : Text) (rest : List Text) → Reads program rest (codes "record")
-record_game_reads = read_as _ (leaf record_game) record_game_known record_game_is_plain IsRecordRow record_game_wants (λ rows operands row. inr (inr (inr (inr (inr (inr (inr (inr (inr (inr (inl (refl, row))))))))))))
-
-recorded_reads : (program : Text) (rest : List Text) → Reads program rest (codes "recorded")
-recorded_reads = read_as _ (leaf recorded) recorded_known recorded_is_plain IsRecordedRow recorded_wants (λ rows operands row. inr (inr (inr (inr (inr (inr (inr (inr (inr (inr (inr (inl (refl, row)))))))))))))
-
-verify_reads : (program : Text) (rest : List Text) → Reads program rest (codes "verify")
-verify_reads = read_as _ (leaf verify) verify_known verify_is_plain IsVerifyRow verify_wants (λ rows operands row. inr (inr (inr (inr (inr (inr (inr (inr (inr (inr (inr (inr (inl (refl, row))))))))))))))
-
-show_reads : (program : Text) (rest : List Text) → Reads program rest (codes "show")
-show_reads = read_as _ (leaf show) show_known show_is_plain IsShowRow show_wants (λ rows operands row. inr (inr (inr (inr (inr (inr (inr (inr (inr (inr (inr (inr (inr (inl (refl, row)))))))))))))))
-
-export_reads : (program : Text) (rest : List Text) → Reads program rest (codes "export")
-export_reads = read_as _ (leaf export) export_known export_is_plain IsExportRow export_wants (λ rows operands row. inr (inr (inr (inr (inr (inr (inr (inr (inr (inr (inr (inr (inr (inr (inl (refl, row))))))))))))))))
-
-import_reads : (program : Text) (rest : List Text) → Reads program rest (codes "import")
-import_reads = read_as _ (leaf import) import_known import_is_plain IsImportRow import_wants (λ rows operands row. inr (inr (inr (inr (inr (inr (inr (inr (inr (inr (inr (inr (inr (inr (inr (inl (refl, row)))))))))))))))))
-
-debug_reads : (program : Text) (rest : List Text) → Reads program rest (codes "debug")
-debug_reads = read_as _ (leaf debug) debug_known debug_is_plain IsDebugRow debug_wants (λ rows operands row. inr (inr (inr (inr (inr (inr (inr (inr (inr (inr (inr (inr (inr (inr (inr (inr (refl, row)))))))))))))))))
-
--- a word is a name, or it is tried with the others
-case_of : (name word : Text) (P : Text → Type 0) → P name → (bytes_eq name word ≡ false → P word) → P word
-case_of name word P here other = go (bytes_eq name word) refl
+reads : (word program : Text) (rest : List Text) → fault_of gbkeep (program ∷ word ∷ rest) ≡ [] → IsRead (program ∷ word ∷ rest) (subcommand_of gbkeep (program ∷ word ∷ rest))
+reads word program rest none = go (find (is_named word) commands) refl
   where
-    go : (b : Bool) → bytes_eq name word ≡ b → P word
-    go true e = subst P ((bytes_eq-Decides name word).0 e) here
-    go false e = other e
+    go : (o : Option Usage) → find (is_named word) commands ≡ o → IsRead (program ∷ word ∷ rest) (subcommand_of gbkeep (program ∷ word ∷ rest))
+    go None e = absurd (unknown_fails word program rest e none)
+    go (Some u) e =
+        let t = (taken word u e rest).taken (sym (command_fault word u e program rest) ∙ none) in
+        let rows = rows_after (leaf u).rules [] rest in
+        let given : t.1 ≡ words_of word rows = t.4.0 ∙ ap (λ (o : Option Usage). option_map_or (λ (v : Usage). words_in rows v.operands) o []) (sym e) in (
+          word,
+          rows,
+          command_rows word u e program rest,
+          (refl, t.2 ∙ ap (λ (operands : List Text). Some operands) given),
+          subst (λ (o : Option Usage). MatchOption o ⊥ (λ (v : Usage). AllByRecursion (Passes rows) v.operands)) (sym e) (t.4.1 t.3),
+        )
 
-reads : (word program : Text) (rest : List Text) → Reads program rest word
-reads word program rest =
-    let P = Reads program rest in
-    case_of (codes "info") word P (info_reads program rest) (λ not_info.
-    case_of (codes "list") word P (list_reads program rest) (λ not_list.
-    case_of (codes "step") word P (step_reads program rest) (λ not_step.
-    case_of (codes "new") word P (new_reads program rest) (λ not_new.
-    case_of (codes "play") word P (play_reads program rest) (λ not_play.
-    case_of (codes "frame") word P (frame_reads program rest) (λ not_frame.
-    case_of (codes "trace") word P (trace_reads program rest) (λ not_trace.
-    case_of (codes "stream") word P (stream_reads program rest) (λ not_stream.
-    case_of (codes "test") word P (test_rom_reads program rest) (λ not_test_rom.
-    case_of (codes "new-recording") word P (new_recording_reads program rest) (λ not_new_recording.
-    case_of (codes "record") word P (record_game_reads program rest) (λ not_record_game.
-    case_of (codes "recorded") word P (recorded_reads program rest) (λ not_recorded.
-    case_of (codes "verify") word P (verify_reads program rest) (λ not_verify.
-    case_of (codes "show") word P (show_reads program rest) (λ not_show.
-    case_of (codes "export") word P (export_reads program rest) (λ not_export.
-    case_of (codes "import") word P (import_reads program rest) (λ not_import.
-    case_of (codes "debug") word P (debug_reads program rest) (λ not_debug.
-    case_of (codes "help") word P (λ none. absurd (help_fails program rest none)) (λ not_help.
-    λ none. absurd (unknown_fails word program rest (rw (not_info, not_list, not_step, not_new, not_play, not_frame, not_trace, not_stream, not_test_rom, not_new_recording, not_record_game, not_recorded, not_verify, not_show, not_export, not_import, not_debug, not_help) refl) none)))))))))))))))))))
-
-understood : (words : List Text) → fault_of gbkeep words ≡ [] → IsRead words (subcommand_of gbkeep words)
+pub understood : (words : List Text) → fault_of gbkeep words ≡ [] → IsRead words (subcommand_of gbkeep words)
 understood [] none = absurd (no_words [] (inl refl) none)
 understood (program ∷ []) none = absurd (no_words (program ∷ []) (inr (program, refl)) none)
 understood (program ∷ word ∷ rest) none = reads word program rest none
@@ -295,77 +190,55 @@ accepted least most n word (writes, low, high) small =
     let is = writes.1 in
     (writes.0, subst (FitsSigned w64) (sym is) (record { sfits = small }), rw is (omega (arith, ints)), rw is (omega (arith, ints)))
 
+-- words of a command whose operands fit are not refused
+command_passes : (name : Word) (words : List Word) (operands : List Text) → IsCommand words name operands → MatchOption (find (is_named name) commands) ⊥ (λ u. Fits u.operands operands)
+    → fault_of gbkeep words ≡ []
+command_passes name [] operands command fits = absurd command
+command_passes name (program ∷ []) operands command fits = absurd command
+command_passes name (program ∷ word ∷ rest) operands command fits = go (find (is_named name) commands) refl fits
+  where
+    go : (o : Option Usage) → find (is_named name) commands ≡ o → MatchOption o ⊥ (λ u. Fits u.operands operands) → fault_of gbkeep (program ∷ word ∷ rest) ≡ []
+    go None e fit = absurd fit
+    go (Some u) e fit =
+        let is = subst (λ (n : Word). find (is_named n) commands ≡ Some u) (sym command.0) e in
+        let passes = subst (λ (o : Option (List Text)). MatchOption o ⊤ (λ given. Fits u.operands given → fault_from (leaf u) (walk_from nothing_held) rest ≡ [])) command.1
+        ((taken word u is rest).passes refl) in
+        command_fault word u is program rest ∙ passes fit
+
 asked : (words : List Word) (request : Request) → AsksFor words request → fault_of gbkeep words ≡ []
-asked words (Info cart) command =
-    command_passes _ (leaf info) info_known info_is_plain words _ (info_passes cart.now) command
-asked words (Listing cart address count) (number, command, within) =
-    command_passes _ (leaf list) list_known list_is_plain words _ (list_passes cart.now address.now number (accepted 1 4096 count number within (omega arith))) command
-asked words (Steps cart count) (number, command, within) =
-    command_passes _ (leaf step) step_known step_is_plain words _ (step_passes cart.now number (accepted 0 1000000 count number within (omega arith))) command
-asked words (New cart save None) command =
-    command_passes _ (leaf new) new_known new_is_plain words _ (new_unsized_passes cart.now save.now) command
-asked words (New cart save (Some sectors)) (number, command, within) =
-    command_passes _ (leaf new) new_known new_is_plain words _ (new_passes cart.now save.now number (accepted 1 65536 sectors number within (omega arith))) command
-asked words (Play cart save script) command =
-    command_passes _ (leaf play) play_known play_is_plain words _ (play_passes cart.now save.now script.now) command
-asked words (Frame cart save out) command =
-    command_passes _ (leaf frame) frame_known frame_is_plain words _ (frame_passes cart.now save.now out.now) command
-asked words (Trace cart save count) (number, command, within) =
-    command_passes _ (leaf trace) trace_known trace_is_plain words _ (trace_passes cart.now save.now number (accepted 1 1024 count number within (omega arith))) command
-asked words (Stream cart save) command =
-    command_passes _ (leaf stream) stream_known stream_is_plain words _ (stream_passes cart.now save.now) command
-asked words (Test cart frames None) (number, command, within) =
-    command_passes _ (leaf test_rom) test_rom_known test_rom_is_plain words _ (test_rom_short_passes cart.now number (accepted 1 1000000 frames number within (omega arith))) command
-asked words (Test cart frames (Some script)) (number, command, within) =
-    command_passes _ (leaf test_rom) test_rom_known test_rom_is_plain words _ (test_rom_passes cart.now number script.now (accepted 1 1000000 frames number within (omega arith))) command
-asked words (NewRecording cart recording sectors) (number, command, within) =
-    command_passes _ (leaf new_recording) new_recording_known new_recording_is_plain words _ (new_recording_passes cart.now recording.now number (accepted 1 65536 sectors number within (omega arith))) command
-asked words (Record cart save recording) command =
-    command_passes _ (leaf record_game) record_game_known record_game_is_plain words _ (record_game_passes cart.now save.now recording.now) command
-asked words (Recorded cart recording) command =
-    command_passes _ (leaf recorded) recorded_known recorded_is_plain words _ (recorded_passes cart.now recording.now) command
-asked words (Verify cart save recording) command =
-    command_passes _ (leaf verify) verify_known verify_is_plain words _ (verify_passes cart.now save.now recording.now) command
-asked words (Show cart save) command =
-    command_passes _ (leaf show) show_known show_is_plain words _ (show_passes cart.now save.now) command
-asked words (Export cart save out) command =
-    command_passes _ (leaf export) export_known export_is_plain words _ (export_passes cart.now save.now out.now) command
-asked words (Import cart battery save None) command =
-    command_passes _ (leaf import) import_known import_is_plain words _ (import_unsized_passes cart.now battery.now save.now) command
-asked words (Import cart battery save (Some sectors)) (number, command, within) =
-    command_passes _ (leaf import) import_known import_is_plain words _ (import_passes cart.now battery.now save.now number (accepted 1 65536 sectors number within (omega arith))) command
-asked words (Debug cart None) command =
-    command_passes _ (leaf debug) debug_known debug_is_plain words _ (debug_short_passes cart.now) command
-asked words (Debug cart (Some save)) command =
-    command_passes _ (leaf debug) debug_known debug_is_plain words _ (debug_passes cart.now save.now) command
+asked words (Info cart) command = command_passes (codes "info") words _ command (tt, tt)
+asked words (Listing cart address count) (number, command, within) = command_passes (codes "list") words _ command (tt, (tt, (accepted 1 4096 _ number within (omega arith), tt)))
+asked words (Steps cart count) (number, command, within) = command_passes (codes "step") words _ command (tt, (accepted 0 1000000 _ number within (omega arith), tt))
+asked words (New cart save None) command = command_passes (codes "new") words _ command (tt, (tt, refl))
+asked words (New cart save (Some sectors)) (number, command, within) = command_passes (codes "new") words _ command (tt, (tt, (accepted 1 65536 _ number within (omega arith), tt)))
+asked words (Play cart save script) command = command_passes (codes "play") words _ command (tt, (tt, (tt, tt)))
+asked words (Frame cart save out) command = command_passes (codes "frame") words _ command (tt, (tt, (tt, tt)))
+asked words (Trace cart save count) (number, command, within) = command_passes (codes "trace") words _ command (tt, (tt, (accepted 1 1024 _ number within (omega arith), tt)))
+asked words (Stream cart save) command = command_passes (codes "stream") words _ command (tt, (tt, tt))
+asked words (Test cart frames None) (number, command, within) = command_passes (codes "test") words _ command (tt, (accepted 1 1000000 _ number within (omega arith), refl))
+asked words (Test cart frames (Some script)) (number, command, within) = command_passes (codes "test") words _ command (tt, (accepted 1 1000000 _ number within (omega arith), (tt, tt)))
+asked words (NewRecording cart recording sectors) (number, command, within) = command_passes (codes "new-recording") words _ command (tt, (tt, (accepted 1 65536 _ number within (omega arith), tt)))
+asked words (Record cart save recording) command = command_passes (codes "record") words _ command (tt, (tt, (tt, tt)))
+asked words (Recorded cart recording) command = command_passes (codes "recorded") words _ command (tt, (tt, tt))
+asked words (Verify cart save recording) command = command_passes (codes "verify") words _ command (tt, (tt, (tt, tt)))
+asked words (Show cart save) command = command_passes (codes "show") words _ command (tt, (tt, tt))
+asked words (Export cart save out) command = command_passes (codes "export") words _ command (tt, (tt, (tt, tt)))
+asked words (Import cart battery save None) command = command_passes (codes "import") words _ command (tt, (tt, (tt, refl)))
+asked words (Import cart battery save (Some sectors)) (number, command, within) = command_passes (codes "import") words _ command (tt, (tt, (tt, (accepted 1 65536 _ number within (omega arith), tt))))
+asked words (Debug cart None) command = command_passes (codes "debug") words _ command (tt, refl)
+asked words (Debug cart (Some save)) command = command_passes (codes "debug") words _ command (tt, (tt, tt))
 
 -- ---- what `clap` answers
 
--- an error where a request is asked for is out of memory
-refused : (app : App) (words : List Word) (error : Error) → app ≡ gbkeep → (is_simple_and_free app ≡ true → HasKind (fault_of app words) error)
-    → AskForSome words → kind_of error ≡ OutOfMemory
-refused app words error is kinds request =
-    let kind = subst (λ (a : App). is_simple_and_free a ≡ true → HasKind (fault_of a words) error) is kinds refl in
-    elim (subst (λ (k : Kinds). HasKind k error) (asked words request.0 request.1) kind) [ inl memory ↦ memory | inr none ↦ absurd none ]
+-- the words of the command that is built are read so
+pub at_gbkeep : (P : App → Type 0) (app : App) → app ≡ gbkeep → (is_simple_and_free app ≡ true → P app) → P gbkeep
+at_gbkeep P app is holds = subst (λ (a : App). is_simple_and_free a ≡ true → P a) is holds refl
 
-pub error_answers : (app : App) (words : List Word) (error : Error) (r : Result (Option Request) Error) → app ≡ gbkeep
-    → (is_simple_and_free app ≡ true → HasKind (fault_of app words) error) → IsErrAnd r (λ e. e ≡ error) → IsAnswer words r
-error_answers app words error (Ok o) is kinds same = absurd same
-error_answers app words error (Err e) is kinds same = λ request. ap kind_of same ∙ refused app words error is kinds request
-
-pub error_has_kind : (app : App) (words : List Word) (error : Error) (r : Result (Option Request) Error) → app ≡ gbkeep
-    → (is_simple_and_free app ≡ true → HasKind (fault_of app words) error) → IsErrAnd r (λ e. e ≡ error) → FailsBy (fault_of gbkeep words) r
-error_has_kind app words error (Ok o) is kinds same = absurd same
-error_has_kind app words error (Err e) is kinds same =
-    subst (HasKind (fault_of gbkeep words)) (sym same) (subst (λ (a : App). is_simple_and_free a ≡ true → HasKind (fault_of a words) error) is kinds refl)
-
-pub none_fails : (app : App) (words : List Word) → app ≡ gbkeep → (is_simple_and_free app ≡ true → fault_of app words ≡ []) → fault_of gbkeep words ≡ []
-none_fails app words is kinds = subst (λ (a : App). is_simple_and_free a ≡ true → fault_of a words ≡ []) is kinds refl
-
--- matches are those of a request
-pub matches_read : (app : App) (words : List Word) (m : ArgMatches) → app ≡ gbkeep → (is_simple_and_free app ≡ true → fault_of app words ≡ []) → HasMatchesOf app words m
-    → IsRead words (subcommand_rows_of m)
-matches_read app words m is kinds matches =
-    let none = none_fails app words is kinds in
-    let same = subst (λ (a : App). HasMatchesOf a words m) is matches refl in
-    subst (IsRead words) (sym same.1) (understood words none)
+-- an error where a request is asked for is out of memory, and any has one of the kinds
+pub error_answers : (words : List Word) (error : Error) (r : Result (Option Request) Error) → HasKind (fault_of gbkeep words) error → IsErrAnd r (λ e. e ≡ error)
+    → IsAnswer words r × FailsBy (fault_of gbkeep words) r
+error_answers words error (Ok o) kind same = absurd same
+error_answers words error (Err e) kind same = (
+  λ request. ap kind_of same ∙ elim (subst (λ (k : Kinds). HasKind k error) (asked words request.0 request.1) kind) [ inl memory ↦ memory | inr none ↦ absurd none ],
+  subst (HasKind (fault_of gbkeep words)) (sym same) kind,
+)

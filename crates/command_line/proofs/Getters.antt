@@ -1,28 +1,17 @@
 -- What the getters of `clap` give of a command's operands.
-use Rattle.std.proofs.Common.{◌≡◌, ◌∙◌, ◌<◌, ◌^◌, ℕ, Bool, true, false, cond, drop, refl, sym, ap, subst, arith, List, [], ◌∷◌, ◌==◌, Option, Some, None, Result, Ok, Bor}
-use Rattle.std.specs.Prelude.{option_map, neg_ℤ, pos, unwrap_or}
-use Rattle.std.specs.Option.{IsSomeAnd}
+use Rattle.std.proofs.Common.{◌≡◌, ◌∙◌, ◌<◌, ◌^◌, ℕ, Bool, true, false, true≢false, cond, drop, refl, sym, ap, subst, arith, List, [], ◌∷◌, ◌==◌, Option, Some, None, MatchOption, Result, Ok, IsSomeAnd, option_map, option_and_then, unwrap_or, find, slice_get, bytes_eq, pos}
+use Rattle.std.specs.Prelude.{neg_ℤ}
 use Rattle.std.specs.Str.Parse.{IsNumeral, ParsesUnsigned, digits_value, signed_digits_value, starts_with_minus, without_leading_plus}
 use Rattle.std.proofs.lemmas.Bool.{ne_eqb}
 use Rattle.std.proofs.lemmas.Int.{ints}
 use Rattle.std.proofs.lemmas.Str.Parse.{digit_from_value}
-use Rattle.clap.specs.Matches.{ReadsOne, first_value}
-use Rattle.clap.specs.Values.{IsSignedIn}
-use Rattle.clap.specs.Walk.{first_of, rows_of}
 use Rattle.clap.specs.Lexer.{without_minus}
-use Rattle.clap.specs.declared.parser.matches.Found.{Found}
+use Rattle.clap.specs.Matches.{ReadsOne}
+use Rattle.clap.specs.Values.{IsSignedIn, read_as}
+use Rattle.clap.specs.Walk.{Row, first_of, one_of, row_text}
 use Rattle.clap.proofs.CallerReads.{signed_reads}
-use Rattle.clap.proofs.WalkLemmas.{first_value-rows}
+use Rattle.command_line.specs.Commands.{Passes, PassesAs, given_at, number}
 use Rattle.command_line.specs.Words.{Word, Writes, WritesWithin}
-
--- an operand that the matches hold is what `get_str` gives
-pub operand_is : (found : Found) (id word : Word) (r : Option (Bor Word)) → option_map (λ s. s.now) r ≡ first_value found id
-    → first_of id (rows_of found) ≡ Some word → IsSomeAnd r (λ s. s.now ≡ word)
-operand_is found id word r given holds = go r (given ∙ first_value-rows found id ∙ holds)
-  where
-    go : (o : Option (Bor Word)) → option_map (λ s. s.now) o ≡ Some word → IsSomeAnd o (λ s. s.now ≡ word)
-    go None e = cc
-    go (Some s) e = cc
 
 -- without its hyphen
 without_minus-cond : (t : Word) → without_minus t ≡ cond (starts_with_minus t) (drop 1 t) t
@@ -64,11 +53,22 @@ number_is E G least most word r read only small passed =
     let writes : Writes word got.0 = (passed.0, value_of E G least most word got.0 (subst (ReadsOne G (without_minus word)) got.1 read) only passed) in
     subst (λ (o : Option ℕ). IsSomeAnd o (WritesWithin least most word)) (sym got.1) (writes, got.2, got.3)
 
--- an operand that was left out
-pub no_operand_is : (found : Found) (id : Word) (r : Option (Bor Word)) → option_map (λ s. s.now) r ≡ first_value found id
-    → first_of id (rows_of found) ≡ None → r ≡ None
-no_operand_is found id r given holds = go r (given ∙ first_value-rows found id ∙ holds)
+-- what was left out has no text that a typed getter reads
+pub no_text : (id : Word) (rows : List Row) → first_of id rows ≡ None → one_of id rows ≡ None
+no_text id rows none = go (find (λ (r : Row). bytes_eq r.id id) rows) none
   where
-    go : (o : Option (Bor Word)) → option_map (λ s. s.now) o ≡ None → o ≡ None
+    go : (o : Option Row) → option_and_then (λ (r : Row). slice_get r.values 0) o ≡ None → option_and_then row_text o ≡ None
     go None e = refl
-    go (Some s) e = cc
+    go (Some r) e = ap (option_map (read_as r.reading)) e
+
+pub required_number : (id : Word) (rows : List Row) (least most : ℕ) (o : Option ℕ) → ((given : Word) → PassesAs (number id least most) rows given → IsSomeAnd o (WritesWithin least most given))
+    → Passes rows (number id least most) → WritesWithin least most (given_at id rows) (unwrap_or o 0)
+required_number id rows least most o reads passes = go (first_of id rows) passes
+  where
+    there : (given : Word) (p : Option ℕ) → IsSomeAnd p (WritesWithin least most given) → WritesWithin least most given (unwrap_or p 0)
+    there given None within = absurd within
+    there given (Some n) within = within
+
+    go : (f : Option Word) → MatchOption f (true ≡ false) (PassesAs (number id least most) rows) → WritesWithin least most (unwrap_or f []) (unwrap_or o 0)
+    go None missing = absurd (true≢false missing)
+    go (Some given) passing = there given o (reads given passing)

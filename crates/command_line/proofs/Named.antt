@@ -1,52 +1,31 @@
--- The row of the command that is named.
-use Rattle.std.proofs.Common.{List, Bool, true, false, sym, subst, inl, inr, codes}
+-- What the matches of a command answer, by its name.
+use Rattle.std.proofs.Common.{◌≡◌, ℕ, false, refl, sym, subst, List, [], ◌∷◌, Option, Some, None, MatchOption, IsSomeAnd, Bor, find, option_map}
+use Rattle.std.specs.List.{AllByRecursion}
+use Rattle.std.specs.Option.{option_map_or}
 use Rattle.std.specs.Str.{bytes_eq}
-use Rattle.clap.specs.Walk.{Row}
-use Rattle.command_line.specs.Commands.{IsInfoRow, IsListRow, IsStepRow, IsNewRow, IsPlayRow, IsFrameRow, IsTraceRow, IsStreamRow, IsTestRow}
-use Rattle.command_line.specs.Commands.{IsNewRecordingRow, IsRecordRow, IsRecordedRow, IsVerifyRow, IsShowRow, IsExportRow, IsImportRow, IsDebugRow, IsMatched}
-use Rattle.command_line.specs.Words.{Word}
+use Rattle.std.proofs.lemmas.Bool.{false_from_ne_true}
+use Rattle.std.proofs.lemmas.Slice.Eq.{bytes_eq-Decides}
+use Rattle.command_line.specs.Commands.{Usage, is_named}
+use Rattle.command_line.specs.Words.{Word, WritesWithin}
 
-abbrev pub Either : Bool → Type 0 → Type 0 → Type 0
-Either true A B = A
-Either false A B = B
+-- no command has another name
+pub unnamed : (name : Word) (us : List Usage) → AllByRecursion (λ u. name ≡ u.name → ⊥) us → find (is_named name) us ≡ None
+unnamed name [] differs = refl
+unnamed name (u ∷ us) differs =
+    let other : bytes_eq u.name name ≡ false = false_from_ne_true _ (λ e. differs.0 (sym ((bytes_eq-Decides u.name name).0 e))) in
+    rw other (unnamed name us differs.1)
 
--- what the matches of this command hold, looked up by its name
-abbrev pub IsRowOf : Word → List Row → List Word → Type 0
-IsRowOf name rows operands =
-    Either (bytes_eq name (codes "info")) (IsInfoRow rows operands)
-    (Either (bytes_eq name (codes "list")) (IsListRow rows operands)
-    (Either (bytes_eq name (codes "step")) (IsStepRow rows operands)
-    (Either (bytes_eq name (codes "new")) (IsNewRow rows operands)
-    (Either (bytes_eq name (codes "play")) (IsPlayRow rows operands)
-    (Either (bytes_eq name (codes "frame")) (IsFrameRow rows operands)
-    (Either (bytes_eq name (codes "trace")) (IsTraceRow rows operands)
-    (Either (bytes_eq name (codes "stream")) (IsStreamRow rows operands)
-    (Either (bytes_eq name (codes "test")) (IsTestRow rows operands)
-    (Either (bytes_eq name (codes "new-recording")) (IsNewRecordingRow rows operands)
-    (Either (bytes_eq name (codes "record")) (IsRecordRow rows operands)
-    (Either (bytes_eq name (codes "recorded")) (IsRecordedRow rows operands)
-    (Either (bytes_eq name (codes "verify")) (IsVerifyRow rows operands)
-    (Either (bytes_eq name (codes "show")) (IsShowRow rows operands)
-    (Either (bytes_eq name (codes "export")) (IsExportRow rows operands)
-    (Either (bytes_eq name (codes "import")) (IsImportRow rows operands)
-    (Either (bytes_eq name (codes "debug")) (IsDebugRow rows operands)
-    ⊥))))))))))))))))
+-- the last operand, which was given or left out
+module _ (Asked : List Word → Type 0) where
+  pub word_or_none : (Answers : Option (Bor Word) → Type 0) → (Asked [] → Answers None) → ((s : Bor Word) → Asked (s.now ∷ []) → Answers (Some s))
+      → (f : Option Word) (o : Option (Bor Word)) → option_map (λ s. s.now) o ≡ f → Asked (option_map_or (λ given. given ∷ []) f []) → Answers o
+  word_or_none Answers none some f None is asked = none (subst (λ (g : Option Word). Asked (option_map_or (λ given. given ∷ []) g [])) (sym is) asked)
+  word_or_none Answers none some f (Some s) is asked = some s (subst (λ (g : Option Word). Asked (option_map_or (λ given. given ∷ []) g [])) (sym is) asked)
 
-pub row_of : (name : Word) (rows : List Row) (operands : List Word) → IsMatched name rows operands → IsRowOf name rows operands
-row_of name rows operands (inl h) = subst (λ (word : Word). IsRowOf word rows operands) (sym h.0) h.1
-row_of name rows operands (inr (inl h)) = subst (λ (word : Word). IsRowOf word rows operands) (sym h.0) h.1
-row_of name rows operands (inr (inr (inl h))) = subst (λ (word : Word). IsRowOf word rows operands) (sym h.0) h.1
-row_of name rows operands (inr (inr (inr (inl h)))) = subst (λ (word : Word). IsRowOf word rows operands) (sym h.0) h.1
-row_of name rows operands (inr (inr (inr (inr (inl h))))) = subst (λ (word : Word). IsRowOf word rows operands) (sym h.0) h.1
-row_of name rows operands (inr (inr (inr (inr (inr (inl h)))))) = subst (λ (word : Word). IsRowOf word rows operands) (sym h.0) h.1
-row_of name rows operands (inr (inr (inr (inr (inr (inr (inl h))))))) = subst (λ (word : Word). IsRowOf word rows operands) (sym h.0) h.1
-row_of name rows operands (inr (inr (inr (inr (inr (inr (inr (inl h)))))))) = subst (λ (word : Word). IsRowOf word rows operands) (sym h.0) h.1
-row_of name rows operands (inr (inr (inr (inr (inr (inr (inr (inr (inl h))))))))) = subst (λ (word : Word). IsRowOf word rows operands) (sym h.0) h.1
-row_of name rows operands (inr (inr (inr (inr (inr (inr (inr (inr (inr (inl h)))))))))) = subst (λ (word : Word). IsRowOf word rows operands) (sym h.0) h.1
-row_of name rows operands (inr (inr (inr (inr (inr (inr (inr (inr (inr (inr (inl h))))))))))) = subst (λ (word : Word). IsRowOf word rows operands) (sym h.0) h.1
-row_of name rows operands (inr (inr (inr (inr (inr (inr (inr (inr (inr (inr (inr (inl h)))))))))))) = subst (λ (word : Word). IsRowOf word rows operands) (sym h.0) h.1
-row_of name rows operands (inr (inr (inr (inr (inr (inr (inr (inr (inr (inr (inr (inr (inl h))))))))))))) = subst (λ (word : Word). IsRowOf word rows operands) (sym h.0) h.1
-row_of name rows operands (inr (inr (inr (inr (inr (inr (inr (inr (inr (inr (inr (inr (inr (inl h)))))))))))))) = subst (λ (word : Word). IsRowOf word rows operands) (sym h.0) h.1
-row_of name rows operands (inr (inr (inr (inr (inr (inr (inr (inr (inr (inr (inr (inr (inr (inr (inl h))))))))))))))) = subst (λ (word : Word). IsRowOf word rows operands) (sym h.0) h.1
-row_of name rows operands (inr (inr (inr (inr (inr (inr (inr (inr (inr (inr (inr (inr (inr (inr (inr (inl h)))))))))))))))) = subst (λ (word : Word). IsRowOf word rows operands) (sym h.0) h.1
-row_of name rows operands (inr (inr (inr (inr (inr (inr (inr (inr (inr (inr (inr (inr (inr (inr (inr (inr h)))))))))))))))) = subst (λ (word : Word). IsRowOf word rows operands) (sym h.0) h.1
+  pub number_or_none : (least most : ℕ) (Passing : Word → Type 0) (Answers : Option ℕ → Type 0) → (Asked [] → Answers None)
+      → ((n : ℕ) (number : Word) → Asked (number ∷ []) → WritesWithin least most number n → Answers (Some n))
+      → (f : Option Word) (o : Option ℕ) → (f ≡ None → o ≡ None) → ((given : Word) → Passing given → IsSomeAnd o (WritesWithin least most given))
+      → MatchOption f (false ≡ false) Passing → Asked (option_map_or (λ given. given ∷ []) f []) → Answers o
+  number_or_none least most Passing Answers none some None o left_out reads passes asked = subst Answers (sym (left_out refl)) (none asked)
+  number_or_none least most Passing Answers none some (Some given) None left_out reads passes asked = absurd (reads given passes)
+  number_or_none least most Passing Answers none some (Some given) (Some n) left_out reads passes asked = some n given asked (reads given passes)

@@ -3,14 +3,11 @@
 //! What `clap` answers to words that it does not understand, and its help, are its own texts.
 #![tactic(auto)]
 
-ghost use Rattle.std.specs.Prelude.{◌≡◌, ◌<◌, ◌^◌, ℕ, List, None, Ok, codes, map};
+ghost use Rattle.std.specs.Prelude.{◌≡◌, ◌<◌, ◌^◌, ℕ, List, None, Ok, map, option_map};
 ghost use Rattle.std.specs.Option.{IsSomeAnd};
-ghost use Rattle.clap.specs.Words.{FailsBy, fault_of, found_of, rows_of, subcommand_rows_of};
-ghost use Rattle.command_line.specs.Commands.{HasNoNumber, HasNoOperand, HasNumber, HasOperand, IsFrameRow, IsInfoRow, IsListRow, IsMatched, IsRead};
-ghost use Rattle.command_line.specs.Commands.{IsNewRow, IsPlayRow, IsStepRow, IsStreamRow, IsTraceRow, gbkeep};
-ghost use Rattle.command_line.specs.Commands.{IsTestRow, IsNewRecordingRow, IsRecordRow, IsRecordedRow, IsVerifyRow};
-ghost use Rattle.command_line.specs.Commands.{IsShowRow, IsExportRow, IsImportRow, IsDebugRow};
-ghost use Rattle.command_line.specs.Words.{IsAnswer, IsCommand, Word, WritesWithin};
+ghost use Rattle.clap.specs.Words.{FailsBy, fault_of, first_of, found_of, rows_of, subcommand_rows_of};
+ghost use Rattle.command_line.specs.Commands.{AnswersAs, IsRead, Passes, PassesAs, gbkeep, given_at, number};
+ghost use Rattle.command_line.specs.Words.{IsAnswer, Word, WritesWithin};
 
 mod words;
 
@@ -123,7 +120,7 @@ pub enum Request<'a> {
 ///
 /// `clap`'s error has the text of what is not understood, or of the help or version that was asked for. It comes only
 /// where the words ask for no request, or out of memory, and its kind is the one that `clap`'s definitions give.
-/// The answer is never `None`: the type has it because the values of `clap`'s matches are options.
+/// The answer is never `None`: the type has it because the matches of `clap` may be of no command, or of another.
 pub fn request_of<'a, S: AsStr>(alloc: Global, words: &'a [S]) -> Result<Option<Request<'a>>, Error>
     ensures asked { IsAnswer (map S.text words.entry.now) result }
     ensures kinds { FailsBy (fault_of gbkeep (map S.text words.entry.now)) result }
@@ -143,235 +140,120 @@ fn matched_request<'a>(matches: &ArgMatches<'a>) -> Option<Request<'a>>
 }
 
 fn named_request<'a>(name: &str, values: &ArgMatches<'a>) -> Option<Request<'a>>
-    ensures { (words operands : List Word) → IsCommand words name.now operands
-        → IsMatched name.now (rows_of (found_of values.now)) operands → IsAnswer words (Ok result) }
+    ensures { AnswersAs name.now (rows_of (found_of values.now)) result }
 {
+    let cart = operand(values, "CART");
     match name {
-        "info" => info(values),
-        "list" => list(values),
-        "step" => step(values),
-        "new" => new(values),
-        "play" => play(values),
-        "frame" => frame(values),
-        "trace" => trace(values),
-        "stream" => stream(values),
-        "test" => test_rom(values),
-        "new-recording" => new_recording(values),
-        "record" => record_game(values),
-        "recorded" => recorded(values),
-        "verify" => verify(values),
-        "show" => show(values),
-        "export" => export(values),
-        "import" => import(values),
-        "debug" => debug(values),
+        "info" => Some(Request::Info { cart }),
+        "list" => Some(Request::List {
+            cart,
+            address: operand(values, "ADDR"),
+            count: number(values, "COUNT"),
+        }),
+        "step" => Some(Request::Step {
+            cart,
+            count: number(values, "COUNT"),
+        }),
+        "new" => Some(Request::New {
+            cart,
+            save: operand(values, "SAVE"),
+            sectors: optional_number(values, "SECTORS"),
+        }),
+        "play" => Some(Request::Play {
+            cart,
+            save: operand(values, "SAVE"),
+            script: operand(values, "SCRIPT"),
+        }),
+        "frame" => Some(Request::Frame {
+            cart,
+            save: operand(values, "SAVE"),
+            out: operand(values, "OUT"),
+        }),
+        "trace" => Some(Request::Trace {
+            cart,
+            save: operand(values, "SAVE"),
+            count: number(values, "COUNT"),
+        }),
+        "stream" => Some(Request::Stream {
+            cart,
+            save: operand(values, "SAVE"),
+        }),
+        "test" => Some(Request::Test {
+            cart,
+            frames: number(values, "FRAMES"),
+            script: optional_operand(values, "SCRIPT"),
+        }),
+        "new-recording" => Some(Request::NewRecording {
+            cart,
+            recording: operand(values, "RECORDING"),
+            sectors: number(values, "SECTORS"),
+        }),
+        "record" => Some(Request::Record {
+            cart,
+            save: operand(values, "SAVE"),
+            recording: operand(values, "RECORDING"),
+        }),
+        "recorded" => Some(Request::Recorded {
+            cart,
+            recording: operand(values, "RECORDING"),
+        }),
+        "verify" => Some(Request::Verify {
+            cart,
+            save: operand(values, "SAVE"),
+            recording: operand(values, "RECORDING"),
+        }),
+        "show" => Some(Request::Show {
+            cart,
+            save: operand(values, "SAVE"),
+        }),
+        "export" => Some(Request::Export {
+            cart,
+            save: operand(values, "SAVE"),
+            out: operand(values, "OUT"),
+        }),
+        "import" => Some(Request::Import {
+            cart,
+            battery: operand(values, "BATTERY"),
+            save: operand(values, "SAVE"),
+            sectors: optional_number(values, "SECTORS"),
+        }),
+        "debug" => Some(Request::Debug {
+            cart,
+            save: optional_operand(values, "SAVE"),
+        }),
         _ => None,
     }
 }
 
-/// An operand, as it was given.
-fn operand<'a>(values: &ArgMatches<'a>, id: &str) -> Option<&'a str>
-    ensures { (word : Word) → HasOperand (rows_of (found_of values.now)) id.now word →
-        IsSomeAnd result (λ s. s.now ≡ word) }
+/// An operand, as it was given. `None`: it was left out.
+fn optional_operand<'a>(values: &ArgMatches<'a>, id: &str) -> Option<&'a str>
+    ensures { option_map (λ s. s.now) result ≡ first_of id.now (rows_of (found_of values.now)) }
 {
     values.get_str(id)
 }
 
-/// An operand, as it was given. `None`: it was left out.
-fn optional_operand<'a>(values: &ArgMatches<'a>, id: &str) -> Option<&'a str>
-    ensures none { HasNoOperand (rows_of (found_of values.now)) id.now → result ≡ None }
-    ensures some { (word : Word) → HasOperand (rows_of (found_of values.now)) id.now word →
-        IsSomeAnd result (λ s. s.now ≡ word) }
+/// An operand that `clap` has asked for, as it was given.
+fn operand<'a>(values: &ArgMatches<'a>, id: &str) -> &'a str
+    ensures { result.now ≡ given_at id.now (rows_of (found_of values.now)) }
 {
-    values.get_str(id)
+    optional_operand(values, id).unwrap_or("")
 }
 
 /// A number, whose range `clap` has looked at. `None`: it was left out.
-fn number(values: &ArgMatches<'_>, id: &str) -> Option<u32>
-    ensures none { HasNoNumber (rows_of (found_of values.now)) id.now → result ≡ None }
-    ensures some { (least most : ℕ) (word : Word) → most < 2 ^ 32 →
-        HasNumber (rows_of (found_of values.now)) id.now least most word
-        → IsSomeAnd result (WritesWithin least most word) }
+fn optional_number(values: &ArgMatches<'_>, id: &str) -> Option<u32>
+    ensures none { first_of id.now (rows_of (found_of values.now)) ≡ None → result ≡ None }
+    ensures some { (least most : ℕ) (given : Word) → most < 2 ^ 32 →
+        PassesAs (number id.now least most) (rows_of (found_of values.now)) given
+        → IsSomeAnd result (WritesWithin least most given) }
 {
     values.get_one(id)
 }
 
-fn info<'a>(values: &ArgMatches<'a>) -> Option<Request<'a>>
-    ensures { (words operands : List Word) → IsCommand words (codes "info") operands
-        → IsInfoRow (rows_of (found_of values.now)) operands → IsAnswer words (Ok result) }
+/// A number that `clap` has asked for, and whose range it has looked at.
+fn number(values: &ArgMatches<'_>, id: &str) -> u32
+    ensures { (least most : ℕ) → most < 2 ^ 32 →
+        Passes (rows_of (found_of values.now)) (number id.now least most)
+        → WritesWithin least most (given_at id.now (rows_of (found_of values.now))) result }
 {
-    Some(Request::Info {
-        cart: operand(values, "CART")?,
-    })
-}
-
-fn list<'a>(values: &ArgMatches<'a>) -> Option<Request<'a>>
-    ensures { (words operands : List Word) → IsCommand words (codes "list") operands
-        → IsListRow (rows_of (found_of values.now)) operands → IsAnswer words (Ok result) }
-{
-    Some(Request::List {
-        cart: operand(values, "CART")?,
-        address: operand(values, "ADDR")?,
-        count: number(values, "COUNT")?,
-    })
-}
-
-fn step<'a>(values: &ArgMatches<'a>) -> Option<Request<'a>>
-    ensures { (words operands : List Word) → IsCommand words (codes "step") operands
-        → IsStepRow (rows_of (found_of values.now)) operands → IsAnswer words (Ok result) }
-{
-    Some(Request::Step {
-        cart: operand(values, "CART")?,
-        count: number(values, "COUNT")?,
-    })
-}
-
-fn new<'a>(values: &ArgMatches<'a>) -> Option<Request<'a>>
-    ensures { (words operands : List Word) → IsCommand words (codes "new") operands
-        → IsNewRow (rows_of (found_of values.now)) operands → IsAnswer words (Ok result) }
-{
-    Some(Request::New {
-        cart: operand(values, "CART")?,
-        save: operand(values, "SAVE")?,
-        sectors: number(values, "SECTORS"),
-    })
-}
-
-fn play<'a>(values: &ArgMatches<'a>) -> Option<Request<'a>>
-    ensures { (words operands : List Word) → IsCommand words (codes "play") operands
-        → IsPlayRow (rows_of (found_of values.now)) operands → IsAnswer words (Ok result) }
-{
-    Some(Request::Play {
-        cart: operand(values, "CART")?,
-        save: operand(values, "SAVE")?,
-        script: operand(values, "SCRIPT")?,
-    })
-}
-
-fn frame<'a>(values: &ArgMatches<'a>) -> Option<Request<'a>>
-    ensures { (words operands : List Word) → IsCommand words (codes "frame") operands
-        → IsFrameRow (rows_of (found_of values.now)) operands → IsAnswer words (Ok result) }
-{
-    Some(Request::Frame {
-        cart: operand(values, "CART")?,
-        save: operand(values, "SAVE")?,
-        out: operand(values, "OUT")?,
-    })
-}
-
-fn trace<'a>(values: &ArgMatches<'a>) -> Option<Request<'a>>
-    ensures { (words operands : List Word) → IsCommand words (codes "trace") operands
-        → IsTraceRow (rows_of (found_of values.now)) operands → IsAnswer words (Ok result) }
-{
-    Some(Request::Trace {
-        cart: operand(values, "CART")?,
-        save: operand(values, "SAVE")?,
-        count: number(values, "COUNT")?,
-    })
-}
-
-fn stream<'a>(values: &ArgMatches<'a>) -> Option<Request<'a>>
-    ensures { (words operands : List Word) → IsCommand words (codes "stream") operands
-        → IsStreamRow (rows_of (found_of values.now)) operands → IsAnswer words (Ok result) }
-{
-    Some(Request::Stream {
-        cart: operand(values, "CART")?,
-        save: operand(values, "SAVE")?,
-    })
-}
-
-fn test_rom<'a>(values: &ArgMatches<'a>) -> Option<Request<'a>>
-    ensures { (words operands : List Word) → IsCommand words (codes "test") operands
-        → IsTestRow (rows_of (found_of values.now)) operands → IsAnswer words (Ok result) }
-{
-    Some(Request::Test {
-        cart: operand(values, "CART")?,
-        frames: number(values, "FRAMES")?,
-        script: optional_operand(values, "SCRIPT"),
-    })
-}
-
-fn new_recording<'a>(values: &ArgMatches<'a>) -> Option<Request<'a>>
-    ensures { (words operands : List Word) → IsCommand words (codes "new-recording") operands
-        → IsNewRecordingRow (rows_of (found_of values.now)) operands → IsAnswer words (Ok result) }
-{
-    Some(Request::NewRecording {
-        cart: operand(values, "CART")?,
-        recording: operand(values, "RECORDING")?,
-        sectors: number(values, "SECTORS")?,
-    })
-}
-
-fn record_game<'a>(values: &ArgMatches<'a>) -> Option<Request<'a>>
-    ensures { (words operands : List Word) → IsCommand words (codes "record") operands
-        → IsRecordRow (rows_of (found_of values.now)) operands → IsAnswer words (Ok result) }
-{
-    Some(Request::Record {
-        cart: operand(values, "CART")?,
-        save: operand(values, "SAVE")?,
-        recording: operand(values, "RECORDING")?,
-    })
-}
-
-fn recorded<'a>(values: &ArgMatches<'a>) -> Option<Request<'a>>
-    ensures { (words operands : List Word) → IsCommand words (codes "recorded") operands
-        → IsRecordedRow (rows_of (found_of values.now)) operands → IsAnswer words (Ok result) }
-{
-    Some(Request::Recorded {
-        cart: operand(values, "CART")?,
-        recording: operand(values, "RECORDING")?,
-    })
-}
-
-fn verify<'a>(values: &ArgMatches<'a>) -> Option<Request<'a>>
-    ensures { (words operands : List Word) → IsCommand words (codes "verify") operands
-        → IsVerifyRow (rows_of (found_of values.now)) operands → IsAnswer words (Ok result) }
-{
-    Some(Request::Verify {
-        cart: operand(values, "CART")?,
-        save: operand(values, "SAVE")?,
-        recording: operand(values, "RECORDING")?,
-    })
-}
-
-fn show<'a>(values: &ArgMatches<'a>) -> Option<Request<'a>>
-    ensures { (words operands : List Word) → IsCommand words (codes "show") operands
-        → IsShowRow (rows_of (found_of values.now)) operands → IsAnswer words (Ok result) }
-{
-    Some(Request::Show {
-        cart: operand(values, "CART")?,
-        save: operand(values, "SAVE")?,
-    })
-}
-
-fn export<'a>(values: &ArgMatches<'a>) -> Option<Request<'a>>
-    ensures { (words operands : List Word) → IsCommand words (codes "export") operands
-        → IsExportRow (rows_of (found_of values.now)) operands → IsAnswer words (Ok result) }
-{
-    Some(Request::Export {
-        cart: operand(values, "CART")?,
-        save: operand(values, "SAVE")?,
-        out: operand(values, "OUT")?,
-    })
-}
-
-fn import<'a>(values: &ArgMatches<'a>) -> Option<Request<'a>>
-    ensures { (words operands : List Word) → IsCommand words (codes "import") operands
-        → IsImportRow (rows_of (found_of values.now)) operands → IsAnswer words (Ok result) }
-{
-    Some(Request::Import {
-        cart: operand(values, "CART")?,
-        battery: operand(values, "BATTERY")?,
-        save: operand(values, "SAVE")?,
-        sectors: number(values, "SECTORS"),
-    })
-}
-
-fn debug<'a>(values: &ArgMatches<'a>) -> Option<Request<'a>>
-    ensures { (words operands : List Word) → IsCommand words (codes "debug") operands
-        → IsDebugRow (rows_of (found_of values.now)) operands → IsAnswer words (Ok result) }
-{
-    Some(Request::Debug {
-        cart: operand(values, "CART")?,
-        save: optional_operand(values, "SAVE"),
-    })
+    optional_number(values, id).unwrap_or(0)
 }

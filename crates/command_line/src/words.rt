@@ -1,13 +1,31 @@
 //! The commands and their words.
-ghost use Rattle.std.specs.Prelude.{IfOk, codes};
-ghost use Rattle.clap.specs.Words.{App, new_rule, with_subcommand};
-ghost use Rattle.command_line.specs.Commands.{Reads, ReadsOperand, number, operand, over_cart, over_save};
-ghost use Rattle.command_line.specs.Commands.{bare, frame, gbkeep, info, list, new, play, step, stream, trace, without_sessions};
-ghost use Rattle.command_line.specs.Commands.{test_rom, new_recording, record_game, recorded, verify, with_sessions, with_recordings};
-ghost use Rattle.command_line.specs.Commands.{show, export, import, debug, optional_number, with_battery_files};
+ghost use Rattle.std.specs.Prelude.{[], IfOk, map};
+ghost use Rattle.clap.specs.Words.{App, new_app, with_subcommand};
+ghost use Rattle.command_line.specs.Commands.{Reads, ReadsOperand, bare, gbkeep, with_commands};
+ghost use Rattle.command_line.specs.Commands.{operand_of, shape_of_usage, usage_of};
 
-use clap::{Arg, Command, value_parser};
+use clap::builder::ValueParser;
+use clap::{Arg, Command};
 use std::alloc::{AllocError, Global};
+
+/// A word behind a command, by its id and its help: any, or a number from the least one to the most.
+/// An optional one may be left out.
+#[derive(Clone, Copy)]
+pub(crate) enum Operand {
+    Word(&'static str, &'static str),
+    OptionalWord(&'static str, &'static str),
+    Number(&'static str, i64, i64, &'static str),
+    OptionalNumber(&'static str, i64, i64, &'static str),
+}
+
+/// A command, with what help says of it and below its operands.
+#[derive(Clone, Copy)]
+pub(crate) struct Subcommand {
+    name: &'static str,
+    about: &'static str,
+    lines: Option<&'static str>,
+    operands: &'static [Operand],
+}
 
 /// The name in usage texts, whatever the file of the program is called.
 const NAME: &str = "gbkeep";
@@ -63,50 +81,179 @@ const DEBUG_LINES: &str = "Lines of the standard input, each answered before the
   back K            goes on from the machine that was kept under K
   digest            the SHA-256 of the machine's snapshot";
 
+const CART: Operand = Operand::Word("CART", "The ROM file");
+
+const SAVE: Operand = Operand::Word("SAVE", "The file that keeps the game");
+
+const DEBUGGED_SAVE: Operand = Operand::OptionalWord(
+    "SAVE",
+    "The file of a game that it begins with, which keeps nothing of this",
+);
+
+const BATTERY: Operand = Operand::Word("BATTERY", "The battery file");
+
+const NEW_BATTERY: Operand = Operand::Word("OUT", "The new battery file");
+
+const PICTURE: Operand = Operand::Word("OUT", "The file for the picture, as plain PGM");
+
+const RECORDING: Operand = Operand::Word(
+    "RECORDING",
+    "The file that keeps every input since power-on",
+);
+
+const SCRIPT: Operand = Operand::Word("SCRIPT", "The file of moves, a line each");
+
+const FIRST_SCRIPT: Operand = Operand::OptionalWord(
+    "SCRIPT",
+    "The file of moves, a line each, that are made first",
+);
+
+const ADDRESS: Operand = Operand::Word(
+    "ADDR",
+    "The first address, in one to four hexadecimal digits",
+);
+
+const INSTRUCTIONS: Operand = Operand::Number("COUNT", 1, 4_096, "How many instructions");
+
+const STEPS: Operand = Operand::Number("COUNT", 0, 1_000_000, "How many steps");
+
+const TRACED_STEPS: Operand = Operand::Number("COUNT", 1, 1_024, "How many steps");
+
+const FRAMES: Operand = Operand::Number("FRAMES", 1, 1_000_000, "The most frames");
+
+const RECORDING_SECTORS: Operand = Operand::Number(
+    "SECTORS",
+    1,
+    65_536,
+    "How many sectors of 512 bytes the file has",
+);
+
+const SECTORS: Operand = Operand::OptionalNumber(
+    "SECTORS",
+    1,
+    65_536,
+    "How many sectors of 512 bytes the file has; as many as the game needs, if left out",
+);
+
+const SUBCOMMANDS: [Subcommand; 17] = [
+    Subcommand {
+        name: "info",
+        about: "Prints the header of a cartridge",
+        lines: None,
+        operands: &[CART],
+    },
+    Subcommand {
+        name: "list",
+        about: "Prints instructions as the machine has them at power-on",
+        lines: None,
+        operands: &[CART, ADDRESS, INSTRUCTIONS],
+    },
+    Subcommand {
+        name: "step",
+        about: "Prints the registers after some steps from power-on",
+        lines: None,
+        operands: &[CART, STEPS],
+    },
+    Subcommand {
+        name: "new",
+        about: "Begins a game in a new file",
+        lines: None,
+        operands: &[CART, SAVE, SECTORS],
+    },
+    Subcommand {
+        name: "play",
+        about: "Resumes a game, plays a script on it and saves it",
+        lines: Some(SCRIPT_LINES),
+        operands: &[CART, SAVE, SCRIPT],
+    },
+    Subcommand {
+        name: "frame",
+        about: "Resumes a game and writes its picture to a file",
+        lines: None,
+        operands: &[CART, SAVE, PICTURE],
+    },
+    Subcommand {
+        name: "trace",
+        about: "Resumes a game and prints its next steps, which are not saved",
+        lines: None,
+        operands: &[CART, SAVE, TRACED_STEPS],
+    },
+    Subcommand {
+        name: "stream",
+        about: "Resumes a game, plays the lines of the standard input as they come and saves it",
+        lines: Some(STREAM_LINES),
+        operands: &[CART, SAVE],
+    },
+    Subcommand {
+        name: "new-recording",
+        about: "Makes a new file for every input of a game since power-on",
+        lines: None,
+        operands: &[CART, RECORDING, RECORDING_SECTORS],
+    },
+    Subcommand {
+        name: "record",
+        about: "Resumes a game as stream does, and records each input before it is saved",
+        lines: None,
+        operands: &[CART, SAVE, RECORDING],
+    },
+    Subcommand {
+        name: "recorded",
+        about: "Prints the inputs of a recording as a script",
+        lines: None,
+        operands: &[CART, RECORDING],
+    },
+    Subcommand {
+        name: "verify",
+        about: "Plays a recording again from power-on and compares it with the game",
+        lines: None,
+        operands: &[CART, SAVE, RECORDING],
+    },
+    Subcommand {
+        name: "show",
+        about: "Prints what a game's file holds, and writes nothing to it",
+        lines: None,
+        operands: &[CART, SAVE],
+    },
+    Subcommand {
+        name: "export",
+        about: "Writes the battery-backed RAM of a game to a new file, as other emulators read it",
+        lines: None,
+        operands: &[CART, SAVE, NEW_BATTERY],
+    },
+    Subcommand {
+        name: "import",
+        about: "Begins a game in a new file with the battery-backed RAM of another emulator",
+        lines: None,
+        operands: &[CART, BATTERY, SAVE, SECTORS],
+    },
+    Subcommand {
+        name: "test",
+        about: "Runs a test ROM from power-on until it says that it is done",
+        lines: None,
+        operands: &[CART, FRAMES, FIRST_SCRIPT],
+    },
+    Subcommand {
+        name: "debug",
+        about: "Runs a cartridge step by step, and shows its registers, memory and history",
+        lines: Some(DEBUG_LINES),
+        operands: &[CART, DEBUGGED_SAVE],
+    },
+];
+
 pub(crate) fn command<'a>(alloc: Global) -> Result<Command<'a>, AllocError>
     ensures { IfOk result (Reads gbkeep) }
 {
-    let command = joined(with_battery_files(alloc), test_rom(alloc));
-    joined(command, debug(alloc))
+    with_subcommands(alloc, &SUBCOMMANDS)
 }
 
-/// So, and with those that show a game or carry its battery file.
-fn with_battery_files<'a>(alloc: Global) -> Result<Command<'a>, AllocError>
-    ensures { IfOk result (Reads with_battery_files) }
+fn with_subcommands<'a>(alloc: Global, rows: &[Subcommand]) -> Result<Command<'a>, AllocError>
+    ensures { IfOk result (Reads (with_commands (map usage_of rows.now))) }
 {
-    let command = joined(with_recordings(alloc), show(alloc));
-    let command = joined(command, export(alloc));
-    joined(command, import(alloc))
-}
-
-/// So, and with those over a recording.
-fn with_recordings<'a>(alloc: Global) -> Result<Command<'a>, AllocError>
-    ensures { IfOk result (Reads with_recordings) }
-{
-    let command = joined(with_sessions(alloc), new_recording(alloc));
-    let command = joined(command, record_game(alloc));
-    let command = joined(command, recorded(alloc));
-    joined(command, verify(alloc))
-}
-
-/// The program with the commands over a game.
-fn with_sessions<'a>(alloc: Global) -> Result<Command<'a>, AllocError>
-    ensures { IfOk result (Reads with_sessions) }
-{
-    let command = joined(without_sessions(alloc), play(alloc));
-    let command = joined(command, frame(alloc));
-    let command = joined(command, trace(alloc));
-    joined(command, stream(alloc))
-}
-
-/// The program with the commands that resume no session.
-fn without_sessions<'a>(alloc: Global) -> Result<Command<'a>, AllocError>
-    ensures { IfOk result (Reads without_sessions) }
-{
-    let command = joined(bare(alloc), info(alloc));
-    let command = joined(command, list(alloc));
-    let command = joined(command, step(alloc));
-    joined(command, new(alloc))
+    let mut command = bare(alloc);
+    for row in rows {
+        command = joined(command, command_of(alloc, row));
+    }
+    command
 }
 
 /// A command with another one below it, if there was memory for both. Only here is there a command to drop.
@@ -131,285 +278,40 @@ fn bare<'a>(alloc: Global) -> Result<Command<'a>, AllocError>
         .bin_name(NAME)
 }
 
-fn word<'a>(alloc: Global, name: &'a str, help: &'a str) -> Arg<'a>
-    ensures { ReadsOperand (operand name.now) result }
+fn command_of<'a>(alloc: Global, row: &Subcommand) -> Result<Command<'a>, AllocError>
+    ensures { IfOk result (Reads (record { top = shape_of_usage (usage_of row.now); subs = [] })) }
 {
-    Arg::new(alloc, name).required(true).help(help)
+    let mut command = described(alloc, row);
+    let operands = row.operands;
+    for operand in operands {
+        command = command.arg(argument(alloc, *operand))?;
+    }
+    Ok(command)
 }
 
-/// An operand that may be left out.
-fn optional_word<'a>(alloc: Global, name: &'a str, help: &'a str) -> Arg<'a>
-    ensures { ReadsOperand (new_rule name.now) result }
+/// A command without its operands.
+fn described<'a>(alloc: Global, row: &Subcommand) -> Command<'a>
+    ensures { Reads (new_app row.now.name.now) result }
 {
-    Arg::new(alloc, name).help(help)
+    let command = Command::new(alloc, row.name).about(row.about);
+    match row.lines {
+        Some(lines) => command.after_help(lines),
+        None => command,
+    }
 }
 
-fn recording<'a>(alloc: Global) -> Arg<'a>
-    ensures { ReadsOperand (operand (codes "RECORDING")) result }
+fn argument<'a>(alloc: Global, operand: Operand) -> Arg<'a>
+    ensures { ReadsOperand (operand_of operand) result }
 {
-    word(
-        alloc,
-        "RECORDING",
-        "The file that keeps every input since power-on",
-    )
-}
-
-fn over_cart<'a>(alloc: Global, name: &'a str, about: &'a str) -> Result<Command<'a>, AllocError>
-    ensures { IfOk result (Reads (over_cart name.now)) }
-{
-    Command::new(alloc, name)
-        .about(about)
-        .arg(word(alloc, "CART", "The ROM file"))
-}
-
-fn info<'a>(alloc: Global) -> Result<Command<'a>, AllocError>
-    ensures { IfOk result (Reads info) }
-{
-    over_cart(alloc, "info", "Prints the header of a cartridge")
-}
-
-fn list<'a>(alloc: Global) -> Result<Command<'a>, AllocError>
-    ensures { IfOk result (Reads list) }
-{
-    over_cart(
-        alloc,
-        "list",
-        "Prints instructions as the machine has them at power-on",
-    )?
-    .arg(word(
-        alloc,
-        "ADDR",
-        "The first address, in one to four hexadecimal digits",
-    ))?
-    .arg(instructions(alloc))
-}
-
-fn step<'a>(alloc: Global) -> Result<Command<'a>, AllocError>
-    ensures { IfOk result (Reads step) }
-{
-    over_cart(
-        alloc,
-        "step",
-        "Prints the registers after some steps from power-on",
-    )?
-    .arg(steps(alloc))
-}
-
-fn over_save<'a>(alloc: Global, name: &'a str, about: &'a str) -> Result<Command<'a>, AllocError>
-    ensures { IfOk result (Reads (over_save name.now)) }
-{
-    over_cart(alloc, name, about)?.arg(word(alloc, "SAVE", "The file that keeps the game"))
-}
-
-/// How many instructions are listed.
-fn instructions<'a>(alloc: Global) -> Arg<'a>
-    ensures { ReadsOperand (number (codes "COUNT") 1 4096) result }
-{
-    word(alloc, "COUNT", "How many instructions").value_parser(value_parser!(u32).range(1..=4_096))
-}
-
-/// How many steps are made from power-on.
-fn steps<'a>(alloc: Global) -> Arg<'a>
-    ensures { ReadsOperand (number (codes "COUNT") 0 1000000) result }
-{
-    word(alloc, "COUNT", "How many steps").value_parser(value_parser!(u32).range(0..=1_000_000))
-}
-
-/// How many steps of a game are printed.
-fn traced_steps<'a>(alloc: Global) -> Arg<'a>
-    ensures { ReadsOperand (number (codes "COUNT") 1 1024) result }
-{
-    word(alloc, "COUNT", "How many steps").value_parser(value_parser!(u32).range(1..=1_024))
-}
-
-/// How many frames a test ROM has at most.
-fn frames<'a>(alloc: Global) -> Arg<'a>
-    ensures { ReadsOperand (number (codes "FRAMES") 1 1000000) result }
-{
-    word(alloc, "FRAMES", "The most frames").value_parser(value_parser!(u32).range(1..=1_000_000))
-}
-
-/// How many sectors a recording's file has.
-fn sectors_of_recording<'a>(alloc: Global) -> Arg<'a>
-    ensures { ReadsOperand (number (codes "SECTORS") 1 65536) result }
-{
-    word(
-        alloc,
-        "SECTORS",
-        "How many sectors of 512 bytes the file has",
-    )
-    .value_parser(value_parser!(u32).range(1..=65_536))
-}
-
-/// How many sectors a new game's file has.
-fn sectors<'a>(alloc: Global) -> Arg<'a>
-    ensures { ReadsOperand (optional_number (codes "SECTORS") 1 65536) result }
-{
-    Arg::new(alloc, "SECTORS")
-        .help("How many sectors of 512 bytes the file has; as many as the game needs, if left out")
-        .value_parser(value_parser!(u32).range(1..=65_536))
-}
-
-fn new<'a>(alloc: Global) -> Result<Command<'a>, AllocError>
-    ensures { IfOk result (Reads new) }
-{
-    over_save(alloc, "new", "Begins a game in a new file")?.arg(sectors(alloc))
-}
-
-fn play<'a>(alloc: Global) -> Result<Command<'a>, AllocError>
-    ensures { IfOk result (Reads play) }
-{
-    over_save(
-        alloc,
-        "play",
-        "Resumes a game, plays a script on it and saves it",
-    )?
-    .after_help(SCRIPT_LINES)
-    .arg(word(alloc, "SCRIPT", "The file of moves, a line each"))
-}
-
-fn frame<'a>(alloc: Global) -> Result<Command<'a>, AllocError>
-    ensures { IfOk result (Reads frame) }
-{
-    over_save(
-        alloc,
-        "frame",
-        "Resumes a game and writes its picture to a file",
-    )?
-    .arg(word(alloc, "OUT", "The file for the picture, as plain PGM"))
-}
-
-fn trace<'a>(alloc: Global) -> Result<Command<'a>, AllocError>
-    ensures { IfOk result (Reads trace) }
-{
-    over_save(
-        alloc,
-        "trace",
-        "Resumes a game and prints its next steps, which are not saved",
-    )?
-    .arg(traced_steps(alloc))
-}
-
-fn stream<'a>(alloc: Global) -> Result<Command<'a>, AllocError>
-    ensures { IfOk result (Reads stream) }
-{
-    let lines = over_save(
-        alloc,
-        "stream",
-        "Resumes a game, plays the lines of the standard input as they come and saves it",
-    )?
-    .after_help(STREAM_LINES);
-    Ok(lines)
-}
-
-fn test_rom<'a>(alloc: Global) -> Result<Command<'a>, AllocError>
-    ensures { IfOk result (Reads test_rom) }
-{
-    over_cart(
-        alloc,
-        "test",
-        "Runs a test ROM from power-on until it says that it is done",
-    )?
-    .arg(frames(alloc))?
-    .arg(optional_word(
-        alloc,
-        "SCRIPT",
-        "The file of moves, a line each, that are made first",
-    ))
-}
-
-fn new_recording<'a>(alloc: Global) -> Result<Command<'a>, AllocError>
-    ensures { IfOk result (Reads new_recording) }
-{
-    over_cart(
-        alloc,
-        "new-recording",
-        "Makes a new file for every input of a game since power-on",
-    )?
-    .arg(recording(alloc))?
-    .arg(sectors_of_recording(alloc))
-}
-
-fn record_game<'a>(alloc: Global) -> Result<Command<'a>, AllocError>
-    ensures { IfOk result (Reads record_game) }
-{
-    over_save(
-        alloc,
-        "record",
-        "Resumes a game as stream does, and records each input before it is saved",
-    )?
-    .arg(recording(alloc))
-}
-
-fn recorded<'a>(alloc: Global) -> Result<Command<'a>, AllocError>
-    ensures { IfOk result (Reads recorded) }
-{
-    over_cart(
-        alloc,
-        "recorded",
-        "Prints the inputs of a recording as a script",
-    )?
-    .arg(recording(alloc))
-}
-
-fn verify<'a>(alloc: Global) -> Result<Command<'a>, AllocError>
-    ensures { IfOk result (Reads verify) }
-{
-    over_save(
-        alloc,
-        "verify",
-        "Plays a recording again from power-on and compares it with the game",
-    )?
-    .arg(recording(alloc))
-}
-
-fn show<'a>(alloc: Global) -> Result<Command<'a>, AllocError>
-    ensures { IfOk result (Reads show) }
-{
-    over_save(
-        alloc,
-        "show",
-        "Prints what a game's file holds, and writes nothing to it",
-    )
-}
-
-fn export<'a>(alloc: Global) -> Result<Command<'a>, AllocError>
-    ensures { IfOk result (Reads export) }
-{
-    over_save(
-        alloc,
-        "export",
-        "Writes the battery-backed RAM of a game to a new file, as other emulators read it",
-    )?
-    .arg(word(alloc, "OUT", "The new battery file"))
-}
-
-fn import<'a>(alloc: Global) -> Result<Command<'a>, AllocError>
-    ensures { IfOk result (Reads import) }
-{
-    over_cart(
-        alloc,
-        "import",
-        "Begins a game in a new file with the battery-backed RAM of another emulator",
-    )?
-    .arg(word(alloc, "BATTERY", "The battery file"))?
-    .arg(word(alloc, "SAVE", "The file that keeps the game"))?
-    .arg(sectors(alloc))
-}
-
-fn debug<'a>(alloc: Global) -> Result<Command<'a>, AllocError>
-    ensures { IfOk result (Reads debug) }
-{
-    let lines = over_cart(
-        alloc,
-        "debug",
-        "Runs a cartridge step by step, and shows its registers, memory and history",
-    )?
-    .arg(optional_word(
-        alloc,
-        "SAVE",
-        "The file of a game that it begins with, which keeps nothing of this",
-    ))?
-    .after_help(DEBUG_LINES);
-    Ok(lines)
+    match operand {
+        Operand::Word(id, help) => Arg::new(alloc, id).required(true).help(help),
+        Operand::OptionalWord(id, help) => Arg::new(alloc, id).help(help),
+        Operand::Number(id, least, most, help) => Arg::new(alloc, id)
+            .required(true)
+            .help(help)
+            .value_parser(ValueParser::signed(least, most)),
+        Operand::OptionalNumber(id, least, most, help) => Arg::new(alloc, id)
+            .help(help)
+            .value_parser(ValueParser::signed(least, most)),
+    }
 }

@@ -1,102 +1,85 @@
-use Rattle.std.proofs.Common.{subst, codes}
-use Rattle.clap.specs.Words.{found_of, rows_of}
-use Rattle.command_line.specs.Commands.{IsMatched}
-use Rattle.command_line.specs.Words.{IsCommand, Word}
-use Rattle.command_line.proofs.Named.{row_of}
+use Rattle.std.proofs.Common.{◌≡◌, ◌∷◌, None, arith, codes, find, rules}
+use Rattle.clap.specs.Words.{first_of, found_of, rows_of}
+use Rattle.command_line.specs.Commands.{PassesAs, commands, given_at, is_named, number}
+use Rattle.command_line.specs.Words.{AsksFor, IsCommand}
+use Rattle.command_line.specs.declared.Request.TheVariants.{Debug, Import, New, Test}
+use Rattle.command_line.proofs.Named.{number_or_none, unnamed, word_or_none}
 use Rattle.command_line.proofs.named_request.Goals as goal
 
 pub returns-in-info : goal.returns-in-info
-returns-in-info c = λ words operands command matched.
-    let rows = rows_of (found_of c.args.values.now) in
-    c.info.ensures words operands (subst (λ (name : Word). IsCommand words name operands) c.in-info.is command)
-    (row_of (codes "info") rows operands (subst (λ (name : Word). IsMatched name rows operands) c.in-info.is matched))
+returns-in-info c = rw c.in-info.is (λ words command passes. rw c.operand-cart.ensures command)
 
 pub returns-in-list : goal.returns-in-list
-returns-in-list c = λ words operands command matched.
-    let rows = rows_of (found_of c.args.values.now) in
-    c.list.ensures words operands (subst (λ (name : Word). IsCommand words name operands) c.in-list.is command)
-    (row_of (codes "list") rows operands (subst (λ (name : Word). IsMatched name rows operands) c.in-list.is matched))
+returns-in-list c = rw c.in-list.is (λ words command passes.
+    (given_at (codes "COUNT") (rows_of (found_of c.args.values.now)), rw (c.operand-cart.ensures, c.operand.ensures) command, c.number.ensures 1 4096 (omega arith) passes.1.1.0))
 
 pub returns-in-step : goal.returns-in-step
-returns-in-step c = λ words operands command matched.
-    let rows = rows_of (found_of c.args.values.now) in
-    c.step.ensures words operands (subst (λ (name : Word). IsCommand words name operands) c.in-step.is command)
-    (row_of (codes "step") rows operands (subst (λ (name : Word). IsMatched name rows operands) c.in-step.is matched))
+returns-in-step c = rw c.in-step.is (λ words command passes.
+    (given_at (codes "COUNT") (rows_of (found_of c.args.values.now)), rw c.operand-cart.ensures command, c.number-in-step.ensures 0 1000000 (omega arith) passes.1.0))
 
 pub returns-in-new : goal.returns-in-new
-returns-in-new c = λ words operands command matched.
+returns-in-new c = rw c.in-new.is (λ words command passes.
     let rows = rows_of (found_of c.args.values.now) in
-    c.new.ensures words operands (subst (λ (name : Word). IsCommand words name operands) c.in-new.is command)
-    (row_of (codes "new") rows operands (subst (λ (name : Word). IsMatched name rows operands) c.in-new.is matched))
+    number_or_none (λ more. IsCommand words (codes "new") (c.operand-cart.result.now ∷ c.operand-in-new.result.now ∷ more)) 1 65536 (PassesAs (number (codes "SECTORS") 1 65536) rows)
+    (λ o. AsksFor words (New c.operand-cart.result c.operand-in-new.result o)) (λ asked. asked) (λ n number asked within. (number, asked, within))
+    (first_of (codes "SECTORS") rows) c.optional_number.result c.optional_number.ensures.none (λ given passing. c.optional_number.ensures.some 1 65536 given (omega arith) passing) passes.1.1.0
+    (rw (c.operand-cart.ensures, c.operand-in-new.ensures) command))
 
 pub returns-in-play : goal.returns-in-play
-returns-in-play c = λ words operands command matched.
-    let rows = rows_of (found_of c.args.values.now) in
-    c.play.ensures words operands (subst (λ (name : Word). IsCommand words name operands) c.in-play.is command)
-    (row_of (codes "play") rows operands (subst (λ (name : Word). IsMatched name rows operands) c.in-play.is matched))
+returns-in-play c = rw c.in-play.is (λ words command passes. rw (c.operand-cart.ensures, c.operand-in-play.ensures, c.operand-in-play-2.ensures) command)
 
 pub returns-in-frame : goal.returns-in-frame
-returns-in-frame c = λ words operands command matched.
-    let rows = rows_of (found_of c.args.values.now) in
-    c.frame.ensures words operands (subst (λ (name : Word). IsCommand words name operands) c.in-frame.is command)
-    (row_of (codes "frame") rows operands (subst (λ (name : Word). IsMatched name rows operands) c.in-frame.is matched))
+returns-in-frame c = rw c.in-frame.is (λ words command passes. rw (c.operand-cart.ensures, c.operand-in-frame.ensures, c.operand-in-frame-2.ensures) command)
 
 pub returns-in-trace : goal.returns-in-trace
-returns-in-trace c = λ words operands command matched.
-    let rows = rows_of (found_of c.args.values.now) in
-    c.trace.ensures words operands (subst (λ (name : Word). IsCommand words name operands) c.in-trace.is command)
-    (row_of (codes "trace") rows operands (subst (λ (name : Word). IsMatched name rows operands) c.in-trace.is matched))
+returns-in-trace c = rw c.in-trace.is (λ words command passes.
+    (given_at (codes "COUNT") (rows_of (found_of c.args.values.now)), rw (c.operand-cart.ensures, c.operand-in-trace.ensures) command, c.number-in-trace.ensures 1 1024 (omega arith) passes.1.1.0))
 
 pub returns-in-stream : goal.returns-in-stream
-returns-in-stream c = λ words operands command matched.
-    let rows = rows_of (found_of c.args.values.now) in
-    c.stream.ensures words operands (subst (λ (name : Word). IsCommand words name operands) c.in-stream.is command)
-    (row_of (codes "stream") rows operands (subst (λ (name : Word). IsMatched name rows operands) c.in-stream.is matched))
+returns-in-stream c = rw c.in-stream.is (λ words command passes. rw (c.operand-cart.ensures, c.operand-in-stream.ensures) command)
 
 pub returns-in-test : goal.returns-in-test
-returns-in-test c = λ words operands command matched.
+returns-in-test c = rw c.in-test.is (λ words command passes.
     let rows = rows_of (found_of c.args.values.now) in
-    c.test_rom.ensures words operands (subst (λ (name : Word). IsCommand words name operands) c.in-test.is command)
-    (row_of (codes "test") rows operands (subst (λ (name : Word). IsMatched name rows operands) c.in-test.is matched))
+    let frames = given_at (codes "FRAMES") rows in
+    let within = c.number-in-test.ensures 1 1000000 (omega arith) passes.1.0 in
+    word_or_none (λ more. IsCommand words (codes "test") (c.operand-cart.result.now ∷ frames ∷ more)) (λ o. AsksFor words (Test c.operand-cart.result c.number-in-test.result o))
+    (λ asked. (frames, asked, within)) (λ s asked. (frames, asked, within)) (first_of (codes "SCRIPT") rows) c.optional_operand.result c.optional_operand.ensures
+    (rw c.operand-cart.ensures command))
+
+pub returns-in-text : goal.returns-in-text
+returns-in-text c = rw c.in-text.is (λ words command passes.
+    (given_at (codes "SECTORS") (rows_of (found_of c.args.values.now)), rw (c.operand-cart.ensures, c.operand-in-text.ensures) command, c.number-in-text.ensures 1 65536 (omega arith) passes.1.1.0))
 
 pub returns-in-record : goal.returns-in-record
-returns-in-record c = λ words operands command matched.
-    let rows = rows_of (found_of c.args.values.now) in
-    c.record_game.ensures words operands (subst (λ (name : Word). IsCommand words name operands) c.in-record.is command)
-    (row_of (codes "record") rows operands (subst (λ (name : Word). IsMatched name rows operands) c.in-record.is matched))
+returns-in-record c = rw c.in-record.is (λ words command passes. rw (c.operand-cart.ensures, c.operand-in-record.ensures, c.operand-in-record-2.ensures) command)
 
 pub returns-in-recorded : goal.returns-in-recorded
-returns-in-recorded c = λ words operands command matched.
-    let rows = rows_of (found_of c.args.values.now) in
-    c.recorded.ensures words operands (subst (λ (name : Word). IsCommand words name operands) c.in-recorded.is command)
-    (row_of (codes "recorded") rows operands (subst (λ (name : Word). IsMatched name rows operands) c.in-recorded.is matched))
+returns-in-recorded c = rw c.in-recorded.is (λ words command passes. rw (c.operand-cart.ensures, c.operand-in-recorded.ensures) command)
 
 pub returns-in-verify : goal.returns-in-verify
-returns-in-verify c = λ words operands command matched.
-    let rows = rows_of (found_of c.args.values.now) in
-    c.verify.ensures words operands (subst (λ (name : Word). IsCommand words name operands) c.in-verify.is command)
-    (row_of (codes "verify") rows operands (subst (λ (name : Word). IsMatched name rows operands) c.in-verify.is matched))
+returns-in-verify c = rw c.in-verify.is (λ words command passes. rw (c.operand-cart.ensures, c.operand-in-verify.ensures, c.operand-in-verify-2.ensures) command)
 
 pub returns-in-show : goal.returns-in-show
-returns-in-show c = λ words operands command matched.
-    let rows = rows_of (found_of c.args.values.now) in
-    c.show.ensures words operands (subst (λ (name : Word). IsCommand words name operands) c.in-show.is command)
-    (row_of (codes "show") rows operands (subst (λ (name : Word). IsMatched name rows operands) c.in-show.is matched))
+returns-in-show c = rw c.in-show.is (λ words command passes. rw (c.operand-cart.ensures, c.operand-in-show.ensures) command)
 
 pub returns-in-export : goal.returns-in-export
-returns-in-export c = λ words operands command matched.
-    let rows = rows_of (found_of c.args.values.now) in
-    c.export.ensures words operands (subst (λ (name : Word). IsCommand words name operands) c.in-export.is command)
-    (row_of (codes "export") rows operands (subst (λ (name : Word). IsMatched name rows operands) c.in-export.is matched))
+returns-in-export c = rw c.in-export.is (λ words command passes. rw (c.operand-cart.ensures, c.operand-in-export.ensures, c.operand-in-export-2.ensures) command)
 
 pub returns-in-import : goal.returns-in-import
-returns-in-import c = λ words operands command matched.
+returns-in-import c = rw c.in-import.is (λ words command passes.
     let rows = rows_of (found_of c.args.values.now) in
-    c.import.ensures words operands (subst (λ (name : Word). IsCommand words name operands) c.in-import.is command)
-    (row_of (codes "import") rows operands (subst (λ (name : Word). IsMatched name rows operands) c.in-import.is matched))
+    number_or_none (λ more. IsCommand words (codes "import") (c.operand-cart.result.now ∷ c.operand-in-import.result.now ∷ c.operand-in-import-2.result.now ∷ more)) 1 65536 (PassesAs (number (codes "SECTORS") 1 65536) rows)
+    (λ o. AsksFor words (Import c.operand-cart.result c.operand-in-import.result c.operand-in-import-2.result o)) (λ asked. asked) (λ n number asked within. (number, asked, within))
+    (first_of (codes "SECTORS") rows) c.optional_number-in-import.result c.optional_number-in-import.ensures.none (λ given passing. c.optional_number-in-import.ensures.some 1 65536 given (omega arith) passing) passes.1.1.1.0
+    (rw (c.operand-cart.ensures, c.operand-in-import.ensures, c.operand-in-import-2.ensures) command))
 
 pub returns-in-debug : goal.returns-in-debug
-returns-in-debug c = λ words operands command matched.
-    let rows = rows_of (found_of c.args.values.now) in
-    c.debug.ensures words operands (subst (λ (name : Word). IsCommand words name operands) c.in-debug.is command)
-    (row_of (codes "debug") rows operands (subst (λ (name : Word). IsMatched name rows operands) c.in-debug.is matched))
+returns-in-debug c = rw c.in-debug.is (λ words command passes.
+    word_or_none (λ more. IsCommand words (codes "debug") (c.operand-cart.result.now ∷ more)) (λ o. AsksFor words (Debug c.operand-cart.result o)) (λ asked. asked) (λ s asked. asked)
+    (first_of (codes "SAVE") (rows_of (found_of c.args.values.now))) c.optional_operand-in-debug.result c.optional_operand-in-debug.ensures (rw c.operand-cart.ensures command))
+
+pub returns-in_default : goal.returns-in_default
+returns-in_default c = λ words command matched.
+    let none : find (is_named c.args.name.now) commands ≡ None = unnamed c.args.name.now commands (search rules) in
+    rw none at matched
