@@ -234,10 +234,7 @@ fn run_fast_steps_here(processor: &mut Processor<Bus>, passed: u32, until: u32) 
 /// each byte.
 #[inline(always)]
 pub(crate) fn is_there<const LOOP: u8>(pc: u16) -> bool {
-    if LOOP == IN_LOWER_ROM
-        || LOOP == COUNTED_IN_LOWER_ROM
-        || LOOP == WATCHING_IN_LOWER_ROM
-    {
+    if LOOP == IN_LOWER_ROM || LOOP == COUNTED_IN_LOWER_ROM || LOOP == WATCHING_IN_LOWER_ROM {
         pc < 0x3ffe
     } else if LOOP == IN_UPPER_ROM
         || LOOP == COUNTED_IN_UPPER_ROM
