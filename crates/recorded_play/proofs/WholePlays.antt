@@ -28,9 +28,9 @@ use Rattle.streaming.specs.Answers.{inputs_of_deeds, stream_lines}
 use Rattle.playing.specs.Going.{all_of, IsPlayedAt}
 use Rattle.streaming.specs.declared.obeying.End.{End}
 use Rattle.streaming.proofs.Wholes.{stream_at, lines_resumed}
-use Rattle.recorded_play.specs.Agreeing.{AllAgree, recorded_inputs}
+use Rattle.recorded_play.specs.Agreeing.{AllAgree, recorded_inputs, behind}
 use Rattle.recorded_play.specs.Steps.{Game, HoldsFirst, HoldsSaved, IsInStep, Comes, Halts, IsRecordStop, told_as}
-use Rattle.recorded_play.specs.Whole.{behind, IsTakenUp, HoldsAll, HasTakenUp, HasRecorded, HasStopped, IsEndCause}
+use Rattle.recorded_play.specs.Whole.{IsTakenUp, HoldsAll, HasTakenUp, HasRecorded, HasStopped, IsEndCause}
 use Rattle.recorded_play.specs.declared.error.RecordError.{RecordError}
 use Rattle.recorded_play.specs.declared.error.RecordError.TheVariants.{Session, Recording}
 use Rattle.recorded_play.proofs.Stepping.{behind_after, behind_agree}
@@ -151,6 +151,15 @@ module _ {rom : List ℕ} {save recording : DiskState} {a : Game} (up : IsUp rom
           let left = halts.behind rom taken.played in_step in
           let held = left.recordings image here in
           record { count = held.count; at_least = omega (arith, left.least, held.at_least); within = held.within; is = held.is }
+
+  -- at an end the SAVE is at rest where the session is
+  pub rests_at : {b : Game} (given : List Input) → Comes a b given → length b.save.pending ≡ 0 → save.honest → IsAtRest rom b.save.disk b.save.acknowledged [] b.save.machine
+  rests_at {b} given comes unsaved honest =
+      let saved = none_left b.save.pending unsaved in
+      let played = (comes.going rom from [] (begun honest)).played in
+      let count_is : from.count + length given ≡ b.save.acknowledged = omega (arith, played.acknowledged_is, played.unsaved_is, unsaved) in
+      subst (λ (m : MachineState). IsAtRest rom b.save.disk b.save.acknowledged [] m) (sym played.machine_is)
+      (subst (λ (n : ℕ). IsAtRest rom b.save.disk n [] (after from.machine given)) count_is (all_saved rom b.save.disk b.save.acknowledged b.save.pending b.save.machine from given played saved))
 
   -- ---- with the lines
 

@@ -27,16 +27,12 @@ use Rattle.streaming.specs.Reading.{Asks, AsksUpTo, ReadsTo}
 use Rattle.streaming.specs.Answers.{inputs_of_deeds, stream_lines}
 use Rattle.streaming.specs.declared.obeying.End.{End}
 use Rattle.streaming.specs.declared.obeying.End.TheVariants.{Wrong, Failed}
-use Rattle.recorded_play.specs.Agreeing.{AllAgree, recorded_inputs}
+use Rattle.recorded_play.specs.Agreeing.{AllAgree, behind, recorded_inputs}
 use Rattle.recorded_play.specs.Steps.{HoldsFirst, IsFull, IsOfDevices, IsRecordStop, told_as}
 use Rattle.recorded_play.specs.declared.error.RecordError.{RecordError}
 use Rattle.recorded_play.specs.declared.error.RecordError.TheVariants.{Session, Recording, Behind, Line as WrongLine, Input as FailedInput}
 use Rattle.recorded_play.specs.declared.error.RecordRefused.{RecordRefused}
 use Rattle.recorded_play.specs.declared.recorded_game.RecordedGame.{RecordedGame}
-
--- these inputs further
-abbrev pub behind : Position → List Input → Position
-behind at more = record { count = at.count + length more; machine = after at.machine more }
 
 -- What reads of the SAVE give stands for this position; what reads of the recording give holds at least as many inputs; and these are
 -- the inputs that it has beyond them.

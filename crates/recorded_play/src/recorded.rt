@@ -2,7 +2,8 @@
 ghost use Rattle.std.specs.Prelude.{◌≡◌, [], false, true, Ok, Err, IfOk, IfErr};
 ghost use Rattle.sector_device.specs.DiskState.{HasAnswered};
 ghost use Rattle.recording.specs.Accessors.{device_of as device_of_recording, is_broken as is_broken_recording};
-ghost use Rattle.session.specs.Accessors.{device_of, rom_of, pending_of, is_broken};
+ghost use Rattle.session.specs.Stands.{IsAtRest};
+ghost use Rattle.session.specs.Accessors.{device_of, machine_of, rom_of, pending_of, acknowledged_of, is_broken};
 ghost use Rattle.streaming.specs.declared.obeying.End.TheVariants.{Whole as WholeInput};
 ghost use Rattle.recorded_play.specs.Agreeing.{AllAgree};
 ghost use Rattle.recorded_play.specs.Steps.{save_faults_after, recording_faults_after};
@@ -62,6 +63,9 @@ pub fn record<D: SectorDevice, E: SectorDevice, R: LineInput, W: Output>(
         (W.contents out.old) (W.contents out.new)) }
     ensures whole { IfOk result (λ game. (pending_of game.session ≡ []) × (is_broken game.session ≡ false) ×
         (is_broken_recording game.recording ≡ false) × (rom_of game.session ≡ cartridge.now)) }
+    ensures rests { IfOk result (λ game. (D.disk save).honest →
+        IsAtRest cartridge.now (D.disk (device_of game.session)) (acknowledged_of game.session) []
+        (machine_of game.session)) }
     ensures refused { IfErr result (λ refused.
         IsRecordCause refused.why cartridge.now (D.disk save) (D.disk refused.save)
         (E.disk recording) (E.disk refused.recording) (R.remaining input.old) (R.remaining input.new)

@@ -13,8 +13,6 @@ mod found;
 #[cfg(test)]
 mod games;
 #[cfg(test)]
-mod life_games;
-#[cfg(test)]
 mod life_rounds;
 #[cfg(test)]
 mod lives;

@@ -1,5 +1,5 @@
 -- A device that stands for something is not refused for what it holds.
-use Rattle.std.proofs.Common.{◌≡◌, ℕ, List, length, true, Option, Some, None, refl, sym, ap, ◌∙◌, arith}
+use Rattle.std.proofs.Common.{◌≡◌, inl, inr, ⊎_elim, ℕ, List, [], length, true, Option, Some, None, refl, sym, ap, ◌∙◌, subst, arith}
 use Rattle.std.proofs.lemmas.Bool.{and_parts, eqb-true}
 use Rattle.std.proofs.lemmas.Slice.Eq.{bytes_eq-Decides}
 use Rattle.std.proofs.lemmas.List.Elements.{All-contains}
@@ -21,7 +21,17 @@ use Rattle.session.specs.declared.error.Damage.TheVariants.{Count, Snapshot, Ent
 use Rattle.session.specs.declared.error.SessionError.{SessionError}
 use Rattle.session.specs.declared.error.SessionError.TheVariants.{Memory, Device, NoSession, TooSmall, OtherCartridge, Damaged, GenerationsUsedUp, Broken, SaveFirst, CountFull, Output}
 use Rattle.session.proofs.StandsLaws.{Soundness, soundness, standing}
-use Rattle.whole_lives.specs.Refusals.{IsSoundStop}
+use Rattle.sector_device.specs.DiskState.{DiskState}
+use Rattle.sector_device.specs.Memory.{MemoryState, memory_disk}
+use Rattle.log_format.specs.Content.{content}
+use Rattle.playing.specs.Played.{IsStop}
+use Rattle.streaming.specs.declared.error.StreamError.TheVariants.{Session as OfStream, Line as WrongLine, Input as FailedInput, Snapshot as DamagedSnapshot, Memory as LacksMemory}
+use Rattle.recorded_play.specs.declared.error.RecordError.TheVariants.{Session as OfRecord, Recording, Behind, Line as WrongRecorded, Input as FailedRecorded}
+use Rattle.whole_lives.specs.Devices.{EachStands, IsCause, IsLifeRefusal, IsSound, IsSoundStop, Memories, RefusesPlay, RefusesRound}
+use Rattle.whole_lives.specs.declared.error.LifeError.{LifeError}
+use Rattle.whole_lives.specs.declared.error.LifeError.TheVariants.{Memory as LifeMemory, Stream, Record}
+use Rattle.whole_lives.specs.declared.rounds.Round.{Round}
+use Rattle.whole_lives.proofs.RoundLaws.{reads}
 
 no_refusal : (rom bytes : List ℕ) (error : SnapError) → is_snapshot rom bytes ≡ true → IsRefusal rom bytes error → ¬ (error ≡ NoMemory) → ⊥
 no_refusal rom bytes (SnapLength n) sound refused other = refused.1 (eqb-true (length bytes) (snapshot_length (ram_length_of rom)) (and_parts _ _ sound).0)
@@ -57,7 +67,7 @@ damaged_stands rom held position (Entry index) is damaged =
     absurd (cc)
 
 -- why a game that stands for a position is not taken up
-pub sound_stop : (rom : List ℕ) (generation : ℕ) (held : Option ImageContent) (position : Position) (why : SessionError) → stands rom held ≡ Some position → IsResumeCause rom generation held why → IsSoundStop why
+sound_stop : (rom : List ℕ) (generation : ℕ) (held : Option ImageContent) (position : Position) (why : SessionError) → stands rom held ≡ Some position → IsResumeCause rom generation held why → IsSoundStop why
 sound_stop rom generation held position Memory is cause = tt
 sound_stop rom generation held position Device is cause = tt
 sound_stop rom generation held position NoSession is cause = nothing_stands rom held position is cause
@@ -70,4 +80,55 @@ sound_stop rom generation held position GenerationsUsedUp is cause = tt
 sound_stop rom generation held position Broken is cause = cause
 sound_stop rom generation held position SaveFirst is cause = cause
 sound_stop rom generation held position CountFull is cause = absurd cause
-sound_stop rom generation held position Output is cause = cause
+sound_stop rom generation held position Output is cause = tt
+
+-- why a play stops that was taken up
+stop_sound : (why : SessionError) (all : ℕ) (now : DiskState) → IsStop why all now → IsSoundStop why
+stop_sound Memory all now stop = tt
+stop_sound Device all now stop = tt
+stop_sound NoSession all now stop = stop
+stop_sound (TooSmall n) all now stop = stop
+stop_sound OtherCartridge all now stop = stop
+stop_sound (Damaged damage) all now stop = stop
+stop_sound GenerationsUsedUp all now stop = tt
+stop_sound Broken all now stop = stop
+stop_sound SaveFirst all now stop = stop
+stop_sound CountFull all now stop = tt
+stop_sound Output all now stop = tt
+
+-- ---- a life
+
+module _ (rom : List ℕ) (save : MemoryState) (position : Position) (is : stands rom (content (memory_disk save).sectors) ≡ Some position) where
+  cause_sound : (why : LifeError) (recording : Option MemoryState) (left : MemoryState) (left_recording : Option MemoryState) (text unread report : List ℕ) → IsCause why rom save recording left left_recording text unread report → IsSound why
+  cause_sound LifeMemory recording left left_recording text unread report cause = tt
+  cause_sound (Stream (OfStream why)) None left None text unread report (inl refused) = sound_stop rom _ _ position why is (refused.0.cause tt)
+  cause_sound (Stream (OfStream why)) None left None text unread report (inr stopped) = stop_sound why _ _ stopped.cause
+  cause_sound (Stream (OfStream why)) None left (Some l) text unread report cause = absurd cause
+  cause_sound (Stream (OfStream why)) (Some r) left left_recording text unread report cause = absurd cause
+  cause_sound (Stream (WrongLine n)) recording left left_recording text unread report cause = tt
+  cause_sound (Stream FailedInput) recording left left_recording text unread report cause = tt
+  cause_sound (Stream DamagedSnapshot) recording left left_recording text unread report cause = tt
+  cause_sound (Stream LacksMemory) recording left left_recording text unread report cause = tt
+  cause_sound (Record (OfRecord why)) None left left_recording text unread report cause = absurd cause
+  cause_sound (Record (OfRecord why)) (Some r) left None text unread report cause = absurd cause
+  cause_sound (Record (OfRecord why)) (Some r) left (Some l) text unread report (inl refused) =
+      ⊎_elim (λ found. sound_stop rom _ _ position why is found) (λ stopped. stop_sound why _ _ stopped.stop) (refused.0.cause tt tt)
+  cause_sound (Record (OfRecord why)) (Some r) left (Some l) text unread report (inr stopped) = stop_sound why _ _ stopped.cause
+  cause_sound (Record (Recording why)) recording left left_recording text unread report cause = tt
+  cause_sound (Record (Behind n)) recording left left_recording text unread report cause = tt
+  cause_sound (Record (WrongRecorded n)) recording left left_recording text unread report cause = tt
+  cause_sound (Record FailedRecorded) recording left left_recording text unread report cause = tt
+
+play_sound : (rom : List ℕ) (now left : Memories) (text : List ℕ) (why : LifeError) → EachStands rom now → RefusesPlay rom now left text why → IsSound why
+play_sound rom now left text why stand refused =
+    let stood = stand (memory_disk now.save).sectors (reads now.save) in
+    cause_sound rom now.save stood.0 stood.1 why now.recording left.save left.recording text refused.unread refused.report refused.cause
+
+round_sound : (rom : List ℕ) (now left : Memories) (text : List ℕ) (why : LifeError) → EachStands rom now → RefusesRound rom now left text why → IsSound why
+round_sound rom now left text why stand (inl (play, fuse)) = play_sound rom now left text why stand play
+round_sound rom now left text why stand (inr cut) = subst IsSound (sym cut.why_is) tt
+
+pub life_sound : (rom : List ℕ) (first left : Memories) (rounds : List Round) (why : LifeError) → IsLifeRefusal rom first left rounds why → EachStands rom first → IsSound why
+life_sound rom first left rounds why (inl (none, same)) stand = subst IsSound (sym none) tt
+life_sound rom first left rounds why (inr behind) stand =
+    ⊎_elim (λ round. round_sound rom behind.now left round.0.lines.items why (behind.come.leaves.stand stand) round.2) (λ last. play_sound rom behind.now left [] why (behind.come.leaves.stand stand) last.1) behind.refused

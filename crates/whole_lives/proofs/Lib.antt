@@ -1,4 +1,7 @@
-pub mod RoundLaws
+pub mod Telling
 pub mod LifeLaws
+pub mod Behind
+pub mod RoundLaws
+pub mod AloneLaws
+pub mod RecordedLaws
 pub mod CauseLaws
-pub mod PlayLaws

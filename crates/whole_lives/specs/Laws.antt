@@ -1,45 +1,34 @@
--- Laws of lives, which public functions state.
-use Rattle.std.specs.Prelude.{◌≡◌, ◌≤◌, ◌+◌, ℕ, List, [], ◌∷◌, ◌++◌, length, take, Option, Some, None, ⊤}
-use Rattle.std.specs.List.{All}
-use Rattle.machine.specs.Machine.{after}
+-- The law of lives, which a public function states.
+use Rattle.std.specs.Prelude.{◌≡◌, ◌≤◌, ℕ, List, [], ◌∷◌, ◌++◌, All}
+use Rattle.std.specs.Option.{option_map}
 use Rattle.machine.specs.Machine.{Input}
-use Rattle.session.specs.Stands.{Position}
-use Rattle.whole_lives.specs.Lives.{IsLife, inputs_of_round}
-use Rattle.whole_lives.specs.declared.rounds.Round.{Round}
-use Rattle.whole_lives.specs.declared.rounds.RoundEnd.{RoundEnd}
+use Rattle.playing.specs.Report.{Line}
+use Rattle.recorded_play.specs.Agreeing.{behind}
+use Rattle.whole_lives.specs.Lives.{Files, Agree, Played, kept_of, position, IsLife}
 
--- the first so many of a round's inputs, none where it was not taken up
-abbrev pub survivors_of : (rom : List ℕ) → Round → (resumed : Option ℕ) → (survived : ℕ) → List Input
-survivors_of rom round None survived = []
-survivors_of rom round (Some count) survived = take survived (inputs_of_round rom round)
+-- what the cuts kept of each round's inputs, one round after the other
+abbrev pub all_kept : List Played → List Input
+all_kept [] = []
+all_kept (round ∷ rounds) = kept_of round ++ all_kept rounds
 
--- those of each round, one round after the other
-abbrev pub survivors : (rom : List ℕ) → List Round → List RoundEnd → (survived : List ℕ) → List Input
-survivors rom [] ends survived = []
-survivors rom (round ∷ rounds) [] survived = []
-survivors rom (round ∷ rounds) (end ∷ ends) [] = []
-survivors rom (round ∷ rounds) (end ∷ ends) (k ∷ survived) = survivors_of rom round end.resumed k ++ survivors rom rounds ends survived
+-- each count that was told in any of these rounds is at most this
+abbrev pub AreTold : (most : ℕ) → List Played → Type 0
+AreTold most rounds = All (λ round. All (λ line. line.told ≤ most) round.told) rounds
 
--- a round was taken up at no less than this count, if it was
-abbrev pub IsTakenUpFrom : (known : ℕ) → (resumed : Option ℕ) → Type 0
-IsTakenUpFrom known None = ⊤
-IsTakenUpFrom known (Some count) = known ≤ count
+-- a round that was taken up tells first where it goes on, which is no less than each count that was told before it
+abbrev pub NeverFalls : List Played → Type 0
+NeverFalls rounds =
+    (before : List Played) (round : Played) (later : List Played) (line : Line) (lines : List Line) → rounds ≡ before ++ round ∷ later → round.told ≡ line ∷ lines → AreTold line.told before
 
--- no round is taken up at less than what was known to be saved before it, and what is known does not fall
-abbrev pub NeverFalls : (known : ℕ) → List RoundEnd → Type 0
-NeverFalls known [] = ⊤
-NeverFalls known (end ∷ ends) = IsTakenUpFrom known end.resumed × (known ≤ end.saved) × NeverFalls end.saved ends
-
--- the life ends after exactly the inputs that survived, and none that was saved is missing, at its end or on the way
-pub record KeepsWhatWasSaved (rom : List ℕ) (rounds : List Round) (ends : List RoundEnd) (first last : Position) : Type 0 where
-  -- how many of each round's inputs survived
-  pub survived : List ℕ
-  pub each : length survived ≡ length rounds
-  pub count_is : last.count ≡ first.count + length (survivors rom rounds ends survived)
-  pub machine_is : last.machine ≡ after first.machine (survivors rom rounds ends survived)
-  pub saved : All (λ end. end.saved ≤ last.count) ends
-  pub never_falls : NeverFalls 0 ends
+pub record KeepsWhatWasSaved (rom : List ℕ) (rounds : List Played) (first last : Files) : Type 0 where
+  pub agree : Agree rom last
+  -- the game that is taken up next has exactly the inputs that were kept behind those that it had
+  pub position_is : position rom last ≡ behind (position rom first) (all_kept rounds)
+  -- and so has its recording
+  pub recorded_is : last.recorded ≡ option_map (λ recorded. recorded ++ all_kept rounds) first.recorded
+  -- nothing that was told is lost, at the end or on the way
+  pub saved : AreTold last.save.count rounds
+  pub never_falls : NeverFalls rounds
 
 abbrev pub NoLifeLosesWhatWasSaved : Type 0
-NoLifeLosesWhatWasSaved =
-    (rom : List ℕ) (rounds : List Round) (ends : List RoundEnd) (first last : Position) → IsLife rom rounds ends 0 first last → KeepsWhatWasSaved rom rounds ends first last
+NoLifeLosesWhatWasSaved = (rom : List ℕ) (rounds : List Played) (first last : Files) → Agree rom first → IsLife rom rounds first last → KeepsWhatWasSaved rom rounds first last

@@ -1,5 +1,5 @@
 pub mod Lives
-pub mod Refusals
 pub mod Laws
+pub mod Devices
 -- what only the code needs
 pub mod Rounds

@@ -1,91 +1,109 @@
--- What a life of a save file is, whatever was cut in it.
-use Rattle.std.specs.Prelude.{◌≡◌, ◌≤◌, ◌+◌, ℕ, List, [], ◌∷◌, ◌++◌, length, take, if◌then◌else◌, Option, Some, None}
-use Rattle.machine.specs.Machine.{after}
-use Rattle.machine.specs.Machine.{Input, State}
-use Rattle.snapshot.specs.Reading.{machine_in}
-use Rattle.sector_device.specs.DiskState.{DiskState}
-use Rattle.log_format.specs.Content.{content}
-use Rattle.session.specs.Stands.{Position, is_snapshot, stands}
-use Rattle.playing.specs.Inputs.{inputs_of_move}
-use Rattle.whole_lives.specs.declared.plays.Play.{Play}
-use Rattle.whole_lives.specs.declared.plays.Play.TheVariants.{Make, Restore}
-use Rattle.whole_lives.specs.declared.rounds.Round.{Round}
-use Rattle.whole_lives.specs.declared.rounds.RoundEnd.{RoundEnd}
+-- What a life of a game is, whatever was cut in it: of a SAVE alone, or of a SAVE and a recording of its inputs.
+use Rattle.std.specs.Prelude.{◌≡◌, ◌⊎◌, ◌≤◌, ◌-◌, ℕ, List, [], ◌∷◌, ◌++◌, length, take, drop, Bool, true, Option, Some, None, is_none, All, ⊤}
+use Rattle.machine.specs.Machine.{after, start}
+use Rattle.machine.specs.Machine.{Input}
+use Rattle.session.specs.Stands.{Position}
+use Rattle.playing.specs.Report.{Line, texts}
+use Rattle.input_lines.specs.Given.{Given, texts_of as texts_of_lines, IsWhole as IsWholeLine, IsCutOff}
+use Rattle.streaming.specs.Orders.{Deed, asked}
+use Rattle.streaming.specs.Reading.{AsksUpTo}
+use Rattle.streaming.specs.Answers.{inputs_of_deeds, stream_lines}
+use Rattle.recorded_play.specs.Agreeing.{behind}
 
--- ---- the inputs of a round, with the cartridge of this ROM
+-- what the files of a game hold: the position that the SAVE stands for, and the inputs of its recording, where it has one
+pub record Files : Type 0 where
+  pub save : Position
+  pub recorded : Option (List Input)
 
--- the machine of a snapshot; bytes that are no legal snapshot are no input
-unfoldable pub inputs_of_state : (rom bytes : List ℕ) → List Input
-inputs_of_state rom bytes = if is_snapshot rom bytes then State (machine_in rom bytes) ∷ [] else []
+-- the position after all inputs that are recorded
+abbrev pub end_of : (rom : List ℕ) → (recorded : List Input) → Position
+end_of rom recorded = record { count = length recorded; machine = after (start rom) recorded }
 
-abbrev pub inputs_of_play : (rom : List ℕ) → Play → List Input
-inputs_of_play rom (Make move) = inputs_of_move move
-inputs_of_play rom (Restore bytes) = inputs_of_state rom bytes.items
+-- where a game goes on that is taken up: at the end of its recording, where it has one
+abbrev pub taken_up_at : (rom : List ℕ) → Position → Option (List Input) → Position
+taken_up_at rom save None = save
+taken_up_at rom save (Some recorded) = end_of rom recorded
 
-abbrev pub inputs_of_plays : (rom : List ℕ) → List Play → List Input
-inputs_of_plays rom [] = []
-inputs_of_plays rom (play ∷ plays) = inputs_of_play rom play ++ inputs_of_plays rom plays
+abbrev pub position : (rom : List ℕ) → Files → Position
+position rom files = taken_up_at rom files.save files.recorded
 
-abbrev pub inputs_of_round : (rom : List ℕ) → Round → List Input
-inputs_of_round rom round = inputs_of_plays rom round.plays.items
+-- the power switch and other machines are inputs only of a game that is not recorded
+abbrev pub takes_states : Files → Bool
+takes_states files = is_none files.recorded
 
--- ---- what a life is
+-- the machine of the SAVE is the one after the first of the recorded inputs from power-on
+pub record IsRecorded (rom : List ℕ) (save : Position) (recorded : List Input) : Type 0 where
+  pub enough : save.count ≤ length recorded
+  pub machine_is : save.machine ≡ after (start rom) (take save.count recorded)
 
--- A round that was taken up at the first position, with this count. The first `given` of its inputs were given, and so many were known
--- to be saved. The cut kept the first `survived` of those that were given, and with them all that were saved.
-pub record IsPlayedRound (inputs : List Input) (resumed saved : ℕ) (first last : Position) : Type 0 where
-  pub resumed_is : resumed ≡ first.count
-  pub given : ℕ
-  pub were_given : given ≤ length inputs
-  pub saved_at_least : first.count ≤ saved
-  pub saved_at_most : saved ≤ first.count + given
-  pub survived : ℕ
-  pub survivors_given : survived ≤ given
-  pub keeps_saved : saved ≤ first.count + survived
-  pub count_is : last.count ≡ first.count + survived
-  pub machine_is : last.machine ≡ after first.machine (take survived inputs)
+abbrev pub AgreesWith : (rom : List ℕ) → Position → Option (List Input) → Type 0
+AgreesWith rom save None = ⊤
+AgreesWith rom save (Some recorded) = IsRecorded rom save recorded
 
--- a round that was cut before it was taken up changes nothing
-abbrev pub IsRoundBy : (inputs : List Input) → (resumed : Option ℕ) → (saved known : ℕ) → (first last : Position) → Type 0
-IsRoundBy inputs None saved known first last = (last ≡ first) × (saved ≡ known)
-IsRoundBy inputs (Some count) saved known first last = IsPlayedRound inputs count saved first last
+abbrev pub Agree : (rom : List ℕ) → Files → Type 0
+Agree rom files = AgreesWith rom files.save files.recorded
 
--- a round ends so, where `known` was the greatest count known to be saved
-abbrev pub IsRound : (inputs : List Input) → RoundEnd → (known : ℕ) → (first last : Position) → Type 0
-IsRound inputs end known first last = IsRoundBy inputs end.resumed end.saved known first last
+-- ---- a round
 
--- one end for each round, in order; each round begins where the one before it ended
-abbrev pub IsLife : (rom : List ℕ) → List Round → List RoundEnd → (known : ℕ) → (first last : Position) → Type 0
-IsLife rom [] [] known first last = last ≡ first
-IsLife rom [] (end ∷ ends) known first last = ⊥
-IsLife rom (round ∷ rounds) [] known first last = ⊥
-IsLife rom (round ∷ rounds) (end ∷ ends) known first last =
-    (next : Position) × IsRound (inputs_of_round rom round) end known first next × IsLife rom rounds ends end.saved next last
+-- what was played in a round
+pub record Played : Type 0 where
+  -- its input, the lines of it that were read, and what was done for each
+  pub text : List ℕ
+  pub lines : List Given
+  pub deeds : List Deed
+  -- its report, and the lines of it
+  pub report : List ℕ
+  pub told : List Line
+  -- how many of its inputs the cut kept
+  pub kept : ℕ
+  -- whether it came to its end before the cut
+  pub whole : Bool
 
--- ---- on a device
+-- those that are kept
+abbrev pub kept_of : Played → List Input
+kept_of round = take round.kept (inputs_of_deeds round.deeds)
 
--- some image of the device stands for this position
-pub record StandsFor (rom : List ℕ) (now : DiskState) (position : Position) : Type 0 where
-  pub image : List (List ℕ)
-  pub stood : now.image image
-  pub is : stands rom (content image) ≡ Some position
+-- these lines, each with its newline, and then the rest; the last line of a text may lack its newline
+abbrev pub Begins : (states : Bool) → (lines : List Given) → (rest text : List ℕ) → Type 0
+Begins states lines rest text = (All (IsWholeLine (asked states)) lines × (text ≡ texts_of_lines lines ++ rest)) ⊎ (IsCutOff (asked states) lines text × (rest ≡ []))
 
--- a life leads to this position from one that some image of the device stood for, where nothing was known to be saved
-pub record HasLived (rom : List ℕ) (old : DiskState) (rounds : List Round) (ends : List RoundEnd) (last : Position) : Type 0 where
-  pub first : Position
-  pub stood : StandsFor rom old first
-  pub life : IsLife rom rounds ends 0 first last
+-- the SAVE went on, if at all, with what then is recorded
+pub record Follows (recorded : List Input) (first last : Position) : Type 0 where
+  pub later : first.count ≤ last.count
+  pub enough : last.count ≤ length recorded
+  pub machine_is : last.machine ≡ after first.machine (take (last.count - first.count) (drop first.count recorded))
 
--- whatever position an image stands for that is left, a life leads to it
-abbrev pub LeavesLife : (rom : List ℕ) → (old now : DiskState) → List Round → List RoundEnd → Type 0
-LeavesLife rom old now rounds ends = (last : Position) → StandsFor rom now last → HasLived rom old rounds ends last
+-- What the files hold once these inputs are kept: a SAVE alone has them all; where a recording has them, the SAVE may be behind.
+abbrev pub GoesOn : Option (List Input) → (kept : List Input) → (first : Position) → (last : Files) → Type 0
+GoesOn None kept first last = (last.save ≡ behind first kept) × (last.recorded ≡ None)
+GoesOn (Some recorded) kept first last = (last.recorded ≡ Some (recorded ++ kept)) × Follows (recorded ++ kept) first last.save
 
--- so it is, for the first so many of the rounds
-pub record LeavesSomeLife (rom : List ℕ) (old now : DiskState) (rounds : List Round) : Type 0 where
-  pub done : ℕ
-  pub ends : List RoundEnd
-  pub leaves : LeavesLife rom old now (take done rounds) ends
+-- nothing of its input was left unread, untold, or unsaved
+pub record IsWhole (rom : List ℕ) (round : Played) (unread : List ℕ) (untold : List Line) (last : Files) : Type 0 where
+  pub read : unread ≡ []
+  pub told : untold ≡ []
+  pub kept : kept_of round ≡ inputs_of_deeds round.deeds
+  pub saved : last.save.count ≡ (position rom last).count
 
--- each image of the device stands for a position
-abbrev pub EachStands : (rom : List ℕ) → DiskState → Type 0
-EachStands rom now = (image : List (List ℕ)) → now.image image → (position : Position) × (stands rom (content image) ≡ Some position)
+-- A round that was played from what the files hold at first, and what its cut left of them.
+pub record IsRound (rom : List ℕ) (round : Played) (first last : Files) : Type 0 where
+  pub unread : List ℕ
+  pub lines_are : Begins (takes_states first) round.lines unread round.text
+  -- none of them is wrong, and this is done for them
+  pub asks : AsksUpTo (takes_states first) rom (position rom first).machine round.lines round.deeds
+  -- it told the first of what a stream of these lines tells that goes on there
+  pub untold : List Line
+  pub told_are : stream_lines (position rom first) round.deeds ≡ round.told ++ untold
+  pub report_is : round.report ≡ texts round.told
+  -- the SAVE has all inputs up to each count that it told
+  pub are_saved : All (λ line. line.told ≤ last.save.count) round.told
+  -- the files have what they had, and the first inputs of the lines
+  pub goes_on : GoesOn first.recorded (kept_of round) first.save last
+  pub whole : round.whole ≡ true → IsWhole rom round unread untold last
+
+-- ---- a life
+
+-- each round begins with what the cut of the one before it left
+abbrev pub IsLife : (rom : List ℕ) → List Played → (first last : Files) → Type 0
+IsLife rom [] first last = last ≡ first
+IsLife rom (round ∷ rounds) first last = (next : Files) × IsRound rom round first next × IsLife rom rounds next last

@@ -1,14 +1,16 @@
-//! Whole lives of a save file: any number of rounds of play, each cut at any device call, with any
-//! of the unsynced writes kept.
+//! Whole lives of a game: any number of rounds of play, each cut at any call of the device of its SAVE, or of that of a recording of its
+//! inputs, with any of the unsynced writes of both kept.
 //!
-//! What a life is, as the history of a save file, is defined by `IsLife` in `specs/Lives.antt`.
+//! What a life is, as the history of these files, is defined by `IsLife` in `specs/Lives.antt`.
 #![tactic(auto)]
 
+mod devices;
+pub mod error;
 pub mod laws;
 mod lives;
-mod plays;
 mod rounds;
 
-pub use lives::live;
-pub use plays::Play;
-pub use rounds::{Lived, Round, RoundEnd};
+pub use devices::Devices;
+pub use error::{LifeError, LifeRefused};
+pub use lives::{Lived, live};
+pub use rounds::{Game, Round, RoundEnd};

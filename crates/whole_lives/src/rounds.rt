@@ -1,194 +1,268 @@
-//! One round of a life: a game resumed, played, and cut.
-ghost use Rattle.std.specs.Prelude.{◌≡◌, ◌≤◌, ◌⊎◌, ◌<◌, ◌-◌, ◌^◌, Some, None, true, false, IfOk, IfErr};
-ghost use Rattle.sector_device.specs.Memory.{memory_disk, image_of};
-ghost use Rattle.sector_device.specs.MemoryDevice.{memory, IsNewMemory};
-ghost use Rattle.whole_lives.specs.Lives.{inputs_of_plays, inputs_of_round, EachStands};
-ghost use Rattle.whole_lives.specs.Refusals.{IsFresh, IsPlayedToMemory, NoMemoryToResume, NoMemoryInRound, IsSoundStop, CountsLifeFaults};
-ghost use Rattle.whole_lives.specs.Rounds.{LeavesRound, IsCutRound, IsRoundRefusal};
-ghost use Rattle.whole_lives.specs.declared.rounds.RoundEnd.{RoundEnd};
+//! One round of a life: a game taken up, played, and cut.
+ghost use Rattle.std.specs.Prelude.{◌≡◌, List, ℕ, Bool, Some, None, true, false, IfOk, IfErr};
+ghost use Rattle.sector_device.specs.MemoryDevice.{memory};
+ghost use Rattle.whole_lives.specs.Devices.{memories, memories_of, position_of, CountsCut, IsByNoFuse, IsBlown, IsTakenUp, RefusesPlay, RefusesRound};
+ghost use Rattle.whole_lives.specs.Rounds.{LeavesRound, GivesWhole, StopsGiving, IsByFuse, IsCutRound};
 
-use crate::plays::{Play, make_plays};
+use crate::devices::{Devices, cut};
+use crate::error::{LifeError, LifeRefused};
 use cartridge::Cartridge;
+use exact_text::CheckedOutput;
+use input_lines::CheckedInput;
+use recorded_play::{RecordError, record};
+use recording::{Recording, RecordingFault};
 use sector_device::MemoryDevice;
-use session::{Refused, Session, SessionError, resume};
+use session::{Session, SessionError};
 use std::alloc::Global;
+use streaming::{StreamError, stream};
 
-/// One round of a life, and how it is cut.
+/// One round of a life, and how it is cut. Of the choices a missing one is false, and a further one is ignored; those of a recording mean
+/// nothing where there is none.
 #[derive(Drop)]
 pub struct Round {
-    /// What is played.
-    pub plays: Vec<Play>,
-    /// How many device calls pass before the cut.
-    pub calls: u64,
-    /// Which of the writes since the last successful sync the cut keeps: a missing choice is false,
-    /// a further one is ignored.
-    pub kept: Vec<bool>,
+    /// What is given: the lines of a stream.
+    pub lines: Vec<u8>,
+    /// How many calls of the SAVE's device pass before the cut.
+    pub save_calls: u64,
+    /// How many calls of the recording's device pass before the cut.
+    pub recording_calls: u64,
+    /// Which of the SAVE's writes since the last successful sync the cut keeps.
+    pub save_kept: Vec<bool>,
+    /// Which of the recording's writes since the last successful sync the cut keeps.
+    pub recording_kept: Vec<bool>,
 }
 
 /// How a round ended.
-#[derive(Clone, Copy, Debug, PartialEq, Eq)]
-pub struct RoundEnd {
-    /// The count at which the game was resumed; `None` if the round was cut before that.
-    pub resumed: Option<u64>,
-    /// A count of inputs that every image which the cut may leave has: the body gives the greatest that was
-    /// acknowledged so far, in all rounds, which no clause says.
-    pub saved: u64,
-}
-
-/// A life that reached its end.
 #[derive(Drop)]
-pub struct Lived {
-    /// How each round ended.
-    pub rounds: Vec<RoundEnd>,
-    /// The game as it was resumed after the last round.
+pub struct RoundEnd {
+    /// What was written to the report.
+    pub report: Vec<u8>,
+    /// Whether the lines were obeyed to their end, and all saved, before the cut.
+    pub whole: bool,
+}
+
+/// A game that was taken up, and its recording, where it has one.
+#[derive(Drop)]
+pub struct Game {
     pub session: Session<MemoryDevice>,
+    pub recording: Option<Recording<MemoryDevice>>,
 }
 
-/// Ends a round if its fuse caused the refusal. Any other refusal ends the life.
-fn ended_by(
-    refused: Refused<MemoryDevice>,
-    end: RoundEnd,
-) -> Result<(MemoryDevice, RoundEnd), Refused<MemoryDevice>>
-    ensures ended { IfOk result (λ r. (r.0 ≡ refused.device) × (r.1 ≡ end) × (refused.why ≡ SessionError.Device) ×
-        ((memory refused.device).blown ≡ true)) }
-    ensures refused { IfErr result (λ r. (r.device ≡ refused.device) × (r.why ≡ refused.why)) }
-    ensures fuse { IfErr result (λ r. r.why ≡ SessionError.Device → (memory r.device).blown ≡ false) }
-{
-    if refused.why == SessionError::Device && refused.device.blown() {
-        return Ok((refused.device, end));
-    }
-    Err(refused)
-}
-
-/// The device with its fuse set.
-fn with_fuse(device: MemoryDevice, calls: u64) -> MemoryDevice
-    ensures { memory result ≡ record (memory device) { fuse = Some calls; blown = false } }
-{
-    let mut device = device;
-    device.fuse(calls);
-    device
-}
-
-/// Resumes a game and plays, until all is played or the fuse is blown.
-fn play_until_blown(
-    alloc: Global,
-    device: MemoryDevice,
-    cartridge: &Cartridge,
-    plays: &[Play],
-    known: u64,
-) -> Result<(MemoryDevice, RoundEnd), Refused<MemoryDevice>>
-    ensures leaves { IfOk result (λ r.
-        LeavesRound cartridge.now (memory_disk (memory device)) (memory_disk (memory r.0))
-        (inputs_of_plays cartridge.now plays.now) r.1 known) }
-    ensures refused { IfErr result (λ refused. (end : RoundEnd) ×
-        LeavesRound cartridge.now (memory_disk (memory device)) (memory_disk (memory refused.device))
-        (inputs_of_plays cartridge.now plays.now) end known) }
-    ensures cause { IfErr result (λ refused.
-        IsRoundRefusal cartridge.now (memory_disk (memory device)) (inputs_of_plays cartridge.now plays.now)
-        (memory_disk (memory refused.device)).sectors
-        refused.why) }
-    ensures ended { IfOk result (λ r. ((memory r.0).blown ≡ true) ⊎
-        IsPlayedToMemory cartridge.now (memory_disk (memory device)) (memory_disk (memory r.0)) plays.now) }
-    ensures memory { IfErr result (λ refused. refused.why ≡ SessionError.Memory →
-        NoMemoryToResume cartridge.now (memory device) (memory refused.device) ⊎
-        IsPlayedToMemory cartridge.now (memory_disk (memory device)) (memory_disk (memory refused.device)) plays.now) }
-    ensures stand { IfOk result (λ r.
-        EachStands cartridge.now (memory_disk (memory device)) → EachStands cartridge.now (memory_disk (memory r.0))) }
-    ensures sound { IfErr result (λ refused.
-        EachStands cartridge.now (memory_disk (memory device)) → IsSoundStop refused.why) }
-    ensures kept { IfErr result (λ refused. EachStands cartridge.now (memory_disk (memory device)) →
-        EachStands cartridge.now (memory_disk (memory refused.device))) }
-    ensures faults_ok { IfOk result (λ r. (memory device).faults ≤ (memory r.0).faults) }
-    ensures faults { IfErr result (λ refused.
-        CountsLifeFaults (memory device).faults (memory refused.device).faults refused.why) }
-    ensures fuse { IfErr result (λ refused. refused.why ≡ SessionError.Device → (memory refused.device).blown ≡ false) }
-{
-    let mut session = match resume(alloc, device, cartridge) {
-        Ok(session) => session,
-        Err(refused) => {
-            let end = RoundEnd {
-                resumed: None,
-                saved: known,
-            };
-            return ended_by(refused, end);
+impl Game {
+    /// Its devices.
+    fn into_devices(self) -> Devices
+        ensures { memories result ≡ memories_of self }
+    {
+        let Game { session, recording } = self;
+        Devices {
+            save: session.into_device(),
+            recording: match recording {
+                Some(recording) => Some(recording.into_device()),
+                None => None,
+            },
         }
-    };
-    let resumed = session.counts().all;
-    let made = make_plays(&mut session, alloc, cartridge, plays);
-    let end = RoundEnd {
-        resumed: Some(resumed),
-        saved: session.counts().acknowledged,
-    };
-    let device = session.into_device();
-    match made {
-        Ok(()) => Ok((device, end)),
-        Err(why) => ended_by(Refused { why, device }, end),
     }
 }
 
-/// Cuts the power: what is left is the device as of the last successful sync, with the chosen later
-/// writes.
-fn cut(
+/// What was given to a game, and what it reported.
+#[derive(Drop)]
+pub(crate) struct Given {
+    pub(crate) game: Game,
+    pub(crate) report: Vec<u8>,
+}
+
+/// A refusal, and what was reported before it.
+#[derive(Drop)]
+pub(crate) struct Stopped {
+    pub(crate) refused: LifeRefused,
+    pub(crate) report: Vec<u8>,
+}
+
+/// Resumes the game of a SAVE alone and obeys the lines.
+fn give_alone(
     alloc: Global,
-    device: MemoryDevice,
-    kept: &[bool],
-) -> Result<MemoryDevice, Refused<MemoryDevice>>
-    ensures image { IfOk result (λ d.
-        IsNewMemory (image_of (memory device) kept.now) (memory device).room (memory device).faults d) }
-    ensures refused { IfErr result (λ refused. (refused.why ≡ SessionError.Memory) × (refused.device ≡ device)) }
+    save: MemoryDevice,
+    cartridge: &Cartridge,
+    lines: &[u8],
+) -> Result<Given, Stopped>
+    ensures gives { IfOk result (λ given.
+        GivesWhole cartridge.now (record { save = memory save; recording = None }) (memories_of given.game) lines.now
+        given.report.items (position_of given.game)) }
+    ensures begun { IfOk result (λ given. IsTakenUp cartridge.now given.game) }
+    ensures stops { IfErr result (λ stopped.
+        StopsGiving cartridge.now (record { save = memory save; recording = None }) (memories stopped.refused.devices)
+        lines.now stopped.report.items stopped.refused.why) }
 {
-    match device.image(alloc, kept) {
-        Ok(image) => Ok(image),
-        Err(_) => Err(Refused {
-            why: SessionError::Memory,
-            device,
+    let mut input = CheckedInput::new(lines);
+    let mut report = CheckedOutput::new(Vec::new(alloc));
+    match stream(alloc, save, cartridge, &mut input, &mut report) {
+        Ok(session) => Ok(Given {
+            game: Game {
+                session,
+                recording: None,
+            },
+            report: report.into_writer(),
+        }),
+        Err(refused) => Err(Stopped {
+            refused: LifeRefused {
+                why: LifeError::Stream(refused.why),
+                devices: Devices {
+                    save: refused.device,
+                    recording: None,
+                },
+            },
+            report: report.into_writer(),
         }),
     }
 }
 
-/// One round: the fuse is set, the game is resumed and played, and the power is cut.
+/// Takes up a game with its recording and obeys the lines.
+fn give_recorded(
+    alloc: Global,
+    save: MemoryDevice,
+    recording: MemoryDevice,
+    cartridge: &Cartridge,
+    lines: &[u8],
+) -> Result<Given, Stopped>
+    ensures gives { IfOk result (λ given.
+        GivesWhole cartridge.now (record { save = memory save; recording = Some (memory recording) })
+        (memories_of given.game) lines.now given.report.items (position_of given.game)) }
+    ensures begun { IfOk result (λ given. IsTakenUp cartridge.now given.game) }
+    ensures stops { IfErr result (λ stopped.
+        StopsGiving cartridge.now (record { save = memory save; recording = Some (memory recording) })
+        (memories stopped.refused.devices) lines.now stopped.report.items stopped.refused.why) }
+{
+    let mut input = CheckedInput::new(lines);
+    let mut report = CheckedOutput::new(Vec::new(alloc));
+    match record(alloc, save, recording, cartridge, &mut input, &mut report) {
+        Ok(recorded) => Ok(Given {
+            game: Game {
+                session: recorded.session,
+                recording: Some(recorded.recording),
+            },
+            report: report.into_writer(),
+        }),
+        Err(refused) => Err(Stopped {
+            refused: LifeRefused {
+                why: LifeError::Record(refused.why),
+                devices: Devices {
+                    save: refused.save,
+                    recording: Some(refused.recording),
+                },
+            },
+            report: report.into_writer(),
+        }),
+    }
+}
+
+/// Takes the game up and obeys the lines, as `stream` does, or `record` where there is a recording.
+pub(crate) fn give(
+    alloc: Global,
+    devices: Devices,
+    cartridge: &Cartridge,
+    lines: &[u8],
+) -> Result<Given, Stopped>
+    ensures gives { IfOk result (λ given.
+        GivesWhole cartridge.now (memories devices) (memories_of given.game) lines.now given.report.items
+        (position_of given.game)) }
+    ensures begun { IfOk result (λ given. IsTakenUp cartridge.now given.game) }
+    ensures stops { IfErr result (λ stopped.
+        StopsGiving cartridge.now (memories devices) (memories stopped.refused.devices) lines.now stopped.report.items
+        stopped.refused.why) }
+{
+    let Devices { save, recording } = devices;
+    match recording {
+        Some(recording) => give_recorded(alloc, save, recording, cartridge, lines),
+        None => give_alone(alloc, save, cartridge, lines),
+    }
+}
+
+/// Whether the fuse of one of the devices caused the refusal.
+fn is_by_fuse(refused: &LifeRefused) -> bool
+    ensures yes { result ≡ true → IsByFuse (refused.now).why (memories (refused.now).devices) }
+    ensures no { result ≡ false → IsByNoFuse (refused.now).why (memories (refused.now).devices) }
+{
+    match refused.why {
+        LifeError::Stream(StreamError::Session(SessionError::Device)) => refused
+            .devices
+            .save
+            .blown(),
+        LifeError::Record(RecordError::Session(SessionError::Device)) => refused
+            .devices
+            .save
+            .blown(),
+        LifeError::Record(RecordError::Recording(RecordingFault::Device)) => {
+            match &refused.devices.recording {
+                Some(recording) => recording.blown(),
+                None => false,
+            }
+        }
+        _ => false,
+    }
+}
+
+/// Takes the game up and obeys the lines, until all are obeyed or a fuse is blown. Any other refusal ends the life.
+fn play(
+    alloc: Global,
+    devices: Devices,
+    cartridge: &Cartridge,
+    lines: &[u8],
+) -> Result<(Devices, RoundEnd), LifeRefused>
+    ensures leaves { IfOk result (λ r.
+        LeavesRound cartridge.now (memories devices) (memories r.0) lines.now r.1.report.items r.1.whole) }
+    ensures counts { IfOk result (λ r. CountsCut r.1.whole (memories devices) (memories r.0)) }
+    ensures blown { IfOk result (λ r. r.1.whole ≡ false → IsBlown (memories r.0)) }
+    ensures refused { IfErr result (λ refused.
+        RefusesPlay cartridge.now (memories devices) (memories refused.devices) lines.now refused.why) }
+    ensures fuse { IfErr result (λ refused. IsByNoFuse refused.why (memories refused.devices)) }
+    ensures stopped { IfErr result (λ refused. (front : List ℕ) ×
+        LeavesRound cartridge.now (memories devices) (memories refused.devices) lines.now front false) }
+{
+    match give(alloc, devices, cartridge, lines) {
+        Ok(given) => {
+            let end = RoundEnd {
+                report: given.report,
+                whole: true,
+            };
+            Ok((given.game.into_devices(), end))
+        }
+        Err(stopped) => {
+            if !is_by_fuse(&stopped.refused) {
+                return Err(stopped.refused);
+            }
+            let end = RoundEnd {
+                report: stopped.report,
+                whole: false,
+            };
+            Ok((stopped.refused.devices, end))
+        }
+    }
+}
+
+/// One round: the fuses are set, the game is played, and the power is cut.
 pub(crate) fn one_round(
     alloc: Global,
-    device: MemoryDevice,
+    devices: Devices,
     cartridge: &Cartridge,
     round: &Round,
-    known: u64,
-) -> Result<(MemoryDevice, RoundEnd), Refused<MemoryDevice>>
-    ensures leaves { IfOk result (λ r.
-        LeavesRound cartridge.now (memory_disk (memory device)) (memory_disk (memory r.0))
-        (inputs_of_round cartridge.now round.now) r.1 known) }
-    ensures refused { IfErr result (λ refused. (end : RoundEnd) ×
-        LeavesRound cartridge.now (memory_disk (memory device)) (memory_disk (memory refused.device))
-        (inputs_of_round cartridge.now round.now) end known) }
+) -> Result<(Devices, RoundEnd), LifeRefused>
     ensures cut { IfOk result (λ r.
-        IsCutRound cartridge.now (memory_disk (memory device)) (round.now).kept.items (memory r.0)
-        (inputs_of_round cartridge.now round.now) r.1 known) }
-    ensures fresh { IfOk result (λ r. IsFresh (memory r.0)) }
-    ensures cause { IfErr result (λ refused.
-        IsRoundRefusal cartridge.now (memory_disk (memory device)) (inputs_of_round cartridge.now round.now)
-        (memory_disk (memory refused.device)).sectors
-        refused.why) }
-    ensures memory { IfErr result (λ refused. refused.why ≡ SessionError.Memory →
-        NoMemoryToResume cartridge.now (memory device) (memory refused.device) ⊎
-        NoMemoryInRound cartridge.now (memory device) (memory refused.device) round.now) }
-    ensures stand { IfOk result (λ r.
-        EachStands cartridge.now (memory_disk (memory device)) → EachStands cartridge.now (memory_disk (memory r.0))) }
-    ensures sound { IfErr result (λ refused.
-        EachStands cartridge.now (memory_disk (memory device)) → IsSoundStop refused.why) }
-    ensures kept { IfErr result (λ refused. EachStands cartridge.now (memory_disk (memory device)) →
-        EachStands cartridge.now (memory_disk (memory refused.device))) }
-    ensures faults_ok { IfOk result (λ r. (memory device).faults ≤ (memory r.0).faults) }
-    ensures faults { IfErr result (λ refused.
-        CountsLifeFaults (memory device).faults (memory refused.device).faults refused.why) }
-    ensures fuse { IfErr result (λ refused. refused.why ≡ SessionError.Device → (memory refused.device).blown ≡ false) }
+        IsCutRound cartridge.now (memories devices) round.now (memories r.0) r.1.report.items r.1.whole) }
+    ensures refused { IfErr result (λ refused.
+        RefusesRound cartridge.now (memories devices) (memories refused.devices) (round.now).lines.items refused.why) }
+    ensures stopped { IfErr result (λ refused. (report : List ℕ) × (whole : Bool) ×
+        LeavesRound cartridge.now (memories devices) (memories refused.devices) (round.now).lines.items report whole) }
 {
-    let device = with_fuse(device, round.calls);
-    let (device, end) = match play_until_blown(alloc, device, cartridge, &round.plays, known) {
+    let fused = devices.with_fuses(round.save_calls, round.recording_calls);
+    let (played, end) = match play(alloc, fused, cartridge, &round.lines) {
         Ok(ended) => ended,
         Err(refused) => return Err(refused),
     };
-    match cut(alloc, device, &round.kept) {
-        Ok(image) => Ok((image, end)),
-        Err(refused) => Err(refused),
+    match cut(alloc, &played, &round.save_kept, &round.recording_kept) {
+        Ok(left) => Ok((left, end)),
+        Err(_) => Err(LifeRefused {
+            why: LifeError::Memory,
+            devices: played,
+        }),
     }
 }

@@ -8,7 +8,7 @@ use Rattle.playing.proofs.Telling.{keeps_same}
 use Rattle.streaming.specs.Answers.{inputs_of_deeds}
 use Rattle.recorded_play.specs.Steps.{Comes, game, IsOfDevices, save_faults_after, recording_faults_after, told_as}
 use Rattle.recorded_play.proofs.Stepping.{comes_all, halts_all}
-use Rattle.recorded_play.proofs.WholePlays.{IsUp, none_damaged, none_lacked, recorded_to, stopped_record, as_refusal, ended_agree, stopped_agree}
+use Rattle.recorded_play.proofs.WholePlays.{IsUp, none_damaged, none_lacked, recorded_to, rests_at, stopped_record, as_refusal, ended_agree, stopped_agree}
 use Rattle.recorded_play.proofs.recorded.record.Given.{Over}
 use Rattle.recorded_play.proofs.recorded.record.Goals as goal
 use Rattle.recorded_play.proofs.recorded.record.Goals.{In-Ok-take_up, In-Ok-Failed}
@@ -50,6 +50,7 @@ returns-in-Ok-Whole g c =
     record {
       recorded = recorded_to up streams.deeds taken.whole.3 comes streams.makes.unsaved_is streams.makes.answered streams.asks c.in-Ok-Whole.field-0-is streams.read;
       whole = (none_left (pending_of now.session) streams.makes.unsaved_is, c.in-Ok-Whole.ensures.whole.0, c.in-Ok-Whole.ensures.whole.1, comes.rom ∙ taken.whole.3);
+      rests = rests_at up (inputs_of_deeds streams.deeds) comes streams.makes.unsaved_is;
       refused = tt;
       input = tt;
       output = tt;
@@ -68,6 +69,7 @@ returns-in-Ok-Wrong g c =
     rw c.stopped.ensures (record {
       recorded = tt;
       whole = tt;
+      rests = tt;
       refused = inr (recorded_to up streams.deeds taken.whole.3 comes streams.makes.unsaved_is streams.makes.answered streams.asks c.in-Ok-Wrong.field-0-is streams.read);
       input = λ input. absurd (cc);
       output = λ output. absurd (cc);
@@ -119,6 +121,7 @@ returns g c =
     rw c.stopped-in-Err-stream_on.ensures (record {
       recorded = tt;
       whole = tt;
+      rests = tt;
       refused = inr (as_refusal why _ halts.cause (stopped_record up streams.deeds taken.whole.3 streams.more halts streams.stops.told streams.asks streams.read));
       input = λ input. absurd (rw input at halts.cause);
       output = λ output. streams.stops.output (ap told_as output);

@@ -1,18 +1,28 @@
-use Rattle.std.proofs.Common.{◌⊎◌, ◌+◌, ◌++◌, ◌∷◌, [], List, length, take, get_or, sym, ap, ◌∙◌, subst, arith}
+use Rattle.std.proofs.Common.{◌≡◌, List, ℕ, [], ◌∷◌, ◌++◌, length, take, get_or, ◌+◌, inl, inr, refl, sym, ap, subst, arith}
 use Rattle.std.proofs.lemmas.List.{take_all, length_push}
 use Rattle.std.proofs.lemmas.Option.{slice_get-get_or}
-use Rattle.sector_device.specs.Memory.{memory_disk}
-use Rattle.sector_device.specs.MemoryDevice.{memory}
-use Rattle.whole_lives.specs.Lives.{inputs_of_round, HasLived, LeavesLife}
-use Rattle.whole_lives.specs.Refusals.{IsLast, NoMemoryInRound, NoMemoryToResume}
-use Rattle.whole_lives.specs.Rounds.{LeavesRound, IsRoundRefusal}
+use Rattle.whole_lives.specs.Devices.{HasCome, RefusesRound, memories, texts_of, reports_of, wholes_of}
+use Rattle.whole_lives.specs.Rounds.{IsCutRound, LeavesRound}
 use Rattle.whole_lives.specs.declared.rounds.Round.{Round}
 use Rattle.whole_lives.specs.declared.rounds.RoundEnd.{RoundEnd}
-use Rattle.whole_lives.proofs.LifeLaws.{known_behind, known_push, last_behind, lived_nothing, lived_next, life_refused, no_memory_for_ends, no_memory_next}
+use Rattle.whole_lives.proofs.Behind.{come_more, come_none, ends_more, lived_both, lived_nothing, texts_more}
 use Rattle.whole_lives.proofs.lives.live_rounds.Goals as goal
 
 pub returns-in_default-clause-left : goal.returns-in_default-clause-left
-returns-in_default-clause-left c = record { done = 0; ends = []; leaves = lived_nothing c.args.cartridge.now (memory_disk (memory c.args.device)) }
+returns-in_default-clause-left c = record { texts = []; reports = []; wholes = []; are = inl (0, refl); leaves = lived_nothing c.args.cartridge.now (memories c.args.devices) }
+
+pub loop-round-init : goal.loop-round-init
+loop-round-init c =
+    let none : c.in-Ok.ends.items ≡ [] = c.in-Ok.ensures.items in
+    let first = memories c.args.devices in
+    record {
+      come = subst (λ (ends : List RoundEnd). HasCome c.args.cartridge.now first first [] (reports_of ends) (wholes_of ends)) (sym none) (come_none c.args.cartridge.now first);
+      size = ap length none;
+      room = omega (arith, c.in-Ok.ensures.capacity);
+    }
+
+pub push_reserved-requires : goal.push_reserved-requires
+push_reserved-requires c = omega (arith, c.loop-round.invariant.size, c.loop-round.invariant.room, c.loop-round-test.true)
 
 pub returns-in-Err-clause-left : goal.returns-in-Err-clause-left
 returns-in-Err-clause-left c =
@@ -20,18 +30,35 @@ returns-in-Err-clause-left c =
     let rounds = c.args.rounds.now in
     let i = c.loop-round.round-index in
     let ends = c.loop-round.ends.items in
-    let before = memory_disk (memory c.loop-round.left) in
-    let now = memory_disk (memory c.in-Err.refused.device) in
-    let left = c.in-Err.ensures.refused in
+    let first = memories c.args.devices in
+    let now = memories c.loop-round.left in
+    let left = memories c.in-Err.refused.devices in
+    let stopped = c.in-Err.ensures.stopped in
+    let lines = (get_or rounds i c.round-item.result).lines.items in
     record {
-      done = i + 1;
-      ends = ends ++ left.0 ∷ [];
-      leaves = lived_next rom (memory_disk (memory c.args.device)) before now rounds i c.round-item.result ends left.0 c.loop-round.known c.loop-round-test.true c.loop-round.invariant.known c.loop-round.invariant.lived
-          (subst (λ (round : Round). LeavesRound rom before now (inputs_of_round rom round) left.0 c.loop-round.known) c.round-item.is left.1);
+      texts = texts_of (take i rounds) ++ lines ∷ [];
+      reports = reports_of ends ++ stopped.0 ∷ [];
+      wholes = wholes_of ends ++ stopped.1 ∷ [];
+      are = inl (i + 1, texts_more rounds i c.round-item.result c.loop-round-test.true);
+      leaves = lived_both rom first now left (texts_of (take i rounds)) (reports_of ends) (wholes_of ends) (lines ∷ []) (stopped.0 ∷ []) (stopped.1 ∷ []) c.loop-round.invariant.come.leaves
+          (subst (λ (round : Round). LeavesRound rom now left round.lines.items stopped.0 stopped.1) c.round-item.is stopped.2);
     }
 
-pub returns-in-Err-clause-sound : goal.returns-in-Err-clause-sound
-returns-in-Err-clause-sound c = λ each. c.in-Err.ensures.sound (c.loop-round.invariant.stand each)
+pub returns-in-Err-clause-refused : goal.returns-in-Err-clause-refused
+returns-in-Err-clause-refused c =
+    let rom = c.args.cartridge.now in
+    let rounds = c.args.rounds.now in
+    let i = c.loop-round.round-index in
+    let now = memories c.loop-round.left in
+    let refused = c.in-Err.refused in
+    inr (record {
+      done = i;
+      now = now;
+      reports = reports_of c.loop-round.ends.items;
+      wholes = wholes_of c.loop-round.ends.items;
+      come = c.loop-round.invariant.come;
+      refused = inl (_, slice_get-get_or rounds i c.round-item.result c.loop-round-test.true, subst (λ (round : Round). RefusesRound rom now (memories refused.devices) round.lines.items refused.why) c.round-item.is c.in-Err.ensures.refused);
+    })
 
 pub loop-round-preserved : goal.loop-round-preserved
 loop-round-preserved c =
@@ -40,51 +67,22 @@ loop-round-preserved c =
     let i = c.loop-round.round-index in
     let ends = c.loop-round.ends.items in
     let end = c.in-Ok-one_round.end in
-    let before = memory_disk (memory c.loop-round.left) in
-    let now = memory_disk (memory c.in-Ok-one_round.image) in
+    let first = memories c.args.devices in
+    let now = memories c.loop-round.left in
+    let next = memories c.in-Ok-one_round.devices in
+    let texts = texts_of (take i rounds) in
+    let cut = subst (λ (round : Round). IsCutRound rom now round next end.report.items end.whole) c.round-item.is c.in-Ok-one_round.ensures.cut in
     record {
-      lived = subst (λ (l : List RoundEnd). LeavesLife rom (memory_disk (memory c.args.device)) now (take (i + 1) rounds) l) (sym c.push_reserved.ensures.items)
-          (lived_next rom (memory_disk (memory c.args.device)) before now rounds i c.round-item.result ends end c.loop-round.known c.loop-round-test.true c.loop-round.invariant.known c.loop-round.invariant.lived
-          (subst (λ (round : Round). LeavesRound rom before now (inputs_of_round rom round) end c.loop-round.known) c.round-item.is c.in-Ok-one_round.ensures.leaves));
-      known = sym (ap (known_behind 0) c.push_reserved.ensures.items ∙ known_push 0 ends end);
+      come =
+          subst (λ (l : List RoundEnd). HasCome rom first next (texts_of (take (i + 1) rounds)) (reports_of l) (wholes_of l)) (sym c.push_reserved.ensures.items)
+          (ends_more (λ reports wholes. HasCome rom first next (texts_of (take (i + 1) rounds)) reports wholes) ends end
+          (subst (λ (l : List (List ℕ)). HasCome rom first next l (reports_of ends ++ end.report.items ∷ []) (wholes_of ends ++ end.whole ∷ [])) (texts_more rounds i c.round-item.result c.loop-round-test.true)
+          (come_more rom first now next texts (reports_of ends) (wholes_of ends) _ end.report.items end.whole c.loop-round.invariant.come cut)));
       size = omega (arith, c.loop-round.invariant.size, ap length c.push_reserved.ensures.items, length_push ends end);
       room = omega (arith, c.loop-round.invariant.room, c.push_reserved.ensures.capacity);
-      stand = λ each. c.in-Ok-one_round.ensures.stand (c.loop-round.invariant.stand each);
-      faults = omega (arith, c.in-Ok-one_round.ensures.faults_ok, c.loop-round.invariant.faults);
-      last = last_behind rounds i (memory c.args.device) (memory c.in-Ok-one_round.image) c.loop-round-test.true c.in-Ok-one_round.ensures.fresh;
     }
 
-pub returns-clause-lived : goal.returns-clause-lived
-returns-clause-lived c = λ last here.
-    subst (λ (l : List Round). HasLived c.args.cartridge.now (memory_disk (memory c.args.device)) l c.loop-round.ends.items last) (take_all c.loop-round.round-index c.args.rounds.now c.loop-round-test.false)
-    (c.loop-round.invariant.lived last here)
-
-pub returns-clause-last : goal.returns-clause-last
-returns-clause-last c =
-    subst (λ (l : List Round). IsLast l (memory c.args.device) (memory c.loop-round.left)) (take_all c.loop-round.round-index c.args.rounds.now c.loop-round-test.false) c.loop-round.invariant.last
-
-pub returns-in-Err-clause-kept : goal.returns-in-Err-clause-kept
-returns-in-Err-clause-kept c = λ each. c.in-Err.ensures.kept (c.loop-round.invariant.stand each)
-
-pub returns-in-Err-clause-cause : goal.returns-in-Err-clause-cause
-returns-in-Err-clause-cause c =
-    let rom = c.args.cartridge.now in
-    let rounds = c.args.rounds.now in
-    let i = c.loop-round.round-index in
-    let before = memory_disk (memory c.loop-round.left) in
-    let left = (memory_disk (memory c.in-Err.refused.device)).sectors in
-    life_refused rom (memory_disk (memory c.args.device)) before rounds i (get_or rounds i c.round-item.result) c.loop-round.ends.items left c.in-Err.refused.why (slice_get-get_or rounds i c.round-item.result c.loop-round-test.true) c.loop-round.invariant.lived
-    (subst (λ (round : Round). IsRoundRefusal rom before (inputs_of_round rom round) left c.in-Err.refused.why) c.round-item.is c.in-Err.ensures.cause)
-
-pub returns-in_default-clause-memory : goal.returns-in_default-clause-memory
-returns-in_default-clause-memory c = λ memory_is. no_memory_for_ends c.args.cartridge.now (memory c.args.device) c.args.rounds.now
-
-pub returns-in-Err-clause-memory : goal.returns-in-Err-clause-memory
-returns-in-Err-clause-memory c = λ memory_is.
-    let rom = c.args.cartridge.now in
-    let rounds = c.args.rounds.now in
-    let i = c.loop-round.round-index in
-    let before = memory c.loop-round.left in
-    let left = memory c.in-Err.refused.device in
-    no_memory_next rom (memory c.args.device) before left rounds c.loop-round.ends.items i c.round-item.result c.loop-round-test.true c.loop-round.invariant.last c.loop-round.invariant.lived
-    (subst (λ (round : Round). NoMemoryToResume rom before left ⊎ NoMemoryInRound rom before left round) c.round-item.is (c.in-Err.ensures.memory memory_is))
+pub returns-clause-come : goal.returns-clause-come
+returns-clause-come c =
+    subst (λ (l : List Round). HasCome c.args.cartridge.now (memories c.args.devices) (memories c.loop-round.left) (texts_of l) (reports_of c.loop-round.ends.items) (wholes_of c.loop-round.ends.items))
+    (take_all c.loop-round.round-index c.args.rounds.now c.loop-round-test.false) c.loop-round.invariant.come

@@ -1,117 +1,93 @@
-use Rattle.std.proofs.Common.{◌⊎◌, inl, inr, ⊎_elim, List, sym, ap, ◌∙◌, subst}
-use Rattle.sector_device.specs.Memory.{memory_disk, image_of}
+use Rattle.std.proofs.Common.{◌≡◌, List, ℕ, [], Bool, false, inl, inr, refl, subst}
+use Rattle.std.specs.Option.{option_map}
 use Rattle.sector_device.specs.MemoryDevice.{memory}
-use Rattle.sector_device.specs.declared.memory.MemoryDevice.{MemoryDevice}
-use Rattle.whole_lives.specs.Lives.{inputs_of_plays, inputs_of_round}
-use Rattle.whole_lives.specs.Refusals.{IsPlayedToMemory, NoMemoryInRound, NoMemoryToResume}
-use Rattle.whole_lives.specs.Rounds.{LeavesRound, IsRoundRefusal}
-use Rattle.whole_lives.specs.declared.plays.Play.{Play}
-use Rattle.whole_lives.proofs.RoundLaws.{round_fused, round_cut, cut_image, each_moved, each_fused, no_memory_fused, played_fused, refusal_fused}
+use Rattle.whole_lives.specs.Devices.{Memories, memories, CountsCut, RefusesPlay}
+use Rattle.whole_lives.specs.Rounds.{LeavesRound, IsCut, IsCutIfThere, fused}
+use Rattle.whole_lives.specs.declared.devices.Devices.{Devices}
+use Rattle.whole_lives.proofs.Behind.{fused_leaves, fused_counts, fused_refuses}
 use Rattle.whole_lives.proofs.rounds.one_round.Goals as goal
 
 pub returns-in-Err-clause-refused : goal.returns-in-Err-clause-refused
 returns-in-Err-clause-refused c =
     let rom = c.args.cartridge.now in
-    let fused = memory c.with_fuse-device.result in
-    let now = memory_disk (memory c.in-Err.refused.device) in
-    let left = c.in-Err.ensures.refused in (
-      left.0,
-      round_fused rom (memory c.args.device) fused now (inputs_of_round rom c.args.round.now) left.0 c.args.known (ap memory_disk c.with_fuse-device.ensures)
-          (subst (λ (plays : List Play). LeavesRound rom (memory_disk fused) now (inputs_of_plays rom plays) left.0 c.args.known) c.deref.ensures.value left.1),
+    let round = c.args.round.now in
+    let old = memories c.args.devices in
+    let left = memories c.in-Err.refused.devices in
+    let why = c.in-Err.refused.why in
+    let lines_are : c.deref.result.now ≡ round.lines.items = cc in
+    inl (
+      fused_refuses rom round.save_calls round.recording_calls old.save old.recording left round.lines.items why
+          (subst (λ (m : Memories). RefusesPlay rom m left round.lines.items why) c.with_fuses-fused.ensures (subst (λ (text : List ℕ). RefusesPlay rom (memories c.with_fuses-fused.result) left text why) lines_are c.in-Err.ensures.refused)),
+      c.in-Err.ensures.fuse,
     )
 
-pub returns-in-Err-clause-sound : goal.returns-in-Err-clause-sound
-returns-in-Err-clause-sound c = λ each. c.in-Err.ensures.sound (each_fused c.args.cartridge.now (memory c.args.device) (memory c.with_fuse-device.result) (ap memory_disk c.with_fuse-device.ensures) each)
-
-pub returns-in-Ok-cut-clause-leaves : goal.returns-in-Ok-cut-clause-leaves
-returns-in-Ok-cut-clause-leaves c =
+pub returns-in-Err-clause-stopped : goal.returns-in-Err-clause-stopped
+returns-in-Err-clause-stopped c =
     let rom = c.args.cartridge.now in
-    let fused = memory c.with_fuse-device.result in
-    let played = memory c.in-Ok.ended.0 in
-    let image = memory c.in-Ok-cut.image in
-    let end = c.in-Ok.ended.1 in
-    let inputs = inputs_of_round rom c.args.round.now in
-    round_cut rom (memory_disk (memory c.args.device)) played image inputs end c.args.known (cut_image played image c.deref-2.result.now played.room played.faults c.in-Ok-cut.ensures.image)
-    (round_fused rom (memory c.args.device) fused (memory_disk played) inputs end c.args.known (ap memory_disk c.with_fuse-device.ensures)
-    (subst (λ (plays : List Play). LeavesRound rom (memory_disk fused) (memory_disk played) (inputs_of_plays rom plays) end c.args.known) c.deref.ensures.value c.in-Ok.ensures.leaves))
-
-pub returns-in-Ok-cut-clause-stand : goal.returns-in-Ok-cut-clause-stand
-returns-in-Ok-cut-clause-stand c = λ each left here.
-    let played = memory c.in-Ok.ended.0 in
-    let image = memory c.in-Ok-cut.image in
-    c.in-Ok.ensures.stand (each_fused c.args.cartridge.now (memory c.args.device) (memory c.with_fuse-device.result) (ap memory_disk c.with_fuse-device.ensures) each) left
-    (cut_image played image c.deref-2.result.now played.room played.faults c.in-Ok-cut.ensures.image left here)
-
-pub returns-in-Err-cut-clause-refused : goal.returns-in-Err-cut-clause-refused
-returns-in-Err-cut-clause-refused c =
-    let rom = c.args.cartridge.now in
-    let fused = memory c.with_fuse-device.result in
-    let played = c.in-Ok.ended.0 in
-    let end = c.in-Ok.ended.1 in (
-      end,
-      subst (λ (d : MemoryDevice). LeavesRound rom (memory_disk (memory c.args.device)) (memory_disk (memory d)) (inputs_of_round rom c.args.round.now) end c.args.known) (sym c.in-Err-cut.ensures.refused.1)
-          (round_fused rom (memory c.args.device) fused (memory_disk (memory played)) (inputs_of_round rom c.args.round.now) end c.args.known (ap memory_disk c.with_fuse-device.ensures)
-          (subst (λ (plays : List Play). LeavesRound rom (memory_disk fused) (memory_disk (memory played)) (inputs_of_plays rom plays) end c.args.known) c.deref.ensures.value c.in-Ok.ensures.leaves)),
+    let round = c.args.round.now in
+    let old = memories c.args.devices in
+    let left = memories c.in-Err.refused.devices in
+    let stopped = c.in-Err.ensures.stopped in
+    let lines_are : c.deref.result.now ≡ round.lines.items = cc in (
+      stopped.0,
+      false,
+      fused_leaves rom round.save_calls round.recording_calls old.save old.recording left round.lines.items stopped.0 false
+          (subst (λ (m : Memories). LeavesRound rom m left round.lines.items stopped.0 false) c.with_fuses-fused.ensures
+          (subst (λ (text : List ℕ). LeavesRound rom (memories c.with_fuses-fused.result) left text stopped.0 false) lines_are stopped.1)),
     )
 
-pub returns-in-Err-clause-kept : goal.returns-in-Err-clause-kept
-returns-in-Err-clause-kept c = λ each. c.in-Err.ensures.kept (each_fused c.args.cartridge.now (memory c.args.device) (memory c.with_fuse-device.result) (ap memory_disk c.with_fuse-device.ensures) each)
+-- what the round's calls leave
+leaves_unfused : (rom : List ℕ) (devices : Devices) (save_calls recording_calls : ℕ) (fused_devices : Devices) (now : Memories) (given lines report : List ℕ) (whole : Bool)
+    → memories fused_devices ≡ record { save = fused save_calls (memory devices.save); recording = option_map (fused recording_calls) (memories devices).recording } → given ≡ lines
+    → LeavesRound rom (memories fused_devices) now given report whole → LeavesRound rom (memories devices) now lines report whole
+leaves_unfused rom devices save_calls recording_calls fused_devices now given lines report whole fused_is lines_are leaves =
+    fused_leaves rom save_calls recording_calls (memory devices.save) (memories devices).recording now lines report whole
+    (subst (λ (m : Memories). LeavesRound rom m now lines report whole) fused_is (subst (λ (text : List ℕ). LeavesRound rom (memories fused_devices) now text report whole) lines_are leaves))
 
-pub returns-in-Err-cut-clause-kept : goal.returns-in-Err-cut-clause-kept
-returns-in-Err-cut-clause-kept c = λ each.
-    each_moved c.args.cartridge.now c.in-Ok.ended.0 c.in-Err-cut.refused.device c.in-Err-cut.ensures.refused.1
-    (c.in-Ok.ensures.stand (each_fused c.args.cartridge.now (memory c.args.device) (memory c.with_fuse-device.result) (ap memory_disk c.with_fuse-device.ensures) each))
-
-pub returns-in-Err-clause-cause : goal.returns-in-Err-clause-cause
-returns-in-Err-clause-cause c =
-    let rom = c.args.cartridge.now in
-    let fused = memory c.with_fuse-device.result in
-    let left = (memory_disk (memory c.in-Err.refused.device)).sectors in
-    refusal_fused rom (memory c.args.device) fused (inputs_of_round rom c.args.round.now) left c.in-Err.refused.why (ap memory_disk c.with_fuse-device.ensures)
-    (subst (λ (plays : List Play). IsRoundRefusal rom (memory_disk fused) (inputs_of_plays rom plays) left c.in-Err.refused.why) c.deref.ensures.value c.in-Err.ensures.cause)
+counts_unfused : (devices : Devices) (save_calls recording_calls : ℕ) (fused_devices : Devices) (now : Memories) (whole : Bool)
+    → memories fused_devices ≡ record { save = fused save_calls (memory devices.save); recording = option_map (fused recording_calls) (memories devices).recording }
+    → CountsCut whole (memories fused_devices) now → CountsCut whole (memories devices) now
+counts_unfused devices save_calls recording_calls fused_devices now whole fused_is counts =
+    fused_counts [] save_calls recording_calls (memory devices.save) (memories devices).recording whole now (subst (λ (m : Memories). CountsCut whole m now) fused_is counts)
 
 pub returns-in-Ok-cut-clause-cut : goal.returns-in-Ok-cut-clause-cut
 returns-in-Ok-cut-clause-cut c =
-    let rom = c.args.cartridge.now in
-    let fused = memory c.with_fuse-device.result in
-    let played = memory c.in-Ok.ended.0 in
+    let round = c.args.round.now in
+    let played = c.in-Ok.ended.0 in
     let end = c.in-Ok.ended.1 in
+    let lines_are : c.deref.result.now ≡ round.lines.items = cc in
+    let save_kept : c.deref-2.result.now ≡ round.save_kept.items = cc in
+    let recording_kept : c.deref-3.result.now ≡ round.recording_kept.items = cc in
     record {
-      played = played;
-      leaves = round_fused rom (memory c.args.device) fused (memory_disk played) (inputs_of_round rom c.args.round.now) end c.args.known (ap memory_disk c.with_fuse-device.ensures)
-          (subst (λ (plays : List Play). LeavesRound rom (memory_disk fused) (memory_disk played) (inputs_of_plays rom plays) end c.args.known) c.deref.ensures.value c.in-Ok.ensures.leaves);
-      cut = ap (λ m. m.at_start) c.in-Ok-cut.ensures.image ∙ ap (image_of played) c.deref-2.ensures.value;
-      fresh = ap (λ m. m.recorded) c.in-Ok-cut.ensures.image;
+      played = memories played;
+      leaves = leaves_unfused c.args.cartridge.now c.args.devices round.save_calls round.recording_calls c.with_fuses-fused.result (memories played) c.deref.result.now round.lines.items end.report.items end.whole c.with_fuses-fused.ensures lines_are c.in-Ok.ensures.leaves;
+      counts = counts_unfused c.args.devices round.save_calls round.recording_calls c.with_fuses-fused.result (memories played) end.whole c.with_fuses-fused.ensures c.in-Ok.ensures.counts;
+      save = subst (λ (kept : List Bool). IsCut kept (memory played.save) (memory c.in-Ok-cut.left.save)) save_kept c.in-Ok-cut.ensures.save;
+      recording = subst (λ (kept : List Bool). IsCutIfThere kept (memories played).recording (memories c.in-Ok-cut.left).recording) recording_kept c.in-Ok-cut.ensures.recording;
     }
 
-pub returns-in-Ok-cut-clause-fresh : goal.returns-in-Ok-cut-clause-fresh
-returns-in-Ok-cut-clause-fresh c = record {
-  fuse = ap (λ m. m.fuse) c.in-Ok-cut.ensures.image;
-  blown = ap (λ m. m.blown) c.in-Ok-cut.ensures.image;
-  fails_in = ap (λ m. m.fails_in) c.in-Ok-cut.ensures.image;
-  recorded = ap (λ m. m.recorded) c.in-Ok-cut.ensures.image;
-}
-
-pub returns-in-Err-clause-memory : goal.returns-in-Err-clause-memory
-returns-in-Err-clause-memory c = λ memory_is.
-    let rom = c.args.cartridge.now in
-    let old = memory c.args.device in
-    let fused = memory c.with_fuse-device.result in
-    let left = memory c.in-Err.refused.device in
-    ⊎_elim
-    (λ refused. inl (no_memory_fused rom old fused left (ap memory_disk c.with_fuse-device.ensures) (ap (λ m. m.recorded) c.with_fuse-device.ensures) refused))
-    (λ played. inr (inr (played_fused rom old fused (memory_disk left) c.args.round.now.plays.items (ap memory_disk c.with_fuse-device.ensures)
-    (subst (λ (plays : List Play). IsPlayedToMemory rom (memory_disk fused) (memory_disk left) plays) c.deref.ensures.value played))))
-    (c.in-Err.ensures.memory memory_is)
-
-pub returns-in-Err-cut-clause-memory : goal.returns-in-Err-cut-clause-memory
-returns-in-Err-cut-clause-memory c = λ memory_is.
-    let rom = c.args.cartridge.now in
-    let old = memory c.args.device in
-    let fused = memory c.with_fuse-device.result in
+pub returns-in-Err-cut-clause-refused : goal.returns-in-Err-cut-clause-refused
+returns-in-Err-cut-clause-refused c =
+    let round = c.args.round.now in
     let played = c.in-Ok.ended.0 in
-    subst (λ (d : MemoryDevice). NoMemoryToResume rom old (memory d) ⊎ NoMemoryInRound rom old (memory d) c.args.round.now) (sym c.in-Err-cut.ensures.refused.1)
-    (inr (⊎_elim inl
-    (λ to_end. inr (played_fused rom old fused (memory_disk (memory played)) c.args.round.now.plays.items (ap memory_disk c.with_fuse-device.ensures)
-    (subst (λ (plays : List Play). IsPlayedToMemory rom (memory_disk fused) (memory_disk (memory played)) plays) c.deref.ensures.value to_end)))
-    c.in-Ok.ensures.ended))
+    let end = c.in-Ok.ended.1 in
+    let lines_are : c.deref.result.now ≡ round.lines.items = cc in
+    inr (record {
+      why_is = refl;
+      report = end.report.items;
+      whole = end.whole;
+      leaves = leaves_unfused c.args.cartridge.now c.args.devices round.save_calls round.recording_calls c.with_fuses-fused.result (memories played) c.deref.result.now round.lines.items end.report.items end.whole c.with_fuses-fused.ensures lines_are c.in-Ok.ensures.leaves;
+      counts = counts_unfused c.args.devices round.save_calls round.recording_calls c.with_fuses-fused.result (memories played) end.whole c.with_fuses-fused.ensures c.in-Ok.ensures.counts;
+      blown = c.in-Ok.ensures.blown;
+    })
+
+pub returns-in-Err-cut-clause-stopped : goal.returns-in-Err-cut-clause-stopped
+returns-in-Err-cut-clause-stopped c =
+    let round = c.args.round.now in
+    let played = c.in-Ok.ended.0 in
+    let end = c.in-Ok.ended.1 in
+    let lines_are : c.deref.result.now ≡ round.lines.items = cc in (
+      end.report.items,
+      end.whole,
+      leaves_unfused c.args.cartridge.now c.args.devices round.save_calls round.recording_calls c.with_fuses-fused.result (memories played) c.deref.result.now round.lines.items end.report.items end.whole c.with_fuses-fused.ensures lines_are c.in-Ok.ensures.leaves,
+    )

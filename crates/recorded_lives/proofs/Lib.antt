@@ -1,4 +1,0 @@
-pub mod Telling
-pub mod LifeLaws
-pub mod RoundLaws
-pub mod Behind

@@ -1,0 +1,249 @@
+-- What a life leaves on its devices, and why one is refused.
+use Rattle.std.specs.Prelude.{◌≡◌, ◌⊎◌, ℕ, List, [], ◌∷◌, ◌++◌, length, map, take, slice_get, Bool, true, false, Option, Some, None, ⊤}
+use Rattle.std.specs.Option.{option_map}
+use Rattle.machine.specs.Machine.{Input}
+use Rattle.sector_device.specs.DiskState.{next_count}
+use Rattle.sector_device.specs.Memory.{MemoryState, memory_disk}
+use Rattle.sector_device.specs.MemoryDevice.{memory}
+use Rattle.log_format.specs.Content.{content}
+use Rattle.sector_device.specs.declared.device.SectorDevice.{Ghosts}
+use Rattle.recording.specs.Accessors.{device_of as device_of_recording, is_broken as is_broken_recording}
+use Rattle.recording.specs.declared.recording.Recording.{Recording}
+use Rattle.recording.specs.declared.fault.RecordingFault.TheVariants.{Device as RecordingDevice}
+use Rattle.session.specs.Stands.{IsAtRest, Position, stands}
+use Rattle.session.specs.Accessors.{device_of, machine_of, rom_of, pending_of, acknowledged_of, is_broken}
+use Rattle.session.specs.declared.error.SessionError.{SessionError}
+use Rattle.session.specs.declared.error.SessionError.TheVariants.{Memory as NoMemory, Device, GenerationsUsedUp, CountFull, Output}
+use Rattle.streaming.specs.Streamed.{IsStreamCause, faults_after_stream}
+use Rattle.streaming.specs.declared.error.StreamError.TheVariants.{Session as OfStream}
+use Rattle.recorded_play.specs.Agreeing.{AllAgree, recorded_inputs}
+use Rattle.recorded_play.specs.Steps.{save_faults_after, recording_faults_after}
+use Rattle.recorded_play.specs.Whole.{IsRecordCause}
+use Rattle.recorded_play.specs.declared.error.RecordError.TheVariants.{Session as OfRecord, Recording as OfRecording}
+use Rattle.whole_lives.specs.Lives.{Files, Played, IsLife}
+use Rattle.whole_lives.specs.declared.devices.Devices.{Devices}
+use Rattle.whole_lives.specs.declared.error.LifeError.{LifeError}
+use Rattle.whole_lives.specs.declared.error.LifeError.TheVariants.{Memory, Stream, Record}
+use Rattle.whole_lives.specs.declared.rounds.Game.{Game}
+use Rattle.whole_lives.specs.declared.rounds.Round.{Round}
+use Rattle.whole_lives.specs.declared.rounds.RoundEnd.{RoundEnd}
+
+-- the device of a SAVE, and that of its recording, where it has one
+pub record Memories : Type 0 where
+  pub save : MemoryState
+  pub recording : Option MemoryState
+
+abbrev pub memories : Devices → Memories
+memories devices = record { save = memory devices.save; recording = option_map memory devices.recording }
+
+-- those of a game, and its position
+abbrev pub memories_of : Game → Memories
+memories_of game = record { save = memory (device_of game.session); recording = option_map (λ r. memory (device_of_recording r)) game.recording }
+
+abbrev pub position_of : Game → Position
+position_of game = record { count = acknowledged_of game.session; machine = machine_of game.session }
+
+-- ---- what images hold
+
+-- each image of the SAVE stands for a position
+abbrev pub EachStands : (rom : List ℕ) → Memories → Type 0
+EachStands rom now = (image : List (List ℕ)) → (memory_disk now.save).image image → (position : Position) × (stands rom (content image) ≡ Some position)
+
+-- and agrees with each image of the recording
+abbrev pub AgreesWithEach : (rom : List ℕ) → MemoryState → Option MemoryState → Type 0
+AgreesWithEach rom save None = ⊤
+AgreesWithEach rom save (Some recording) = AllAgree rom (memory_disk save) (memory_disk recording)
+
+abbrev pub EachAgrees : (rom : List ℕ) → Memories → Type 0
+EachAgrees rom now = AgreesWithEach rom now.save now.recording
+
+-- some image of the recording holds these inputs
+abbrev pub IsRecordedLeft : (rom : List ℕ) → Option MemoryState → Option (List Input) → Type 0
+IsRecordedLeft rom None None = ⊤
+IsRecordedLeft rom (Some recording) (Some recorded) = (image : List (List ℕ)) × (memory_disk recording).image image × (recorded_inputs rom image ≡ Some recorded)
+IsRecordedLeft rom recording recorded = ⊥
+
+-- some image of each device: what they hold
+pub record AreLeft (rom : List ℕ) (now : Memories) (files : Files) : Type 0 where
+  pub image : List (List ℕ)
+  pub stood : (memory_disk now.save).image image
+  pub stands_is : stands rom (content image) ≡ Some files.save
+  pub recorded : IsRecordedLeft rom now.recording files.recorded
+
+-- ---- a game that was taken up
+
+module _ {E : Type 0} {others : Ghosts E} where
+  abbrev pub IsOpenIfThere : Option (Recording E others) → Type 0
+  IsOpenIfThere None = ⊤
+  IsOpenIfThere (Some recording) = is_broken_recording recording ≡ false
+
+-- with nothing unsaved, and at rest there
+pub record IsTakenUp (rom : List ℕ) (game : Game) : Type 0 where
+  pub none : pending_of game.session ≡ []
+  pub whole : is_broken game.session ≡ false
+  pub rom_is : rom_of game.session ≡ rom
+  pub readable : IsOpenIfThere game.recording
+  pub rests : IsAtRest rom (memory_disk (memory (device_of game.session))) (acknowledged_of game.session) [] (machine_of game.session)
+
+-- ---- a life on devices
+
+-- what is given in each round, what each wrote to its report, and whether each came to its end
+abbrev pub texts_of : List Round → List (List ℕ)
+texts_of rounds = map (λ round. round.lines.items) rounds
+
+-- and at last, where the game is taken up once more, no line
+abbrev pub all_texts : List Round → List (List ℕ)
+all_texts rounds = texts_of rounds ++ [] ∷ []
+
+abbrev pub reports_of : List RoundEnd → List (List ℕ)
+reports_of ends = map (λ end. end.report.items) ends
+
+abbrev pub wholes_of : List RoundEnd → List Bool
+wholes_of ends = map (λ end. end.whole) ends
+
+-- a life of rounds that were given this and reported that leads here from what some image of each device held
+pub record HasLived (rom : List ℕ) (old : Memories) (texts reports : List (List ℕ)) (wholes : List Bool) (last : Files) : Type 0 where
+  pub first : Files
+  pub left : AreLeft rom old first
+  pub rounds : List Played
+  pub texts_are : map (λ round. round.text) rounds ≡ texts
+  pub reports_are : map (λ round. round.report) rounds ≡ reports
+  pub wholes_are : map (λ round. round.whole) rounds ≡ wholes
+  pub life : IsLife rom rounds first last
+
+-- Devices that agreed agree, those that stood for a position do, and whatever they hold, such a life leads to it.
+pub record LeavesLife (rom : List ℕ) (old now : Memories) (texts reports : List (List ℕ)) (wholes : List Bool) : Type 0 where
+  pub agree : EachAgrees rom old → EachAgrees rom now
+  pub stand : EachStands rom old → EachStands rom now
+  pub lives : EachAgrees rom old → (last : Files) → AreLeft rom now last → HasLived rom old texts reports wholes last
+
+-- so it is, of the first so many rounds, or of all and the last take-up
+pub record LeavesSomeLife (rom : List ℕ) (old now : Memories) (rounds : List Round) : Type 0 where
+  pub texts : List (List ℕ)
+  pub reports : List (List ℕ)
+  pub wholes : List Bool
+  pub are : ((done : ℕ) × (texts ≡ texts_of (take done rounds))) ⊎ (texts ≡ all_texts rounds)
+  pub leaves : LeavesLife rom old now texts reports wholes
+
+-- such a life leads to a SAVE that stands for this position
+abbrev pub EndsLife : (rom : List ℕ) → (old : Memories) → (texts reports : List (List ℕ)) → (wholes : List Bool) → Position → Type 0
+EndsLife rom old texts reports wholes at = EachAgrees rom old → (recorded : Option (List Input)) × HasLived rom old texts reports wholes (record { save = at; recorded = recorded })
+
+-- ---- failed calls
+
+abbrev pub faults_of : Option MemoryState → ℕ
+faults_of None = 0
+faults_of (Some recording) = recording.faults
+
+-- a round that came to its end failed no call, and one that was cut failed one, of one of the devices
+abbrev pub CountsCut : (whole : Bool) → (old now : Memories) → Type 0
+CountsCut true old now = (now.save.faults ≡ old.save.faults) × (faults_of now.recording ≡ faults_of old.recording)
+CountsCut false old now =
+    ((now.save.faults ≡ next_count old.save.faults) × (faults_of now.recording ≡ faults_of old.recording))
+    ⊎ ((now.save.faults ≡ old.save.faults) × (faults_of now.recording ≡ next_count (faults_of old.recording)))
+
+-- so it is of each round, one after the other
+abbrev pub CountsCuts : (wholes : List Bool) → (old now : Memories) → Type 0
+CountsCuts [] old now = CountsCut true old now
+CountsCuts (whole ∷ wholes) old now = (next : Memories) × CountsCut whole old next × CountsCuts wholes next now
+
+-- one refusal is counted as it says
+abbrev pub CountsRefusal : LifeError → (old left : Memories) → Type 0
+CountsRefusal Memory old left = CountsCut true old left
+CountsRefusal (Stream why) old left = (left.save.faults ≡ faults_after_stream why old.save.faults) × (faults_of left.recording ≡ faults_of old.recording)
+CountsRefusal (Record why) old left =
+    (left.save.faults ≡ save_faults_after why old.save.faults) × (faults_of left.recording ≡ recording_faults_after why (faults_of old.recording))
+
+-- ---- a device behind a cut
+
+-- no fuse, no failing call, and nothing recorded since
+pub record IsFresh (now : MemoryState) : Type 0 where
+  pub fuse : now.fuse ≡ None
+  pub blown : now.blown ≡ false
+  pub fails_in : now.fails_in ≡ 0
+  pub recorded : now.recorded ≡ []
+
+abbrev pub IsFreshIfThere : Option MemoryState → Type 0
+IsFreshIfThere None = ⊤
+IsFreshIfThere (Some recording) = IsFresh recording
+
+-- the devices behind so many rounds: those of the start, or such as a cut leaves
+abbrev pub AreLast : (done : List (List ℕ)) → (first last : Memories) → Type 0
+AreLast [] first last = last ≡ first
+AreLast (text ∷ texts) first last = IsFresh last.save × IsFreshIfThere last.recording
+
+-- ---- a refusal
+
+-- a stream of this text refused it, or where there is a recording, a recorded play
+abbrev pub IsCause : LifeError → (rom : List ℕ) → (old_save : MemoryState) → (old_recording : Option MemoryState) → (left_save : MemoryState) → (left_recording : Option MemoryState)
+    → (text unread report : List ℕ) → Type 0
+IsCause (Stream why) rom old None left None text unread report = IsStreamCause why rom (memory_disk old) (memory_disk left) (Some text) (Some unread) (Some []) (Some report)
+IsCause (Record why) rom old (Some recording) left (Some left_recording) text unread report =
+    IsRecordCause why rom (memory_disk old) (memory_disk left) (memory_disk recording) (memory_disk left_recording) (Some text) (Some unread) (Some []) (Some report)
+IsCause why rom old recording left left_recording text unread report = ⊥
+
+pub record RefusesPlay (rom : List ℕ) (old left : Memories) (text : List ℕ) (why : LifeError) : Type 0 where
+  pub unread : List ℕ
+  pub report : List ℕ
+  pub cause : IsCause why rom old.save old.recording left.save left.recording text unread report
+  pub counted : CountsRefusal why old left
+
+abbrev pub is_blown : Option MemoryState → Bool
+is_blown None = false
+is_blown (Some recording) = recording.blown
+
+-- by no fuse
+pub record IsByNoFuse (why : LifeError) (left : Memories) : Type 0 where
+  pub alone : why ≡ Stream (OfStream Device) → left.save.blown ≡ false
+  pub save_call : why ≡ Record (OfRecord Device) → left.save.blown ≡ false
+  pub recording_call : why ≡ Record (OfRecording RecordingDevice) → is_blown left.recording ≡ false
+
+-- the fuse of one of the devices failed a call
+abbrev pub IsBlown : Memories → Type 0
+IsBlown left = (left.save.blown ≡ true) ⊎ (is_blown left.recording ≡ true)
+
+-- the round was played to its end, or to where a fuse failed a call, and there was no memory for what its cut leaves
+pub record RefusesCut (rom : List ℕ) (old left : Memories) (text : List ℕ) (why : LifeError) : Type 0 where
+  pub why_is : why ≡ Memory
+  pub report : List ℕ
+  pub whole : Bool
+  pub leaves : LeavesLife rom old left (text ∷ []) (report ∷ []) (whole ∷ [])
+  pub counts : CountsCut whole old left
+  pub blown : whole ≡ false → IsBlown left
+
+abbrev pub RefusesRound : (rom : List ℕ) → (old left : Memories) → (text : List ℕ) → LifeError → Type 0
+RefusesRound rom old left text why = (RefusesPlay rom old left text why × IsByNoFuse why left) ⊎ RefusesCut rom old left text why
+
+-- a life of rounds that were given this led to these devices
+pub record HasCome (rom : List ℕ) (first now : Memories) (texts reports : List (List ℕ)) (wholes : List Bool) : Type 0 where
+  pub leaves : LeavesLife rom first now texts reports wholes
+  pub counts : CountsCuts wholes first now
+  pub last : AreLast texts first now
+
+-- The first so many rounds led to these devices, and then the next was refused, or where there is none, the game was not taken up.
+pub record IsRefusedBehind (rom : List ℕ) (first left : Memories) (rounds : List Round) (why : LifeError) : Type 0 where
+  pub done : ℕ
+  pub now : Memories
+  pub reports : List (List ℕ)
+  pub wholes : List Bool
+  pub come : HasCome rom first now (texts_of (take done rounds)) reports wholes
+  pub refused : ((round : Round) × (slice_get rounds done ≡ Some round) × RefusesRound rom now left round.lines.items why) ⊎ ((done ≡ length rounds) × RefusesPlay rom now left [] why)
+
+-- so it was, or there was no memory for the ends
+abbrev pub IsLifeRefusal : (rom : List ℕ) → (first left : Memories) → List Round → LifeError → Type 0
+IsLifeRefusal rom first left rounds why = ((why ≡ Memory) × (left ≡ first)) ⊎ IsRefusedBehind rom first left rounds why
+
+-- A SAVE of which each image stands for a position is not refused for what is found on it. The report lies in memory: where there is none
+-- for it, the output fails.
+abbrev pub IsSoundStop : SessionError → Type 0
+IsSoundStop NoMemory = ⊤
+IsSoundStop Device = ⊤
+IsSoundStop GenerationsUsedUp = ⊤
+IsSoundStop CountFull = ⊤
+IsSoundStop Output = ⊤
+IsSoundStop why = ⊥
+
+abbrev pub IsSound : LifeError → Type 0
+IsSound (Stream (OfStream why)) = IsSoundStop why
+IsSound (Record (OfRecord why)) = IsSoundStop why
+IsSound why = ⊤
