@@ -14,11 +14,11 @@ use Rattle.session.specs.declared.error.SessionError.TheVariants.{GenerationsUse
 use Rattle.session.specs.declared.session.Session.{Session}
 use Rattle.session.proofs.Answering.{answered_nothing, answered_refusal, answered_value, answered_error, answered_both, answered_refused}
 use Rattle.session.proofs.StandsLaws.{after_append, after_none, after_one}
-use Rattle.playing.specs.Going.{Place, all_of, place, Goes, GoesNoFurther}
+use Rattle.playing.specs.Going.{Place, all_of, place, SaveAdvances, SaveStops}
 use Rattle.playing.specs.Making.{Advances, Stops}
 use Rattle.playing.specs.Making.Advances.{stays, by_input, by_save}
 use Rattle.playing.specs.Making.Stops.{at_input, at_save, at_line, past_input, past_save}
-use Rattle.playing.specs.Played.{Going, Stopped}
+use Rattle.playing.specs.Played.{Advanced, Stopped}
 use Rattle.playing.specs.declared.playable.Playable.{Ghosts}
 use Rattle.playing.proofs.PlayLaws.{IsOneMore, going_by, going_input, going_nowhere, going_saved, going_then, stopped_by, stopped_failed, stopped_here, stopped_more, stopped_then}
 use Rattle.playing.proofs.Stops.{full_stops, input_refused, save_stops, stops_among}
@@ -29,7 +29,7 @@ IsNow now = (image : List (List ℕ)) → now.since now.moment image → now.ima
 
 -- ---- where a session stays
 
-pub goes_nowhere : (a : Place) → IsNow a.disk → Goes a a []
+pub goes_nowhere : (a : Place) → IsNow a.disk → SaveAdvances a a []
 goes_nowhere a only = record {
   going = λ rom from given played. going_nowhere rom a.disk a.acknowledged a.pending a.machine from given played only;
   machine_is = sym (after_none a.machine);
@@ -40,7 +40,7 @@ goes_nowhere a only = record {
 }
 
 -- a line that could not be written
-pub unwritten : (a : Place) (more : List Input) → IsNow a.disk → GoesNoFurther a a more Output
+pub unwritten : (a : Place) (more : List Input) → IsNow a.disk → SaveStops a a more Output
 unwritten a more only = record {
   stopped = λ rom from given played.
       stopped_more rom a.disk a.disk a.acknowledged from given more (stopped_here rom a.disk a.acknowledged a.pending a.machine from given played only);
@@ -52,7 +52,7 @@ unwritten a more only = record {
 
 -- ---- one behind the other
 
-pub goes_then : (a b c : Place) (first second : List Input) → Goes a b first → Goes b c second → Goes a c (first ++ second)
+pub goes_then : (a b c : Place) (first second : List Input) → SaveAdvances a b first → SaveAdvances b c second → SaveAdvances a c (first ++ second)
 goes_then a b c first second one two = record {
   going = λ rom from given played.
       let before = one.going rom from given played in
@@ -65,7 +65,7 @@ goes_then a b c first second one two = record {
   rom = two.rom ∙ one.rom;
 }
 
-pub no_further_then : (a b c : Place) (first second : List Input) (why : SessionError) → Goes a b first → GoesNoFurther b c second why → GoesNoFurther a c (first ++ second) why
+pub no_further_then : (a b c : Place) (first second : List Input) (why : SessionError) → SaveAdvances a b first → SaveStops b c second why → SaveStops a c (first ++ second) why
 no_further_then a b c first second why one two =
     let less : all_of b + length second ≤ all_of a + length (first ++ second) = omega (arith, one.all_is, length-append first second) in
     record {
@@ -80,7 +80,7 @@ no_further_then a b c first second why one two =
     }
 
 -- before more
-pub no_further_more : (a b : Place) (first second : List Input) (why : SessionError) → GoesNoFurther a b first why → GoesNoFurther a b (first ++ second) why
+pub no_further_more : (a b : Place) (first second : List Input) (why : SessionError) → SaveStops a b first why → SaveStops a b (first ++ second) why
 no_further_more a b first second why stop =
     let less : all_of a + length first ≤ all_of a + length (first ++ second) = omega (arith, length-append first second) in
     record {
@@ -101,7 +101,7 @@ module _
     (a b : Place)
     (held : a.disk.honest → HoldsSince a.disk b.disk (StandsBetween (can_be_logged a.pending) (rom_at a) (stands (rom_at a) (content a.disk.sectors)) (inputs_of a.pending) (record { count = all_of a; machine = a.machine }))) where
   pub save_goes : (all : ℕ) → HasAnswered faults_after a.disk b.disk (Ok all) → all ≡ all_of a → b.acknowledged ≡ all → b.pending ≡ [] → b.machine ≡ a.machine
-      → (a.disk.honest → IsAtRest (rom_at a) b.disk all [] a.machine) → Goes a b []
+      → (a.disk.honest → IsAtRest (rom_at a) b.disk all [] a.machine) → SaveAdvances a b []
   save_goes all answered all_is saved none same rests = record {
     going = λ rom from given played.
         going_by (sym (append-nil given))
@@ -116,7 +116,7 @@ module _
 
   pub save_goes_no_further : (why : SessionError) (broken fits : Bool) (generation : ℕ) → broken ≡ false → HasAnswered {T = ℕ} faults_after a.disk b.disk (Err why) → IsSaveCause why broken fits generation
       → (why ≡ GenerationsUsedUp → b.disk.honest → generation_in b.disk.sectors ≡ 2 ^ 64 - 1) → b.acknowledged ≡ a.acknowledged → rom_at b ≡ rom_at a
-      → ((t : ℕ) (c : List (List ℕ)) → t ≤ b.disk.moment → b.disk.image c → b.disk.since t c) → GoesNoFurther a b [] why
+      → ((t : ℕ) (c : List (List ℕ)) → t ≤ b.disk.moment → b.disk.image c → b.disk.since t c) → SaveStops a b [] why
   save_goes_no_further why broken fits generation whole answered cause worn saved rom counts = record {
     stopped = λ rom from given played.
         stopped_by (sym (append-nil given))
@@ -133,11 +133,11 @@ module _ (a b : Place) (input : Input) (disk_is : b.disk ≡ a.disk) (count_is :
   later : a.acknowledged ≤ b.acknowledged
   later = omega (arith, count_is)
 
-  pub input_goes : IsOneMore a.pending b.pending input → b.machine ≡ applied input a.machine → Goes a b (input ∷ [])
+  pub input_goes : IsOneMore a.pending b.pending input → b.machine ≡ applied input a.machine → SaveAdvances a b (input ∷ [])
   input_goes one machine_is = record {
     going = λ rom from given played.
-        subst (λ (d : DiskState). Going rom a.disk d b.acknowledged b.pending b.machine from (given ++ input ∷ [])) (sym disk_is)
-        (subst (λ (n : ℕ). Going rom a.disk a.disk n b.pending b.machine from (given ++ input ∷ [])) (sym count_is)
+        subst (λ (d : DiskState). Advanced rom a.disk d b.acknowledged b.pending b.machine from (given ++ input ∷ [])) (sym disk_is)
+        (subst (λ (n : ℕ). Advanced rom a.disk a.disk n b.pending b.machine from (given ++ input ∷ [])) (sym count_is)
         (going_input rom a.disk a.acknowledged a.pending b.pending a.machine b.machine from given input played one machine_is rom_is only));
     machine_is = machine_is ∙ sym (after_one a.machine input);
     all_is = omega (arith, one.size, count_is);
@@ -146,7 +146,7 @@ module _ (a b : Place) (input : Input) (disk_is : b.disk ≡ a.disk) (count_is :
     rom = rom_is;
   }
 
-  pub input_goes_no_further : (why : SessionError) (broken : Bool) → broken ≡ false → length a.pending < 3200 → Err why ≡ input_answer broken (length a.pending) (all_of a) → GoesNoFurther a b (input ∷ []) why
+  pub input_goes_no_further : (why : SessionError) (broken : Bool) → broken ≡ false → length a.pending < 3200 → Err why ≡ input_answer broken (length a.pending) (all_of a) → SaveStops a b (input ∷ []) why
   input_goes_no_further why broken whole few answer =
       let full = input_refused why broken (length a.pending) (all_of a) whole few answer in
       record {
@@ -165,18 +165,18 @@ module _ (a b : Place) (input : Input) (disk_is : b.disk ≡ a.disk) (count_is :
 -- ---- all steps of a session
 
 module _ {D : Type 0} {disk : Disks D} {game : Ghosts (Session D disk) SessionError} (only : (d : D) (image : List (List ℕ)) → (disk.disk d).since (disk.disk d).moment image → (disk.disk d).image image)
-    (gives : (a b : Session D disk) (input : Input) → game.gives a b input → Goes (place a) (place b) (input ∷ [])) (saves : (a b : Session D disk) → game.saves a b → Goes (place a) (place b) []) where
-  pub goes_all : (a b : Session D disk) (inputs : List Input) → Advances game a b inputs → Goes (place a) (place b) inputs
+    (gives : (a b : Session D disk) (input : Input) → game.gives a b input → SaveAdvances (place a) (place b) (input ∷ [])) (saves : (a b : Session D disk) → game.saves a b → SaveAdvances (place a) (place b) []) where
+  pub goes_all : (a b : Session D disk) (inputs : List Input) → Advances game a b inputs → SaveAdvances (place a) (place b) inputs
   goes_all a b inputs (stays s) = goes_nowhere (place a) (only (device_of a))
   goes_all a c inputs (by_input {b = b} {input = input} {more = more} one rest) = goes_then (place a) (place b) (place c) (input ∷ []) more (gives a b input one.gives) (goes_all b c more rest)
   goes_all a c inputs (by_save {b = b} {more = more} one rest) = goes_then (place a) (place b) (place c) [] more (saves a b one.saves) (goes_all b c more rest)
 
-  module _ (refuses : (a b : Session D disk) (input : Input) (why : SessionError) → game.refuses a b input why → GoesNoFurther (place a) (place b) (input ∷ []) why)
-      (fails : (a b : Session D disk) (why : SessionError) → game.fails a b why → GoesNoFurther (place a) (place b) [] why) (unwritten_is : game.unwritten ≡ Output) where
-    pub no_further_at_all : (a b : Session D disk) (inputs : List Input) (why : SessionError) → Stops game a b inputs why → GoesNoFurther (place a) (place b) inputs why
+  module _ (refuses : (a b : Session D disk) (input : Input) (why : SessionError) → game.refuses a b input why → SaveStops (place a) (place b) (input ∷ []) why)
+      (fails : (a b : Session D disk) (why : SessionError) → game.fails a b why → SaveStops (place a) (place b) [] why) (unwritten_is : game.unwritten ≡ Output) where
+    pub no_further_at_all : (a b : Session D disk) (inputs : List Input) (why : SessionError) → Stops game a b inputs why → SaveStops (place a) (place b) inputs why
     no_further_at_all a b inputs why (at_input {input = input} {more = more} refused same) = no_further_more (place a) (place b) (input ∷ []) more why (refuses a b input why refused)
     no_further_at_all a b inputs why (at_save failed same) = no_further_more (place a) (place b) [] inputs why (fails a b why failed)
-    no_further_at_all a b inputs why (at_line s more) = subst (λ (w : SessionError). GoesNoFurther (place a) (place a) inputs w) (sym unwritten_is) (unwritten (place a) inputs (only (device_of a)))
+    no_further_at_all a b inputs why (at_line s more) = subst (λ (w : SessionError). SaveStops (place a) (place a) inputs w) (sym unwritten_is) (unwritten (place a) inputs (only (device_of a)))
     no_further_at_all a c inputs why (past_input {b = b} {input = input} {more = more} one rest) =
         no_further_then (place a) (place b) (place c) (input ∷ []) more why (gives a b input one.gives) (no_further_at_all b c more why rest)
     no_further_at_all a c inputs why (past_save {b = b} one rest) = no_further_then (place a) (place b) (place c) [] inputs why (saves a b one.saves) (no_further_at_all b c inputs why rest)

@@ -10,7 +10,7 @@ use Rattle.session.specs.declared.error.SessionError.{SessionError}
 use Rattle.session.specs.declared.error.SessionError.TheVariants.{Output}
 use Rattle.session.proofs.StandsLaws.{after_append, after_none, after_one}
 use Rattle.playing.specs.Report.{Line, texts, HasTold}
-use Rattle.playing.specs.Making.{count_of, Advances, Stops, Makes, StopsMaking}
+use Rattle.playing.specs.Making.{count_of, Advances, Stops, AdvancesTelling, StopsTelling}
 use Rattle.playing.specs.Making.Advances.{stays, by_input, by_save}
 use Rattle.playing.specs.Making.Stops.{at_input, at_save, at_line, past_input, past_save}
 use Rattle.playing.specs.declared.playable.Playable.{Ghosts}
@@ -74,41 +74,41 @@ module _ {G F : Type 0} (game : Ghosts G F) where
   -- ---- with a report, in other words
 
   pub makes_by : {a b : G} {x y : Option (List ℕ)} {inputs inputs' : List Input} {unsaved unsaved' : ℕ} {lines lines' : List Line} → inputs ≡ inputs' → unsaved ≡ unsaved' → lines ≡ lines'
-      → Makes game a b x y inputs unsaved lines → Makes game a b x y inputs' unsaved' lines'
+      → AdvancesTelling game a b x y inputs unsaved lines → AdvancesTelling game a b x y inputs' unsaved' lines'
   makes_by {a} {b} {x} {y} {inputs} {inputs'} {unsaved} {unsaved'} {lines} {lines'} given left text made =
-      subst (Makes game a b x y inputs' unsaved') text (subst (λ (n : ℕ). Makes game a b x y inputs' n lines) left (subst (λ (l : List Input). Makes game a b x y l unsaved lines) given made))
+      subst (AdvancesTelling game a b x y inputs' unsaved') text (subst (λ (n : ℕ). AdvancesTelling game a b x y inputs' n lines) left (subst (λ (l : List Input). AdvancesTelling game a b x y l unsaved lines) given made))
 
   pub stops_by : {a b : G} {x y : Option (List ℕ)} {has_failed : Type 0} {inputs inputs' : List Input} {lines lines' : List Line} {why : F} → inputs ≡ inputs' → lines ≡ lines'
-      → StopsMaking game a b x y has_failed inputs lines why → StopsMaking game a b x y has_failed inputs' lines' why
+      → StopsTelling game a b x y has_failed inputs lines why → StopsTelling game a b x y has_failed inputs' lines' why
   stops_by {a} {b} {x} {y} {has_failed} {inputs} {inputs'} {lines} {lines'} {why} given text stop =
-      subst (λ (l : List Line). StopsMaking game a b x y has_failed inputs' l why) text (subst (λ (l : List Input). StopsMaking game a b x y has_failed l lines why) given stop)
+      subst (λ (l : List Line). StopsTelling game a b x y has_failed inputs' l why) text (subst (λ (l : List Input). StopsTelling game a b x y has_failed l lines why) given stop)
 
   -- ---- where a game stays
 
   module _ (a : G) (x y : Option (List ℕ)) where
-    makes_here : (lines : List Line) → Appends x y (texts lines) → All (λ line. line.told ≤ game.acknowledged a) lines → Makes game a a x y [] (game.unsaved a) lines
+    makes_here : (lines : List Line) → Appends x y (texts lines) → All (λ line. line.told ≤ game.acknowledged a) lines → AdvancesTelling game a a x y [] (game.unsaved a) lines
     makes_here lines written saved = record { advances = stays a; unsaved_is = refl; answered = written; are_saved = saved }
 
     -- a line that tells no more than is saved
-    pub makes_line : (line : Line) → line.told ≤ game.acknowledged a → Appends x y line.text → Makes game a a x y [] (game.unsaved a) (line ∷ [])
+    pub makes_line : (line : Line) → line.told ≤ game.acknowledged a → Appends x y line.text → AdvancesTelling game a a x y [] (game.unsaved a) (line ∷ [])
     makes_line line saved written =
         makes_here (line ∷ []) (appends_line x y line written) (All-cons (λ line. line.told ≤ game.acknowledged a) line [] saved (All-nil (λ line. line.told ≤ game.acknowledged a)))
 
     -- one that could not be written
-    pub stops_at_line : {has_failed : Type 0} (line : Line) → game.told_as game.unwritten ≡ Output → has_failed → AppendsProperPrefix x y line.text → StopsMaking game a a x y has_failed [] (line ∷ []) game.unwritten
+    pub stops_at_line : {has_failed : Type 0} (line : Line) → game.told_as game.unwritten ≡ Output → has_failed → AppendsProperPrefix x y line.text → StopsTelling game a a x y has_failed [] (line ∷ []) game.unwritten
     stops_at_line line is fails part = record {
       stops = at_line a [];
       told = subst (λ (why : SessionError). HasTold why (game.acknowledged a) (line ∷ []) x y) (sym is) (told_part (game.acknowledged a) line [] x y part);
       output = λ is. fails;
     }
 
-  pub makes_nothing : (a : G) (x : Option (List ℕ)) → Makes game a a x x [] (game.unsaved a) []
+  pub makes_nothing : (a : G) (x : Option (List ℕ)) → AdvancesTelling game a a x x [] (game.unsaved a) []
   makes_nothing a x = makes_here a x x [] (appends_nothing x) (All-nil (λ line. line.told ≤ game.acknowledged a))
 
   -- ---- one behind the other
 
   module _ {a b c : G} {x y z : Option (List ℕ)} {first second : List Input} {these those : List Line} where
-    pub makes_then : {left unsaved : ℕ} → Makes game a b x y first left these → Makes game b c y z second unsaved those → Makes game a c x z (first ++ second) unsaved (these ++ those)
+    pub makes_then : {left unsaved : ℕ} → AdvancesTelling game a b x y first left these → AdvancesTelling game b c y z second unsaved those → AdvancesTelling game a c x z (first ++ second) unsaved (these ++ those)
     makes_then one two =
         let later = advances_later two.advances in
         record {
@@ -120,7 +120,7 @@ module _ {G F : Type 0} (game : Ghosts G F) where
               (All-weaker (λ line. line.told ≤ game.acknowledged b) (λ line. line.told ≤ game.acknowledged c) (λ line (within : line.told ≤ game.acknowledged b). omega (arith, within, later)) these one.are_saved) two.are_saved;
         }
 
-    pub stops_then : {left : ℕ} {has_failed : Type 0} {why : F} → Makes game a b x y first left these → StopsMaking game b c y z has_failed second those why → StopsMaking game a c x z has_failed (first ++ second) (these ++ those) why
+    pub stops_then : {left : ℕ} {has_failed : Type 0} {why : F} → AdvancesTelling game a b x y first left these → StopsTelling game b c y z has_failed second those why → StopsTelling game a c x z has_failed (first ++ second) (these ++ those) why
     stops_then {why = why} one two = record {
       stops = stops_behind one.advances two.stops;
       told = told_then (game.told_as why) (game.acknowledged b) (game.acknowledged c) these those x y z one.answered one.are_saved (stops_later two.stops) two.told;
@@ -128,8 +128,8 @@ module _ {G F : Type 0} (game : Ghosts G F) where
     }
 
   -- a stop before more
-  pub stops_before : {a b : G} {x y : Option (List ℕ)} {has_failed : Type 0} {first : List Input} {these : List Line} {why : F} (second : List Input) (those : List Line) → StopsMaking game a b x y has_failed first these why
-      → StopsMaking game a b x y has_failed (first ++ second) (these ++ those) why
+  pub stops_before : {a b : G} {x y : Option (List ℕ)} {has_failed : Type 0} {first : List Input} {these : List Line} {why : F} (second : List Input) (those : List Line) → StopsTelling game a b x y has_failed first these why
+      → StopsTelling game a b x y has_failed (first ++ second) (these ++ those) why
   stops_before {a} {b} {x} {y} {these = these} {why = why} second those stop = record {
     stops = stops_more second stop.stops;
     told = told_more (game.told_as why) (game.acknowledged b) these those x y stop.told;
@@ -153,10 +153,10 @@ module _ {G F T : Type 0} (game : Ghosts G F) (asked : Asked T) where
   lines_from a things = asked.lines (game.machine a) (count_of game a) (game.unsaved a) things
 
   abbrev Does : (a b : G) → (x y : Option (List ℕ)) → List T → Type 0
-  Does a b x y things = Makes game a b x y (asked.inputs things) (asked.unsaved (game.unsaved a) things) (lines_from a things)
+  Does a b x y things = AdvancesTelling game a b x y (asked.inputs things) (asked.unsaved (game.unsaved a) things) (lines_from a things)
 
-  abbrev StopsAmong : (a b : G) → (x y : Option (List ℕ)) → (has_failed : Type 0) → List T → F → Type 0
-  StopsAmong a b x y has_failed things why = StopsMaking game a b x y has_failed (asked.inputs things) (lines_from a things) why
+  abbrev StopsByDeeds : (a b : G) → (x y : Option (List ℕ)) → (has_failed : Type 0) → List T → F → Type 0
+  StopsByDeeds a b x y has_failed things why = StopsTelling game a b x y has_failed (asked.inputs things) (lines_from a things) why
 
   -- what is written for the second ones from there
   lines_then : (a b : G) (x y : Option (List ℕ)) (first second : List T) → Does a b x y first → lines_from a first ++ lines_from b second ≡ lines_from a (first ++ second)
@@ -174,10 +174,10 @@ module _ {G F T : Type 0} (game : Ghosts G F) (asked : Asked T) where
       (ap (λ (n : ℕ). asked.unsaved n second) one.unsaved_is ∙ sym (asked.unsaved_append (game.unsaved a) first second))
       (lines_then a b x y first second one) (makes_then game one two)
 
-  pub stops_among_more : (a b c : G) (x y z : Option (List ℕ)) (has_failed : Type 0) (first second : List T) (why : F) → Does a b x y first → StopsAmong b c y z has_failed second why → StopsAmong a c x z has_failed (first ++ second) why
+  pub stops_among_more : (a b c : G) (x y z : Option (List ℕ)) (has_failed : Type 0) (first second : List T) (why : F) → Does a b x y first → StopsByDeeds b c y z has_failed second why → StopsByDeeds a c x z has_failed (first ++ second) why
   stops_among_more a b c x y z has_failed first second why one two = stops_by game (sym (asked.inputs_append first second)) (lines_then a b x y first second one) (stops_then game one two)
 
-  pub stops_before_more : (a b : G) (x y : Option (List ℕ)) (has_failed : Type 0) (first second : List T) (why : F) → StopsAmong a b x y has_failed first why → StopsAmong a b x y has_failed (first ++ second) why
+  pub stops_before_more : (a b : G) (x y : Option (List ℕ)) (has_failed : Type 0) (first second : List T) (why : F) → StopsByDeeds a b x y has_failed first why → StopsByDeeds a b x y has_failed (first ++ second) why
   stops_before_more a b x y has_failed first second why stop =
       let m = game.machine a in
       stops_by game (sym (asked.inputs_append first second)) (sym (asked.lines_append m (count_of game a) (game.unsaved a) first second))

@@ -5,7 +5,7 @@ use Rattle.std.proofs.lemmas.List.{replicate-append-replicate}
 use Rattle.machine.specs.Machine.{Input}
 use Rattle.script.specs.declared.moves.Move.{Move}
 use Rattle.script.specs.declared.moves.Move.TheVariants.{Power}
-use Rattle.playing.specs.Making.{count_of, Makes, StopsMaking, GivesInputs, StopsAmongInputs, MakesMoves, StopsAmongMoves, HasRoom, FindsNoMemory}
+use Rattle.playing.specs.Making.{count_of, AdvancesTelling, StopsTelling, AdvancesByInputs, StopsByInputs, AdvancesByMoves, StopsByMoves, HasRoom, FindsNoMemory}
 use Rattle.playing.specs.Report.{unsaved_behind, lines_of_inputs, unsaved_behind_move, unsaved_behind_moves, lines_of_move, lines_of_moves}
 use Rattle.playing.specs.Inputs.{inputs_of_move, inputs_of_moves}
 use Rattle.playing.specs.declared.playable.Playable.{Ghosts}
@@ -32,13 +32,13 @@ all_frames input i n less =
     let e : i + 1 + (n - (i + 1)) ≡ n = omega arith in
     ap (λ (l : List Input). l ++ replicate (n - (i + 1)) input) (one_frame_more input i) ∙ replicate-append-replicate (i + 1) (n - (i + 1)) input ∙ ap (λ (k : ℕ). replicate k input) e
 
-module _ {G F : Type 0} (game : Ghosts G F) (a b c : G) (x y z : Option (List ℕ)) (input : Input) (i : ℕ) (so_far : GivesInputs game a b x y (replicate i input)) where
-  pub frame_given : GivesInputs game b c y z (input ∷ []) → GivesInputs game a c x z (replicate (i + 1) input)
-  frame_given one = subst (GivesInputs game a c x z) (one_frame_more input i) (does_then game inputs a b c x y z (replicate i input) (input ∷ []) so_far one)
+module _ {G F : Type 0} (game : Ghosts G F) (a b c : G) (x y z : Option (List ℕ)) (input : Input) (i : ℕ) (so_far : AdvancesByInputs game a b x y (replicate i input)) where
+  pub frame_given : AdvancesByInputs game b c y z (input ∷ []) → AdvancesByInputs game a c x z (replicate (i + 1) input)
+  frame_given one = subst (AdvancesByInputs game a c x z) (one_frame_more input i) (does_then game inputs a b c x y z (replicate i input) (input ∷ []) so_far one)
 
-  pub frame_stopped : (has_failed : Type 0) (why : F) (n : ℕ) → i < n → StopsAmongInputs game b c y z has_failed (input ∷ []) why → StopsAmongInputs game a c x z has_failed (replicate n input) why
+  pub frame_stopped : (has_failed : Type 0) (why : F) (n : ℕ) → i < n → StopsByInputs game b c y z has_failed (input ∷ []) why → StopsByInputs game a c x z has_failed (replicate n input) why
   frame_stopped has_failed why n less stop =
-      subst (λ (l : List Input). StopsAmongInputs game a c x z has_failed l why) (all_frames input i n less)
+      subst (λ (l : List Input). StopsByInputs game a c x z has_failed l why) (all_frames input i n less)
       (stops_before_more game inputs a c x z has_failed (replicate i input ++ input ∷ []) (replicate (n - (i + 1)) input) why (stops_among_more game inputs a b c x y z has_failed (replicate i input) (input ∷ []) why so_far stop))
 
 -- ---- moves
@@ -55,10 +55,10 @@ moves_asked = record {
 
 -- one move
 module _ {G F : Type 0} (game : Ghosts G F) {a b : G} {x y : Option (List ℕ)} (m : Move) where
-  pub move_made : Makes game a b x y (inputs_of_move m) (unsaved_behind_move (game.unsaved a) m) (lines_of_move (count_of game a) (game.unsaved a) m) → MakesMoves game a b x y (m ∷ [])
+  pub move_made : AdvancesTelling game a b x y (inputs_of_move m) (unsaved_behind_move (game.unsaved a) m) (lines_of_move (count_of game a) (game.unsaved a) m) → AdvancesByMoves game a b x y (m ∷ [])
   move_made made = makes_by game (sym (append-nil (inputs_of_move m))) refl (sym (append-nil (lines_of_move (count_of game a) (game.unsaved a) m))) made
 
-  pub move_stopped : {has_failed : Type 0} {why : F} → StopsMaking game a b x y has_failed (inputs_of_move m) (lines_of_move (count_of game a) (game.unsaved a) m) why → StopsAmongMoves game a b x y has_failed (m ∷ []) why
+  pub move_stopped : {has_failed : Type 0} {why : F} → StopsTelling game a b x y has_failed (inputs_of_move m) (lines_of_move (count_of game a) (game.unsaved a) m) why → StopsByMoves game a b x y has_failed (m ∷ []) why
   move_stopped stop = stops_by game (sym (append-nil (inputs_of_move m))) (sym (append-nil (lines_of_move (count_of game a) (game.unsaved a) m))) stop
 
 split : (moves : List Move) (i : ℕ) → take i moves ++ drop i moves ≡ moves
@@ -72,13 +72,13 @@ one_move_more moves i d less = let next : suc i ≡ i + 1 = omega arith in sym (
 all_moves : (moves : List Move) (i : ℕ) (d : Move) → i < length moves → (take i moves ++ get_or moves i d ∷ []) ++ drop (i + 1) moves ≡ moves
 all_moves moves i d less = ap (λ (l : List Move). l ++ drop (i + 1) moves) (one_move_more moves i d less) ∙ split moves (i + 1)
 
-module _ {G F : Type 0} (game : Ghosts G F) (a b c : G) (x y z : Option (List ℕ)) (moves : List Move) (i : ℕ) (d : Move) (less : i < length moves) (so_far : MakesMoves game a b x y (take i moves)) where
-  pub next_made : MakesMoves game b c y z (get_or moves i d ∷ []) → MakesMoves game a c x z (take (i + 1) moves)
-  next_made one = subst (MakesMoves game a c x z) (one_move_more moves i d less) (does_then game moves_asked a b c x y z (take i moves) (get_or moves i d ∷ []) so_far one)
+module _ {G F : Type 0} (game : Ghosts G F) (a b c : G) (x y z : Option (List ℕ)) (moves : List Move) (i : ℕ) (d : Move) (less : i < length moves) (so_far : AdvancesByMoves game a b x y (take i moves)) where
+  pub next_made : AdvancesByMoves game b c y z (get_or moves i d ∷ []) → AdvancesByMoves game a c x z (take (i + 1) moves)
+  next_made one = subst (AdvancesByMoves game a c x z) (one_move_more moves i d less) (does_then game moves_asked a b c x y z (take i moves) (get_or moves i d ∷ []) so_far one)
 
-  pub next_stopped : (has_failed : Type 0) (why : F) → StopsAmongMoves game b c y z has_failed (get_or moves i d ∷ []) why → StopsAmongMoves game a c x z has_failed moves why
+  pub next_stopped : (has_failed : Type 0) (why : F) → StopsByMoves game b c y z has_failed (get_or moves i d ∷ []) why → StopsByMoves game a c x z has_failed moves why
   next_stopped has_failed why stop =
-      subst (λ (l : List Move). StopsAmongMoves game a c x z has_failed l why) (all_moves moves i d less)
+      subst (λ (l : List Move). StopsByMoves game a c x z has_failed l why) (all_moves moves i d less)
       (stops_before_more game moves_asked a c x z has_failed (take i moves ++ get_or moves i d ∷ []) (drop (i + 1) moves) why (stops_among_more game moves_asked a b c x y z has_failed (take i moves) (get_or moves i d ∷ []) why so_far stop))
 
   -- there was no memory for it
@@ -89,6 +89,6 @@ module _ {G F : Type 0} (game : Ghosts G F) (a b c : G) (x y z : Option (List �
     moves_are =
         sym (all_moves moves i d less) ∙ append_assoc (take i moves) (get_or moves i d ∷ []) (drop (i + 1) moves)
         ∙ ap (λ (m : Move). take i moves ++ m ∷ drop (i + 1) moves) is;
-    made = subst (λ (there : G). MakesMoves game a there x z (take i moves)) (sym same) (subst (λ (o : Option (List ℕ)). MakesMoves game a b x o (take i moves)) (sym quiet) so_far);
+    made = subst (λ (there : G). AdvancesByMoves game a there x z (take i moves)) (sym same) (subst (λ (o : Option (List ℕ)). AdvancesByMoves game a b x o (take i moves)) (sym quiet) so_far);
     room = subst (λ (there : G). HasRoom game there) (sym same) room;
   }

@@ -16,7 +16,7 @@ use Rattle.input_entries.specs.Inputs.{is_input}
 use Rattle.session.proofs.Saving.{leading, not_logged}
 use Rattle.session.proofs.Writes.{since_weaker}
 use Rattle.session.proofs.Beginnings.{since_then}
-use Rattle.playing.specs.Played.{Reaches, IsPlayed, Going, Stopped}
+use Rattle.playing.specs.Played.{Reaches, IsPlayed, Advanced, Stopped}
 
 -- ---- one more input
 
@@ -148,7 +148,7 @@ module _ (rom : List ℕ) (now : DiskState) (acknowledged : ℕ) (pending : List
         }
 
     pub going_saved : (new : DiskState) (all then : ℕ) (cleared : List Entry) (after_it : MachineState) → new.honest → all ≡ acknowledged + length pending → then ≡ all → cleared ≡ [] → after_it ≡ machine
-        → IsAtRest own new all [] machine → Saves own new → Going rom now new then cleared after_it from given
+        → IsAtRest own new all [] machine → Saves own new → Advanced rom now new then cleared after_it from given
     going_saved new all then cleared after_it honest all_is then_is empty same rests held = record {
       moments = since_weaker (since_save new held) (λ image w. reaches_none rom from played.saved given image (reaches image w));
       played = played_saved new all then cleared after_it honest all_is then_is empty same rests;
@@ -187,16 +187,16 @@ module _ (rom : List ℕ) (now : DiskState) (acknowledged : ℕ) (pending : List
 -- one more input makes no device call
 pub going_input : (rom : List ℕ) (now : DiskState) (acknowledged : ℕ) (pending more : List Entry) (machine after_it : MachineState) (from : Position) (given : List Input) (input : Input) → IsPlayed rom now acknowledged pending machine from given
     → IsOneMore pending more input → after_it ≡ applied input machine → after_it.processor.memory.banks.rom ≡ machine.processor.memory.banks.rom
-    → ((image : List (List ℕ)) → now.since now.moment image → now.image image) → Going rom now now acknowledged more after_it from (given ++ input ∷ [])
+    → ((image : List (List ℕ)) → now.since now.moment image → now.image image) → Advanced rom now now acknowledged more after_it from (given ++ input ∷ [])
 going_input rom now acknowledged pending more machine after_it from given input played one is same only =
     let next = played_more rom now acknowledged pending machine from given played more after_it input one is same in
     record { moments = since_here rom now acknowledged more after_it from (given ++ input ∷ []) next only; played = next }
 
 -- nothing was given yet
 pub going_nowhere : (rom : List ℕ) (now : DiskState) (acknowledged : ℕ) (pending : List Entry) (machine : MachineState) (from : Position) (given : List Input) → IsPlayed rom now acknowledged pending machine from given
-    → ((image : List (List ℕ)) → now.since now.moment image → now.image image) → Going rom now now acknowledged pending machine from (given ++ [])
+    → ((image : List (List ℕ)) → now.since now.moment image → now.image image) → Advanced rom now now acknowledged pending machine from (given ++ [])
 going_nowhere rom now acknowledged pending machine from given played only =
-    subst (Going rom now now acknowledged pending machine from) (sym (append-nil given)) (record { moments = since_here rom now acknowledged pending machine from given played only; played = played })
+    subst (Advanced rom now now acknowledged pending machine from) (sym (append-nil given)) (record { moments = since_here rom now acknowledged pending machine from given played only; played = played })
 
 -- ---- answers
 
@@ -218,7 +218,7 @@ stopped_more rom old new acknowledged from given more stopped = record {
 
 -- a run, and one after it
 pub going_then : (rom : List ℕ) (old mid new : DiskState) (acknowledged : ℕ) (pending : List Entry) (machine : MachineState) (from : Position) (given more : List Input)
-    → HoldsSince old mid (Reaches rom from 0 given) → Going rom mid new acknowledged pending machine from (given ++ more) → Going rom old new acknowledged pending machine from (given ++ more)
+    → HoldsSince old mid (Reaches rom from 0 given) → Advanced rom mid new acknowledged pending machine from (given ++ more) → Advanced rom old new acknowledged pending machine from (given ++ more)
 going_then rom old mid new acknowledged pending machine from given more first second =
     record { moments = since_then (since_weaker first (reaches_more rom from 0 given more)) second.moments; played = second.played }
 
@@ -233,8 +233,8 @@ stopped_then rom old mid new acknowledged from given more first second = record 
 }
 
 pub going_by : {rom : List ℕ} {old new : DiskState} {acknowledged : ℕ} {pending : List Entry} {machine : MachineState} {from : Position} {given given' : List Input}
-    → given ≡ given' → Going rom old new acknowledged pending machine from given → Going rom old new acknowledged pending machine from given'
-going_by {rom} {old} {new} {acknowledged} {pending} {machine} {from} {given} {given'} same going = subst (Going rom old new acknowledged pending machine from) same going
+    → given ≡ given' → Advanced rom old new acknowledged pending machine from given → Advanced rom old new acknowledged pending machine from given'
+going_by {rom} {old} {new} {acknowledged} {pending} {machine} {from} {given} {given'} same going = subst (Advanced rom old new acknowledged pending machine from) same going
 
 pub stopped_by : {rom : List ℕ} {old new : DiskState} {acknowledged : ℕ} {from : Position} {given given' : List Input} → given ≡ given' → Stopped rom old new acknowledged from given → Stopped rom old new acknowledged from given'
 stopped_by {rom} {old} {new} {acknowledged} {from} {given} {given'} same stopped = subst (Stopped rom old new acknowledged from) same stopped

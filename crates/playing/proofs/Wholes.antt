@@ -5,7 +5,7 @@ use Rattle.exact_text.specs.Written.{AppendsProperPrefix}
 use Rattle.machine.specs.Machine.{Input}
 use Rattle.script.specs.declared.moves.Move.{Move}
 use Rattle.session.specs.declared.error.SessionError.TheVariants.{Output}
-use Rattle.playing.specs.Making.{count_of, Makes, StopsMaking, MakesMoves, StopsAmongMoves, FindsNoMemory, PlaysToMemory}
+use Rattle.playing.specs.Making.{count_of, AdvancesTelling, StopsTelling, AdvancesByMoves, StopsByMoves, FindsNoMemory, PlaysToMemory}
 use Rattle.playing.specs.Report.{Line, resumed_line, unsaved_behind_moves, lines_of_moves, last_line, report_lines}
 use Rattle.playing.specs.Inputs.{inputs_of_moves}
 use Rattle.playing.specs.declared.playable.Playable.{Ghosts}
@@ -15,15 +15,15 @@ module _ {G F : Type 0} (game : Ghosts G F) (a : G) (x y : Option (List ℕ)) (a
   count_is : all ≡ game.acknowledged a
   count_is = omega (arith, all_is, none)
 
-  pub resumed_made : Appends x y (resumed_line all).text → Makes game a a x y [] (game.unsaved a) (resumed_line (game.acknowledged a) ∷ [])
+  pub resumed_made : Appends x y (resumed_line all).text → AdvancesTelling game a a x y [] (game.unsaved a) (resumed_line (game.acknowledged a) ∷ [])
   resumed_made written = makes_line game a x y (resumed_line (game.acknowledged a)) (omega arith) (subst (λ (n : ℕ). Appends x y (resumed_line n).text) count_is written)
 
   pub resumed_failed : {has_failed : Type 0} (inputs : List Input) (lines : List Line) → game.told_as game.unwritten ≡ Output → has_failed → AppendsProperPrefix x y (resumed_line all).text
-      → StopsMaking game a a x y has_failed inputs (resumed_line (game.acknowledged a) ∷ lines) game.unwritten
+      → StopsTelling game a a x y has_failed inputs (resumed_line (game.acknowledged a) ∷ lines) game.unwritten
   resumed_failed inputs lines is fails part =
       stops_before game inputs lines (stops_at_line game a x y (resumed_line (game.acknowledged a)) is fails (subst (λ (n : ℕ). AppendsProperPrefix x y (resumed_line n).text) count_is part))
 
-module _ {G F : Type 0} (game : Ghosts G F) (a b : G) (x y z : Option (List ℕ)) (moves : List Move) (none : game.unsaved a ≡ 0) (resumed : Makes game a a x y [] (game.unsaved a) (resumed_line (game.acknowledged a) ∷ [])) where
+module _ {G F : Type 0} (game : Ghosts G F) (a b : G) (x y z : Option (List ℕ)) (moves : List Move) (none : game.unsaved a ≡ 0) (resumed : AdvancesTelling game a a x y [] (game.unsaved a) (resumed_line (game.acknowledged a) ∷ [])) where
   abbrev first : ℕ
   first = game.acknowledged a
 
@@ -34,13 +34,13 @@ module _ {G F : Type 0} (game : Ghosts G F) (a b : G) (x y z : Option (List ℕ)
       ap (λ (n : ℕ). lines_of_moves n (game.unsaved a) moves) all ∙ ap (λ (n : ℕ). lines_of_moves first n moves) none
 
   -- they were refused
-  pub play_stopped : (has_failed : Type 0) (why : F) → StopsAmongMoves game a b y z has_failed moves why → StopsMaking game a b x z has_failed (inputs_of_moves moves) (report_lines first moves) why
+  pub play_stopped : (has_failed : Type 0) (why : F) → StopsByMoves game a b y z has_failed moves why → StopsTelling game a b x z has_failed (inputs_of_moves moves) (report_lines first moves) why
   play_stopped has_failed why stop =
       let last = last_line (first + length (inputs_of_moves moves)) (unsaved_behind_moves 0 moves) in
       stops_by game (append-nil (inputs_of_moves moves)) refl (stops_before game [] last (stops_by game refl (ap (λ (l : List Line). resumed_line first ∷ l) moves_lines) (stops_then game resumed stop)))
 
   -- they were made
-  module _ (made : MakesMoves game a b y z moves) where
+  module _ (made : AdvancesByMoves game a b y z moves) where
     abbrev pub last_there : List Line
     last_there = last_line (count_of game b) (game.unsaved b)
 
@@ -52,11 +52,11 @@ module _ {G F : Type 0} (game : Ghosts G F) (a b : G) (x y z : Option (List ℕ)
         ∙ ap (λ (n : ℕ). resumed_line first ∷ (lines_of_moves first 0 moves ++ last_line n (game.unsaved b))) all
         ∙ ap (λ (n : ℕ). resumed_line first ∷ (lines_of_moves first 0 moves ++ last_line (first + length (inputs_of_moves moves)) n)) left
 
-    pub play_made : (c : G) (w : Option (List ℕ)) → Makes game b c z w [] 0 last_there → Makes game a c x w (inputs_of_moves moves) 0 (report_lines first moves)
+    pub play_made : (c : G) (w : Option (List ℕ)) → AdvancesTelling game b c z w [] 0 last_there → AdvancesTelling game a c x w (inputs_of_moves moves) 0 (report_lines first moves)
     play_made c w last = makes_by game (append-nil (inputs_of_moves moves)) refl report_is (makes_then game resumed (makes_then game made last))
 
     -- and the save behind them was refused
-    pub play_not_saved : (c : G) (w : Option (List ℕ)) (has_failed : Type 0) (why : F) → StopsMaking game b c z w has_failed [] last_there why → StopsMaking game a c x w has_failed (inputs_of_moves moves) (report_lines first moves) why
+    pub play_not_saved : (c : G) (w : Option (List ℕ)) (has_failed : Type 0) (why : F) → StopsTelling game b c z w has_failed [] last_there why → StopsTelling game a c x w has_failed (inputs_of_moves moves) (report_lines first moves) why
     play_not_saved c w has_failed why stop = stops_by game (append-nil (inputs_of_moves moves)) report_is (stops_then game resumed (stops_then game made stop))
 
   -- they were made up to a power switch for which there was no memory

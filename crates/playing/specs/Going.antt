@@ -9,7 +9,7 @@ use Rattle.session.specs.Stands.{Position}
 use Rattle.session.specs.Accessors.{device_of, machine_of, pending_of, acknowledged_of}
 use Rattle.session.specs.declared.error.SessionError.{SessionError}
 use Rattle.session.specs.declared.session.Session.{Session}
-use Rattle.playing.specs.Played.{IsPlayed, IsStop, Going, Stopped}
+use Rattle.playing.specs.Played.{IsPlayed, IsStop, Advanced, Stopped}
 
 -- where a session is
 pub record Place : Type 1 where
@@ -30,10 +30,10 @@ abbrev pub IsPlayedAt : (rom : List ℕ) → Place → Position → List Input �
 IsPlayedAt rom p from given = IsPlayed rom p.disk p.acknowledged p.pending p.machine from given
 
 -- these inputs were given
-pub record Goes (old new : Place) (inputs : List Input) : Type 0 where
+pub record SaveAdvances (old new : Place) (inputs : List Input) : Type 0 where
   -- a play goes on: each image at each moment stands for some of its inputs, with these after them
   pub going : (rom : List ℕ) (from : Position) (given : List Input) → IsPlayedAt rom old from given
-      → Going rom old.disk new.disk new.acknowledged new.pending new.machine from (given ++ inputs)
+      → Advanced rom old.disk new.disk new.acknowledged new.pending new.machine from (given ++ inputs)
   -- the machine is the one after these inputs
   pub machine_is : new.machine ≡ after old.machine inputs
   -- each of them is counted
@@ -46,7 +46,7 @@ pub record Goes (old new : Place) (inputs : List Input) : Type 0 where
   pub rom : new.machine.processor.memory.banks.rom ≡ old.machine.processor.memory.banks.rom
 
 -- one of these inputs, or a save or a line among them, was refused
-pub record GoesNoFurther (old new : Place) (inputs : List Input) (why : SessionError) : Type 0 where
+pub record SaveStops (old new : Place) (inputs : List Input) (why : SessionError) : Type 0 where
   -- a play stops: each image at each moment stands for some of its inputs and of these, and each that is left at least for what is saved
   pub stopped : (rom : List ℕ) (from : Position) (given : List Input) → IsPlayedAt rom old from given
       → Stopped rom old.disk new.disk new.acknowledged from (given ++ inputs)

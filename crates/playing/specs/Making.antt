@@ -48,7 +48,7 @@ module _ {G F : Type 0} (game : Ghosts G F) where
   -- ---- with a report
 
   -- These inputs were given, so many are unsaved after them, and these lines were written: what was known of a report before them, and since.
-  pub record Makes (old new : G) (before since : Option (List ℕ)) (inputs : List Input) (unsaved : ℕ) (lines : List Line) : Type 0 where
+  pub record AdvancesTelling (old new : G) (before since : Option (List ℕ)) (inputs : List Input) (unsaved : ℕ) (lines : List Line) : Type 0 where
     pub advances : Advances old new inputs
     pub unsaved_is : game.unsaved new ≡ unsaved
     -- the lines were written whole, and nothing else
@@ -57,7 +57,7 @@ module _ {G F : Type 0} (game : Ghosts G F) where
     pub are_saved : All (λ line. line.told ≤ game.acknowledged new) lines
 
   -- One of these inputs, a save among them or a line was refused, after those before it.
-  pub record StopsMaking (old new : G) (before since : Option (List ℕ)) (has_failed : Type 0) (inputs : List Input) (lines : List Line) (why : F) : Type 0 where
+  pub record StopsTelling (old new : G) (before since : Option (List ℕ)) (has_failed : Type 0) (inputs : List Input) (lines : List Line) (why : F) : Type 0 where
     pub stops : Stops old new inputs why
     -- the first of the lines were written, each telling a count that is saved
     pub told : HasTold (game.told_as why) (game.acknowledged new) lines before since
@@ -67,19 +67,19 @@ module _ {G F : Type 0} (game : Ghosts G F) where
   -- ---- by what was asked for
 
   -- these inputs were given, and each save was made and told that was due among them
-  abbrev pub GivesInputs : (old new : G) → (before since : Option (List ℕ)) → List Input → Type 0
-  GivesInputs old new before since inputs = Makes old new before since inputs (unsaved_behind (game.unsaved old) inputs) (lines_of_inputs (count_of old) (game.unsaved old) inputs)
+  abbrev pub AdvancesByInputs : (old new : G) → (before since : Option (List ℕ)) → List Input → Type 0
+  AdvancesByInputs old new before since inputs = AdvancesTelling old new before since inputs (unsaved_behind (game.unsaved old) inputs) (lines_of_inputs (count_of old) (game.unsaved old) inputs)
 
-  abbrev pub StopsAmongInputs : (old new : G) → (before since : Option (List ℕ)) → (has_failed : Type 0) → List Input → F → Type 0
-  StopsAmongInputs old new before since has_failed inputs why = StopsMaking old new before since has_failed inputs (lines_of_inputs (count_of old) (game.unsaved old) inputs) why
+  abbrev pub StopsByInputs : (old new : G) → (before since : Option (List ℕ)) → (has_failed : Type 0) → List Input → F → Type 0
+  StopsByInputs old new before since has_failed inputs why = StopsTelling old new before since has_failed inputs (lines_of_inputs (count_of old) (game.unsaved old) inputs) why
 
   -- these moves were made
-  abbrev pub MakesMoves : (old new : G) → (before since : Option (List ℕ)) → List Move → Type 0
-  MakesMoves old new before since moves =
-      Makes old new before since (inputs_of_moves moves) (unsaved_behind_moves (game.unsaved old) moves) (lines_of_moves (count_of old) (game.unsaved old) moves)
+  abbrev pub AdvancesByMoves : (old new : G) → (before since : Option (List ℕ)) → List Move → Type 0
+  AdvancesByMoves old new before since moves =
+      AdvancesTelling old new before since (inputs_of_moves moves) (unsaved_behind_moves (game.unsaved old) moves) (lines_of_moves (count_of old) (game.unsaved old) moves)
 
-  abbrev pub StopsAmongMoves : (old new : G) → (before since : Option (List ℕ)) → (has_failed : Type 0) → List Move → F → Type 0
-  StopsAmongMoves old new before since has_failed moves why = StopsMaking old new before since has_failed (inputs_of_moves moves) (lines_of_moves (count_of old) (game.unsaved old) moves) why
+  abbrev pub StopsByMoves : (old new : G) → (before since : Option (List ℕ)) → (has_failed : Type 0) → List Move → F → Type 0
+  StopsByMoves old new before since has_failed moves why = StopsTelling old new before since has_failed (inputs_of_moves moves) (lines_of_moves (count_of old) (game.unsaved old) moves) why
 
   -- the count of all inputs is not the greatest: one more can be counted
   abbrev pub HasRoom : G → Type 0
@@ -90,7 +90,7 @@ module _ {G F : Type 0} (game : Ghosts G F) where
     pub done : List Move
     pub left : List Move
     pub moves_are : moves ≡ done ++ Power ∷ left
-    pub made : MakesMoves old new before since done
+    pub made : AdvancesByMoves old new before since done
     pub room : HasRoom new
 
   -- of a play that was taken up, those before a power switch were made and told, and for it there was no memory
@@ -98,5 +98,5 @@ module _ {G F : Type 0} (game : Ghosts G F) where
     pub done : List Move
     pub left : List Move
     pub moves_are : moves ≡ done ++ Power ∷ left
-    pub made : Makes old new before since (inputs_of_moves done) (unsaved_behind_moves 0 done) (resumed_line (game.acknowledged old) ∷ lines_of_moves (game.acknowledged old) 0 done)
+    pub made : AdvancesTelling old new before since (inputs_of_moves done) (unsaved_behind_moves 0 done) (resumed_line (game.acknowledged old) ∷ lines_of_moves (game.acknowledged old) 0 done)
     pub room : HasRoom new

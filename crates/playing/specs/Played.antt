@@ -40,7 +40,7 @@ pub record IsPlayed (rom : List ℕ) (now : DiskState) (acknowledged : ℕ) (pen
   pub stands_is : stands rom (content now.sectors) ≡ Some (record { count = acknowledged; machine = after from.machine (take saved given) })
 
 -- from `old` on each image stood for some of these inputs, and they were given
-pub record Going (rom : List ℕ) (old now : DiskState) (acknowledged : ℕ) (pending : List Entry) (machine : MachineState) (from : Position) (given : List Input) : Type 0 where
+pub record Advanced (rom : List ℕ) (old now : DiskState) (acknowledged : ℕ) (pending : List Entry) (machine : MachineState) (from : Position) (given : List Input) : Type 0 where
   pub moments : HoldsSince old now (Reaches rom from 0 given)
   pub played : IsPlayed rom now acknowledged pending machine from given
 

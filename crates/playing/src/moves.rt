@@ -5,7 +5,7 @@ ghost use Rattle.snapshot.specs.Legal.{IsLegalSnapshot};
 ghost use Rattle.snapshot.specs.Reading.{machine_in};
 ghost use Rattle.session.specs.Calls.{most_unsaved};
 ghost use Rattle.script.specs.declared.moves.Move.TheVariants.{Power as SwitchMove};
-ghost use Rattle.playing.specs.Making.{count_of, IsGiven, Makes, StopsMaking, GivesInputs, StopsAmongInputs, MakesMoves, StopsAmongMoves, HasRoom, FindsNoMemory, PlaysToMemory};
+ghost use Rattle.playing.specs.Making.{count_of, IsGiven, AdvancesTelling, StopsTelling, AdvancesByInputs, StopsByInputs, AdvancesByMoves, StopsByMoves, HasRoom, FindsNoMemory, PlaysToMemory};
 ghost use Rattle.playing.specs.Report.{saved_line, report_lines};
 ghost use Rattle.playing.specs.Inputs.{inputs_of_moves};
 
@@ -22,10 +22,10 @@ use std::alloc::Global;
 pub fn save_line<G: Playable, R: Report>(game: &mut G, report: &mut R) -> Result<(), G::Fault>
     requires { G.whole game.old }
     ensures made { OnOk result
-        (Makes ⟦<G as Playable>⟧ game.old game.new (R.contents report.old) (R.contents report.new) [] 0
+        (AdvancesTelling ⟦<G as Playable>⟧ game.old game.new (R.contents report.old) (R.contents report.new) [] 0
         (saved_line (count_of ⟦<G as Playable>⟧ game.old) ∷ [])) }
     ensures stopped { IfErr result (λ why.
-        StopsMaking ⟦<G as Playable>⟧ game.old game.new (R.contents report.old) (R.contents report.new)
+        StopsTelling ⟦<G as Playable>⟧ game.old game.new (R.contents report.old) (R.contents report.new)
         (R.has_failed report.new) [] (saved_line (count_of ⟦<G as Playable>⟧ game.old) ∷ []) why) }
     ensures whole { OnOk result (G.whole game.new) }
 {
@@ -43,10 +43,10 @@ fn save_due<G: Playable, R: Report>(game: &mut G, report: &mut R) -> Result<(), 
     requires whole { G.whole game.old }
     requires few { G.unsaved game.old ≤ most_unsaved }
     ensures made { (before : G) (input : GivenInput) → IsGiven ⟦<G as Playable>⟧ before game.old input → OnOk result
-        (GivesInputs ⟦<G as Playable>⟧ before game.new (R.contents report.old) (R.contents report.new) (input ∷ [])) }
+        (AdvancesByInputs ⟦<G as Playable>⟧ before game.new (R.contents report.old) (R.contents report.new) (input ∷ [])) }
     ensures stopped { (before : G) (input : GivenInput) → IsGiven ⟦<G as Playable>⟧ before game.old input →
         IfErr result (λ why.
-        StopsAmongInputs ⟦<G as Playable>⟧ before game.new (R.contents report.old) (R.contents report.new)
+        StopsByInputs ⟦<G as Playable>⟧ before game.new (R.contents report.old) (R.contents report.new)
         (R.has_failed report.new) (input ∷ []) why) }
     ensures whole { OnOk result (G.whole game.new × (G.unsaved game.new < most_unsaved)) }
 {
@@ -65,10 +65,10 @@ pub fn give<G: Playable, R: Report>(
     requires whole { G.whole game.old }
     requires few { G.unsaved game.old < most_unsaved }
     ensures made { OnOk result
-        (GivesInputs ⟦<G as Playable>⟧ game.old game.new (R.contents report.old) (R.contents report.new)
+        (AdvancesByInputs ⟦<G as Playable>⟧ game.old game.new (R.contents report.old) (R.contents report.new)
         (as_input input ∷ [])) }
     ensures stopped { IfErr result (λ why.
-        StopsAmongInputs ⟦<G as Playable>⟧ game.old game.new (R.contents report.old) (R.contents report.new)
+        StopsByInputs ⟦<G as Playable>⟧ game.old game.new (R.contents report.old) (R.contents report.new)
         (R.has_failed report.new) (as_input input ∷ []) why) }
     ensures whole { OnOk result (G.whole game.new × (G.unsaved game.new < most_unsaved)) }
 {
@@ -91,11 +91,11 @@ pub fn give_power<G: Playable, R: Report>(
     requires whole { G.whole game.old }
     requires few { G.unsaved game.old < most_unsaved }
     ensures made { IfOk result (λ done. done ≡ true →
-        GivesInputs ⟦<G as Playable>⟧ game.old game.new (R.contents report.old) (R.contents report.new) (Power ∷ [])) }
+        AdvancesByInputs ⟦<G as Playable>⟧ game.old game.new (R.contents report.old) (R.contents report.new) (Power ∷ [])) }
     ensures nothing { IfOk result (λ done. done ≡ false → (game.new ≡ game.old) × (report.new ≡ report.old) ×
         HasRoom ⟦<G as Playable>⟧ game.old) }
     ensures stopped { IfErr result (λ why.
-        StopsAmongInputs ⟦<G as Playable>⟧ game.old game.new (R.contents report.old) (R.contents report.new)
+        StopsByInputs ⟦<G as Playable>⟧ game.old game.new (R.contents report.old) (R.contents report.new)
         (R.has_failed report.new) (Power ∷ []) why) }
     ensures whole { OnOk result (G.whole game.new × (G.unsaved game.new < most_unsaved)) }
 {
@@ -122,14 +122,14 @@ pub fn give_state<G: Playable, R: Report>(
     requires whole { G.whole game.old }
     requires few { G.unsaved game.old < most_unsaved }
     ensures made { IfOk result (λ done.
-        done ≡ true → GivesInputs ⟦<G as Playable>⟧ game.old game.new (R.contents report.old) (R.contents report.new)
+        done ≡ true → AdvancesByInputs ⟦<G as Playable>⟧ game.old game.new (R.contents report.old) (R.contents report.new)
         (State (machine_in cartridge.now bytes.now) ∷ [])) }
     ensures legal { IfOk result (λ done. done ≡ true → IsLegalSnapshot cartridge.now bytes.now) }
     ensures nothing { IfOk result (λ done.
         done ≡ false →
         (game.new ≡ game.old) × (report.new ≡ report.old) × (¬ IsLegalSnapshot cartridge.now bytes.now)) }
     ensures stopped { IfErr result (λ why.
-        StopsAmongInputs ⟦<G as Playable>⟧ game.old game.new (R.contents report.old) (R.contents report.new)
+        StopsByInputs ⟦<G as Playable>⟧ game.old game.new (R.contents report.old) (R.contents report.new)
         (R.has_failed report.new) (State (machine_in cartridge.now bytes.now) ∷ []) why) }
     ensures whole { OnOk result (G.whole game.new × (G.unsaved game.new < most_unsaved)) }
 {
@@ -153,10 +153,10 @@ fn give_frames<G: Playable, R: Report>(
     requires whole { G.whole game.old }
     requires few { G.unsaved game.old < most_unsaved }
     ensures made { OnOk result
-        (GivesInputs ⟦<G as Playable>⟧ game.old game.new (R.contents report.old) (R.contents report.new)
+        (AdvancesByInputs ⟦<G as Playable>⟧ game.old game.new (R.contents report.old) (R.contents report.new)
         (replicate times (Frame buttons))) }
     ensures stopped { IfErr result (λ why.
-        StopsAmongInputs ⟦<G as Playable>⟧ game.old game.new (R.contents report.old) (R.contents report.new)
+        StopsByInputs ⟦<G as Playable>⟧ game.old game.new (R.contents report.old) (R.contents report.new)
         (R.has_failed report.new) (replicate times (Frame buttons)) why) }
     ensures whole { OnOk result (G.whole game.new × (G.unsaved game.new < most_unsaved)) }
 {
@@ -186,12 +186,12 @@ pub fn make_move<G: Playable, R: Report>(
     requires whole { G.whole game.old }
     requires few { G.unsaved game.old < most_unsaved }
     ensures made { IfOk result (λ done. done ≡ true →
-        MakesMoves ⟦<G as Playable>⟧ game.old game.new (R.contents report.old) (R.contents report.new) (a_move ∷ [])) }
+        AdvancesByMoves ⟦<G as Playable>⟧ game.old game.new (R.contents report.old) (R.contents report.new) (a_move ∷ [])) }
     ensures nothing { IfOk result (λ done.
         done ≡ false → (a_move ≡ SwitchMove) × (game.new ≡ game.old) × (report.new ≡ report.old) ×
         HasRoom ⟦<G as Playable>⟧ game.old) }
     ensures stopped { IfErr result (λ why.
-        StopsAmongMoves ⟦<G as Playable>⟧ game.old game.new (R.contents report.old) (R.contents report.new)
+        StopsByMoves ⟦<G as Playable>⟧ game.old game.new (R.contents report.old) (R.contents report.new)
         (R.has_failed report.new) (a_move ∷ []) why) }
     ensures whole { OnOk result (G.whole game.new × (G.unsaved game.new < most_unsaved)) }
 {
@@ -229,11 +229,11 @@ pub fn make_moves<G: Playable, R: Report>(
     requires whole { G.whole game.old }
     requires few { G.unsaved game.old < most_unsaved }
     ensures made { IfOk result (λ done. done ≡ true →
-        MakesMoves ⟦<G as Playable>⟧ game.old game.new (R.contents report.old) (R.contents report.new) moves.now) }
+        AdvancesByMoves ⟦<G as Playable>⟧ game.old game.new (R.contents report.old) (R.contents report.new) moves.now) }
     ensures memory { IfOk result (λ done. done ≡ false →
         FindsNoMemory ⟦<G as Playable>⟧ game.old game.new (R.contents report.old) (R.contents report.new) moves.now) }
     ensures stopped { IfErr result (λ why.
-        StopsAmongMoves ⟦<G as Playable>⟧ game.old game.new (R.contents report.old) (R.contents report.new)
+        StopsByMoves ⟦<G as Playable>⟧ game.old game.new (R.contents report.old) (R.contents report.new)
         (R.has_failed report.new) moves.now why) }
     ensures whole { OnOk result (G.whole game.new × (G.unsaved game.new < most_unsaved)) }
 {
@@ -260,12 +260,12 @@ pub(crate) fn play_on<G: Playable, W: Output>(
     requires whole { G.whole game.old }
     requires none { G.unsaved game.old ≡ 0 }
     ensures made { IfOk result (λ done.
-        done ≡ true → Makes ⟦<G as Playable>⟧ game.old game.new (W.contents report.old) (W.contents report.new)
+        done ≡ true → AdvancesTelling ⟦<G as Playable>⟧ game.old game.new (W.contents report.old) (W.contents report.new)
         (inputs_of_moves moves.now) 0 (report_lines (G.acknowledged game.old) moves.now)) }
     ensures memory { IfOk result (λ done. done ≡ false →
         PlaysToMemory ⟦<G as Playable>⟧ game.old game.new (W.contents report.old) (W.contents report.new) moves.now) }
     ensures stopped { IfErr result (λ why.
-        StopsMaking ⟦<G as Playable>⟧ game.old game.new (W.contents report.old) (W.contents report.new)
+        StopsTelling ⟦<G as Playable>⟧ game.old game.new (W.contents report.old) (W.contents report.new)
         (W.has_failed report.new ≡ true) (inputs_of_moves moves.now) (report_lines (G.acknowledged game.old) moves.now)
         why) }
     ensures whole { OnOk result (G.whole game.new) }

@@ -7,7 +7,7 @@ ghost use Rattle.session.specs.Calls.{most_unsaved};
 ghost use Rattle.session.specs.Accessors.{machine_of, rom_of, pending_of, acknowledged_of, is_broken};
 ghost use Rattle.session.specs.declared.error.SessionError.{SessionError as WhyOfSession};
 ghost use Rattle.session.specs.declared.error.SessionError.TheVariants.{Output};
-ghost use Rattle.playing.specs.Going.{place, Goes, GoesNoFurther};
+ghost use Rattle.playing.specs.Going.{place, SaveAdvances, SaveStops};
 
 use cartridge::Cartridge;
 use machine::{Input, Machine};
@@ -159,13 +159,13 @@ impl<D: SectorDevice> Playable for Session<D> {
 
     ghost whole = { λ s. is_broken s ≡ false };
 
-    ghost gives = { λ a b input. Goes (place a) (place b) (input ∷ []) };
+    ghost gives = { λ a b input. SaveAdvances (place a) (place b) (input ∷ []) };
 
-    ghost saves = { λ a b. Goes (place a) (place b) [] };
+    ghost saves = { λ a b. SaveAdvances (place a) (place b) [] };
 
-    ghost refuses = { λ a b input why. GoesNoFurther (place a) (place b) (input ∷ []) why };
+    ghost refuses = { λ a b input why. SaveStops (place a) (place b) (input ∷ []) why };
 
-    ghost fails = { λ a b why. GoesNoFurther (place a) (place b) [] why };
+    ghost fails = { λ a b why. SaveStops (place a) (place b) [] why };
 
     ghost unwritten = { Output };
 

@@ -13,12 +13,12 @@ use Rattle.session.proofs.Beginnings.{since_then}
 use Rattle.playing.proofs.PlayLaws.{begun_played, all_saved}
 use Rattle.playing.specs.Going.{Place, all_of, IsPlayedAt}
 use Rattle.session.specs.declared.error.SessionError.TheVariants.{Memory, Device, GenerationsUsedUp, Output}
-use Rattle.recorded_play.specs.CatchingUp.{recorded_in, FailsRecorded, HasCaughtUp, IsCatchUpStop}
-use Rattle.recorded_play.specs.GoingOn.{GoesOn, StopsGoingOn, IsGoOnCause}
+use Rattle.recorded_play.specs.CatchingUp.{recorded_in, StopsOverRecorded, HasCaughtUp, IsCatchUpStop}
+use Rattle.recorded_play.specs.GoingOn.{LookAdvances, LookStops, IsLookStop}
 use Rattle.recorded_play.specs.declared.error.RecordError.{RecordError}
 use Rattle.recorded_play.specs.declared.error.RecordError.TheVariants.{Session}
 
-go_on_stop : (why : RecordError) (all : ℕ) (now : DiskState) → IsCatchUpStop why all now → IsGoOnCause why all now
+go_on_stop : (why : RecordError) (all : ℕ) (now : DiskState) → IsCatchUpStop why all now → IsLookStop why all now
 go_on_stop (Session Memory) all now stop = tt
 go_on_stop why all now stop = stop
 
@@ -37,7 +37,7 @@ module _ {rom : List ℕ} {old : DiskState} {a : Place} (up : IsResumed rom old 
   begun : old.honest → IsPlayedAt rom a at []
   begun honest = begun_played rom a.disk a.acknowledged a.pending a.machine (up.honest honest) up.rom_is up.none (up.rests honest)
 
-  pub goes_on : {b : Place} {old_recording new_recording : DiskState} → b.pending ≡ [] → HasCaughtUp a b old_recording new_recording → GoesOn rom old b.disk old_recording new_recording at b.acknowledged b.machine
+  pub goes_on : {b : Place} {old_recording new_recording : DiskState} → b.pending ≡ [] → HasCaughtUp a b old_recording new_recording → LookAdvances rom old b.disk old_recording new_recording at b.acknowledged b.machine
   goes_on {b} saved caught =
       let count_is : b.acknowledged ≡ a.acknowledged + length caught.more = omega (arith, caught.goes.all_is, ap length saved, ap length up.none) in
       record {
@@ -55,7 +55,7 @@ module _ {rom : List ℕ} {old : DiskState} {a : Place} (up : IsResumed rom old 
         looks = caught.looks;
       }
 
-  pub stops_catching_up : {b : Place} {old_recording new_recording : DiskState} {why : RecordError} → FailsRecorded a b old_recording new_recording a.acknowledged (recorded_in old_recording) why → StopsGoingOn rom old b.disk old_recording new_recording at why
+  pub stops_catching_up : {b : Place} {old_recording new_recording : DiskState} {why : RecordError} → StopsOverRecorded a b old_recording new_recording a.acknowledged (recorded_in old_recording) why → LookStops rom old b.disk old_recording new_recording at why
   stops_catching_up {b} {old_recording} {why = why} fails = record {
     cause = λ honest recording_honest.
         let all : all_of a + length (drop a.acknowledged (recorded_in old_recording)) ≡ a.acknowledged + length (drop a.acknowledged (recorded_in old_recording)) = omega (arith, ap length up.none) in
@@ -68,15 +68,15 @@ module _ {rom : List ℕ} {old : DiskState} {a : Place} (up : IsResumed rom old 
   }
 
 -- why a game that was looked at is not resumed
-pub resume_stop : (why : SessionError) (generation all : ℕ) (now : DiskState) → (generation ≡ 2 ^ 64 - 1 → why ≡ GenerationsUsedUp → now.honest → generation_in now.sectors ≡ 2 ^ 64 - 1) → IsTakeUpCause generation why → IsGoOnCause (Session why) all now
+pub resume_stop : (why : SessionError) (generation all : ℕ) (now : DiskState) → (generation ≡ 2 ^ 64 - 1 → why ≡ GenerationsUsedUp → now.honest → generation_in now.sectors ≡ 2 ^ 64 - 1) → IsTakeUpCause generation why → IsLookStop (Session why) all now
 resume_stop Memory generation all now worn cause = tt
 resume_stop Device generation all now worn cause = (tt, λ is. absurd (cc))
 resume_stop GenerationsUsedUp generation all now worn cause = (worn cause refl, λ is. absurd (cc))
 resume_stop why generation all now worn cause = absurd cause
 
 -- it was not resumed
-pub stops_resuming : {rom : List ℕ} {old now recording : DiskState} {from : Position} {why : SessionError} → (old.honest → IsGoOnCause (Session why) (from.count + length (drop from.count (recorded_in recording))) now) → why ≢ Output → (old.honest → HoldsSince old now (StandsAsBefore rom old))
-    → StopsGoingOn rom old now recording recording from (Session why)
+pub stops_resuming : {rom : List ℕ} {old now recording : DiskState} {from : Position} {why : SessionError} → (old.honest → IsLookStop (Session why) (from.count + length (drop from.count (recorded_in recording))) now) → why ≢ Output → (old.honest → HoldsSince old now (StandsAsBefore rom old))
+    → LookStops rom old now recording recording from (Session why)
 stops_resuming {recording = recording} cause kind images = record {
   cause = λ honest recording_honest. cause honest;
   kind = kind;

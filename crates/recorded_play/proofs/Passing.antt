@@ -26,23 +26,23 @@ use Rattle.playing.specs.Played.{IsStop}
 use Rattle.playing.proofs.Going.{IsNow, goes_nowhere, goes_then, no_further_then, no_further_more}
 use Rattle.playing.proofs.PlayLaws.{stopped_then, stopped_by, stopped_more}
 use Rattle.playing.proofs.Stops.{stops_among}
-use Rattle.playing.specs.Going.{Place, place, all_of, Goes}
+use Rattle.playing.specs.Going.{Place, place, all_of, SaveAdvances}
 use Rattle.replaying.proofs.Sectors.{inputs_up_to, inputs_at, one_more, more_sectors, all_up_to, sector_entries}
-use Rattle.recorded_play.specs.CatchingUp.{given_by, given_by_all, recorded_in, Fails, Passes, PassesRecorded, FailsRecorded, IsCatchUpStop}
+use Rattle.recorded_play.specs.CatchingUp.{given_by, given_by_all, recorded_in, StopsOver, AdvancesOver, AdvancesOverRecorded, StopsOverRecorded, IsCatchUpStop}
 use Rattle.recorded_play.specs.declared.error.RecordError.{RecordError}
 use Rattle.recorded_play.specs.declared.error.RecordError.TheVariants.{Session}
 
-pub goes_by : {a b : Place} {more more' : List Input} → more ≡ more' → Goes a b more → Goes a b more'
-goes_by {a} {b} same goes = subst (Goes a b) same goes
+pub goes_by : {a b : Place} {more more' : List Input} → more ≡ more' → SaveAdvances a b more → SaveAdvances a b more'
+goes_by {a} {b} same goes = subst (SaveAdvances a b) same goes
 
-pub fails_then : {a b c : Place} {first second : List Input} {why : SessionError} → Goes a b first → Fails b c second why → Fails a c (first ++ second) why
+pub fails_then : {a b c : Place} {first second : List Input} {why : SessionError} → SaveAdvances a b first → StopsOver b c second why → StopsOver a c (first ++ second) why
 fails_then {a} {b} {c} {first} {second} {why} one two = record { no_further = no_further_then a b c first second why one two.no_further; silent = two.silent }
 
-fails_more : {a b : Place} {first : List Input} {why : SessionError} (second : List Input) → Fails a b first why → Fails a b (first ++ second) why
+fails_more : {a b : Place} {first : List Input} {why : SessionError} (second : List Input) → StopsOver a b first why → StopsOver a b (first ++ second) why
 fails_more {a} {b} {first} {why} second fails = record { no_further = no_further_more a b first second why fails.no_further; silent = fails.silent }
 
-pub fails_by : {a b : Place} {more more' : List Input} {why : SessionError} → more ≡ more' → Fails a b more why → Fails a b more' why
-fails_by {a} {b} {more} {more'} {why} same fails = subst (λ (l : List Input). Fails a b l why) same fails
+pub fails_by : {a b : Place} {more more' : List Input} {why : SessionError} → more ≡ more' → StopsOver a b more why → StopsOver a b more' why
+fails_by {a} {b} {more} {more'} {why} same fails = subst (λ (l : List Input). StopsOver a b l why) same fails
 
 -- ---- inputs of which the first are skipped
 
@@ -58,33 +58,33 @@ drop_both (suc k) (i ∷ first) second =
     let e : k - length first ≡ suc k - length (i ∷ first) = omega arith in
     drop_both k first second ∙ ap (λ (n : ℕ). drop k first ++ drop n second) e
 
-pub passes_nothing : {a : Place} {skip : ℕ} → IsNow a.disk → Passes a a skip skip []
+pub passes_nothing : {a : Place} {skip : ℕ} → IsNow a.disk → AdvancesOver a a skip skip []
 passes_nothing {a} {skip} only = record { goes = goes_by (sym (drop_all skip [] (omega arith))) (goes_nowhere a only); left_is = omega arith }
 
-pub passes_then : {a b c : Place} {skip mid left : ℕ} {first second : List Input} → Passes a b skip mid first → Passes b c mid left second → Passes a c skip left (first ++ second)
+pub passes_then : {a b c : Place} {skip mid left : ℕ} {first second : List Input} → AdvancesOver a b skip mid first → AdvancesOver b c mid left second → AdvancesOver a c skip left (first ++ second)
 passes_then {a} {b} {c} {skip} {first = first} {second = second} one two = record {
   goes =
       goes_by (sym (drop_both skip first second))
-      (goes_then a b c (drop skip first) (drop (skip - length first) second) one.goes (subst (λ (k : ℕ). Goes b c (drop k second)) one.left_is two.goes));
+      (goes_then a b c (drop skip first) (drop (skip - length first) second) one.goes (subst (λ (k : ℕ). SaveAdvances b c (drop k second)) one.left_is two.goes));
   left_is = omega (arith, two.left_is, one.left_is, length-append first second);
 }
 
-pub passes_by : {a b : Place} {skip left : ℕ} {passed passed' : List Input} → passed ≡ passed' → Passes a b skip left passed → Passes a b skip left passed'
-passes_by {a} {b} {skip} {left} same passes = subst (Passes a b skip left) same passes
+pub passes_by : {a b : Place} {skip left : ℕ} {passed passed' : List Input} → passed ≡ passed' → AdvancesOver a b skip left passed → AdvancesOver a b skip left passed'
+passes_by {a} {b} {skip} {left} same passes = subst (AdvancesOver a b skip left) same passes
 
 -- in a loop over inputs, these so far
 module _ {D : Type 0} {disk : Disks D} where
   pub record HasPassed (first now : PlaySession D disk) (skip left : ℕ) (passed : List Input) : Type 0 where
     pub whole : is_broken now ≡ false
     pub few : length (pending_of now) < 3200
-    pub passes : Passes (place first) (place now) skip left passed
+    pub passes : AdvancesOver (place first) (place now) skip left passed
 
 -- behind what was passed over, and before the rest
-fails_within : {a b c : Place} {skip mid : ℕ} {first : List Input} {why : SessionError} (here rest : List Input) → Passes a b skip mid first → Fails b c (drop mid here) why → Fails a c (drop skip ((first ++ here) ++ rest)) why
+fails_within : {a b c : Place} {skip mid : ℕ} {first : List Input} {why : SessionError} (here rest : List Input) → AdvancesOver a b skip mid first → StopsOver b c (drop mid here) why → StopsOver a c (drop skip ((first ++ here) ++ rest)) why
 fails_within {b = b} {c = c} {skip = skip} {first = first} {why = why} here rest one two =
     fails_by (sym (drop_both skip (first ++ here) rest))
     (fails_more (drop (skip - length (first ++ here)) rest)
-    (fails_by (sym (drop_both skip first here)) (fails_then one.goes (subst (λ (k : ℕ). Fails b c (drop k here) why) one.left_is two))))
+    (fails_by (sym (drop_both skip first here)) (fails_then one.goes (subst (λ (k : ℕ). StopsOver b c (drop k here) why) one.left_is two))))
 
 -- ---- entries
 
@@ -113,7 +113,7 @@ given_none entry is = rw is refl
 -- ---- one input
 
 -- one that the session has
-pub passes_skipped : {a : Place} {skip left : ℕ} (input : Input) → 0 < skip → left ≡ skip - 1 → IsNow a.disk → Passes a a skip left (input ∷ [])
+pub passes_skipped : {a : Place} {skip left : ℕ} (input : Input) → 0 < skip → left ≡ skip - 1 → IsNow a.disk → AdvancesOver a a skip left (input ∷ [])
 passes_skipped {a} {skip} input some is only = record { goes = goes_by (sym (drop_all skip (input ∷ []) (omega arith))) (goes_nowhere a only); left_is = omega (arith, is) }
 
 pub first_given : (skip : ℕ) (input : Input) → (0 < skip → ⊥) → input ∷ [] ≡ drop skip (input ∷ [])
@@ -122,7 +122,7 @@ first_given (suc k) input none = absurd (none (omega arith))
 
 -- ---- runs
 
-pub fails_frames : {a b c : Place} {skip mid : ℕ} {why : SessionError} (input : Input) (i n : ℕ) → i < n → Passes a b skip mid (replicate i input) → Fails b c (drop mid (input ∷ [])) why → Fails a c (drop skip (replicate n input)) why
+pub fails_frames : {a b c : Place} {skip mid : ℕ} {why : SessionError} (input : Input) (i n : ℕ) → i < n → AdvancesOver a b skip mid (replicate i input) → StopsOver b c (drop mid (input ∷ [])) why → StopsOver a c (drop skip (replicate n input)) why
 fails_frames {skip = skip} input i n less one two =
     let e : i + 1 + (n - (i + 1)) ≡ n = omega arith in
     fails_by (ap (drop skip) (ap (λ (l : List Input). l ++ replicate (n - (i + 1)) input) (replicate-append-replicate i 1 input) ∙ replicate-append-replicate (i + 1) (n - (i + 1)) input ∙ ap (λ (k : ℕ). replicate k input) e))
@@ -137,11 +137,11 @@ entries_next list i d less =
 entries_all : (list : List StoredEntry) (i : ℕ) → given_by_all (take i list) ++ given_by_all (drop i list) ≡ given_by_all list
 entries_all list i = sym (given_append (take i list) (drop i list)) ∙ ap given_by_all (take-append-drop i list)
 
-module _ {a b : Place} {skip mid : ℕ} (list : List StoredEntry) (i : ℕ) (d : StoredEntry) (less : i < length list) (one : Passes a b skip mid (given_by_all (take i list))) where
-  pub passes_entry : {c : Place} {left : ℕ} → Passes b c mid left (given_by (get_or list i d)) → Passes a c skip left (given_by_all (take (i + 1) list))
+module _ {a b : Place} {skip mid : ℕ} (list : List StoredEntry) (i : ℕ) (d : StoredEntry) (less : i < length list) (one : AdvancesOver a b skip mid (given_by_all (take i list))) where
+  pub passes_entry : {c : Place} {left : ℕ} → AdvancesOver b c mid left (given_by (get_or list i d)) → AdvancesOver a c skip left (given_by_all (take (i + 1) list))
   passes_entry two = passes_by (sym (entries_next list i d less)) (passes_then one two)
 
-  pub fails_entry : {c : Place} {why : SessionError} → Fails b c (drop mid (given_by (get_or list i d))) why → Fails a c (drop skip (given_by_all list)) why
+  pub fails_entry : {c : Place} {why : SessionError} → StopsOver b c (drop mid (given_by (get_or list i d))) why → StopsOver a c (drop skip (given_by_all list)) why
   fails_entry two =
       fails_by (ap (drop skip) (ap (λ (l : List Input). l ++ given_by_all (drop (i + 1) list)) (sym (entries_next list i d less)) ∙ entries_all list (i + 1)))
       (fails_within (given_by (get_or list i d)) (given_by_all (drop (i + 1) list)) one two)
@@ -159,7 +159,7 @@ catch_up_among why less all now more stop = stop
 
 -- inputs that were read, of which one was refused, or a save
 pub fails_giving : {a b : Place} {old new : DiskState} {E : Type 0} {faults_after : E → ℕ → ℕ} {given : List Input} {why : SessionError} (skip : ℕ) (recorded : List Input) → (old.honest → given ≡ drop skip recorded) → (old.honest → LooksOnly old new)
-    → HasAnswered {T = Unit {0}} faults_after old new (Ok tt) → Fails a b given why → FailsRecorded a b old new skip recorded (Session why)
+    → HasAnswered {T = Unit {0}} faults_after old new (Ok tt) → StopsOver a b given why → StopsOverRecorded a b old new skip recorded (Session why)
 fails_giving {a} {b} {why = why} skip recorded same looks answered fails = record {
   stopped = λ honest rom from before played. stopped_by (ap (λ (l : List Input). before ++ l) (same honest)) (fails.no_further.stopped rom from before played);
   cause = λ honest. (subst (λ (l : List Input). IsStop why (all_of a + length l) b.disk) (same honest) fails.no_further.cause, fails.silent);
@@ -171,7 +171,7 @@ fails_giving {a} {b} {why = why} skip recorded same looks answered fails = recor
 }
 
 -- one sector after the others
-module _ {a b : Place} {old mid : DiskState} {skip there : ℕ} (number : ℕ) (one : PassesRecorded a b old mid skip there (inputs_up_to number old.sectors)) where
+module _ {a b : Place} {old mid : DiskState} {skip there : ℕ} (number : ℕ) (one : AdvancesOverRecorded a b old mid skip there (inputs_up_to number old.sectors)) where
   mid_honest : old.honest → mid.honest
   mid_honest honest = (one.looks honest).honest
 
@@ -186,7 +186,7 @@ module _ {a b : Place} {old mid : DiskState} {skip there : ℕ} (number : ℕ) (
   up_to_here : old.honest → inputs_up_to number old.sectors ++ sector ≡ inputs_up_to (number + 1) old.sectors
   up_to_here honest = ap (λ (l : List Input). inputs_up_to number old.sectors ++ l) (sector_is honest) ∙ sym (one_more number old.sectors)
 
-  pub passes_sector : {c : Place} {new : DiskState} {left : ℕ} → PassesRecorded b c mid new there left sector → PassesRecorded a c old new skip left (inputs_up_to (number + 1) old.sectors)
+  pub passes_sector : {c : Place} {new : DiskState} {left : ℕ} → AdvancesOverRecorded b c mid new there left sector → AdvancesOverRecorded a c old new skip left (inputs_up_to (number + 1) old.sectors)
   passes_sector two = record {
     passed = one.passed ++ two.passed;
     passes = passes_then one.passes two.passes;
@@ -197,7 +197,7 @@ module _ {a b : Place} {old mid : DiskState} {skip there : ℕ} (number : ℕ) (
 
   -- and before the rest
   module _ (used : ℕ) (less : number < used) (whole : old.honest → entries old.sectors ≡ entries_up_to used old.sectors) where
-    pub fails_sector : {c : Place} {new : DiskState} {why : RecordError} → FailsRecorded b c mid new there sector why → FailsRecorded a c old new skip (recorded_in old) why
+    pub fails_sector : {c : Place} {new : DiskState} {why : RecordError} → StopsOverRecorded b c mid new there sector why → StopsOverRecorded a c old new skip (recorded_in old) why
     fails_sector {c} {why = why} two =
         let rest = more_sectors used (number + 1) old.sectors (omega arith) in
         let done = drop skip one.passed in

@@ -20,7 +20,7 @@ use Rattle.session.proofs.Answering.{answered_both, answered_error, answered_not
 use Rattle.session.proofs.StandsLaws.{after_append, after_none}
 use Rattle.session.proofs.Writes.{since_weaker}
 use Rattle.session.proofs.Beginnings.{since_then}
-use Rattle.playing.specs.Going.{Place, all_of, Goes, GoesNoFurther}
+use Rattle.playing.specs.Going.{Place, all_of, SaveAdvances, SaveStops}
 use Rattle.playing.specs.Making.{Advances, Stops}
 use Rattle.playing.specs.Making.Advances.{stays, by_input, by_save}
 use Rattle.playing.specs.Making.Stops.{at_input, at_save, at_line, past_input, past_save}
@@ -31,7 +31,7 @@ use Rattle.playing.proofs.PlayLaws.{going_nowhere, going_then, going_by, stopped
 use Rattle.playing.proofs.Stops.{stops_among}
 use Rattle.replaying.specs.Agreeing.{Agrees}
 use Rattle.recorded_play.specs.Agreeing.{AllAgree}
-use Rattle.recorded_play.specs.Steps.{Game, game, power_on, HoldsFirst, HoldsSaved, Records, IsFull, IsInStep, IsBehind, Comes, Halts, IsRecordStop, told_as}
+use Rattle.recorded_play.specs.Steps.{Game, game, power_on, HoldsFirst, HoldsSaved, Records, IsFull, IsInStep, IsBehind, BothAdvance, BothStop, IsRecordStop, told_as}
 use Rattle.recorded_play.specs.declared.error.RecordError.{RecordError}
 use Rattle.recorded_play.specs.declared.error.RecordError.TheVariants.{Session}
 use Rattle.recorded_play.specs.declared.recorded_game.RecordedGame.{RecordedGame}
@@ -126,7 +126,7 @@ behind_more rom old now all more behind = record {
   recordings = λ image here. first_more rom behind.most all more image (behind.recordings image here);
 }
 
-module _ (rom : List ℕ) (a b : Game) (all more : List Input) (comes : Comes a b more) (step : IsInStep rom a all) where
+module _ (rom : List ℕ) (a b : Game) (all more : List Input) (comes : BothAdvance a b more) (step : IsInStep rom a all) where
   pub in_step_then : IsInStep rom b (all ++ more)
   in_step_then = record { played = (comes.going rom (power_on rom) all step.played).played; holds = (comes.records rom all step.holds).holds }
 
@@ -135,7 +135,7 @@ module _ (rom : List ℕ) (a b : Game) (all more : List Input) (comes : Comes a 
 
 -- ---- steps
 
-pub comes_nothing : (a : Game) → IsNow a.save.disk → IsNow a.recording → Comes a a []
+pub comes_nothing : (a : Game) → IsNow a.save.disk → IsNow a.recording → BothAdvance a a []
 comes_nothing a only_save only_recording = record {
   going = λ rom from given played. going_nowhere rom a.save.disk a.save.acknowledged a.save.pending a.save.machine from given played only_save;
   records = λ rom all held. subst (Records rom a.recording a.recording a.save.acknowledged a.save.pending) (sym (append-nil all)) (record { moments = first_since_here rom a.recording a.save.acknowledged a.save.pending all held only_recording; holds = held });
@@ -147,7 +147,7 @@ comes_nothing a only_save only_recording = record {
   rom = refl;
 }
 
-pub comes_then : (a b c : Game) (first second : List Input) → Comes a b first → Comes b c second → Comes a c (first ++ second)
+pub comes_then : (a b c : Game) (first second : List Input) → BothAdvance a b first → BothAdvance b c second → BothAdvance a c (first ++ second)
 comes_then a b c first second one two = record {
   going = λ rom from given played.
       let before = one.going rom from given played in
@@ -183,7 +183,7 @@ full_more rom recording all more full =
       too_many = full.too_many;
     }
 
-pub halts_then : (a b c : Game) (first second : List Input) (why : RecordError) → Comes a b first → Halts b c second why → Halts a c (first ++ second) why
+pub halts_then : (a b c : Game) (first second : List Input) (why : RecordError) → BothAdvance a b first → BothStop b c second why → BothStop a c (first ++ second) why
 halts_then a b c first second why one two = record {
   stopped = λ rom from given played.
       let before = one.going rom from given played in
@@ -202,7 +202,7 @@ halts_then a b c first second why one two = record {
 }
 
 -- before more inputs
-pub halts_more : (a b : Game) (first second : List Input) (why : RecordError) → Halts a b first why → Halts a b (first ++ second) why
+pub halts_more : (a b : Game) (first second : List Input) (why : RecordError) → BothStop a b first why → BothStop a b (first ++ second) why
 halts_more a b first second why halts = record {
   stopped = λ rom from given played.
       stopped_by (append_assoc given first second) (stopped_more rom a.save.disk b.save.disk b.save.acknowledged from (given ++ first) second (halts.stopped rom from given played));
@@ -217,7 +217,7 @@ halts_more a b first second why halts = record {
 }
 
 -- a line that could not be written
-pub halts_at_line : (a : Game) (more : List Input) → IsNow a.save.disk → IsNow a.recording → Halts a a more (Session Output)
+pub halts_at_line : (a : Game) (more : List Input) → IsNow a.save.disk → IsNow a.recording → BothStop a a more (Session Output)
 halts_at_line a more only_save only_recording = record {
   stopped = λ rom from given played.
       stopped_more rom a.save.disk a.save.disk a.save.acknowledged from given more (stopped_here rom a.save.disk a.save.acknowledged a.save.pending a.save.machine from given played only_save);
@@ -236,8 +236,8 @@ abbrev moved : Game → Place → Game
 moved a b = record { save = b; recording = a.recording }
 
 -- which makes no call of either device
-module _ (a : Game) (b : Place) (input : Input) (goes : Goes a.save b (input ∷ [])) (count_is : b.acknowledged ≡ a.save.acknowledged) (only_recording : IsNow a.recording) where
-  pub input_comes : inputs_of b.pending ≡ inputs_of a.save.pending ++ input ∷ [] → Comes a (moved a b) (input ∷ [])
+module _ (a : Game) (b : Place) (input : Input) (goes : SaveAdvances a.save b (input ∷ [])) (count_is : b.acknowledged ≡ a.save.acknowledged) (only_recording : IsNow a.recording) where
+  pub input_comes : inputs_of b.pending ≡ inputs_of a.save.pending ++ input ∷ [] → BothAdvance a (moved a b) (input ∷ [])
   input_comes more_is = record {
     going = goes.going;
     records = λ rom all held.
@@ -253,7 +253,7 @@ module _ (a : Game) (b : Place) (input : Input) (goes : Goes a.save b (input ∷
   }
 
 -- one that is refused leaves the game as it was
-pub input_halts : (a : Game) (b : Place) (input : Input) (why : SessionError) → GoesNoFurther a.save b (input ∷ []) why → b ≡ a.save → IsNow a.recording → Halts a (moved a b) (input ∷ []) (Session why)
+pub input_halts : (a : Game) (b : Place) (input : Input) (why : SessionError) → SaveStops a.save b (input ∷ []) why → b ≡ a.save → IsNow a.recording → BothStop a (moved a b) (input ∷ []) (Session why)
 input_halts a b input why stop same only_recording = record {
   stopped = stop.stopped;
   behind = λ rom all step.
@@ -277,19 +277,19 @@ module _ {D E : Type 0} {disk : Disks D} {others : Disks E} where
   at a = game a.session a.recording
 
 module _ {D E : Type 0} {disk : Disks D} {others : Disks E} {dict : Ghosts (RecordedGame D E disk others) RecordError} (only : (d : D) → IsNow (disk.disk d)) (only_recording : (e : E) → IsNow (others.disk e))
-    (gives : (a b : RecordedGame D E disk others) (input : Input) → dict.gives a b input → Comes (game a.session a.recording) (game b.session b.recording) (input ∷ []))
-    (saves : (a b : RecordedGame D E disk others) → dict.saves a b → Comes (game a.session a.recording) (game b.session b.recording) []) where
-  pub comes_all : (a b : RecordedGame D E disk others) (inputs : List Input) → Advances dict a b inputs → Comes (at a) (at b) inputs
+    (gives : (a b : RecordedGame D E disk others) (input : Input) → dict.gives a b input → BothAdvance (game a.session a.recording) (game b.session b.recording) (input ∷ []))
+    (saves : (a b : RecordedGame D E disk others) → dict.saves a b → BothAdvance (game a.session a.recording) (game b.session b.recording) []) where
+  pub comes_all : (a b : RecordedGame D E disk others) (inputs : List Input) → Advances dict a b inputs → BothAdvance (at a) (at b) inputs
   comes_all a b inputs (stays s) = comes_nothing (at a) (only (device_of a.session)) (only_recording (device_of_recording a.recording))
   comes_all a c inputs (by_input {b = b} {input = input} {more = more} one rest) = comes_then (at a) (at b) (at c) (input ∷ []) more (gives a b input one.gives) (comes_all b c more rest)
   comes_all a c inputs (by_save {b = b} one rest) = comes_then (at a) (at b) (at c) [] inputs (saves a b one.saves) (comes_all b c inputs rest)
 
-  module _ (refuses : (a b : RecordedGame D E disk others) (input : Input) (why : RecordError) → dict.refuses a b input why → Halts (game a.session a.recording) (game b.session b.recording) (input ∷ []) why)
-      (fails : (a b : RecordedGame D E disk others) (why : RecordError) → dict.fails a b why → Halts (game a.session a.recording) (game b.session b.recording) [] why) (unwritten_is : dict.unwritten ≡ Session Output) where
-    pub halts_all : (a b : RecordedGame D E disk others) (inputs : List Input) (why : RecordError) → Stops dict a b inputs why → Halts (at a) (at b) inputs why
+  module _ (refuses : (a b : RecordedGame D E disk others) (input : Input) (why : RecordError) → dict.refuses a b input why → BothStop (game a.session a.recording) (game b.session b.recording) (input ∷ []) why)
+      (fails : (a b : RecordedGame D E disk others) (why : RecordError) → dict.fails a b why → BothStop (game a.session a.recording) (game b.session b.recording) [] why) (unwritten_is : dict.unwritten ≡ Session Output) where
+    pub halts_all : (a b : RecordedGame D E disk others) (inputs : List Input) (why : RecordError) → Stops dict a b inputs why → BothStop (at a) (at b) inputs why
     halts_all a b inputs why (at_input {input = input} {more = more} refused same) = halts_more (at a) (at b) (input ∷ []) more why (refuses a b input why refused)
     halts_all a b inputs why (at_save failed same) = halts_more (at a) (at b) [] inputs why (fails a b why failed)
     halts_all a b inputs why (at_line s more) =
-        subst (λ (w : RecordError). Halts (at a) (at a) inputs w) (sym unwritten_is) (halts_at_line (at a) inputs (only (device_of a.session)) (only_recording (device_of_recording a.recording)))
+        subst (λ (w : RecordError). BothStop (at a) (at a) inputs w) (sym unwritten_is) (halts_at_line (at a) inputs (only (device_of a.session)) (only_recording (device_of_recording a.recording)))
     halts_all a c inputs why (past_input {b = b} {input = input} {more = more} one rest) = halts_then (at a) (at b) (at c) (input ∷ []) more why (gives a b input one.gives) (halts_all b c more why rest)
     halts_all a c inputs why (past_save {b = b} one rest) = halts_then (at a) (at b) (at c) [] inputs why (saves a b one.saves) (halts_all b c inputs why rest)

@@ -32,7 +32,7 @@ use Rattle.replaying.specs.Agreeing.{IsRecorded, Agrees}
 use Rattle.recorded_play.specs.Agreeing.{AllAgree, recorded_inputs}
 use Rattle.recorded_play.specs.Steps.{power_on, IsOfDevices}
 use Rattle.recorded_play.specs.CatchingUp.{recorded_in}
-use Rattle.recorded_play.specs.GoingOn.{GoesOn, StopsGoingOn, IsGoOnCause, GoesOnImage}
+use Rattle.recorded_play.specs.GoingOn.{LookAdvances, LookStops, IsLookStop, LookImage}
 use Rattle.recorded_play.specs.Whole.{IsTakenUp, HasTakenUp, IsNotTakenUp, IsTakeUpCause, IsForeign, IsStopAtRecorded, IsBehindBy}
 use Rattle.recorded_play.specs.declared.error.RecordError.{RecordError}
 use Rattle.recorded_play.specs.declared.error.RecordError.TheVariants.{Session, Recording}
@@ -132,7 +132,7 @@ module _ {rom : List ℕ} {save looked recording opened : DiskState} {at : Posit
     as_before image honest s = record { before = s.before; stood = (both.look honest).images s.before s.stood; is = s.is }
 
     -- each image since is one of before, or stands for some of these
-    images_since : {now : DiskState} {more : List Input} {P : List (List ℕ) → Type 0} → ((image : List (List ℕ)) → Reaches rom at 0 more image → P image) → save.honest → HoldsSince looked now (GoesOnImage rom looked at more)
+    images_since : {now : DiskState} {more : List Input} {P : List (List ℕ) → Type 0} → ((image : List (List ℕ)) → Reaches rom at 0 more image → P image) → save.honest → HoldsSince looked now (LookImage rom looked at more)
         → HoldsSince save now (λ image. StandsAsBefore rom save image ⊎ P image)
     images_since reached honest images =
         since_then (since_weaker (both.look honest).since (λ image stood. inl (record { before = image; stood = stood; is = refl })))
@@ -141,7 +141,7 @@ module _ {rom : List ℕ} {save looked recording opened : DiskState} {at : Posit
     recording_looked : {now : DiskState} → IsNow recording → (opened.honest → LooksOnly opened now) → recording.honest → HasLooked recording now
     recording_looked only looks honest = has_looked only (looked_then (looks_only (both.opens honest)) (looks (both.opens honest).honest))
 
-    pub taken_up : {now now_recording : DiskState} {acknowledged : ℕ} {machine : MachineState} → IsMachineOf rom at.machine → IsNow recording → GoesOn rom looked now opened now_recording at acknowledged machine
+    pub taken_up : {now now_recording : DiskState} {acknowledged : ℕ} {machine : MachineState} → IsMachineOf rom at.machine → IsNow recording → LookAdvances rom looked now opened now_recording at acknowledged machine
         → HasTakenUp rom save now recording now_recording acknowledged machine
     taken_up of_rom only goes = record {
       at = at;
@@ -164,13 +164,13 @@ module _ {rom : List ℕ} {save looked recording opened : DiskState} {at : Posit
         omega (arith, length-drop at.count (recorded_in opened), ap length (recorded_here honest), size_recorded honest) in
         record { played = recorded_in recording; recorded_is = all_recorded honest; stop = subst (λ (n : ℕ). IsStop why n now) size stop; silent = silent }
 
-    session_cause : (why : SessionError) (now : DiskState) → recording.honest → IsGoOnCause (Session why) (at.count + length (drop at.count (recorded_in opened))) now
+    session_cause : (why : SessionError) (now : DiskState) → recording.honest → IsLookStop (Session why) (at.count + length (drop at.count (recorded_in opened))) now
         → IsResumeCause rom (generation_in save.sectors) (content save.sectors) why ⊎ IsStopAtRecorded rom why now recording
     session_cause Memory now honest cause = inl tt
     session_cause Output now honest cause = absurd (cause.1 refl)
     session_cause why now honest cause = inr (stop_recorded why now honest cause.0 cause.1)
 
-    cause_is : {now now_recording : DiskState} (why : RecordError) → StopsGoingOn rom looked now opened now_recording at why
+    cause_is : {now now_recording : DiskState} (why : RecordError) → LookStops rom looked now opened now_recording at why
         → (save.honest → recording.honest → IsTakeUpCause why rom save now recording) × (IsForeign why → save.honest → recording.honest → HasLooked save now)
     cause_is {now} (Session why) stops = (λ honest recording_honest. session_cause why now recording_honest (stops.cause (both.look honest).honest (both.opens recording_honest).honest), λ foreign. absurd foreign)
     cause_is (Recording why) stops = (
@@ -183,7 +183,7 @@ module _ {rom : List ℕ} {save looked recording opened : DiskState} {at : Posit
         let none = λ (honest : save.honest) (recording_honest : recording.honest). stops.cause (both.look honest).honest (both.opens recording_honest).honest in
         (λ honest recording_honest. absurd (none honest recording_honest), λ foreign honest recording_honest. absurd (none honest recording_honest))
 
-    pub not_taken_up : {now now_recording : DiskState} {why : RecordError} → IsNow recording → StopsGoingOn rom looked now opened now_recording at why → IsNotTakenUp rom save now recording now_recording why
+    pub not_taken_up : {now now_recording : DiskState} {why : RecordError} → IsNow recording → LookStops rom looked now opened now_recording at why → IsNotTakenUp rom save now recording now_recording why
     not_taken_up {why = why} only stops = record {
       cause = (cause_is why stops).0;
       kind = stops.kind;
@@ -196,7 +196,7 @@ module _ {rom : List ℕ} {save looked recording opened : DiskState} {at : Posit
 
     -- whatever is left agrees, where both agreed
     pub agree_on : {now now_recording : DiskState} (more : List Input) → save.image save.sectors → recording.image recording.sectors → ((t : ℕ) (c : List (List ℕ)) → t ≤ now.moment → now.image c → now.since t c) → save.honest → recording.honest
-        → AllAgree rom save recording → more ≡ drop at.count (recorded_in opened) → HoldsSince looked now (GoesOnImage rom looked at more) → (opened.honest → LooksOnly opened now_recording) → AllAgree rom now now_recording
+        → AllAgree rom save recording → more ≡ drop at.count (recorded_in opened) → HoldsSince looked now (LookImage rom looked at more) → (opened.honest → LooksOnly opened now_recording) → AllAgree rom now now_recording
     agree_on more save_here recording_here counts honest recording_honest agree more_is since looks = λ s r is_save is_recording.
         let machine_is : at.machine ≡ after (start rom) (take at.count (recorded_in recording)) =
         recorded_leads rom recording.sectors at (recorded_in recording) (all_recorded recording_honest) (agree save.sectors recording.sectors save_here recording_here at (both.stood honest)) in

@@ -29,7 +29,7 @@ use Rattle.playing.specs.Going.{all_of, IsPlayedAt}
 use Rattle.streaming.specs.declared.obeying.End.{End}
 use Rattle.streaming.proofs.Wholes.{stream_at, lines_resumed}
 use Rattle.recorded_play.specs.Agreeing.{AllAgree, recorded_inputs, behind}
-use Rattle.recorded_play.specs.Steps.{Game, HoldsFirst, HoldsSaved, IsInStep, Comes, Halts, IsRecordStop, told_as}
+use Rattle.recorded_play.specs.Steps.{Game, HoldsFirst, HoldsSaved, IsInStep, BothAdvance, BothStop, IsRecordStop, told_as}
 use Rattle.recorded_play.specs.Whole.{IsTakenUp, HoldsAll, HasTakenUp, HasRecorded, HasStopped, IsEndCause}
 use Rattle.recorded_play.specs.declared.error.RecordError.{RecordError}
 use Rattle.recorded_play.specs.declared.error.RecordError.TheVariants.{Session, Recording}
@@ -112,7 +112,7 @@ module _ {rom : List ℕ} {save recording : DiskState} {a : Game} (up : IsUp rom
     }
 
     -- what is recorded at an end
-    ended_holds : {b : Game} {more : List Input} → Comes a b more → b.save.pending ≡ [] → HoldsAll rom b.recording (taken.played ++ more)
+    ended_holds : {b : Game} {more : List Input} → BothAdvance a b more → b.save.pending ≡ [] → HoldsAll rom b.recording (taken.played ++ more)
     ended_holds {b} {more} comes saved =
         let step = (comes.records rom taken.played holds).holds in
         let none_left : length (drop b.save.acknowledged (taken.played ++ more)) ≡ 0 = ap length (sym step.pending_is ∙ ap inputs_of saved) in
@@ -139,21 +139,21 @@ module _ {rom : List ℕ} {save recording : DiskState} {a : Game} (up : IsUp rom
       }
 
       -- at an end
-      pub ended_agree : {b : Game} {more : List Input} → Comes a b more → IsNow b.recording → AllAgree rom b.save.disk b.recording
+      pub ended_agree : {b : Game} {more : List Input} → BothAdvance a b more → IsNow b.recording → AllAgree rom b.save.disk b.recording
       ended_agree {b} {more} comes only = behind_agree rom a b (taken.played ++ more) (behind_after rom a b taken.played more comes in_step only)
 
       -- where it stopped
-      pub stopped_agree : {b : Game} {more : List Input} {why : RecordError} → Halts a b more why → AllAgree rom b.save.disk b.recording
+      pub stopped_agree : {b : Game} {more : List Input} {why : RecordError} → BothStop a b more why → AllAgree rom b.save.disk b.recording
       stopped_agree {b} {more} halts = behind_agree rom a b (taken.played ++ more) (halts.behind rom taken.played in_step)
 
-      stopped_holds : {b : Game} {more : List Input} {why : RecordError} → Halts a b more why → (image : List (List ℕ)) → b.recording.image image → HoldsFirst rom b.save.acknowledged (taken.played ++ more) image
+      stopped_holds : {b : Game} {more : List Input} {why : RecordError} → BothStop a b more why → (image : List (List ℕ)) → b.recording.image image → HoldsFirst rom b.save.acknowledged (taken.played ++ more) image
       stopped_holds halts image here =
           let left = halts.behind rom taken.played in_step in
           let held = left.recordings image here in
           record { count = held.count; at_least = omega (arith, left.least, held.at_least); within = held.within; is = held.is }
 
   -- at an end the SAVE is at rest where the session is
-  pub rests_at : {b : Game} (given : List Input) → Comes a b given → length b.save.pending ≡ 0 → save.honest → IsAtRest rom b.save.disk b.save.acknowledged [] b.save.machine
+  pub rests_at : {b : Game} (given : List Input) → BothAdvance a b given → length b.save.pending ≡ 0 → save.honest → IsAtRest rom b.save.disk b.save.acknowledged [] b.save.machine
   rests_at {b} given comes unsaved honest =
       let saved = none_left b.save.pending unsaved in
       let played = (comes.going rom from [] (begun honest)).played in
@@ -165,7 +165,7 @@ module _ {rom : List ℕ} {save recording : DiskState} {a : Game} (up : IsUp rom
 
   module _ {b : Game} {before_in since_in before since : Option (List ℕ)} {own : List ℕ} {lines : List Given} (deeds : List Deed) (own_is : own ≡ rom) where
     -- to an end
-    pub recorded_to : {kept : List KeptMachine} {found end : End} → Comes a b (inputs_of_deeds deeds) → length b.save.pending ≡ 0 → Appends before since (texts (stream_at a.save deeds)) → Asks false own a.save.machine lines deeds kept → found ≡ end → ReadsTo false own kept found lines before_in since_in
+    pub recorded_to : {kept : List KeptMachine} {found end : End} → BothAdvance a b (inputs_of_deeds deeds) → length b.save.pending ≡ 0 → Appends before since (texts (stream_at a.save deeds)) → Asks false own a.save.machine lines deeds kept → found ≡ end → ReadsTo false own kept found lines before_in since_in
         → HasRecorded rom save b.save.disk recording b.recording end before_in since_in before since
     recorded_to {kept} {found} comes unsaved answered asks end_is read =
         let given = inputs_of_deeds deeds in
@@ -193,7 +193,7 @@ module _ {rom : List ℕ} {save recording : DiskState} {a : Game} (up : IsUp rom
         }
 
     -- stopped
-    pub stopped_record : {why : RecordError} (unread : List ℕ) → Halts a b (inputs_of_deeds deeds) why → HasTold (told_as why) b.save.acknowledged (stream_at a.save deeds) before since → AsksUpTo false own a.save.machine lines deeds → HasReadGiven (asked false) lines unread before_in since_in
+    pub stopped_record : {why : RecordError} (unread : List ℕ) → BothStop a b (inputs_of_deeds deeds) why → HasTold (told_as why) b.save.acknowledged (stream_at a.save deeds) before since → AsksUpTo false own a.save.machine lines deeds → HasReadGiven (asked false) lines unread before_in since_in
         → HasStopped rom save b.save.disk recording b.recording why before_in since_in before since
     stopped_record {why} unread halts told asks read =
         let given = inputs_of_deeds deeds in

@@ -11,7 +11,7 @@ use Rattle.session.specs.Inputs.{inputs_of}
 use Rattle.session.specs.Stands.{Position}
 use Rattle.session.specs.declared.error.SessionError.{SessionError}
 use Rattle.session.specs.declared.error.SessionError.TheVariants.{Output}
-use Rattle.playing.specs.Going.{Place, all_of, IsPlayedAt, Goes, GoesNoFurther}
+use Rattle.playing.specs.Going.{Place, all_of, IsPlayedAt, SaveAdvances, SaveStops}
 use Rattle.playing.specs.Played.{IsStop, Stopped}
 use Rattle.recorded_play.specs.Steps.{IsOfDevices, save_faults_after, recording_faults_after}
 use Rattle.recorded_play.specs.declared.error.RecordError.{RecordError}
@@ -30,13 +30,13 @@ abbrev pub recorded_in : DiskState → List Input
 recorded_in now = inputs_of (inputs (entries now.sectors))
 
 -- one of these inputs, or a save among them, was refused
-pub record Fails (old new : Place) (more : List Input) (why : SessionError) : Type 0 where
-  pub no_further : GoesNoFurther old new more why
+pub record StopsOver (old new : Place) (more : List Input) (why : SessionError) : Type 0 where
+  pub no_further : SaveStops old new more why
   pub silent : why ≡ Output → ⊥
 
 -- these inputs were passed over, of which so many were skipped, and the others given; so many of the next are to be skipped
-pub record Passes (old new : Place) (skip left : ℕ) (passed : List Input) : Type 0 where
-  pub goes : Goes old new (drop skip passed)
+pub record AdvancesOver (old new : Place) (skip left : ℕ) (passed : List Input) : Type 0 where
+  pub goes : SaveAdvances old new (drop skip passed)
   pub left_is : left ≡ skip - length passed
 
 -- why a game is not given what its recording has beyond it: as a play stops that writes nothing, or a call of the recording's device failed
@@ -47,15 +47,15 @@ IsCatchUpStop why all now = ⊥
 
 -- ---- with the recording that is read
 
-pub record PassesRecorded (old new : Place) (old_recording new_recording : DiskState) (skip left : ℕ) (recorded : List Input) : Type 0 where
+pub record AdvancesOverRecorded (old new : Place) (old_recording new_recording : DiskState) (skip left : ℕ) (recorded : List Input) : Type 0 where
   pub passed : List Input
-  pub passes : Passes old new skip left passed
+  pub passes : AdvancesOver old new skip left passed
   pub passed_is : old_recording.honest → passed ≡ recorded
   pub looks : old_recording.honest → LooksOnly old_recording new_recording
   pub calls : HasAnswered {T = Unit {0}} recording_faults_after old_recording new_recording (Ok tt)
 
 -- a call of one of the devices failed, or a save was refused
-pub record FailsRecorded (old new : Place) (old_recording new_recording : DiskState) (skip : ℕ) (recorded : List Input) (why : RecordError) : Type 0 where
+pub record StopsOverRecorded (old new : Place) (old_recording new_recording : DiskState) (skip : ℕ) (recorded : List Input) (why : RecordError) : Type 0 where
   pub stopped : old_recording.honest → (rom : List ℕ) (from : Position) (given : List Input) → IsPlayedAt rom old from given
       → Stopped rom old.disk new.disk new.acknowledged from (given ++ drop skip recorded)
   pub cause : old_recording.honest → IsCatchUpStop why (all_of old + length (drop skip recorded)) new.disk
@@ -68,7 +68,7 @@ pub record FailsRecorded (old new : Place) (old_recording new_recording : DiskSt
 -- all that the recording has beyond the SAVE was given and saved
 pub record HasCaughtUp (old new : Place) (old_recording new_recording : DiskState) : Type 0 where
   pub more : List Input
-  pub goes : Goes old new more
+  pub goes : SaveAdvances old new more
   pub more_is : old_recording.honest → more ≡ drop old.acknowledged (recorded_in old_recording)
   pub looks : old_recording.honest → LooksOnly old_recording new_recording
   pub calls : HasAnswered {T = Unit {0}} recording_faults_after old_recording new_recording (Ok tt)

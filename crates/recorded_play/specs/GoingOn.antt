@@ -14,25 +14,25 @@ use Rattle.recorded_play.specs.declared.error.RecordError.{RecordError}
 use Rattle.recorded_play.specs.declared.error.RecordError.TheVariants.{Session}
 
 -- the image stands for what one stood for before, or for some of these inputs from there
-abbrev pub GoesOnImage : (rom : List ℕ) → (old : DiskState) → Position → List Input → List (List ℕ) → Type 0
-GoesOnImage rom old at more image = StandsAsBefore rom old image ⊎ Reaches rom at 0 more image
+abbrev pub LookImage : (rom : List ℕ) → (old : DiskState) → Position → List Input → List (List ℕ) → Type 0
+LookImage rom old at more image = StandsAsBefore rom old image ⊎ Reaches rom at 0 more image
 
-pub record GoesOn (rom : List ℕ) (old_save now_save old_recording now_recording : DiskState) (at : Position) (count : ℕ) (machine : MachineState) : Type 0 where
+pub record LookAdvances (rom : List ℕ) (old_save now_save old_recording now_recording : DiskState) (at : Position) (count : ℕ) (machine : MachineState) : Type 0 where
   pub more : List Input
   pub count_is : count ≡ at.count + length more
   pub machine_is : machine ≡ after at.machine more
   pub more_is : old_recording.honest → more ≡ drop at.count (recorded_in old_recording)
   pub rests : old_save.honest → IsAtRest rom now_save count [] machine
-  pub images : old_save.honest → HoldsSince old_save now_save (GoesOnImage rom old_save at more)
+  pub images : old_save.honest → HoldsSince old_save now_save (LookImage rom old_save at more)
   pub looks : old_recording.honest → LooksOnly old_recording now_recording
 
 -- memory was refused to it, or it stopped at that
-abbrev pub IsGoOnCause : RecordError → (all : ℕ) → (now : DiskState) → Type 0
-IsGoOnCause (Session Memory) all now = ⊤
-IsGoOnCause why all now = IsCatchUpStop why all now
+abbrev pub IsLookStop : RecordError → (all : ℕ) → (now : DiskState) → Type 0
+IsLookStop (Session Memory) all now = ⊤
+IsLookStop why all now = IsCatchUpStop why all now
 
-pub record StopsGoingOn (rom : List ℕ) (old_save now_save old_recording now_recording : DiskState) (at : Position) (why : RecordError) : Type 0 where
-  pub cause : old_save.honest → old_recording.honest → IsGoOnCause why (at.count + length (drop at.count (recorded_in old_recording))) now_save
+pub record LookStops (rom : List ℕ) (old_save now_save old_recording now_recording : DiskState) (at : Position) (why : RecordError) : Type 0 where
+  pub cause : old_save.honest → old_recording.honest → IsLookStop why (at.count + length (drop at.count (recorded_in old_recording))) now_save
   pub kind : IsOfDevices why
-  pub images : old_save.honest → old_recording.honest → HoldsSince old_save now_save (GoesOnImage rom old_save at (drop at.count (recorded_in old_recording)))
+  pub images : old_save.honest → old_recording.honest → HoldsSince old_save now_save (LookImage rom old_save at (drop at.count (recorded_in old_recording)))
   pub looks : old_recording.honest → LooksOnly old_recording now_recording

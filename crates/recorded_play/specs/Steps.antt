@@ -19,7 +19,7 @@ use Rattle.session.specs.declared.error.SessionError.{SessionError}
 use Rattle.session.specs.declared.error.SessionError.TheVariants.{Device as DeviceOfSession, Output}
 use Rattle.session.specs.declared.session.Session.{Session as PlaySession}
 use Rattle.playing.specs.Going.{Place, place, all_of, IsPlayedAt}
-use Rattle.playing.specs.Played.{IsStop, Going, Stopped, Reaches}
+use Rattle.playing.specs.Played.{IsStop, Advanced, Stopped, Reaches}
 use Rattle.recorded_play.specs.Agreeing.{recorded_inputs}
 use Rattle.recorded_play.specs.declared.error.RecordError.{RecordError}
 use Rattle.recorded_play.specs.declared.error.RecordError.TheVariants.{Session, Recording, Behind, Line, Input as FailedInput}
@@ -136,10 +136,10 @@ IsRecordStop why all now = ⊥
 -- ---- steps
 
 -- these inputs were given
-pub record Comes (old new : Game) (more : List Input) : Type 0 where
+pub record BothAdvance (old new : Game) (more : List Input) : Type 0 where
   -- the SAVE has come so far
   pub going : (rom : List ℕ) (from : Position) (given : List Input) → IsPlayedAt rom old.save from given
-      → Going rom old.save.disk new.save.disk new.save.acknowledged new.save.pending new.save.machine from (given ++ more)
+      → Advanced rom old.save.disk new.save.disk new.save.acknowledged new.save.pending new.save.machine from (given ++ more)
   -- and so has the recording
   pub records : (rom : List ℕ) (all : List Input) → HoldsSaved rom old.recording old.save.acknowledged old.save.pending all
       → Records rom old.recording new.recording new.save.acknowledged new.save.pending (all ++ more)
@@ -151,7 +151,7 @@ pub record Comes (old new : Game) (more : List Input) : Type 0 where
   pub rom : new.save.machine.processor.memory.banks.rom ≡ old.save.machine.processor.memory.banks.rom
 
 -- one of these inputs, or a save or a line among them, was refused
-pub record Halts (old new : Game) (more : List Input) (why : RecordError) : Type 0 where
+pub record BothStop (old new : Game) (more : List Input) (why : RecordError) : Type 0 where
   -- each image that is left of the SAVE has what was acknowledged
   pub stopped : (rom : List ℕ) (from : Position) (given : List Input) → IsPlayedAt rom old.save from given
       → Stopped rom old.save.disk new.save.disk new.save.acknowledged from (given ++ more)

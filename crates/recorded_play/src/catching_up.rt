@@ -7,7 +7,7 @@ ghost use Rattle.recording.specs.Accessors.{device_of as device_of_recording, is
 ghost use Rattle.session.specs.Calls.{most_unsaved};
 ghost use Rattle.session.specs.Accessors.{device_of, machine_of, pending_of, acknowledged_of, is_broken};
 ghost use Rattle.playing.specs.Going.{place};
-ghost use Rattle.recorded_play.specs.CatchingUp.{given_by, given_by_all, recorded_in, Passes, Fails, PassesRecorded, FailsRecorded, HasCaughtUp};
+ghost use Rattle.recorded_play.specs.CatchingUp.{given_by, given_by_all, recorded_in, AdvancesOver, StopsOver, AdvancesOverRecorded, StopsOverRecorded, HasCaughtUp};
 
 use crate::error::RecordError;
 use input_entries::{Logged, StoredEntry};
@@ -27,9 +27,9 @@ fn pass<D: SectorDevice>(
     requires whole { is_broken session.old ≡ false }
     requires few { length (pending_of session.old) < most_unsaved }
     ensures passes { IfOk result (λ left.
-        Passes (place session.old) (place session.new) skip left (as_input input ∷ [])) }
+        AdvancesOver (place session.old) (place session.new) skip left (as_input input ∷ [])) }
     ensures fails { IfErr result (λ why.
-        Fails (place session.old) (place session.new) (drop skip (as_input input ∷ [])) why) }
+        StopsOver (place session.old) (place session.new) (drop skip (as_input input ∷ [])) why) }
     ensures whole { OnOk result ((is_broken session.new ≡ false) × (length (pending_of session.new) < most_unsaved)) }
 {
     if skip > 0 {
@@ -51,9 +51,9 @@ fn pass_frames<D: SectorDevice>(
     requires whole { is_broken session.old ≡ false }
     requires few { length (pending_of session.old) < most_unsaved }
     ensures passes { IfOk result (λ left.
-        Passes (place session.old) (place session.new) skip left (replicate times (Frame buttons))) }
+        AdvancesOver (place session.old) (place session.new) skip left (replicate times (Frame buttons))) }
     ensures fails { IfErr result (λ why.
-        Fails (place session.old) (place session.new) (drop skip (replicate times (Frame buttons))) why) }
+        StopsOver (place session.old) (place session.new) (drop skip (replicate times (Frame buttons))) why) }
     ensures whole { OnOk result ((is_broken session.new ≡ false) × (length (pending_of session.new) < most_unsaved)) }
 {
     let mut left = skip;
@@ -75,9 +75,9 @@ fn pass_entry<D: SectorDevice>(
     requires whole { is_broken session.old ≡ false }
     requires few { length (pending_of session.old) < most_unsaved }
     ensures passes { IfOk result (λ left.
-        Passes (place session.old) (place session.new) skip left (given_by entry.now)) }
+        AdvancesOver (place session.old) (place session.new) skip left (given_by entry.now)) }
     ensures fails { IfErr result (λ why.
-        Fails (place session.old) (place session.new) (drop skip (given_by entry.now)) why) }
+        StopsOver (place session.old) (place session.new) (drop skip (given_by entry.now)) why) }
     ensures whole { OnOk result ((is_broken session.new ≡ false) × (length (pending_of session.new) < most_unsaved)) }
 {
     match entry.logged() {
@@ -96,9 +96,9 @@ fn pass_entries<D: SectorDevice>(
     requires whole { is_broken session.old ≡ false }
     requires few { length (pending_of session.old) < most_unsaved }
     ensures passes { IfOk result (λ left.
-        Passes (place session.old) (place session.new) skip left (given_by_all entries.now)) }
+        AdvancesOver (place session.old) (place session.new) skip left (given_by_all entries.now)) }
     ensures fails { IfErr result (λ why.
-        Fails (place session.old) (place session.new) (drop skip (given_by_all entries.now)) why) }
+        StopsOver (place session.old) (place session.new) (drop skip (given_by_all entries.now)) why) }
     ensures whole { OnOk result ((is_broken session.new ≡ false) × (length (pending_of session.new) < most_unsaved)) }
 {
     let mut left = skip;
@@ -123,11 +123,11 @@ fn pass_sector<D: SectorDevice, E: SectorDevice>(
     requires few { length (pending_of session.old) < most_unsaved }
     requires one { 1 ≤ number }
     requires used { number ≤ used_of recording.old }
-    ensures passes { IfOk result (λ left. PassesRecorded
+    ensures passes { IfOk result (λ left. AdvancesOverRecorded
         (place session.old) (place session.new)
         (E.disk (device_of_recording recording.old)) (E.disk (device_of_recording recording.new)) skip left
         (given_by_all (entries_at number (sector_at (E.disk (device_of_recording recording.old)).sectors number)))) }
-    ensures fails { IfErr result (λ why. FailsRecorded
+    ensures fails { IfErr result (λ why. StopsOverRecorded
         (place session.old) (place session.new)
         (E.disk (device_of_recording recording.old)) (E.disk (device_of_recording recording.new)) skip
         (given_by_all (entries_at number (sector_at (E.disk (device_of_recording recording.old)).sectors number)))
@@ -154,11 +154,11 @@ fn pass_all<D: SectorDevice, E: SectorDevice>(
     requires whole { is_broken session.old ≡ false }
     requires open { is_broken_recording recording.old ≡ false }
     requires few { length (pending_of session.old) < most_unsaved }
-    ensures passes { OnOk result ((left : ℕ) × PassesRecorded
+    ensures passes { OnOk result ((left : ℕ) × AdvancesOverRecorded
         (place session.old) (place session.new)
         (E.disk (device_of_recording recording.old)) (E.disk (device_of_recording recording.new)) skip left
         (recorded_in (E.disk (device_of_recording recording.old)))) }
-    ensures fails { IfErr result (λ why. FailsRecorded
+    ensures fails { IfErr result (λ why. StopsOverRecorded
         (place session.old) (place session.new)
         (E.disk (device_of_recording recording.old)) (E.disk (device_of_recording recording.new)) skip
         (recorded_in (E.disk (device_of_recording recording.old))) why) }
@@ -188,7 +188,7 @@ pub(crate) fn catch_up<D: SectorDevice, E: SectorDevice>(
     ensures caught_up { OnOk result (HasCaughtUp
         (place session.old) (place session.new)
         (E.disk (device_of_recording recording.old)) (E.disk (device_of_recording recording.new))) }
-    ensures fails { IfErr result (λ why. FailsRecorded
+    ensures fails { IfErr result (λ why. StopsOverRecorded
         (place session.old) (place session.new)
         (E.disk (device_of_recording recording.old)) (E.disk (device_of_recording recording.new))
         (acknowledged_of session.old)

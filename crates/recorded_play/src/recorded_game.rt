@@ -5,7 +5,7 @@ ghost use Rattle.session.specs.Inputs.{can_be_logged};
 ghost use Rattle.session.specs.Accessors.{machine_of, rom_of, pending_of, acknowledged_of, is_broken};
 ghost use Rattle.session.specs.declared.error.SessionError.TheVariants.{Output};
 ghost use Rattle.recorded_play.specs.declared.error.RecordError.TheVariants.{Session as OfSession};
-ghost use Rattle.recorded_play.specs.Steps.{game, Comes, Halts, told_as};
+ghost use Rattle.recorded_play.specs.Steps.{game, BothAdvance, BothStop, told_as};
 
 use crate::error::RecordError;
 use crate::saving::save_both;
@@ -41,14 +41,14 @@ impl<D: SectorDevice, E: SectorDevice> Playable for RecordedGame<D, E> {
     ghost whole = { λ g. (is_broken g.session ≡ false) × (is_broken_recording g.recording ≡ false) ×
         (can_be_logged (pending_of g.session) ≡ true) };
 
-    ghost gives = { λ a b input. Comes (game a.session a.recording) (game b.session b.recording) (input ∷ []) };
+    ghost gives = { λ a b input. BothAdvance (game a.session a.recording) (game b.session b.recording) (input ∷ []) };
 
-    ghost saves = { λ a b. Comes (game a.session a.recording) (game b.session b.recording) [] };
+    ghost saves = { λ a b. BothAdvance (game a.session a.recording) (game b.session b.recording) [] };
 
-    ghost refuses = { λ a b input why. Halts (game a.session a.recording) (game b.session b.recording) (input ∷
+    ghost refuses = { λ a b input why. BothStop (game a.session a.recording) (game b.session b.recording) (input ∷
         []) why };
 
-    ghost fails = { λ a b why. Halts (game a.session a.recording) (game b.session b.recording) [] why };
+    ghost fails = { λ a b why. BothStop (game a.session a.recording) (game b.session b.recording) [] why };
 
     ghost unwritten = { OfSession Output };
 

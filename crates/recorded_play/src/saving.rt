@@ -8,7 +8,7 @@ ghost use Rattle.session.specs.Inputs.{can_be_logged};
 ghost use Rattle.session.specs.Accessors.{device_of, rom_of, pending_of, acknowledged_of, is_broken, IsUnchanged};
 ghost use Rattle.replaying.specs.Agreeing.{Agrees};
 ghost use Rattle.recorded_play.specs.Agreeing.{AllAgree};
-ghost use Rattle.recorded_play.specs.Steps.{game, Comes, Halts, IsInStep};
+ghost use Rattle.recorded_play.specs.Steps.{game, BothAdvance, BothStop, IsInStep};
 
 use crate::error::RecordError;
 use recording::Recording;
@@ -31,9 +31,9 @@ pub fn save_both<D: SectorDevice, E: SectorDevice>(
     ensures saved { IfOk result (λ all. (all ≡ acknowledged_of session.old + length (pending_of session.old)) ×
         (acknowledged_of session.new ≡ all) × (pending_of session.new ≡ [])) }
     ensures whole { OnOk result ((is_broken session.new ≡ false) × (is_broken_recording recording.new ≡ false)) }
-    ensures comes { OnOk result (Comes (game session.old recording.old) (game session.new recording.new) []) }
+    ensures comes { OnOk result (BothAdvance (game session.old recording.old) (game session.new recording.new) []) }
     ensures halts { IfErr result (λ why.
-        Halts (game session.old recording.old) (game session.new recording.new) [] why) }
+        BothStop (game session.old recording.old) (game session.new recording.new) [] why) }
     ensures nothing { pending_of session.old ≡ [] →
         (recording.new ≡ recording.old) × IsUnchanged session.old session.new }
     ensures full { IfErr result (λ why. why ≡ RecordError.Recording Full →

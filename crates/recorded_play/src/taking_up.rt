@@ -7,7 +7,7 @@ ghost use Rattle.session.specs.Accessors.{device_of, machine_of, rom_of, pending
 ghost use Rattle.session.specs.LookAccessors.{device_of_look, machine_of_look, rom_of_look, count_of_look, generation_of_look};
 ghost use Rattle.log_format.specs.Content.{generation_in};
 ghost use Rattle.recorded_play.specs.Agreeing.{AllAgree};
-ghost use Rattle.recorded_play.specs.GoingOn.{GoesOn, StopsGoingOn};
+ghost use Rattle.recorded_play.specs.GoingOn.{LookAdvances, LookStops};
 ghost use Rattle.recorded_play.specs.Steps.{save_faults_after, recording_faults_after};
 ghost use Rattle.recorded_play.specs.Whole.{HasTakenUp, IsNotTakenUp, save_left, recording_left};
 
@@ -32,7 +32,7 @@ fn resume_and_catch_up<D: SectorDevice, E: SectorDevice>(
     requires generation { (D.disk (device_of_look look)).honest →
         generation_of_look look ≡ generation_in (D.disk (device_of_look look)).sectors }
     ensures goes { IfOk result (λ game.
-        GoesOn cartridge.now (D.disk (device_of_look look)) (D.disk (device_of game.session))
+        LookAdvances cartridge.now (D.disk (device_of_look look)) (D.disk (device_of game.session))
         (E.disk (device_of_recording recording)) (E.disk (device_of_recording game.recording))
         (record {
           count = count_of_look look;
@@ -41,7 +41,7 @@ fn resume_and_catch_up<D: SectorDevice, E: SectorDevice>(
     ensures whole { IfOk result (λ game. (pending_of game.session ≡ []) × (is_broken game.session ≡ false) ×
         (is_broken_recording game.recording ≡ false) × (rom_of game.session ≡ cartridge.now)) }
     ensures stops { IfErr result (λ refused.
-        StopsGoingOn cartridge.now (D.disk (device_of_look look)) (D.disk refused.save)
+        LookStops cartridge.now (D.disk (device_of_look look)) (D.disk refused.save)
         (E.disk (device_of_recording recording)) (E.disk refused.recording)
         (record { count = count_of_look look; machine = machine_of_look look }) refused.why) }
     ensures save_answered { HasAnswered (λ refused. save_faults_after refused.why) (D.disk (device_of_look look))

@@ -8,7 +8,7 @@ use Rattle.playing.specs.declared.playable.Playable.{Ghosts}
 use Rattle.playing.proofs.Making.{Asked, does_then, stops_among_more, stops_before_more}
 use Rattle.streaming.specs.Orders.{Deed}
 use Rattle.streaming.specs.Answers.{inputs_of_deed, inputs_of_deeds, unsaved_behind_deed, unsaved_behind_deeds, lines_of_deed, lines_of_deeds}
-use Rattle.streaming.specs.Obeying.{Obeys, StopsAmong}
+use Rattle.streaming.specs.Obeying.{AdvancesByDeeds, StopsByDeeds}
 
 -- ---- lists of deeds
 
@@ -50,12 +50,12 @@ deeds_asked = record {
 }
 
 module _ {G F : Type 0} {game : Ghosts G F} {a b : G} {x y : Option (List ℕ)} (first second : List Deed) where
-  pub obeys_then : {c : G} {z : Option (List ℕ)} → Obeys game a b x y first → Obeys game b c y z second → Obeys game a c x z (first ++ second)
+  pub obeys_then : {c : G} {z : Option (List ℕ)} → AdvancesByDeeds game a b x y first → AdvancesByDeeds game b c y z second → AdvancesByDeeds game a c x z (first ++ second)
   obeys_then {c} {z} one two = does_then game deeds_asked a b c x y z first second one two
 
-  pub stops_then : {c : G} {z : Option (List ℕ)} {has_failed : Type 0} {why : F} → Obeys game a b x y first → StopsAmong game b c y z has_failed second why → StopsAmong game a c x z has_failed (first ++ second) why
+  pub stops_then : {c : G} {z : Option (List ℕ)} {has_failed : Type 0} {why : F} → AdvancesByDeeds game a b x y first → StopsByDeeds game b c y z has_failed second why → StopsByDeeds game a c x z has_failed (first ++ second) why
   stops_then {c} {z} {has_failed} {why} one two = stops_among_more game deeds_asked a b c x y z has_failed first second why one two
 
   -- and before others
-  pub stops_before : {has_failed : Type 0} {why : F} → StopsAmong game a b x y has_failed first why → StopsAmong game a b x y has_failed (first ++ second) why
+  pub stops_before : {has_failed : Type 0} {why : F} → StopsByDeeds game a b x y has_failed first why → StopsByDeeds game a b x y has_failed (first ++ second) why
   stops_before {has_failed} {why} stop = stops_before_more game deeds_asked a b x y has_failed first second why stop

@@ -18,7 +18,7 @@ use Rattle.streaming.specs.Numbers.{IsNumbered}
 use Rattle.streaming.specs.Reading.{Asks, AsksUpTo, IsAsked, IsNext, ReadsTo}
 use Rattle.streaming.specs.Reading.Asks.{no_line, by_empty, by_deed}
 use Rattle.streaming.specs.Reading.AsksUpTo.{all_asked, by_bytes}
-use Rattle.streaming.specs.Obeying.{Obeys, ObeysLines, StopsAmongLines}
+use Rattle.streaming.specs.Obeying.{AdvancesByDeeds, AdvancesByLines, StopsByLines}
 use Rattle.streaming.specs.Steps.{IsObeyed, IsRefused, IsStep}
 use Rattle.streaming.specs.declared.order.Order.{Order}
 use Rattle.streaming.specs.declared.next_order.Next.TheVariants.{Line, Wrong}
@@ -54,7 +54,7 @@ module _ {G F : Type 0} (game : Ghosts G F) (rom : List ℕ) (start : G) (of : g
     pub asks : Asks game.takes_states rom (game.machine start) lines deeds kept
     pub count : number ≡ length lines + 1
     pub taken : HasTakenGiven (asked game.takes_states) lines before_in there
-    pub obeys : Obeys game start now x y deeds
+    pub obeys : AdvancesByDeeds game start now x y deeds
     pub kept_is : AreKept rom states kept
 
   pub none_yet : (items : List ℕ) (known : Option (List ℕ)) (states : List (List ℕ)) → before_in ≡ known → items ≡ [] → AreKept rom states [] → SoFar start 1 (left_of items known) x states
@@ -107,14 +107,14 @@ module _ {G F : Type 0} {game : Ghosts G F} {rom : List ℕ} {start : G} {of : g
       }
 
   -- an end, with nothing done since
-  ends : {after_it : G} {z known : Option (List ℕ)} {end : Ending} → after_it ≡ now → z ≡ y → ReadsTo game.takes_states rom so_far.kept end lines before_in known → ObeysLines game start after_it before_in known x z end
+  ends : {after_it : G} {z known : Option (List ℕ)} {end : Ending} → after_it ≡ now → z ≡ y → ReadsTo game.takes_states rom so_far.kept end lines before_in known → AdvancesByLines game start after_it before_in known x z end
   ends {z = z} {known = known} {end = end} same quiet read = record {
     lines = lines;
     deeds = so_far.deeds;
     kept = so_far.kept;
     asks = subst (λ (r : List ℕ). Asks game.takes_states r (game.machine start) lines so_far.deeds so_far.kept) (sym of) so_far.asks;
     read = subst (λ (r : List ℕ). ReadsTo game.takes_states r so_far.kept end lines before_in known) (sym of) read;
-    obeys = subst (λ (g : G). Obeys game start g x z so_far.deeds) (sym same) (subst (λ (w : Option (List ℕ)). Obeys game start now x w so_far.deeds) (sym quiet) so_far.obeys);
+    obeys = subst (λ (g : G). AdvancesByDeeds game start g x z so_far.deeds) (sym same) (subst (λ (w : Option (List ℕ)). AdvancesByDeeds game start now x w so_far.deeds) (sym quiet) so_far.obeys);
   }
 
   -- ---- a line with an order
@@ -156,7 +156,7 @@ module _ {G F : Type 0} {game : Ghosts G F} {rom : List ℕ} {start : G} {of : g
 
     -- it was refused
     pub refused_line : {after_it : G} {z known : Option (List ℕ)} {has_failed : Type 0} {why : F} (items : List ℕ) → IsRefused game now after_it y z (record { before = mid; since = left_of items known; unread = known }) rom so_far.kept order has_failed why
-        → StopsAmongLines game start after_it before_in known x z has_failed why
+        → StopsByLines game start after_it before_in known x z has_failed why
     refused_line {known = known} items stop =
         let given = with_bytes stop.bytes in
         let found : (length stop.bytes ≡ asks_for next.line) × AsksUpTo game.takes_states rom (game.machine start) (lines ++ given ∷ []) (so_far.deeds ++ stop.deed ∷ []) = elim stop.asked [
@@ -182,13 +182,13 @@ module _ {G F : Type 0} {game : Ghosts G F} {rom : List ℕ} {start : G} {of : g
     -- nothing was done
 
     pub went_wrong : {after_it : G} {z known : Option (List ℕ)} (items : List ℕ) → IsStep game now after_it y z (record { before = mid; since = left_of items known; unread = known }) rom so_far.kept order [] WentWrong
-        → ObeysLines game start after_it before_in known x z (WrongLine number)
+        → AdvancesByLines game start after_it before_in known x z (WrongLine number)
     went_wrong {known = known} items (still, (k, back, none), took_none) =
         ends still.same still.quiet
         (so_far.count, inl (record { given = plain next.line; is = (refl, inr (k, asked_here (sym back), none)); more = items; read = read_so [] items known (sym (asks_so (sym back))) took_none }))
 
     pub lacked_memory : {after_it : G} {z known : Option (List ℕ)} (items : List ℕ) → IsStep game now after_it y z (record { before = mid; since = left_of items known; unread = known }) rom so_far.kept order [] WentNoMemory
-        → ObeysLines game start after_it before_in known x z NoMemory
+        → AdvancesByLines game start after_it before_in known x z NoMemory
     lacked_memory {known = known} items (still, inl power, took_none) =
         ends still.same still.quiet
         (record { given = plain next.line; is = (refl, inl (asked_here (sym power))); more = items; read = read_so [] items known (sym (asks_so (sym power))) took_none })
@@ -197,7 +197,7 @@ module _ {G F : Type 0} {game : Ghosts G F} {rom : List ℕ} {start : G} {of : g
         (record { given = plain next.line; is = (refl, inr (k, asked_here (sym keeps), none)); more = items; read = read_so [] items known (sym (asks_so (sym keeps))) took_none })
 
     pub was_damaged : {after_it : G} {z known : Option (List ℕ)} (items : List ℕ) → IsStep game now after_it y z (record { before = mid; since = left_of items known; unread = known }) rom so_far.kept order [] WentDamaged
-        → ObeysLines game start after_it before_in known x z Damaged
+        → AdvancesByLines game start after_it before_in known x z Damaged
     was_damaged {known = known} items (still, (n, restores, bad)) =
         let given = with_bytes bad.bytes in
         ends still.same still.quiet
@@ -214,7 +214,7 @@ module _ {G F : Type 0} {game : Ghosts G F} {rom : List ℕ} {start : G} {of : g
         ])
 
     pub bytes_failed : {after_it : G} {z known : Option (List ℕ)} (items : List ℕ) → IsStep game now after_it y z (record { before = mid; since = left_of items known; unread = known }) rom so_far.kept order [] WentFailed
-        → ObeysLines game start after_it before_in known x z FailedRead
+        → AdvancesByLines game start after_it before_in known x z FailedRead
     bytes_failed {known = known} items (still, (n, restores, short)) =
         let cut = unfinished asks_for next.line short.bytes there mid known next.one_line (omega (arith, asks_so (sym restores), short.few)) next.takes short.took in
         ends still.same still.quiet (cut.0, cut.1, given_rest asks_for lines cut.0 before_in there known so_far.taken cut.2)
@@ -224,7 +224,7 @@ module _ {G F : Type 0} {game : Ghosts G F} {rom : List ℕ} {start : G} {of : g
   none_asked : (line : List ℕ) → order_of game.takes_states line ≡ None → asks_for line ≡ 0
   none_asked line none = rw none refl
 
-  pub wrong_line : {known : Option (List ℕ)} (items : List ℕ) → IsNext game.takes_states Wrong there (left_of items known) known → ObeysLines game start now before_in known x y (WrongLine number)
+  pub wrong_line : {known : Option (List ℕ)} (items : List ℕ) → IsNext game.takes_states Wrong there (left_of items known) known → AdvancesByLines game start now before_in known x y (WrongLine number)
   wrong_line {known} items (line, wrong, inl took) =
       ends refl refl (
         so_far.count,
@@ -248,13 +248,13 @@ module _ {G F : Type 0} {game : Ghosts G F} {rom : List ℕ} {start : G} {of : g
         })),
       )
 
-  pub at_the_end : {known : Option (List ℕ)} → Consumes there known [] × IsAtEnd known → ObeysLines game start now before_in known x y Whole
+  pub at_the_end : {known : Option (List ℕ)} → Consumes there known [] × IsAtEnd known → AdvancesByLines game start now before_in known x y Whole
   at_the_end {known} next = ends refl refl (given_rest asks_for lines [] before_in there known so_far.taken next.0, next.1)
 
-  pub read_failed : {known : Option (List ℕ)} → (rest : List ℕ) × HasNoNewline rest × Consumes there known rest → ObeysLines game start now before_in known x y FailedRead
+  pub read_failed : {known : Option (List ℕ)} → (rest : List ℕ) × HasNoNewline rest × Consumes there known rest → AdvancesByLines game start now before_in known x y FailedRead
   read_failed {known} (rest, one, took) = ends refl refl (rest, inl one, given_rest asks_for lines rest before_in there known so_far.taken took)
 
-  pub last_number : (items : List ℕ) (known : Option (List ℕ)) → there ≡ left_of items known → number ≡ 2 ^ 64 - 1 → ObeysLines game start now before_in known x y (WrongLine number)
+  pub last_number : (items : List ℕ) (known : Option (List ℕ)) → there ≡ left_of items known → number ≡ 2 ^ 64 - 1 → AdvancesByLines game start now before_in known x y (WrongLine number)
   last_number items known same last =
       ends refl refl
       (so_far.count, inr (inr (last, (items, given_left asks_for lines items before_in known (subst (HasTakenGiven asks_for lines before_in) same so_far.taken)))))

@@ -11,8 +11,8 @@ use Rattle.session.specs.Stands.{IsAtRest, StandsAsBefore, Position, stands}
 use Rattle.session.specs.declared.error.SessionError.{SessionError}
 use Rattle.session.proofs.Writes.{since_weaker}
 use Rattle.session.proofs.Beginnings.{since_then}
-use Rattle.playing.specs.Going.{Place, all_of, Goes, GoesNoFurther}
-use Rattle.playing.specs.Making.{Makes, StopsMaking}
+use Rattle.playing.specs.Going.{Place, all_of, SaveAdvances, SaveStops}
+use Rattle.playing.specs.Making.{AdvancesTelling, StopsTelling}
 use Rattle.playing.specs.Played.{Reaches, IsPlayed, IsStop, PlayImage}
 use Rattle.playing.specs.Report.{Line, texts, resumed_line, HasTold}
 use Rattle.playing.specs.declared.playable.Playable.{Ghosts}
@@ -25,7 +25,7 @@ use Rattle.machine_lines.specs.KeptStates.{KeptMachine}
 use Rattle.streaming.specs.Orders.{Deed, asked}
 use Rattle.streaming.specs.Reading.{Asks, AsksUpTo, ReadsTo}
 use Rattle.streaming.specs.Answers.{inputs_of_deeds, unsaved_behind_deeds, lines_of_deeds, last_deeds, ended, stream_lines}
-use Rattle.streaming.specs.Obeying.{stream_from, Obeys, StopsAmong}
+use Rattle.streaming.specs.Obeying.{stream_from, AdvancesByDeeds, StopsByDeeds}
 use Rattle.streaming.specs.Streamed.{HasStreamed, HasStreamedAll, HasStopped}
 use Rattle.streaming.specs.declared.obeying.End.{End}
 use Rattle.streaming.specs.declared.obeying.End.TheVariants.{Whole, Wrong, Failed, Damaged, NoMemory}
@@ -46,19 +46,19 @@ ended_gives unsaved deeds =
     ∙ ap (λ (l : List Input). inputs_of_deeds deeds ++ l) (last_gives_none (unsaved_behind_deeds unsaved deeds)) ∙ append-nil (inputs_of_deeds deeds)
 
 module _ {G F : Type 0} {game : Ghosts G F} {a b : G} {x y z : Option (List ℕ)} (deeds : List Deed) where
-  pub ended_obeyed : {m : G} → Obeys game a m x y deeds → Obeys game m b y z (last_deeds (game.unsaved m)) → Obeys game a b x z (ended (game.unsaved a) deeds)
-  ended_obeyed {m} one two = subst (λ (n : ℕ). Obeys game a b x z (deeds ++ last_deeds n)) one.unsaved_is (obeys_then deeds (last_deeds (game.unsaved m)) one two)
+  pub ended_obeyed : {m : G} → AdvancesByDeeds game a m x y deeds → AdvancesByDeeds game m b y z (last_deeds (game.unsaved m)) → AdvancesByDeeds game a b x z (ended (game.unsaved a) deeds)
+  ended_obeyed {m} one two = subst (λ (n : ℕ). AdvancesByDeeds game a b x z (deeds ++ last_deeds n)) one.unsaved_is (obeys_then deeds (last_deeds (game.unsaved m)) one two)
 
-  pub ended_stopped : {m : G} {has_failed : Type 0} {why : F} → Obeys game a m x y deeds → StopsAmong game m b y z has_failed (last_deeds (game.unsaved m)) why → StopsAmong game a b x z has_failed (ended (game.unsaved a) deeds) why
-  ended_stopped {m} {has_failed} {why} one two = subst (λ (n : ℕ). StopsAmong game a b x z has_failed (deeds ++ last_deeds n) why) one.unsaved_is (stops_then deeds (last_deeds (game.unsaved m)) one two)
+  pub ended_stopped : {m : G} {has_failed : Type 0} {why : F} → AdvancesByDeeds game a m x y deeds → StopsByDeeds game m b y z has_failed (last_deeds (game.unsaved m)) why → StopsByDeeds game a b x z has_failed (ended (game.unsaved a) deeds) why
+  ended_stopped {m} {has_failed} {why} one two = subst (λ (n : ℕ). StopsByDeeds game a b x z has_failed (deeds ++ last_deeds n) why) one.unsaved_is (stops_then deeds (last_deeds (game.unsaved m)) one two)
 
   -- behind the line of the resume
-  module _ (resumed : Makes game a a x y [] (game.unsaved a) (resumed_line (game.acknowledged a) ∷ [])) where
-    pub streams_behind : game.unsaved b ≡ 0 → Obeys game a b y z (ended (game.unsaved a) deeds) → Makes game a b x z (inputs_of_deeds deeds) 0 (stream_from game a deeds)
+  module _ (resumed : AdvancesTelling game a a x y [] (game.unsaved a) (resumed_line (game.acknowledged a) ∷ [])) where
+    pub streams_behind : game.unsaved b ≡ 0 → AdvancesByDeeds game a b y z (ended (game.unsaved a) deeds) → AdvancesTelling game a b x z (inputs_of_deeds deeds) 0 (stream_from game a deeds)
     streams_behind saved obeyed = makes_by game (ended_gives (game.unsaved a) deeds) (sym obeyed.unsaved_is ∙ saved) refl (makes_then game resumed obeyed)
 
     -- what was refused
-    pub stops_behind : {has_failed : Type 0} {why : F} → StopsAmong game a b y z has_failed (ended (game.unsaved a) deeds) why → StopsMaking game a b x z has_failed (inputs_of_deeds deeds) (stream_from game a deeds) why
+    pub stops_behind : {has_failed : Type 0} {why : F} → StopsByDeeds game a b y z has_failed (ended (game.unsaved a) deeds) why → StopsTelling game a b x z has_failed (inputs_of_deeds deeds) (stream_from game a deeds) why
     stops_behind stop = stops_by game (ended_gives (game.unsaved a) deeds) refl (behind game resumed stop)
 
 -- whatever the end, the lines before it were read
@@ -111,7 +111,7 @@ module _ {rom : List ℕ} {old : DiskState} {a : Place} (up : TakenUp rom old a)
       (since_weaker held (λ image reaches. inr (record { from = from; stood = up.stood honest; reaches = reaches })))
 
   -- to an end
-  abbrev pub streamed_to : {b : Place} {before_in since_in before since : Option (List ℕ)} {own : List ℕ} {lines : List Given} {kept : List KeptMachine} {found end : End} → Goes a b inputs → length b.pending ≡ 0 → Appends before since (texts (stream_at a deeds))
+  abbrev pub streamed_to : {b : Place} {before_in since_in before since : Option (List ℕ)} {own : List ℕ} {lines : List Given} {kept : List KeptMachine} {found end : End} → SaveAdvances a b inputs → length b.pending ≡ 0 → Appends before since (texts (stream_at a deeds))
       → own ≡ rom → Asks true own a.machine lines deeds kept → found ≡ end → ReadsTo true own kept found lines before_in since_in → HasStreamed rom old b.disk end before_in since_in before since
   streamed_to {b} {before_in} {since_in} {before} {since} {own} {lines} {kept} {found} {end} goes saved answered own_is asks end_is read = record {
     from = from;
@@ -127,7 +127,7 @@ module _ {rom : List ℕ} {old : DiskState} {a : Place} (up : TakenUp rom old a)
     images = λ honest. images_since honest (goes.going rom from [] (begun honest)).moments;
   }
 
-  pub streamed_all : {b : Place} {before_in since_in before since : Option (List ℕ)} {own : List ℕ} {lines : List Given} {kept : List KeptMachine} {found : End} → Goes a b inputs → length b.pending ≡ 0 → Appends before since (texts (stream_at a deeds))
+  pub streamed_all : {b : Place} {before_in since_in before since : Option (List ℕ)} {own : List ℕ} {lines : List Given} {kept : List KeptMachine} {found : End} → SaveAdvances a b inputs → length b.pending ≡ 0 → Appends before since (texts (stream_at a deeds))
       → own ≡ rom → Asks true own a.machine lines deeds kept → found ≡ Whole → ReadsTo true own kept found lines before_in since_in → HasStreamedAll rom old b.disk b.acknowledged b.machine before_in since_in before since
   streamed_all goes saved answered own_is asks end_is read = record {
     streamed = streamed_to goes saved answered own_is asks end_is read;
@@ -137,7 +137,7 @@ module _ {rom : List ℕ} {old : DiskState} {a : Place} (up : TakenUp rom old a)
 
   -- stopped
   pub stopped_stream : {b : Place} {before_in since_in before since : Option (List ℕ)} {own : List ℕ} {lines : List Given} {why : SessionError} (more : List ℕ) → own ≡ rom → AsksUpTo true own a.machine lines deeds → HasReadGiven (asked true) lines more before_in since_in
-      → HasTold why b.acknowledged (stream_at a deeds) before since → GoesNoFurther a b inputs why → HasStopped rom old b.disk why before_in since_in before since
+      → HasTold why b.acknowledged (stream_at a deeds) before since → SaveStops a b inputs why → HasStopped rom old b.disk why before_in since_in before since
   stopped_stream {b} {before_in} {since_in} {before} {since} {own} {lines} {why} more own_is asks read told stop =
       let least : ℕ = b.acknowledged - a.acknowledged in
       let saved_is : b.acknowledged ≡ from.count + least = omega (arith, stop.later) in

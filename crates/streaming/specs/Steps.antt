@@ -8,7 +8,7 @@ use Rattle.machine_lines.specs.KeptStates.{KeptMachine, kept_under}
 use Rattle.machine_lines.specs.Slots.{AreKept}
 use Rattle.playing.specs.declared.playable.Playable.{Ghosts}
 use Rattle.streaming.specs.Orders.{Deed, GoesOnWith, order_in, IsDoneBy, kept_behind}
-use Rattle.streaming.specs.Obeying.{Obeys, StopsAmong}
+use Rattle.streaming.specs.Obeying.{AdvancesByDeeds, StopsByDeeds}
 use Rattle.streaming.specs.declared.order.Order.{Order}
 use Rattle.streaming.specs.declared.order.Order.TheVariants.{Make, Keep, Back, Restore}
 use Rattle.streaming.specs.declared.obeying.Went.{Went}
@@ -39,7 +39,7 @@ module _ {G F : Type 0} (game : Ghosts G F) (old new : G) (before since : Option
     pub order_is : order_in deed ≡ order
     pub done : IsDoneBy rom kept bytes deed
     pub took : Consumes left.before left.since bytes
-    pub obeys : Obeys game old new before since (deed ∷ [])
+    pub obeys : AdvancesByDeeds game old new before since (deed ∷ [])
     pub kept_is : AreKept rom states (kept_behind (game.machine old) kept deed)
 
   -- nothing was done
@@ -61,4 +61,4 @@ module _ {G F : Type 0} (game : Ghosts G F) (old new : G) (before since : Option
     pub order_is : order_in deed ≡ order
     pub asked : IsDoneBy rom kept bytes deed ⊎ ((n : ℕ) × (order ≡ Restore n) × (length bytes ≡ n) × (deed ≡ GoesOnWith (Restore n) (machine_in rom bytes)))
     pub took : Consumes left.before left.since bytes
-    pub stops : StopsAmong game old new before since has_failed (deed ∷ []) why
+    pub stops : StopsByDeeds game old new before since has_failed (deed ∷ []) why

@@ -17,7 +17,7 @@ ghost use Rattle.machine_lines.specs.Slots.{AreKept};
 ghost use Rattle.streaming.specs.Numbers.{IsNumbered};
 ghost use Rattle.streaming.specs.Orders.{Does, GoesOnWith, needs_states};
 ghost use Rattle.streaming.specs.Answers.{last_deeds, other_text};
-ghost use Rattle.streaming.specs.Obeying.{Obeys, StopsAmong, ObeysLines, StopsAmongLines, Streams, StopsStream};
+ghost use Rattle.streaming.specs.Obeying.{AdvancesByDeeds, StopsByDeeds, AdvancesByLines, StopsByLines, AdvancesByStream, StopsByStream};
 ghost use Rattle.streaming.specs.Steps.{IsStep, IsRefused};
 
 use crate::next_order::{Next, read_next};
@@ -89,12 +89,12 @@ fn obey_move<G: Playable, W: Output>(
     requires whole { G.whole game.old }
     requires few { G.unsaved game.old < most_unsaved }
     ensures obeyed { IfOk result (λ done. done ≡ true →
-        Obeys ⟦<G as Playable>⟧ game.old game.new (W.contents out.old) (W.contents out.new) (Does (Order.Make a_move) ∷
+        AdvancesByDeeds ⟦<G as Playable>⟧ game.old game.new (W.contents out.old) (W.contents out.new) (Does (Order.Make a_move) ∷
         [])) }
     ensures nothing { IfOk result (λ done.
         done ≡ false → (a_move ≡ Power) × (game.new ≡ game.old) × (out.new ≡ out.old)) }
     ensures stopped { IfErr result (λ why.
-        StopsAmong ⟦<G as Playable>⟧ game.old game.new (W.contents out.old) (W.contents out.new)
+        StopsByDeeds ⟦<G as Playable>⟧ game.old game.new (W.contents out.old) (W.contents out.new)
         (W.has_failed out.new ≡ true) (Does (Order.Make a_move) ∷ []) why) }
     ensures whole { OnOk result (G.whole game.new × (G.unsaved game.new < most_unsaved)) }
 {
@@ -104,10 +104,10 @@ fn obey_move<G: Playable, W: Output>(
 /// Writes a picture.
 fn obey_picture<G: Playable, W: Output>(game: &mut G, out: &mut W) -> Result<(), G::Fault>
     ensures obeyed { OnOk result
-        (Obeys ⟦<G as Playable>⟧ game.old game.new (W.contents out.old) (W.contents out.new) (Does Order.Picture ∷
+        (AdvancesByDeeds ⟦<G as Playable>⟧ game.old game.new (W.contents out.old) (W.contents out.new) (Does Order.Picture ∷
         [])) }
     ensures stopped { IfErr result (λ why.
-        StopsAmong ⟦<G as Playable>⟧ game.old game.new (W.contents out.old) (W.contents out.new)
+        StopsByDeeds ⟦<G as Playable>⟧ game.old game.new (W.contents out.old) (W.contents out.new)
         (W.has_failed out.new ≡ true) (Does Order.Picture ∷ []) why) }
     ensures same { game.new ≡ game.old }
 {
@@ -126,9 +126,9 @@ fn obey_state<G: Playable, W: Output>(
 ) -> Result<(), G::Fault>
     requires { length snapshot.old ≡ snapshot_length (ram_length_of (G.rom game.old)) }
     ensures obeyed { OnOk result
-        (Obeys ⟦<G as Playable>⟧ game.old game.new (W.contents out.old) (W.contents out.new) (Does Order.State ∷ [])) }
+        (AdvancesByDeeds ⟦<G as Playable>⟧ game.old game.new (W.contents out.old) (W.contents out.new) (Does Order.State ∷ [])) }
     ensures stopped { IfErr result (λ why.
-        StopsAmong ⟦<G as Playable>⟧ game.old game.new (W.contents out.old) (W.contents out.new)
+        StopsByDeeds ⟦<G as Playable>⟧ game.old game.new (W.contents out.old) (W.contents out.new)
         (W.has_failed out.new ≡ true) (Does Order.State ∷ []) why) }
     ensures same { game.new ≡ game.old }
     ensures room { length snapshot.new ≡ length snapshot.old }
@@ -148,10 +148,10 @@ fn obey_memory<G: Playable, W: Output>(
     out: &mut W,
 ) -> Result<(), G::Fault>
     ensures obeyed { OnOk result
-        (Obeys ⟦<G as Playable>⟧ game.old game.new (W.contents out.old) (W.contents out.new)
+        (AdvancesByDeeds ⟦<G as Playable>⟧ game.old game.new (W.contents out.old) (W.contents out.new)
         (Does (Order.Memory address count) ∷ [])) }
     ensures stopped { IfErr result (λ why.
-        StopsAmong ⟦<G as Playable>⟧ game.old game.new (W.contents out.old) (W.contents out.new)
+        StopsByDeeds ⟦<G as Playable>⟧ game.old game.new (W.contents out.old) (W.contents out.new)
         (W.has_failed out.new ≡ true) (Does (Order.Memory address count) ∷ []) why) }
     ensures same { game.new ≡ game.old }
 {
@@ -171,7 +171,7 @@ fn obey_keep<G: Playable, W: Output>(
 ) -> Result<bool, G::Fault>
     requires { slot < slots }
     ensures obeyed { IfOk result (λ done. done ≡ true →
-        Obeys ⟦<G as Playable>⟧ game.old game.new (W.contents out.old) (W.contents out.new) (Does (Order.Keep slot) ∷
+        AdvancesByDeeds ⟦<G as Playable>⟧ game.old game.new (W.contents out.old) (W.contents out.new) (Does (Order.Keep slot) ∷
         [])) }
     ensures kept { (machines : List KeptMachine) → AreKept (G.rom game.old) kept.old machines →
         IfOk result (λ done. done ≡ true →
@@ -180,7 +180,7 @@ fn obey_keep<G: Playable, W: Output>(
         IfOk result (λ done. done ≡ false →
         (out.new ≡ out.old) × (kept_under slot machines ≡ NotThere)) }
     ensures stopped { IfErr result (λ why.
-        StopsAmong ⟦<G as Playable>⟧ game.old game.new (W.contents out.old) (W.contents out.new)
+        StopsByDeeds ⟦<G as Playable>⟧ game.old game.new (W.contents out.old) (W.contents out.new)
         (W.has_failed out.new ≡ true) (Does (Order.Keep slot) ∷ []) why) }
     ensures same { game.new ≡ game.old }
 {
@@ -210,13 +210,13 @@ fn go_on_with<G: Playable, W: Output>(
     requires whole { G.whole game.old }
     requires few { G.unsaved game.old < most_unsaved }
     ensures obeyed { IfOk result (λ done. done ≡ true →
-        Obeys ⟦<G as Playable>⟧ game.old game.new (W.contents out.old) (W.contents out.new)
+        AdvancesByDeeds ⟦<G as Playable>⟧ game.old game.new (W.contents out.old) (W.contents out.new)
         (GoesOnWith order (machine_in cartridge.now bytes.now) ∷ [])) }
     ensures legal { IfOk result (λ done. done ≡ true → IsLegalSnapshot cartridge.now bytes.now) }
     ensures nothing { IfOk result (λ done.
         done ≡ false → (game.new ≡ game.old) × (out.new ≡ out.old) × (¬ IsLegalSnapshot cartridge.now bytes.now)) }
     ensures stopped { IfErr result (λ why.
-        StopsAmong ⟦<G as Playable>⟧ game.old game.new (W.contents out.old) (W.contents out.new)
+        StopsByDeeds ⟦<G as Playable>⟧ game.old game.new (W.contents out.old) (W.contents out.new)
         (W.has_failed out.new ≡ true) (GoesOnWith order (machine_in cartridge.now bytes.now) ∷ []) why) }
     ensures whole { OnOk result (G.whole game.new × (G.unsaved game.new < most_unsaved)) }
 {
@@ -422,9 +422,9 @@ fn obey_lines<G: Playable, R: LineInput, W: Output>(
     requires of { G.rom game.old ≡ cartridge.now }
     requires whole { G.whole game.old }
     requires few { G.unsaved game.old < most_unsaved }
-    ensures obeyed { IfOk result (λ end. ObeysLines ⟦<G as Playable>⟧ game.old game.new
+    ensures obeyed { IfOk result (λ end. AdvancesByLines ⟦<G as Playable>⟧ game.old game.new
         (R.remaining input.old) (R.remaining input.new) (W.contents out.old) (W.contents out.new) end) }
-    ensures stopped { IfErr result (λ why. StopsAmongLines ⟦<G as Playable>⟧ game.old game.new
+    ensures stopped { IfErr result (λ why. StopsByLines ⟦<G as Playable>⟧ game.old game.new
         (R.remaining input.old) (R.remaining input.new) (W.contents out.old) (W.contents out.new)
         (W.has_failed out.new ≡ true) why) }
     ensures failed { IfOk result (λ end. end ≡ End.Failed → R.has_failed input.new ≡ true) }
@@ -458,10 +458,10 @@ fn save_rest<G: Playable, W: Output>(game: &mut G, out: &mut W) -> Result<(), G:
     requires whole { G.whole game.old }
     requires few { G.unsaved game.old < most_unsaved }
     ensures obeyed { OnOk result
-        (Obeys ⟦<G as Playable>⟧ game.old game.new (W.contents out.old) (W.contents out.new)
+        (AdvancesByDeeds ⟦<G as Playable>⟧ game.old game.new (W.contents out.old) (W.contents out.new)
         (last_deeds (G.unsaved game.old))) }
     ensures stopped { IfErr result (λ why.
-        StopsAmong ⟦<G as Playable>⟧ game.old game.new (W.contents out.old) (W.contents out.new)
+        StopsByDeeds ⟦<G as Playable>⟧ game.old game.new (W.contents out.old) (W.contents out.new)
         (W.has_failed out.new ≡ true) (last_deeds (G.unsaved game.old)) why) }
     ensures saved { OnOk result (G.whole game.new × (G.unsaved game.new ≡ 0)) }
 {
@@ -488,9 +488,9 @@ pub fn stream_on<G: Playable, R: LineInput, W: Output>(
     requires of { G.rom game.old ≡ cartridge.now }
     requires whole { G.whole game.old }
     requires none { G.unsaved game.old ≡ 0 }
-    ensures streamed { IfOk result (λ end. Streams ⟦<G as Playable>⟧ game.old game.new
+    ensures streamed { IfOk result (λ end. AdvancesByStream ⟦<G as Playable>⟧ game.old game.new
         (R.remaining input.old) (R.remaining input.new) (W.contents out.old) (W.contents out.new) end) }
-    ensures stopped { IfErr result (λ why. StopsStream ⟦<G as Playable>⟧ game.old game.new
+    ensures stopped { IfErr result (λ why. StopsByStream ⟦<G as Playable>⟧ game.old game.new
         (R.remaining input.old) (R.remaining input.new) (W.contents out.old) (W.contents out.new)
         (W.has_failed out.new ≡ true) why) }
     ensures failed { IfOk result (λ end. end ≡ End.Failed → R.has_failed input.new ≡ true) }

@@ -1,6 +1,6 @@
 use Rattle.std.proofs.Common.{◌≡◌, ℕ, replicate, subst, arith}
 use Rattle.machine.specs.Machine.{Frame}
-use Rattle.playing.specs.Making.{GivesInputs}
+use Rattle.playing.specs.Making.{AdvancesByInputs}
 use Rattle.playing.proofs.Making.{makes_nothing}
 use Rattle.playing.proofs.MoveLaws.{frame_given, frame_stopped}
 use Rattle.playing.proofs.Stops.{handed_on}
@@ -28,4 +28,4 @@ returns-in_err-give-clause-stopped g c =
 pub returns-clause-made : goal.returns-clause-made
 returns-clause-made g c =
     let all : c.loop-i._i ≡ c.args.times = omega (arith, c.loop-i-test.false, c.loop-i.auto._i-end) in
-    subst (λ (n : ℕ). GivesInputs g.G.Playable c.args.game.now c.loop-i.game (g.R.Report.contents c.args.report.now) (g.R.Report.contents c.loop-i.report) (replicate n (Frame c.args.buttons))) all c.loop-i.invariant.made
+    subst (λ (n : ℕ). AdvancesByInputs g.G.Playable c.args.game.now c.loop-i.game (g.R.Report.contents c.args.report.now) (g.R.Report.contents c.loop-i.report) (replicate n (Frame c.args.buttons))) all c.loop-i.invariant.made

@@ -1,7 +1,7 @@
 use Rattle.std.proofs.Common.{ap, ◌∙◌, subst}
 use Rattle.std.proofs.lemmas.List.{take_all}
 use Rattle.script.specs.declared.moves.Move.TheVariants.{Frames}
-use Rattle.playing.specs.Making.{MakesMoves}
+use Rattle.playing.specs.Making.{AdvancesByMoves}
 use Rattle.playing.proofs.Making.{advances_rom, makes_nothing}
 use Rattle.playing.proofs.MoveLaws.{next_made, next_stopped, next_without_memory}
 use Rattle.playing.proofs.moves.make_moves.Goals as goal
@@ -37,4 +37,4 @@ returns-in-Err-clause-stopped g c =
 pub returns-clause-made : goal.returns-clause-made
 returns-clause-made g c = λ done.
     let all = take_all c.loop-next.next-index c.args.moves.now c.loop-next-test.false in
-    subst (MakesMoves g.G.Playable c.args.game.now c.loop-next.game (g.R.Report.contents c.args.report.now) (g.R.Report.contents c.loop-next.report)) all c.loop-next.invariant.made
+    subst (AdvancesByMoves g.G.Playable c.args.game.now c.loop-next.game (g.R.Report.contents c.args.report.now) (g.R.Report.contents c.loop-next.report)) all c.loop-next.invariant.made

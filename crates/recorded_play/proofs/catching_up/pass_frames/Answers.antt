@@ -3,7 +3,7 @@ use Rattle.std.proofs.lemmas.List.{replicate-append-replicate}
 use Rattle.machine.specs.Machine.{Frame}
 use Rattle.session.specs.Accessors.{device_of}
 use Rattle.playing.specs.Going.{place}
-use Rattle.recorded_play.specs.CatchingUp.{Passes}
+use Rattle.recorded_play.specs.CatchingUp.{AdvancesOver}
 use Rattle.recorded_play.proofs.Passing.{passes_nothing, passes_then, passes_by, fails_frames}
 use Rattle.recorded_play.proofs.catching_up.pass_frames.Goals as goal
 
@@ -24,7 +24,7 @@ loop-i-preserved g c = record {
 pub returns-clause-passes : goal.returns-clause-passes
 returns-clause-passes g c =
     let all : c.loop-i._i ≡ c.args.times = omega (arith, c.loop-i-test.false, c.loop-i.auto._i-end) in
-    subst (λ (n : ℕ). Passes (place c.args.session.now) (place c.loop-i.session) c.args.skip c.loop-i.left (replicate n (Frame c.args.buttons))) all c.loop-i.invariant.passes
+    subst (λ (n : ℕ). AdvancesOver (place c.args.session.now) (place c.loop-i.session) c.args.skip c.loop-i.left (replicate n (Frame c.args.buttons))) all c.loop-i.invariant.passes
 
 pub returns-in-Err-clause-fails : goal.returns-in-Err-clause-fails
 returns-in-Err-clause-fails g c = fails_frames (Frame c.args.buttons) c.loop-i._i c.args.times c.loop-i-test.true c.loop-i.invariant.passes c.in-Err.ensures.fails

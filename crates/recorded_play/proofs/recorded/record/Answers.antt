@@ -6,7 +6,7 @@ use Rattle.session.proofs.Answering.{answered_both, answered_otherwise, answered
 use Rattle.playing.proofs.Going.{none_left}
 use Rattle.playing.proofs.Telling.{keeps_same}
 use Rattle.streaming.specs.Answers.{inputs_of_deeds}
-use Rattle.recorded_play.specs.Steps.{Comes, game, IsOfDevices, save_faults_after, recording_faults_after, told_as}
+use Rattle.recorded_play.specs.Steps.{BothAdvance, game, IsOfDevices, save_faults_after, recording_faults_after, told_as}
 use Rattle.recorded_play.proofs.Stepping.{comes_all, halts_all}
 use Rattle.recorded_play.proofs.WholePlays.{IsUp, none_damaged, none_lacked, recorded_to, rests_at, stopped_record, as_refusal, ended_agree, stopped_agree}
 use Rattle.recorded_play.proofs.recorded.record.Given.{Over}
@@ -78,7 +78,7 @@ returns-in-Ok-Wrong g c =
       recording_answered = answered_otherwise (answered_both {V = Unit {0}} {faults_after = recording_faults_after} {value = tt} taken.recording_answered comes.recording_calls) (λ n. refl);
     })
 
-comes_failed : (g : Over) (c : In-Ok-Failed g) → Comes (game c.in-Ok-take_up.game.session c.in-Ok-take_up.game.recording) (game c.stream_on.new.game.session c.stream_on.new.game.recording) (inputs_of_deeds c.in-Ok-Failed.ensures.streamed.deeds)
+comes_failed : (g : Over) (c : In-Ok-Failed g) → BothAdvance (game c.in-Ok-take_up.game.session c.in-Ok-take_up.game.recording) (game c.stream_on.new.game.session c.stream_on.new.game.recording) (inputs_of_deeds c.in-Ok-Failed.ensures.streamed.deeds)
 comes_failed g c =
     let streams = c.in-Ok-Failed.ensures.streamed in
     comes_all g.met.D.SectorDevice.only_now g.met.E.SectorDevice.only_now (λ a b input one. one) (λ a b one. one) c.in-Ok-take_up.game c.stream_on.new.game (inputs_of_deeds streams.deeds) streams.makes.advances

@@ -7,7 +7,7 @@ use Rattle.session.specs.LookAccessors.{device_of_look, count_of_look, generatio
 use Rattle.session.proofs.Answering.{answered_both, answered_error, answered_refusal, answered_refused, answered_value}
 use Rattle.playing.specs.Going.{place}
 use Rattle.recorded_play.specs.CatchingUp.{recorded_in}
-use Rattle.recorded_play.specs.GoingOn.{GoesOn, StopsGoingOn}
+use Rattle.recorded_play.specs.GoingOn.{LookAdvances, LookStops}
 use Rattle.recorded_play.proofs.GoingOn.{IsResumed, goes_on, stops_catching_up, stops_resuming, resume_stop}
 use Rattle.recorded_play.proofs.taking_up.resume_and_catch_up.Given.{Over}
 use Rattle.recorded_play.proofs.taking_up.resume_and_catch_up.Goals as goal
@@ -44,7 +44,7 @@ returns-in-Ok-catch_up-clause-goes g c =
     let now = c.catch_up.new.session in
     let other = g.E.SectorDevice.disk in
     let same = c.in-Ok.ensures.same in
-    subst (λ (p : Position). GoesOn c.args.cartridge.now (g.D.SectorDevice.disk (device_of_look c.args.look)) (g.D.SectorDevice.disk (device_of now)) (other (device_of_recording c.args.recording)) (other (device_of_recording c.catch_up.new.recording)) p (acknowledged_of now) (machine_of now))
+    subst (λ (p : Position). LookAdvances c.args.cartridge.now (g.D.SectorDevice.disk (device_of_look c.args.look)) (g.D.SectorDevice.disk (device_of now)) (other (device_of_recording c.args.recording)) (other (device_of_recording c.catch_up.new.recording)) p (acknowledged_of now) (machine_of now))
     (λ i. record { count = same.0 i; machine = same.1 i })
     (goes_on (resumed g (goal.at.returns-in-Ok-catch_up-clause-goes g c).In-Ok) c.in-Ok-catch_up.ensures.whole.2 c.in-Ok-catch_up.ensures.caught_up)
 
@@ -64,7 +64,7 @@ returns-in-Err-catch_up-clause-stops g c =
     let other = g.E.SectorDevice.disk in
     let same = c.in-Ok.ensures.same in
     rw (c.into_device-in-Err-catch_up.ensures.device, c.into_device-in-Err-catch_up-2.ensures)
-    (subst (λ (p : Position). StopsGoingOn c.args.cartridge.now (g.D.SectorDevice.disk (device_of_look c.args.look)) (g.D.SectorDevice.disk (device_of c.catch_up.new.session)) (other (device_of_recording c.args.recording)) (other (device_of_recording c.catch_up.new.recording)) p c.in-Err-catch_up.why)
+    (subst (λ (p : Position). LookStops c.args.cartridge.now (g.D.SectorDevice.disk (device_of_look c.args.look)) (g.D.SectorDevice.disk (device_of c.catch_up.new.session)) (other (device_of_recording c.args.recording)) (other (device_of_recording c.catch_up.new.recording)) p c.in-Err-catch_up.why)
     (λ i. record { count = same.0 i; machine = same.1 i })
     (stops_catching_up (resumed g (goal.at.returns-in-Err-catch_up-clause-stops g c).In-Ok) c.in-Err-catch_up.ensures.fails))
 

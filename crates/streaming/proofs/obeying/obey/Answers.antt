@@ -5,7 +5,7 @@ use Rattle.machine_lines.specs.KeptStates.{KeptMachine}
 use Rattle.machine_lines.specs.Slots.{AreKept}
 use Rattle.playing.specs.declared.playable.Playable.{Ghosts}
 use Rattle.streaming.specs.Orders.{Does, IsOwn, kept_behind, needs_states}
-use Rattle.streaming.specs.Obeying.{Obeys, StopsAmong}
+use Rattle.streaming.specs.Obeying.{AdvancesByDeeds, StopsByDeeds}
 use Rattle.streaming.specs.Steps.{IsObeyed, IsRefused}
 use Rattle.streaming.specs.declared.order.Order.{Order}
 use Rattle.streaming.specs.declared.order.Order.TheVariants.{Make, Picture, State, Memory, Keep}
@@ -13,7 +13,7 @@ use Rattle.streaming.proofs.obeying.obey.Goals as goal
 
 -- an order that leaves the machine to its moves, for which no bytes are taken
 module _ {G F : Type 0} {game : Ghosts G F} {old new : G} {before since there unread : Option (List ℕ)} {rom : List ℕ} {machines : List KeptMachine} {order : Order} (does : Order) (is : order ≡ does) (own : IsOwn does) where
-  obeyed : {states : List (List ℕ)} → Obeys game old new before since (Does does ∷ []) → AreKept rom states (kept_behind (game.machine old) machines (Does does))
+  obeyed : {states : List (List ℕ)} → AdvancesByDeeds game old new before since (Does does ∷ []) → AreKept rom states (kept_behind (game.machine old) machines (Does does))
       → IsObeyed game old new before since (record { before = there; since = there; unread = unread }) rom machines order states
   obeyed obeys kept = record {
     bytes = [];
@@ -25,7 +25,7 @@ module _ {G F : Type 0} {game : Ghosts G F} {old new : G} {before since there un
     kept_is = kept;
   }
 
-  refused : {has_failed : Type 0} {why : F} → StopsAmong game old new before since has_failed (Does does ∷ []) why → IsRefused game old new before since (record { before = there; since = there; unread = unread }) rom machines order has_failed why
+  refused : {has_failed : Type 0} {why : F} → StopsByDeeds game old new before since has_failed (Does does ∷ []) why → IsRefused game old new before since (record { before = there; since = there; unread = unread }) rom machines order has_failed why
   refused stops = record {
     bytes = [];
     deed = Does does;

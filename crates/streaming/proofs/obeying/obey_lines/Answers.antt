@@ -1,7 +1,7 @@
 use Rattle.std.proofs.Common.{◌≡◌, ◌∙◌, refl, subst, arith}
 use Rattle.input_lines.specs.Reading.{left_of}
 use Rattle.machine_lines.proofs.SlotLaws.{none_kept}
-use Rattle.streaming.specs.Obeying.{ObeysLines}
+use Rattle.streaming.specs.Obeying.{AdvancesByLines}
 use Rattle.streaming.specs.declared.obeying.End.TheVariants.{Wrong as WrongLine}
 use Rattle.streaming.proofs.OrderLines.{needs_are}
 use Rattle.streaming.proofs.Lines.{IsOrdered, ordered, none_yet, rom_is, empty_line, obeyed_line, refused_line, went_wrong, lacked_memory, was_damaged, bytes_failed, wrong_line, at_the_end, read_failed, last_number}
@@ -94,5 +94,5 @@ returns-in-Failed-clause-obeyed g c = read_failed (c.loop-number.invariant.so_fa
 pub returns-clause-obeyed : goal.returns-clause-obeyed
 returns-clause-obeyed g c =
     let last : c.loop-number.number ≡ 18446744073709551615 = omega (arith, c.loop-number-test.false, c.loop-number.auto.number-end) in
-    subst (λ n. ObeysLines g.G.Playable c.args.game.now c.loop-number.game (g.R.LineInput.remaining c.args.input.now) (g.R.LineInput.remaining c.loop-number.input) (g.W.Output.contents c.args.out.now) (g.W.Output.contents c.loop-number.out) (WrongLine n)) last
+    subst (λ n. AdvancesByLines g.G.Playable c.args.game.now c.loop-number.game (g.R.LineInput.remaining c.args.input.now) (g.R.LineInput.remaining c.loop-number.input) (g.W.Output.contents c.args.out.now) (g.W.Output.contents c.loop-number.out) (WrongLine n)) last
     (last_number (c.loop-number.invariant.so_far c.requires.of) c.loop-number.unread.items (g.R.LineInput.remaining c.loop-number.input) refl last)
