@@ -11,7 +11,7 @@ use Rattle.session.proofs.Beginnings.{since_now}
 use Rattle.session.proofs.Writes.{since_weaker}
 use Rattle.playing.specs.Played.{PlayImage, HasPlayed, HasReached}
 use Rattle.playing.specs.Report.{report_of}
-use Rattle.playing.specs.Inputs.{inputs_of_moves}
+use Rattle.script.specs.Inputs.{inputs_of_moves}
 use Rattle.script.specs.Script.{moves_of}
 use Rattle.script.specs.declared.moves.Move.{Move}
 use Rattle.sector_device.specs.FileDevice.{file_disk}

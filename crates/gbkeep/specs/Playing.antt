@@ -18,7 +18,7 @@ use Rattle.session.specs.declared.error.SessionError.{SessionError}
 use Rattle.session.specs.declared.session.Session.{Session as PlaySession}
 use Rattle.playing.specs.Played.{IsNotTakenUp, HasPlayed, HasStopped, HasFoundNoMemory}
 use Rattle.playing.specs.Report.{report_of}
-use Rattle.playing.specs.Inputs.{inputs_of_moves}
+use Rattle.script.specs.Inputs.{inputs_of_moves}
 use Rattle.gbkeep.specs.declared.error.PlayError.{PlayError}
 use Rattle.gbkeep.specs.declared.error.PlayError.TheVariants.{Cart, Script, Session, Picture}
 use Rattle.gbkeep.specs.declared.error.PlayRefused.{PlayRefused}

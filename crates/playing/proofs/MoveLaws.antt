@@ -7,7 +7,7 @@ use Rattle.script.specs.declared.moves.Move.{Move}
 use Rattle.script.specs.declared.moves.Move.TheVariants.{Power}
 use Rattle.playing.specs.Making.{count_of, AdvancesTelling, StopsTelling, AdvancesByInputs, StopsByInputs, AdvancesByMoves, StopsByMoves, HasRoom, FindsNoMemory}
 use Rattle.playing.specs.Report.{unsaved_behind, lines_of_inputs, unsaved_behind_move, unsaved_behind_moves, lines_of_move, lines_of_moves}
-use Rattle.playing.specs.Inputs.{inputs_of_move, inputs_of_moves}
+use Rattle.script.specs.Inputs.{inputs_of_move, inputs_of_moves}
 use Rattle.playing.specs.declared.playable.Playable.{Ghosts}
 use Rattle.playing.proofs.ReportLaws.{inputs_append, unsaved_append, lines_append, unsaved_moves, lines_moves}
 use Rattle.playing.proofs.Making.{Asked, makes_by, stops_by, does_then, stops_among_more, stops_before_more}

@@ -1,4 +1,3 @@
-pub mod Inputs
 pub mod Report
 pub mod Played
 pub mod Going

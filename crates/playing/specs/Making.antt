@@ -6,7 +6,7 @@ use Rattle.script.specs.declared.moves.Move.{Move}
 use Rattle.script.specs.declared.moves.Move.TheVariants.{Power}
 use Rattle.session.specs.declared.error.SessionError.TheVariants.{Output}
 use Rattle.playing.specs.Report.{Line, resumed_line, texts, unsaved_behind, lines_of_inputs, unsaved_behind_moves, lines_of_moves, HasTold}
-use Rattle.playing.specs.Inputs.{inputs_of_moves}
+use Rattle.script.specs.Inputs.{inputs_of_moves}
 use Rattle.playing.specs.declared.playable.Playable.{Ghosts}
 
 module _ {G F : Type 0} (game : Ghosts G F) where

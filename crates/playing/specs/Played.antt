@@ -16,7 +16,7 @@ use Rattle.session.specs.Inputs.{can_be_logged, inputs_of}
 use Rattle.session.specs.declared.error.SessionError.{SessionError}
 use Rattle.session.specs.declared.error.SessionError.TheVariants.{Memory, Device, GenerationsUsedUp, CountFull, Output}
 use Rattle.playing.specs.Report.{lines_of_moves, report_lines, resumed_line, texts, unsaved_behind_moves, HasTold}
-use Rattle.playing.specs.Inputs.{inputs_of_moves}
+use Rattle.script.specs.Inputs.{inputs_of_moves}
 
 -- the image stands for the first so many of these inputs from there, at least for `least` of them
 pub record Reaches (rom : List ℕ) (from : Position) (least : ℕ) (given : List Input) (image : List (List ℕ)) : Type 0 where

@@ -5,7 +5,7 @@ use Rattle.machine.specs.Machine.{Input}
 use Rattle.machine.specs.Machine.{Frame}
 use Rattle.script.specs.declared.moves.Move.{Move}
 use Rattle.script.specs.declared.moves.Move.TheVariants.{Frames, Seconds, Save, Power}
-use Rattle.playing.specs.Inputs.{inputs_of_move, inputs_of_moves}
+use Rattle.script.specs.Inputs.{inputs_of_move, inputs_of_moves}
 use Rattle.session.specs.Calls.{most_unsaved}
 use Rattle.session.specs.declared.error.SessionError.{SessionError}
 use Rattle.session.specs.declared.error.SessionError.TheVariants.{Output}

@@ -7,7 +7,7 @@ ghost use Rattle.session.specs.Calls.{faults_after};
 ghost use Rattle.session.specs.Accessors.{device_of, machine_of, rom_of, pending_of, acknowledged_of, is_broken, left_by};
 ghost use Rattle.playing.specs.Played.{PlayImage, HasPlayed, HasReached, IsNotTakenUp, HasStopped, HasFoundNoMemory};
 ghost use Rattle.playing.specs.Report.{report_of};
-ghost use Rattle.playing.specs.Inputs.{inputs_of_moves};
+ghost use Rattle.script.specs.Inputs.{inputs_of_moves};
 
 use crate::moves::play_on;
 use cartridge::Cartridge;

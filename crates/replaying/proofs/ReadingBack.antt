@@ -17,7 +17,7 @@ use Rattle.script.specs.Line.{is_count, count_of, byte_of, move_of_line, move_of
 use Rattle.script.specs.Script.{lines_of, moves_from, with_line}
 use Rattle.script.specs.declared.moves.Move.{Move}
 use Rattle.script.specs.declared.moves.Move.TheVariants.{Frames, Seconds as PassSeconds}
-use Rattle.playing.specs.Inputs.{inputs_of_move, inputs_of_moves}
+use Rattle.script.specs.Inputs.{inputs_of_move, inputs_of_moves}
 use Rattle.replaying.specs.Laws.{HasWidth, TheScriptGivesTheInputsBack}
 use Rattle.replaying.specs.Script.{frames_line, lines_after, most_times, seconds_line}
 

@@ -8,7 +8,7 @@ use Rattle.script.specs.declared.moves.Move.{Move}
 use Rattle.recording.specs.Recorded.{recorded}
 use Rattle.log_format.specs.Content.{content}
 use Rattle.session.specs.Stands.{stands}
-use Rattle.playing.specs.Inputs.{inputs_of_moves}
+use Rattle.script.specs.Inputs.{inputs_of_moves}
 use Rattle.replaying.specs.Agreeing.{Agrees}
 use Rattle.replaying.specs.Script.{script_of}
 

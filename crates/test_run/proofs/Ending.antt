@@ -14,7 +14,8 @@ use Rattle.test_run.specs.declared.ends.End.{End}
 use Rattle.test_run.specs.declared.run.Ended.{Ended}
 use Rattle.test_run.specs.declared.run.Progress.{Progress}
 use Rattle.test_run.specs.declared.verdict.Verdict.{Verdict}
-use Rattle.test_run.specs.Tested.{Tested, inputs_of_moves, test_of, tested}
+use Rattle.script.specs.Inputs.{inputs_of_moves}
+use Rattle.test_run.specs.Tested.{Tested, test_of, tested}
 use Rattle.test_run.specs.Text.{ended_line, frames_line, last_lines, line_end, test_text}
 use Rattle.test_run.specs.Told.{ToldState, line_end_told, nothing_told, told_all}
 use Rattle.test_run.specs.Verdict.{says, verdict_by, verdict_of}

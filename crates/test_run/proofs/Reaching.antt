@@ -23,7 +23,8 @@ use Rattle.test_run.specs.declared.run.Went.TheVariants.{On, Over}
 use Rattle.test_run.specs.declared.run.Progress.{Progress}
 use Rattle.test_run.specs.Ends.{end_seen}
 use Rattle.test_run.specs.Told.{ToldState, told_all}
-use Rattle.test_run.specs.Tested.{Tested, ended_at, frames_with, inputs_of_move, inputs_of_moves, played_then, sent_first, tested}
+use Rattle.script.specs.Inputs.{inputs_of_move, inputs_of_moves}
+use Rattle.test_run.specs.Tested.{Tested, ended_at, frames_with, played_then, sent_first, tested}
 use Rattle.test_run.specs.Playing.{HasPlayed, HasReached, HasEnded, IsEnded, GoesOn, StopsIn}
 use Rattle.test_run.specs.Refusals.{FindsNoMemory}
 use Rattle.test_run.proofs.Telling.{told_all-append}

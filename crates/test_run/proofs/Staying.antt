@@ -24,7 +24,8 @@ use Rattle.machine.specs.Watched.{Seen, seen_in, begun_with, machine_after}
 use Rattle.test_run.specs.declared.ends.End.{End}
 use Rattle.test_run.specs.declared.ends.End.TheVariants.{Frames, Locked, Breakpoint, Loop}
 use Rattle.test_run.specs.Ends.{end_of, end_seen, end_with, is_idle, is_in_place, is_still, jumps_at, jumps_by, jumps_to_itself, result_of}
-use Rattle.test_run.specs.Tested.{Tested, ended_at, inputs_of_moves, played_then, sent_first, test_of, tested}
+use Rattle.script.specs.Inputs.{inputs_of_moves}
+use Rattle.test_run.specs.Tested.{Tested, ended_at, played_then, sent_first, test_of, tested}
 use Rattle.test_run.specs.Laws.{NothingMoreHappens, StaysThere}
 
 -- ---- what no M-cycle changes

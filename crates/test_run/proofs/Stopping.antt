@@ -7,7 +7,8 @@ use Rattle.test_run.specs.declared.run.Progress.{Progress}
 use Rattle.test_run.specs.declared.run.Stop.{Stop}
 use Rattle.test_run.specs.declared.run.Stop.TheVariants.{Output, Memory}
 use Rattle.test_run.specs.declared.run.Went.TheVariants.{On}
-use Rattle.test_run.specs.Tested.{Tested, inputs_of_moves, tested}
+use Rattle.script.specs.Inputs.{inputs_of_moves}
+use Rattle.test_run.specs.Tested.{Tested, tested}
 use Rattle.test_run.specs.Text.{last_lines, line_end, test_text}
 use Rattle.test_run.specs.Playing.{HasReached, IsMoveStop, IsMovesStop, IsTestStop}
 use Rattle.test_run.proofs.Reaching.{move_failed, move_without_memory}

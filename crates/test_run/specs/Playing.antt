@@ -18,7 +18,8 @@ use Rattle.test_run.specs.declared.run.Stop.{Stop}
 use Rattle.test_run.specs.declared.run.Stop.TheVariants.{Output, Memory}
 use Rattle.test_run.specs.Ends.{end_seen}
 use Rattle.test_run.specs.Told.{ToldState, told_all}
-use Rattle.test_run.specs.Tested.{Tested, inputs_of_move, inputs_of_moves, sent_first, tested}
+use Rattle.script.specs.Inputs.{inputs_of_move, inputs_of_moves}
+use Rattle.test_run.specs.Tested.{Tested, sent_first, tested}
 use Rattle.test_run.specs.Refusals.{FindsNoMemory}
 
 -- a frame in which this is seen was played, and its bytes are written

@@ -10,7 +10,8 @@ use Rattle.script.specs.Script.{moves_of, IsRefused}
 use Rattle.test_run.specs.declared.error.TestError.{TestError}
 use Rattle.test_run.specs.declared.error.TestError.TheVariants.{Cart, Script, Memory, Output}
 use Rattle.test_run.specs.declared.verdict.Verdict.{Verdict}
-use Rattle.test_run.specs.Tested.{inputs_of_moves, test_of, tested}
+use Rattle.script.specs.Inputs.{inputs_of_moves}
+use Rattle.test_run.specs.Tested.{test_of, tested}
 use Rattle.test_run.specs.Text.{test_text}
 use Rattle.test_run.specs.Verdict.{verdict_of}
 

@@ -1,7 +1,7 @@
 -- A test of a ROM: which inputs it is given, and where it ends.
 use Rattle.std.specs.Prelude.{ℕ, ◌+◌, ◌==◌, if◌then◌else◌, List, [], ◌∷◌, ◌++◌, replicate, Option, Some, None}
 use Rattle.script.specs.declared.moves.Move.{Move}
-use Rattle.script.specs.declared.moves.Move.TheVariants.{Frames as FramesMove, Seconds as SecondsMove, Save, Power as PowerMove}
+use Rattle.script.specs.Inputs.{inputs_of_moves}
 use Rattle.machine.specs.Machine.{Input, Frame, Seconds, MachineState, seconds_passed, start, Power, State, powered}
 use Rattle.machine.specs.Watched.{Seen, begun_with, machine_after, seen_in}
 use Rattle.memory_map.specs.State.{BusState}
@@ -9,19 +9,6 @@ use Rattle.sm83_processor.specs.declared.processor.Processor.{Processor}
 use Rattle.test_run.specs.declared.ends.End.{End}
 use Rattle.test_run.specs.declared.ends.End.TheVariants.{Frames, Locked, Breakpoint, Loop, Memory}
 use Rattle.test_run.specs.Ends.{end_seen}
-
--- ---- the inputs
-
--- a save does nothing
-abbrev pub inputs_of_move : Move → List Input
-inputs_of_move (FramesMove buttons times) = replicate times (Frame buttons)
-inputs_of_move (SecondsMove n) = Seconds n ∷ []
-inputs_of_move Save = []
-inputs_of_move PowerMove = Power ∷ []
-
-abbrev pub inputs_of_moves : List Move → List Input
-inputs_of_moves [] = []
-inputs_of_moves (m ∷ moves) = inputs_of_move m ++ inputs_of_moves moves
 
 -- ---- the run
 

@@ -1,7 +1,7 @@
 use Rattle.std.proofs.Common.{◌≡◌, ◌+◌, ◌++◌, length, true, refl, sym, ◌∙◌}
 use Rattle.playing.specs.Making.{count_of}
 use Rattle.playing.specs.Report.{unsaved_behind_moves, lines_of_moves, last_line}
-use Rattle.playing.specs.Inputs.{inputs_of_moves}
+use Rattle.script.specs.Inputs.{inputs_of_moves}
 use Rattle.playing.proofs.Making.{makes_by, makes_nothing, stops_by}
 use Rattle.playing.proofs.ReportLaws.{last_none, last_some}
 use Rattle.playing.proofs.Wholes.{resumed_made, resumed_failed, play_made, play_stopped, play_not_saved, play_without_memory}

@@ -11,7 +11,7 @@ use Rattle.session.proofs.Writes.{since_weaker}
 use Rattle.session.proofs.Answering.{answered_both, answered_otherwise, answered_refused}
 use Rattle.session.proofs.Beginnings.{since_then}
 use Rattle.playing.specs.Played.{IsPlayed, IsStop, PlayImage, Reaches, HasStopped, HasFoundNoMemory}
-use Rattle.playing.specs.Inputs.{inputs_of_moves}
+use Rattle.script.specs.Inputs.{inputs_of_moves}
 use Rattle.playing.proofs.Going.{goes_all, no_further_at_all, none_left}
 use Rattle.playing.proofs.Telling.{keeps_same, memory_at}
 use Rattle.playing.proofs.PlayLaws.{begun_played, all_saved, reaches_more}

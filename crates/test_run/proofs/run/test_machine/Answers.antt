@@ -1,6 +1,7 @@
 use Rattle.std.proofs.Common.{◌++◌, replicate}
 use Rattle.machine.specs.Machine.{Frame}
-use Rattle.test_run.specs.Tested.{inputs_of_moves, tested}
+use Rattle.script.specs.Inputs.{inputs_of_moves}
+use Rattle.test_run.specs.Tested.{tested}
 use Rattle.test_run.proofs.Ending.{end_cut, end_verdict, end_written}
 use Rattle.test_run.proofs.Stopping.{text_stopped}
 use Rattle.test_run.proofs.run.test_machine.Goals as goal

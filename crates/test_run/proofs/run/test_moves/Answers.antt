@@ -4,7 +4,7 @@ use Rattle.bank_controllers.proofs.Same.{same_itself, same_then}
 use Rattle.machine.specs.Machine.{start}
 use Rattle.script.specs.declared.moves.Move.TheVariants.{Frames}
 use Rattle.test_run.specs.declared.run.Went.TheVariants.{On}
-use Rattle.test_run.specs.Tested.{inputs_of_moves}
+use Rattle.script.specs.Inputs.{inputs_of_moves}
 use Rattle.test_run.specs.Playing.{HasReached}
 use Rattle.test_run.proofs.Reaching.{reached_nothing, move_ended, move_reached}
 use Rattle.test_run.proofs.Stopping.{move_stopped}

@@ -1,7 +1,7 @@
 use Rattle.std.proofs.Common.{[], take}
 use Rattle.bank_controllers.specs.CartridgeState.{IsSameCartridge}
 use Rattle.test_run.specs.declared.run.Went.TheVariants.{On}
-use Rattle.test_run.specs.Tested.{inputs_of_moves}
+use Rattle.script.specs.Inputs.{inputs_of_moves}
 use Rattle.test_run.specs.Playing.{HasReached}
 use Rattle.test_run.proofs.run.test_moves.Given as goal
 

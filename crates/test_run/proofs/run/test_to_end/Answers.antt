@@ -3,7 +3,7 @@ use Rattle.memory_map.specs.State.{BusState}
 use Rattle.sm83_processor.specs.declared.processor.Processor.{Processor}
 use Rattle.machine.specs.Machine.{Frame}
 use Rattle.debugger.specs.Registers.{register_line}
-use Rattle.test_run.specs.Tested.{inputs_of_moves}
+use Rattle.script.specs.Inputs.{inputs_of_moves}
 use Rattle.test_run.proofs.Reaching.{ended_after_all, ended_among, ended_over, whole_reached, whole_stops}
 use Rattle.test_run.proofs.Stopping.{test_stopped}
 use Rattle.test_run.proofs.run.test_to_end.Goals as goal

@@ -1,4 +1,4 @@
--- The inputs of moves.
+-- The inputs of moves: a save gives none.
 use Rattle.std.specs.Prelude.{ℕ, List, [], ◌∷◌, ◌++◌, replicate}
 use Rattle.machine.specs.Machine.{Input}
 use Rattle.machine.specs.Machine.{Frame, Seconds as PassSeconds, Power as SwitchPower}
