@@ -47,8 +47,8 @@ has_pc addresses p = list_any (λ address. address == p.registers.pc) addresses
 
 -- where a run stops
 abbrev pub is_aim : Aim → Processor BusState → Bool
-is_aim (Addresses addresses) p = has_pc addresses.items p
-is_aim (Places places) p = is_at places.items p
+is_aim (Addresses addresses) p = has_pc addresses.now p
+is_aim (Places places) p = is_at places.now p
 is_aim (Opcode opcode) p = is_before opcode p
 is_aim (Changed address byte) p = is_changed address byte p
 is_aim (Writes span) p = is_writing span p

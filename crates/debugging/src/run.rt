@@ -11,6 +11,7 @@ ghost use Rattle.snapshot.specs.Legal.{IsOfImage};
 ghost use Rattle.debugging.specs.States.{after_power, is_given, with_machine};
 ghost use Rattle.debugging.specs.Setting.{byte_set, register_set};
 ghost use Rattle.debugging.specs.Answers.{after_restore, until_change_steps, until_opcode_steps, until_read_steps, until_steps, until_write_steps};
+ghost use Rattle.debugger.specs.Run.{HasPassed};
 ghost use Rattle.debugging.specs.Run.{after_frame, after_frames, after_seconds, after_steps_of, begun, is_at, is_bank, is_before, is_changed, is_place, processor_of, steps_up_to};
 ghost use Rattle.debugging.specs.Quiet.{HasRom, IsQuietFor, Makes, MakesIn, StopsBefore, StopsIn, has_pc, is_aim, is_interrupted, is_next, is_waiting};
 
@@ -23,7 +24,7 @@ use arrayvec::ArrayVec;
 use cartridge::Cartridge;
 use circular_buffer::HeapCircularBuffer;
 use debugger::{Breaks, Debugger, RunRoom, WatchedStep};
-use machine::{Executed, Input, Machine, Memory, Processor, Stepped, Watched};
+use machine::{Executed, Input, Machine, Memory, Processor, Stepped, Watch, Watched};
 use memory_map::Bus;
 use snapshot::{decode_into, powered};
 use std::alloc::{AllocError, Global};
@@ -85,11 +86,11 @@ pub(crate) struct RunRestored {
 
 /// Where a run stops.
 #[derive(Drop)]
-pub(crate) enum Aim {
+pub(crate) enum Aim<'a> {
     /// At one of these addresses, in whichever bank.
-    Addresses(ArrayVec<u16, 16>),
+    Addresses(&'a Breaks<'a>),
     /// At one of these places.
-    Places(ArrayVec<Place, 16>),
+    Places(&'a [Place]),
     /// Before an instruction with this opcode.
     Opcode(u8),
     /// Where the byte at an address is another than this.
@@ -169,18 +170,27 @@ impl Run {
     }
 
     /// Steps in which no transfer can end, up to an aim, but at most `limit`. The first is made wherever it begins. Returns whether it stopped
-    /// before all were made. Conditions: `limit` is not 0, and the ROM has so many bytes.
-    fn quiet_up_to(&mut self, room: &mut RunRoom, aim: &Aim, rom: usize, limit: u32) -> bool
+    /// before all were made. Conditions: `limit` is not 0, the ROM has so many bytes, and the watch lets no aim pass.
+    fn quiet_up_to<W: Watch>(
+        &mut self,
+        room: &mut RunRoom,
+        watch: &W,
+        aim: &Aim,
+        rom: usize,
+        limit: u32,
+    ) -> bool
         requires rom { HasRom rom (processor_of self.old).memory }
+        requires watch { (p : Processor BusState) → W.passes watch.now p → is_aim aim.now p ≡ false }
         requires some { 0 < limit }
         requires quiet { IsQuietFor limit (processor_of self.old) }
         ensures made { result ≡ false → Makes (is_aim aim.now) limit self.old self.new }
         ensures there { result ≡ true → StopsBefore (is_aim aim.now) limit self.old self.new }
     {
-        step_up_to(&mut self.debugger, room, aim, rom, limit)
+        step_up_to(&mut self.debugger, room, watch, aim, rom, limit)
     }
 
     /// Steps up to one of these places, but at most `limit`. The first step is made wherever it begins. Condition: the ROM has so many bytes.
+    #[inline(never)]
     pub(crate) fn run_until_place(
         self,
         places: ArrayVec<Place, 16>,
@@ -192,58 +202,74 @@ impl Run {
         ensures there { result.is_there ≡ nat_lt (until_steps limit places.items self) limit }
     {
         match addresses_of(places.as_slice()) {
-            Some(addresses) => self.run_up_to(&Aim::Addresses(addresses), rom, limit),
-            None => self.run_up_to(&Aim::Places(places), rom, limit),
+            Some(addresses) => {
+                let breaks = Breaks::of(addresses.as_slice());
+                self.run_up_to(&breaks, &Aim::Addresses(&breaks), rom, limit)
+            }
+            None => {
+                let watch = PlaceWatch {
+                    places: places.as_slice(),
+                };
+                self.run_up_to(&watch, &Aim::Places(watch.places), rom, limit)
+            }
         }
     }
 
     /// Steps up to an instruction with this opcode, but at most `limit`. The first step is made wherever it begins. Condition: the ROM has so
     /// many bytes.
+    #[inline(never)]
     pub(crate) fn run_until_opcode(self, opcode: u8, rom: usize, limit: u32) -> RunUntil
         requires { HasRom rom (processor_of self).memory }
         ensures run { result.run ≡ after_steps_of (until_opcode_steps limit opcode self) self }
         ensures there { result.is_there ≡ nat_lt (until_opcode_steps limit opcode self) limit }
     {
-        self.run_up_to(&Aim::Opcode(opcode), rom, limit)
+        self.run_up_to(&OpcodeWatch { opcode }, &Aim::Opcode(opcode), rom, limit)
     }
 
     /// Steps up to and with the first that leaves another byte at an address, but at most `limit`. Condition: the ROM has so many bytes.
+    #[inline(never)]
     pub(crate) fn run_until_change(self, address: u16, rom: usize, limit: u32) -> RunUntil
         requires { HasRom rom (processor_of self).memory }
         ensures run { result.run ≡ after_steps_of (until_change_steps limit address self) self }
         ensures there { result.is_there ≡ nat_lt (until_change_steps limit address self) limit }
     {
         let byte = self.debugger.machine().peek(address);
-        self.run_up_to(&Aim::Changed(address, byte), rom, limit)
+        let watch = ChangeWatch { address, byte };
+        self.run_up_to(&watch, &Aim::Changed(address, byte), rom, limit)
     }
 
     /// Steps up to one that writes one of these addresses, but at most `limit`. The first is made whatever it does. Condition: the ROM has so
     /// many bytes.
+    #[inline(never)]
     pub(crate) fn run_until_write(self, span: Span, rom: usize, limit: u32) -> RunUntil
         requires { HasRom rom (processor_of self).memory }
         ensures run { result.run ≡ after_steps_of (until_write_steps limit span self) self }
         ensures there { result.is_there ≡ nat_lt (until_write_steps limit span self) limit }
     {
-        self.run_up_to(&Aim::Writes(span), rom, limit)
+        self.run_up_to(&WriteWatch { span }, &Aim::Writes(span), rom, limit)
     }
 
     /// Steps up to one that reads one of these addresses, but at most `limit`. The first is made whatever it does. Condition: the ROM has so
     /// many bytes.
+    #[inline(never)]
     pub(crate) fn run_until_read(self, span: Span, rom: usize, limit: u32) -> RunUntil
         requires { HasRom rom (processor_of self).memory }
         ensures run { result.run ≡ after_steps_of (until_read_steps limit span self) self }
         ensures there { result.is_there ≡ nat_lt (until_read_steps limit span self) limit }
     {
-        self.run_up_to(&Aim::Reads(span), rom, limit)
+        self.run_up_to(&ReadWatch { span }, &Aim::Reads(span), rom, limit)
     }
 
-    /// Steps up to an aim, but at most `limit`. The first step is made wherever it begins. Condition: the ROM has so many bytes.
-    fn run_up_to(self, aim: &Aim, rom: usize, limit: u32) -> RunUntil
-        requires { HasRom rom (processor_of self).memory }
+    /// Steps up to an aim, but at most `limit`. The first step is made wherever it begins. Conditions: the ROM has so many bytes, and the
+    /// watch lets no aim pass.
+    fn run_up_to<W: Watch>(self, watch: &W, aim: &Aim, rom: usize, limit: u32) -> RunUntil
+        requires rom { HasRom rom (processor_of self).memory }
+        requires watch { (p : Processor BusState) → W.passes watch.now p → is_aim aim.now p ≡ false }
         ensures run { result.run ≡ after_steps_of (steps_up_to (is_aim aim.now) limit (processor_of self)) self }
         ensures there { result.is_there ≡ nat_lt (steps_up_to (is_aim aim.now) limit (processor_of self)) limit }
     {
         self.no_step();
+        // Made here, and this is compiled into its one caller, so that the copy into the history becomes one `memcpy`.
         let mut room = RunRoom::new();
         let mut run = self;
         let mut left = limit;
@@ -260,7 +286,7 @@ impl Run {
                 }
                 continue;
             }
-            if run.quiet_up_to(&mut room, aim, rom, quiet) {
+            if run.quiet_up_to(&mut room, watch, aim, rom, quiet) {
                 return RunUntil {
                     run,
                     is_there: true,
@@ -430,15 +456,17 @@ fn note(sent: &mut HeapCircularBuffer<u8>, byte: Option<u8>)
 }
 
 /// Steps up to an aim, but at most `limit`. The first is made wherever it begins. Returns whether it stopped before all were made.
-/// Conditions: `limit` is not 0, and the ROM has so many bytes.
-fn step_up_to(
+/// Conditions: `limit` is not 0, the ROM has so many bytes, and the watch lets no aim pass.
+fn step_up_to<W: Watch>(
     debugger: &mut Debugger,
     room: &mut RunRoom,
+    watch: &W,
     aim: &Aim,
     rom: usize,
     limit: u32,
 ) -> bool
     requires rom { HasRom rom debugger.old.machine.processor.memory }
+    requires watch { (p : Processor BusState) → W.passes watch.now p → is_aim aim.now p ≡ false }
     requires some { 0 < limit }
     ensures made { result ≡ false → MakesIn (is_aim aim.now) limit debugger.old debugger.new }
     ensures there { result ≡ true → StopsIn (is_aim aim.now) limit debugger.old debugger.new }
@@ -447,7 +475,7 @@ fn step_up_to(
     let _held = debugger.history_len();
     let mut made = 0;
     loop {
-        made += step_on(debugger, room, aim, limit - made);
+        made += step_on(debugger, room, watch, limit - made);
         if made >= limit {
             return false;
         }
@@ -457,38 +485,19 @@ fn step_up_to(
     }
 }
 
-/// Makes steps, one at least and at most `limit`, of which none but the first begins at an aim. Returns how many. Condition: `limit` is not
-/// 0.
-fn step_on(debugger: &mut Debugger, room: &mut RunRoom, aim: &Aim, limit: u32) -> u32
+/// Makes steps, one at least and at most `limit`, of which the watch has let each but the first pass. Returns how many. Condition: `limit`
+/// is not 0.
+fn step_on<W: Watch>(debugger: &mut Debugger, room: &mut RunRoom, watch: &W, limit: u32) -> u32
     requires { 0 < limit }
-    ensures made { MakesIn (is_aim aim.now) result debugger.old debugger.new }
+    ensures run { HasPassed (W.passes watch.now) result debugger.old debugger.new }
+    ensures some { 0 < result }
     ensures most { result ≤ limit }
 {
-    if !debugger.machine().is_fast() {
-        let _ = debugger.step();
-        return 1;
+    if debugger.machine().is_fast() {
+        return debugger.run_watching(room, watch, limit);
     }
-    match aim {
-        Aim::Addresses(addresses) => {
-            debugger.run_watching(room, &Breaks::of(addresses.as_slice()), limit)
-        }
-        Aim::Places(places) => {
-            let watch = PlaceWatch {
-                places: places.as_slice(),
-            };
-            debugger.run_watching(room, &watch, limit)
-        }
-        Aim::Opcode(opcode) => debugger.run_watching(room, &OpcodeWatch { opcode: *opcode }, limit),
-        Aim::Changed(address, byte) => {
-            let watch = ChangeWatch {
-                address: *address,
-                byte: *byte,
-            };
-            debugger.run_watching(room, &watch, limit)
-        }
-        Aim::Writes(span) => debugger.run_watching(room, &WriteWatch { span: *span }, limit),
-        Aim::Reads(span) => debugger.run_watching(room, &ReadWatch { span: *span }, limit),
-    }
+    let _ = debugger.step();
+    1
 }
 
 /// For how many steps no transfer can end, 170 at most: each takes six M-cycles at most.
@@ -516,20 +525,21 @@ fn addresses_of(places: &[Place]) -> Option<ArrayVec<u16, 16>>
 }
 
 /// Whether PC is one of these addresses.
-fn has_pc(addresses: &[u16], processor: &Processor<Bus>) -> bool
-    ensures { result ≡ has_pc addresses.now processor.now }
+fn has_pc(breaks: &Breaks, processor: &Processor<Bus>) -> bool
+    ensures { result ≡ has_pc breaks.now processor.now }
 {
-    addresses.contains(&processor.registers.pc)
+    breaks.has(processor.registers.pc)
 }
 
 /// Whether a run is where it stops. Condition: the ROM has so many bytes.
+#[inline(always)]
 fn is_aim(aim: &Aim, rom: usize, processor: &Processor<Bus>) -> bool
     requires { HasRom rom processor.now.memory }
     ensures { result ≡ is_aim aim.now processor.now }
 {
     match aim {
-        Aim::Addresses(addresses) => has_pc(addresses.as_slice(), processor),
-        Aim::Places(places) => is_at(places.as_slice(), rom, processor),
+        Aim::Addresses(breaks) => has_pc(breaks, processor),
+        Aim::Places(places) => is_at(places, rom, processor),
         Aim::Opcode(opcode) => is_before(*opcode, processor),
         Aim::Changed(address, byte) => processor.memory.peek(*address) != *byte,
         Aim::Writes(span) => is_writing(processor, *span),

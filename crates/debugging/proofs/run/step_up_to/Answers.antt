@@ -11,7 +11,7 @@ use Rattle.debugging.proofs.Kept.{rom_after}
 use Rattle.debugging.proofs.run.step_up_to.Goals as goal
 
 pub loop-made-init : goal.loop-made-init
-loop-made-init c = record {
+loop-made-init g c = record {
   run = record {
     run = not_begun c.args.debugger.now (omega (arith, c.history_len-held.ensures.len, c.history_len-held.ensures.most));
     past = λ k some below. absurd (omega (arith, some, below));
@@ -23,45 +23,45 @@ loop-made-init c = record {
 abbrev Elsewhere : Aim → Processor BusState → Type 0
 Elsewhere aim p = is_aim aim p ≡ false
 
--- the steps so far, and those that were made next
-more : (aim : Aim) (m n : ℕ) (d e f : DebuggerState) → HasPassed (Elsewhere aim) m d e → (0 < m → Elsewhere aim e.machine.processor) → MakesIn (is_aim aim) n e f
-    → HasPassed (Elsewhere aim) (m + n) d f
-more aim m n d e f so_far here next = pass_on (Elsewhere aim) m n d e f so_far here (record { run = next.run; past = next.past })
+-- the steps so far, and those that a watch let pass next
+more : (aim : Aim) (passes : Processor BusState → Type 0) → ((p : Processor BusState) → passes p → Elsewhere aim p) → (m n : ℕ) (d e f : DebuggerState) → HasPassed (Elsewhere aim) m d e
+    → (0 < m → Elsewhere aim e.machine.processor) → HasPassed passes n e f → HasPassed (Elsewhere aim) (m + n) d f
+more aim passes lets m n d e f so_far here next = pass_on (Elsewhere aim) m n d e f so_far here (record { run = next.run; past = λ k some below. lets _ (next.past k some below) })
 
 pub loop-made-preserved : goal.loop-made-preserved
-loop-made-preserved c =
+loop-made-preserved g c =
     let known = c.loop-made.invariant in
     record {
-      run = more c.args.aim.now c.loop-made.made c.step_on-made.result c.args.debugger.now c.loop-made.debugger c.step_on-made.new.debugger known.run known.here c.step_on-made.ensures.made;
+      run = more c.args.aim.now (g.W.Watch.passes c.args.watch.now) c.requires.watch c.loop-made.made c.step_on-made.result c.args.debugger.now c.loop-made.debugger c.step_on-made.new.debugger known.run known.here c.step_on-made.ensures.run;
       here = λ some. ap (is_aim c.args.aim.now) (sym (c.processor.ensures ∙ ap (λ (m : MachineState). m.processor) c.machine.ensures)) ∙ sym c.is_aim.ensures ∙ c.if-is_aim.false;
       due = c.if-made-limit.false;
     }
 
 pub returns-then-made-limit-clause-made : goal.returns-then-made-limit-clause-made
-returns-then-made-limit-clause-made c = λ _.
+returns-then-made-limit-clause-made g c = λ _.
     let known = c.loop-made.invariant in
     let all : c.loop-made.made + c.step_on-made.result ≡ c.args.limit = omega (arith, known.due, c.step_on-made.ensures.most, c.if-made-limit.true) in
     let passed =
-    more c.args.aim.now c.loop-made.made c.step_on-made.result c.args.debugger.now c.loop-made.debugger c.step_on-made.new.debugger known.run known.here c.step_on-made.ensures.made in
+    more c.args.aim.now (g.W.Watch.passes c.args.watch.now) c.requires.watch c.loop-made.made c.step_on-made.result c.args.debugger.now c.loop-made.debugger c.step_on-made.new.debugger known.run known.here c.step_on-made.ensures.run in
     subst (λ (n : ℕ). MakesIn (is_aim c.args.aim.now) n c.args.debugger.now c.step_on-made.new.debugger) all
     (record { some = omega (arith, all, c.requires.some); past = passed.past; run = passed.run })
 
 pub returns-then-is_aim-clause-there : goal.returns-then-is_aim-clause-there
-returns-then-is_aim-clause-there c = λ _.
+returns-then-is_aim-clause-there g c = λ _.
     let known = c.loop-made.invariant in
     let passed =
-    more c.args.aim.now c.loop-made.made c.step_on-made.result c.args.debugger.now c.loop-made.debugger c.step_on-made.new.debugger known.run known.here c.step_on-made.ensures.made in
+    more c.args.aim.now (g.W.Watch.passes c.args.watch.now) c.requires.watch c.loop-made.made c.step_on-made.result c.args.debugger.now c.loop-made.debugger c.step_on-made.new.debugger known.run known.here c.step_on-made.ensures.run in
     record {
       steps = c.loop-made.made + c.step_on-made.result;
-      made = record { some = omega (arith, c.step_on-made.ensures.made.some); past = passed.past; run = passed.run };
+      made = record { some = omega (arith, c.step_on-made.ensures.some); past = passed.past; run = passed.run };
       due = c.if-made-limit.false;
       there = ap (is_aim c.args.aim.now) (sym (c.processor.ensures ∙ ap (λ (m : MachineState). m.processor) c.machine.ensures)) ∙ sym c.is_aim.ensures ∙ c.if-is_aim.true;
     }
 
 pub is_aim-requires : goal.is_aim-requires
-is_aim-requires c =
+is_aim-requires g c =
     let known = c.loop-made.invariant in
     let passed =
-    more c.args.aim.now c.loop-made.made c.step_on-made.result c.args.debugger.now c.loop-made.debugger c.step_on-made.new.debugger known.run known.here c.step_on-made.ensures.made in
+    more c.args.aim.now (g.W.Watch.passes c.args.watch.now) c.requires.watch c.loop-made.made c.step_on-made.result c.args.debugger.now c.loop-made.debugger c.step_on-made.new.debugger known.run known.here c.step_on-made.ensures.run in
     rom_after c.args.rom (c.loop-made.made + c.step_on-made.result) c.args.debugger.now.machine.processor c.processor.result.now c.requires.rom
     (c.processor.ensures ∙ ap (λ (m : MachineState). m.processor) c.machine.ensures ∙ ap (λ (d : DebuggerState). d.machine.processor) passed.run)

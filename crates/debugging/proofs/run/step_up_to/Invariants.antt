@@ -4,11 +4,11 @@ use Rattle.debugging.specs.Quiet.{is_aim}
 use Rattle.debugging.proofs.run.step_up_to.Given as goal
 
 abbrev pub invariant-loop-made : goal.invariant-loop-made
-invariant-loop-made l = record {
+invariant-loop-made g l = record {
   run : HasPassed (λ p. is_aim l.aim p ≡ false) l.made l.fn.debugger l.debugger;
   here : 0 < l.made → is_aim l.aim l.debugger.machine.processor ≡ false;
   due : l.made < l.limit;
 }
 
 abbrev pub decreases-loop-made : goal.decreases-loop-made
-decreases-loop-made l = l.limit - l.made
+decreases-loop-made g l = l.limit - l.made

@@ -9,10 +9,10 @@ use Rattle.debugging.proofs.run.Run.run_up_to.Goals as goal
 use Rattle.debugging.proofs.run.Run.run_up_to.Goals.{else-left-gt0-via-then-left-gt0+else-is_aim, else-left-gt0-via-else-left-gt0, else-left-gt0-2-via-then-left-gt0-2+else-is_aim-2, else-left-gt0-2-via-else-left-gt0-2}
 
 pub loop-left-init : goal.loop-left-init
-loop-left-init c = begun_going (is_aim c.args.aim.now) c.args.limit c.args.self c.no_step.ensures
+loop-left-init g c = begun_going (is_aim c.args.aim.now) c.args.limit c.args.self c.no_step.ensures
 
 pub returns-then-is_aim-clause-run : goal.returns-then-is_aim-clause-run
-returns-then-is_aim-clause-run c =
+returns-then-is_aim-clause-run g c =
     (stops (is_aim c.args.aim.now) c.args.limit c.loop-left.left c.args.self c.loop-left.run c.loop-left.invariant c.step.result.run
     (record {
       steps = 1;
@@ -22,7 +22,7 @@ returns-then-is_aim-clause-run c =
     })).0
 
 pub returns-then-is_aim-clause-there : goal.returns-then-is_aim-clause-there
-returns-then-is_aim-clause-there c =
+returns-then-is_aim-clause-there g c =
     (stops (is_aim c.args.aim.now) c.args.limit c.loop-left.left c.args.self c.loop-left.run c.loop-left.invariant c.step.result.run
     (record {
       steps = 1;
@@ -32,17 +32,17 @@ returns-then-is_aim-clause-there c =
     })).1
 
 pub returns-then-quiet_up_to-clause-run : goal.returns-then-quiet_up_to-clause-run
-returns-then-quiet_up_to-clause-run c =
+returns-then-quiet_up_to-clause-run g c =
     (stops (is_aim c.args.aim.now) c.args.limit c.loop-left.left c.args.self c.loop-left.run c.loop-left.invariant c.quiet_up_to.new.self
     (stops_sooner (is_aim c.args.aim.now) c.min-quiet.result c.loop-left.left c.loop-left.run c.quiet_up_to.new.self (omega (arith, c.min-quiet.ensures)) (c.quiet_up_to.ensures.there c.if-quiet_up_to.true))).0
 
 pub returns-then-quiet_up_to-clause-there : goal.returns-then-quiet_up_to-clause-there
-returns-then-quiet_up_to-clause-there c =
+returns-then-quiet_up_to-clause-there g c =
     (stops (is_aim c.args.aim.now) c.args.limit c.loop-left.left c.args.self c.loop-left.run c.loop-left.invariant c.quiet_up_to.new.self
     (stops_sooner (is_aim c.args.aim.now) c.min-quiet.result c.loop-left.left c.loop-left.run c.quiet_up_to.new.self (omega (arith, c.min-quiet.ensures)) (c.quiet_up_to.ensures.there c.if-quiet_up_to.true))).1
 
 pub returns-then-is_aim-2-clause-run : goal.returns-then-is_aim-2-clause-run
-returns-then-is_aim-2-clause-run c =
+returns-then-is_aim-2-clause-run g c =
     (stops (is_aim c.args.aim.now) c.args.limit c.loop-left.left c.args.self c.loop-left.run c.loop-left.invariant c.quiet_up_to.new.self
     (record {
       steps = c.min-quiet.result;
@@ -52,7 +52,7 @@ returns-then-is_aim-2-clause-run c =
     })).0
 
 pub returns-then-is_aim-2-clause-there : goal.returns-then-is_aim-2-clause-there
-returns-then-is_aim-2-clause-there c =
+returns-then-is_aim-2-clause-there g c =
     (stops (is_aim c.args.aim.now) c.args.limit c.loop-left.left c.args.self c.loop-left.run c.loop-left.invariant c.quiet_up_to.new.self
     (record {
       steps = c.min-quiet.result;
@@ -62,7 +62,7 @@ returns-then-is_aim-2-clause-there c =
     })).1
 
 pub loop-left-preserved-then-quiet-eq0 : goal.loop-left-preserved-then-quiet-eq0
-loop-left-preserved-then-quiet-eq0 c =
+loop-left-preserved-then-quiet-eq0 g c =
     goes_on (is_aim c.args.aim.now) c.args.limit c.loop-left.left c.args.self c.loop-left.run c.loop-left.invariant 1 c.step.result.run (omega (arith, c.loop-left-test.true))
     (one_made _ _ _ c.step.ensures.run)
     (λ some. elim c.else-left-gt0.branch [
@@ -71,7 +71,7 @@ loop-left-preserved-then-quiet-eq0 c =
     ])
 
 pub loop-left-preserved : goal.loop-left-preserved
-loop-left-preserved c =
+loop-left-preserved g c =
     goes_on (is_aim c.args.aim.now) c.args.limit c.loop-left.left c.args.self c.loop-left.run c.loop-left.invariant c.min-quiet.result c.quiet_up_to.new.self (omega (arith, c.min-quiet.ensures))
     (c.quiet_up_to.ensures.made c.if-quiet_up_to.false)
     (λ some. elim c.else-left-gt0-2.branch [
@@ -81,23 +81,23 @@ loop-left-preserved c =
     ])
 
 pub returns-clause-run : goal.returns-clause-run
-returns-clause-run c = (all_made (is_aim c.args.aim.now) c.args.limit c.loop-left.left c.args.self c.loop-left.run c.loop-left.invariant (omega (arith, c.loop-left-test.false))).0
+returns-clause-run g c = (all_made (is_aim c.args.aim.now) c.args.limit c.loop-left.left c.args.self c.loop-left.run c.loop-left.invariant (omega (arith, c.loop-left-test.false))).0
 
 pub returns-clause-there : goal.returns-clause-there
-returns-clause-there c = (all_made (is_aim c.args.aim.now) c.args.limit c.loop-left.left c.args.self c.loop-left.run c.loop-left.invariant (omega (arith, c.loop-left-test.false))).1
+returns-clause-there g c = (all_made (is_aim c.args.aim.now) c.args.limit c.loop-left.left c.args.self c.loop-left.run c.loop-left.invariant (omega (arith, c.loop-left-test.false))).1
 
 pub quiet_up_to-requires-clause-rom : goal.quiet_up_to-requires-clause-rom
-quiet_up_to-requires-clause-rom c = rom_of_run c.args.rom (c.args.limit - c.loop-left.left) c.args.self c.loop-left.run c.requires c.loop-left.invariant.run
+quiet_up_to-requires-clause-rom g c = rom_of_run c.args.rom (c.args.limit - c.loop-left.left) c.args.self c.loop-left.run c.requires.rom c.loop-left.invariant.run
 
 pub is_aim-requires : goal.is_aim-requires
-is_aim-requires c =
+is_aim-requires g c =
     subst (λ (p : Processor BusState). HasRom c.args.rom p.memory) (sym c.processor-then-left-gt0.ensures)
     (rom_of_run c.args.rom 1 c.loop-left.run c.step.result.run
-    (rom_of_run c.args.rom (c.args.limit - c.loop-left.left) c.args.self c.loop-left.run c.requires c.loop-left.invariant.run) c.step.ensures.run)
+    (rom_of_run c.args.rom (c.args.limit - c.loop-left.left) c.args.self c.loop-left.run c.requires.rom c.loop-left.invariant.run) c.step.ensures.run)
 
 pub is_aim-requires-then-left-gt0-2 : goal.is_aim-requires-then-left-gt0-2
-is_aim-requires-then-left-gt0-2 c =
+is_aim-requires-then-left-gt0-2 g c =
     subst (λ (p : Processor BusState). HasRom c.args.rom p.memory) (sym c.processor-then-left-gt0-2.ensures)
     (rom_of_run c.args.rom c.min-quiet.result c.loop-left.run c.quiet_up_to.new.self
-    (rom_of_run c.args.rom (c.args.limit - c.loop-left.left) c.args.self c.loop-left.run c.requires c.loop-left.invariant.run)
+    (rom_of_run c.args.rom (c.args.limit - c.loop-left.left) c.args.self c.loop-left.run c.requires.rom c.loop-left.invariant.run)
     (c.quiet_up_to.ensures.made c.if-quiet_up_to.false).run)

@@ -3,7 +3,7 @@ use Rattle.debugging.proofs.Runs.{IsGoing}
 use Rattle.debugging.proofs.run.Run.run_up_to.Given as goal
 
 abbrev pub invariant-loop-left : goal.invariant-loop-left
-invariant-loop-left l = IsGoing (is_aim l.fn.aim) l.limit l.left l.fn.self l.run
+invariant-loop-left g l = IsGoing (is_aim l.fn.aim) l.limit l.left l.fn.self l.run
 
 abbrev pub decreases-loop-left : goal.decreases-loop-left
-decreases-loop-left l = l.left
+decreases-loop-left g l = l.left
