@@ -8,7 +8,7 @@ use recording::RecordingFault;
 use session::SessionError;
 use std::alloc::Global;
 use std::process::Abort;
-use whole_lives::{Devices, LifeError};
+use whole_lives::{Devices, Game, LifeError};
 
 /// The devices of a new game and of a new recording.
 fn new_devices(rt: &impl Abort, alloc: Global, cartridge: &Cartridge) -> Devices {
@@ -31,11 +31,12 @@ fn lives_as(
 ) {
     let devices = new_devices(rt, alloc, cartridge);
     let lived = ends_as(rt, alloc, devices, cartridge, rows, ends, report);
-    let Some(recording) = lived.game.recording else {
+    let Game { session, recording } = lived.game;
+    let Some(recording) = recording else {
         panic!(rt; "no recording");
     };
     let left = Pair {
-        save: lived.game.session.into_device(),
+        save: session.into_device(),
         recording: recording.into_device(),
     };
     same!(rt; agree(rt, alloc, left, cartridge), (count, count));
@@ -125,13 +126,11 @@ fn wrong_line(rt: &impl Abort, alloc: Global, cartridge: &Cartridge) {
     let devices = new_devices(rt, alloc, cartridge);
     let why = LifeError::Record(RecordError::Line(2));
     let left = is_refused(rt, alloc, devices, cartridge, &[row], why);
-    let Some(recording) = left.recording else {
+    let Devices { save, recording } = left;
+    let Some(recording) = recording else {
         panic!(rt; "no recording");
     };
-    let left = Pair {
-        save: left.save,
-        recording,
-    };
+    let left = Pair { save, recording };
     same!(rt; agree(rt, alloc, left, cartridge), (1, 1));
 }
 
