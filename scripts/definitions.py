@@ -2,6 +2,7 @@
 those that these import, each after those that it stands on, with its lines.
 
 usage: definitions.py [CRATE FUNCTION]    at the top of the repository; another function's
+       definitions.py lines               with what the lines of a round ask for
        definitions.py public              finds each public function whose contract cites what only the code needs, and fails if there is one
 
 Of the toolchain's own definitions none is listed. A name that a contract cites is found by its file's `ghost use`."""
@@ -10,6 +11,8 @@ import sys
 from pathlib import Path
 
 HEADLINE = ('whole_lives', 'live')
+# what the program's player asks for
+LINES = ('whole_lives', 'Lines')
 ONLY_THE_CODE = 'what only the code needs'
 
 
@@ -89,7 +92,7 @@ def main():
     known = files()
     if sys.argv[1:] == ['public']:
         sys.exit(check_public(known))
-    order = closure(cited(*(sys.argv[1:3] if len(sys.argv) == 3 else HEADLINE)), known)
+    order = closure(cited(*(sys.argv[1:3] if len(sys.argv) == 3 else HEADLINE)) + ([LINES] if sys.argv[1:] == ['lines'] else []), known)
     lines = {module: len(known[module].read_text().splitlines()) for module in order}
     for module in order:
         print(f'{lines[module]:5} {known[module]}')

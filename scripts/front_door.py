@@ -170,11 +170,12 @@ def differences(texts):
 
 @functools.lru_cache(None)
 def counted():
-    """How many files of definitions the main theorem needs."""
+    """How many files of definitions the main theorem needs, and how many with what the lines of a round ask for."""
     known = definitions.files()
-    order = definitions.closure(definitions.cited(*definitions.HEADLINE), known)
-    lines = sum(len(known[module].read_text().splitlines()) for module in order)
-    return f'{len(order)} of {len(known)} files of definitions, {lines:,} lines'
+    cited = definitions.cited(*definitions.HEADLINE)
+    orders = definitions.closure(cited, known), definitions.closure([*cited, definitions.LINES], known)
+    lines = [sum(len(known[module].read_text().splitlines()) for module in order) for order in orders]
+    return f'{len(orders[0])} of {len(known)} files of definitions, {lines[0]:,} lines', f'{len(orders[1])} files, {lines[1]:,} lines'
 
 
 @functools.lru_cache(None)
@@ -185,8 +186,7 @@ def source(path):
 
 def walks(text):
     """What ARCHITECTURE says of functions and definitions that is not so."""
-    counts = counted()
-    wrong = [] if counts in ' '.join(text.split()) else [f'{ARCHITECTURE} does not count {counts}']
+    wrong = [f'{ARCHITECTURE} does not count {count}' for count in counted() if count not in ' '.join(text.split())]
     steps = [cells for function in re.findall(r'^\| Function .*\n\|[-|]+\|\n((?:\|.*\n)+)', text, re.M) for cells in
              (line.strip('|').split(' | ') for line in function.splitlines())]
     wrong += [f'{ARCHITECTURE}: no function {name} in {path}' for names, file, _ in steps for name in code(names) for path in code(file)

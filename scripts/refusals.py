@@ -71,8 +71,8 @@ def equations_of(definitions):
 
 def causes_of(definitions):
     """The definition that the field `cause` of each record has, and of what stands for such a record."""
-    fields = re.findall(r'^pub record (\w+).*? where\n((?:  .*\n)*)', definitions, re.M)
-    found = {name: cause for name, body in fields for cause in re.findall(r'^  pub cause : (Is\w+)', body, re.M)}
+    fields = re.findall(r'^( *)pub record (\w+).*? where\n((?:\1  .*\n)*)', definitions, re.M)
+    found = {name: cause for _, name, body in fields for cause in re.findall(r'^ +pub cause : (?:IfErr \w+ \(λ \w+\. )?(Is\w+)', body, re.M)}
     stand_for = dict(re.findall(r'^([A-Z]\w+) [^=\n]* =\s+([A-Z]\w+)', definitions, re.M))
     for name in stand_for:
         other = name

@@ -10,7 +10,7 @@ use Rattle.log_format.specs.Content.{content}
 use Rattle.session.specs.Calls.{faults_after}
 use Rattle.session.specs.Stands.{IsAtRest, Position, stands}
 use Rattle.playing.specs.Played.{IsNotTakenUp}
-use Rattle.playing.specs.Report.{resumed_line}
+use Rattle.playing.specs.Lines.{resumed_line}
 use Rattle.debugging.specs.Run.{begun}
 use Rattle.debugging.specs.Debugged.{Exchange, HasAnsweredAll, HasAnsweredSome, HasBrokenOff, HasLackedMemory, IsDebugCause}
 use Rattle.debugging.specs.declared.error.DebugError.{DebugError}

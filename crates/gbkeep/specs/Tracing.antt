@@ -10,7 +10,7 @@ use Rattle.sector_device.specs.DiskState.{DiskState}
 use Rattle.session.specs.Calls.{faults_after}
 use Rattle.session.specs.Stands.{Position}
 use Rattle.playing.specs.Played.{IsNotTakenUp}
-use Rattle.playing.specs.Report.{resumed_line}
+use Rattle.playing.specs.Lines.{resumed_line}
 use Rattle.debug_lines.specs.Debugging.{IsTakenUp}
 use Rattle.debugger.specs.Report.{step_lines}
 use Rattle.gbkeep.specs.declared.error.TraceError.{TraceError}

@@ -1,7 +1,7 @@
 //! Laws of the definitions. The functions do nothing: the contract of each is the law.
 
 ghost use Rattle.std.specs.Prelude.{List, ℕ};
-ghost use Rattle.recorded_play.specs.Agreeing.{AllAgree};
+ghost use Rattle.replaying.specs.Agreeing.{AllAgree};
 ghost use Rattle.recording_lines.specs.Beginning.{IsNewGame, IsNewRecording};
 ghost use Rattle.test_run.specs.Laws.{NothingMoreHappens};
 

@@ -3,7 +3,7 @@ use Rattle.std.proofs.Common.{◌≡◌, ℕ, ◌+◌, ◌-◌, ◌<◌, ◌≤�
 use Rattle.std.proofs.lemmas.List.{take_at, drop_at, take_all, drop_all, get_or-drop, take-set-le, drop-set-add, take-append-drop, length-take-le}
 use Rattle.input_entries.specs.Growing.{lengthens, last_of, with_input, with_inputs}
 use Rattle.input_entries.specs.Inputs.{single, longer}
-use Rattle.log_format.specs.Inputs.{sealed, grown}
+use Rattle.log_format.specs.Appends.{sealed, grown}
 use Rattle.input_entries.specs.declared.Entry.{Entry}
 use Rattle.input_entries.specs.declared.StoredEntry.{StoredEntry}
 use Rattle.input_entries.proofs.MoreInputs.{last_at, last_goes, last_stays, length-with_inputs, with_inputs-append, next_input}

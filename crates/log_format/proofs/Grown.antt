@@ -4,7 +4,8 @@ use Rattle.std.proofs.lemmas.List.{length-take-le, take-append-drop, drop-append
 use Rattle.std.proofs.lemmas.Bool.Decides.{nat_tests}
 use Rattle.input_entries.specs.Inputs.{AllFive, inputs, all_input}
 use Rattle.input_entries.specs.Growing.{with_inputs}
-use Rattle.log_format.specs.Inputs.{AreInputs, sealed, grown, fits}
+use Rattle.log_format.specs.Inputs.{AreInputs}
+use Rattle.log_format.specs.Appends.{sealed, grown, fits}
 use Rattle.input_entries.specs.declared.Entry.{Entry}
 use Rattle.input_entries.specs.declared.StoredEntry.{StoredEntry}
 use Rattle.input_entries.proofs.CodeLengths.{AreCodes, codes-take, codes-drop, codes-append}

@@ -7,8 +7,7 @@ use Rattle.sector_device.specs.DiskState.{sector_at}
 use Rattle.log_format.specs.Log.{is_log_sector, count_in, entries_from, entries_at, log_from, log_sector, log_area}
 use Rattle.input_entries.specs.Inputs.{AllFive, inputs, all_input, all_entries}
 use Rattle.input_entries.specs.Growing.{with_inputs}
-use Rattle.log_format.specs.Inputs.{grown, fits}
-use Rattle.log_format.specs.Appends.{HoldsPrefix}
+use Rattle.log_format.specs.Appends.{grown, fits, HoldsPrefix}
 use Rattle.log_format.specs.Content.{chosen, last_generation, header_of, area, area_length, area_start, content_by}
 use Rattle.log_format.specs.Laws.{EndsOpen, AnyWritten, ExtendsBy, IsOpenEnded, IsInAppend}
 use Rattle.log_format.specs.declared.root.Root.{Root}

@@ -1,9 +1,7 @@
--- The entries of a log: how many inputs they count, which is the first that is none, and what more inputs make of them.
-use Rattle.std.specs.Prelude.{◌≡◌, ◌&&◌, ◌++◌, ◌+◌, ◌*◌, ◌/◌, ◌≤◌, ◌<◌, ℕ, List, [], ◌∷◌, length, take, drop, slice_index_or, Bool, if◌then◌else◌, nat_le, Option, Some, None}
-use Rattle.input_entries.specs.Growing.{with_inputs}
+-- The entries of a log: how many inputs they count, and which is the first that is none.
+use Rattle.std.specs.Prelude.{◌≡◌, ◌&&◌, ◌+◌, ◌≤◌, ◌<◌, ℕ, List, [], ◌∷◌, length, slice_index_or, if◌then◌else◌, nat_le, Option, Some, None}
 use Rattle.input_entries.specs.Inputs.{inputs, inputs_in, is_entry, all_entries}
-use Rattle.log_format.specs.Sizes.{entries_per_sector, most_entries, most_inputs}
-use Rattle.input_entries.specs.declared.Entry.{Entry}
+use Rattle.log_format.specs.Sizes.{most_inputs}
 use Rattle.input_entries.specs.declared.StoredEntry.{StoredEntry}
 
 -- each entry of a log is an input, and a log holds at most 216,000 of them
@@ -29,15 +27,3 @@ wrong_from index before (s ∷ log) =
 
 abbrev pub first_wrong : List StoredEntry → Option ℕ
 first_wrong log = wrong_from 0 0 log
-
--- the entries of full sectors
-abbrev pub sealed : List StoredEntry → ℕ
-sealed log = entries_per_sector * (length log / entries_per_sector)
-
--- the log with more inputs, where full sectors stay as they are
-unfoldable pub grown : List StoredEntry → List Entry → List StoredEntry
-grown log more = take (sealed log) log ++ with_inputs (drop (sealed log) log) more
-
--- the entries fit the log's sectors, and the inputs a log
-unfoldable pub fits : List StoredEntry → List Entry → Bool
-fits log more = nat_le (length (grown log more)) most_entries && nat_le (length (inputs log) + length more) most_inputs

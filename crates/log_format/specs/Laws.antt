@@ -3,10 +3,10 @@ use Rattle.std.specs.Prelude.{◌≡◌, ◌⊎◌, ◌↔◌, ◌++◌, ◌+◌
 use lib.ListN.{replicate}
 use Rattle.sector_device.specs.DiskState.{IsSized, sector_at}
 use Rattle.log_format.specs.Log.{log_from, log_area}
-use Rattle.log_format.specs.Appends.{HoldsPrefix}
+use Rattle.log_format.specs.Appends.{HoldsPrefix, grown, fits}
 use Rattle.log_format.specs.Content.{ImageContent, Body, content, generation_in, chosen, area, area_start, area_length, blob_sectors, need}
 use Rattle.input_entries.specs.Inputs.{inputs, all_input, AllFive}
-use Rattle.log_format.specs.Inputs.{AreInputs, grown, fits, counted, first_wrong}
+use Rattle.log_format.specs.Inputs.{AreInputs, counted, first_wrong}
 use Rattle.log_format.specs.Sizes.{entries_per_sector, log_sectors_per_area}
 use Rattle.log_format.specs.Inputs.{HaveSix}
 use Rattle.input_entries.specs.declared.Entry.{Entry}

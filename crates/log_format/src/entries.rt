@@ -2,7 +2,7 @@
 ghost use Rattle.std.specs.Prelude.{◌≡◌, ◌↔◌, ◌≤◌, ◌<◌, ◌+◌, ◌^◌, ◌++◌, true, IsTrue, length, take, drop, vec_capacity};
 ghost use Rattle.input_entries.specs.Inputs.{all_input, all_entries, inputs, AllFive};
 ghost use Rattle.input_entries.specs.Growing.{with_input};
-ghost use Rattle.log_format.specs.Inputs.{grown};
+ghost use Rattle.log_format.specs.Appends.{grown};
 ghost use Rattle.log_format.specs.Sizes.{most_entries, most_inputs};
 
 use crate::sizes::ENTRIES_PER_SECTOR;

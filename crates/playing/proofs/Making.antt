@@ -9,7 +9,8 @@ use Rattle.machine.specs.Machine.{MachineState, Input, after}
 use Rattle.session.specs.declared.error.SessionError.{SessionError}
 use Rattle.session.specs.declared.error.SessionError.TheVariants.{Output}
 use Rattle.session.proofs.StandsLaws.{after_append, after_none, after_one}
-use Rattle.playing.specs.Report.{Line, texts, HasTold}
+use Rattle.playing.specs.Report.{HasTold}
+use Rattle.playing.specs.Lines.{Line, texts}
 use Rattle.playing.specs.Making.{count_of, Advances, Stops, AdvancesTelling, StopsTelling}
 use Rattle.playing.specs.Making.Advances.{stays, by_input, by_save}
 use Rattle.playing.specs.Making.Stops.{at_input, at_save, at_line, past_input, past_save}

@@ -6,7 +6,8 @@ use Rattle.exact_text.proofs.Writes.{appends_twice}
 use Rattle.machine.specs.Machine.{Input}
 use Rattle.script.specs.declared.moves.Move.{Move}
 use Rattle.script.specs.declared.moves.Move.TheVariants.{Power}
-use Rattle.playing.specs.Report.{Line, texts, unsaved_after, unsaved_behind, line_due, lines_of_inputs, unsaved_behind_move, unsaved_behind_moves, lines_of_move, lines_of_moves, saved_line, last_line}
+use Rattle.playing.specs.Report.{unsaved_after, unsaved_behind, line_due, lines_of_inputs, unsaved_behind_move, unsaved_behind_moves, lines_of_move, lines_of_moves, last_line}
+use Rattle.playing.specs.Lines.{Line, texts, saved_line}
 use Rattle.script.specs.Inputs.{inputs_of_move, inputs_of_moves}
 
 -- ---- texts

@@ -9,7 +9,8 @@ use Rattle.session.specs.declared.error.SessionError.TheVariants.{Output}
 use Rattle.playing.specs.Making.{count_of, IsGiven, IsSaved, AdvancesTelling, StopsTelling, AdvancesByInputs, StopsByInputs}
 use Rattle.playing.specs.Making.Advances.{stays, by_input, by_save}
 use Rattle.playing.specs.Making.Stops.{at_input, at_save}
-use Rattle.playing.specs.Report.{saved_line, lines_of_inputs}
+use Rattle.playing.specs.Report.{lines_of_inputs}
+use Rattle.playing.specs.Lines.{saved_line}
 use Rattle.playing.specs.declared.playable.Playable.{Ghosts}
 use Rattle.playing.proofs.Making.{makes_by, makes_line, makes_then, stops_at_line, stops_by, stops_then}
 use Rattle.playing.proofs.ReportLaws.{is_due, not_due}

@@ -9,7 +9,8 @@ use Rattle.session.specs.declared.error.SessionError.{SessionError}
 use Rattle.session.specs.declared.error.SessionError.TheVariants.{Memory, Output}
 use Rattle.sector_device.specs.DiskState.{DiskState}
 use Rattle.playing.specs.Played.{IsAsItWas}
-use Rattle.playing.specs.Report.{Line, texts, IsPart, HasTold}
+use Rattle.playing.specs.Report.{IsPart, HasTold}
+use Rattle.playing.specs.Lines.{Line, texts}
 use Rattle.playing.proofs.ReportLaws.{texts_append}
 
 part_more : (why : SessionError) (rest more : List Line) (part : List ℕ) → IsPart why rest part → IsPart why (rest ++ more) part

@@ -6,7 +6,8 @@ use Rattle.machine.specs.Machine.{Input}
 use Rattle.script.specs.declared.moves.Move.{Move}
 use Rattle.session.specs.declared.error.SessionError.TheVariants.{Output}
 use Rattle.playing.specs.Making.{count_of, AdvancesTelling, StopsTelling, AdvancesByMoves, StopsByMoves, FindsNoMemory, PlaysToMemory}
-use Rattle.playing.specs.Report.{Line, resumed_line, unsaved_behind_moves, lines_of_moves, last_line, report_lines}
+use Rattle.playing.specs.Report.{unsaved_behind_moves, lines_of_moves, last_line, report_lines}
+use Rattle.playing.specs.Lines.{Line, resumed_line}
 use Rattle.script.specs.Inputs.{inputs_of_moves}
 use Rattle.playing.specs.declared.playable.Playable.{Ghosts}
 use Rattle.playing.proofs.Making.{advances_count, makes_by, makes_then, makes_line, stops_at_line, stops_before, stops_by, stops_then}

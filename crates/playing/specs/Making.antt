@@ -5,7 +5,8 @@ use Rattle.machine.specs.Machine.{Input, applied}
 use Rattle.script.specs.declared.moves.Move.{Move}
 use Rattle.script.specs.declared.moves.Move.TheVariants.{Power}
 use Rattle.session.specs.declared.error.SessionError.TheVariants.{Output}
-use Rattle.playing.specs.Report.{Line, resumed_line, texts, unsaved_behind, lines_of_inputs, unsaved_behind_moves, lines_of_moves, HasTold}
+use Rattle.playing.specs.Report.{unsaved_behind, lines_of_inputs, unsaved_behind_moves, lines_of_moves, HasTold}
+use Rattle.playing.specs.Lines.{Line, resumed_line, texts}
 use Rattle.script.specs.Inputs.{inputs_of_moves}
 use Rattle.playing.specs.declared.playable.Playable.{Ghosts}
 

@@ -15,7 +15,8 @@ use Rattle.session.specs.Found.{IsResumeCause}
 use Rattle.session.specs.Inputs.{can_be_logged, inputs_of}
 use Rattle.session.specs.declared.error.SessionError.{SessionError}
 use Rattle.session.specs.declared.error.SessionError.TheVariants.{Memory, Device, GenerationsUsedUp, CountFull, Output}
-use Rattle.playing.specs.Report.{lines_of_moves, report_lines, resumed_line, texts, unsaved_behind_moves, HasTold}
+use Rattle.playing.specs.Report.{lines_of_moves, report_lines, unsaved_behind_moves, HasTold}
+use Rattle.playing.specs.Lines.{resumed_line, texts}
 use Rattle.script.specs.Inputs.{inputs_of_moves}
 
 -- the image stands for the first so many of these inputs from there, at least for `least` of them

@@ -1,5 +1,5 @@
 -- The report of a play.
-use Rattle.std.specs.Prelude.{◌≡◌, ◌==◌, ◌<◌, ◌≤◌, ◌+◌, ℕ, List, [], ◌∷◌, ◌++◌, length, take, replicate, codes, decimal, if◌then◌else◌, Option, All}
+use Rattle.std.specs.Prelude.{◌≡◌, ◌==◌, ◌<◌, ◌≤◌, ◌+◌, ℕ, List, [], ◌∷◌, ◌++◌, length, take, replicate, if◌then◌else◌, Option, All}
 use Rattle.std.specs.Io.KnownBytes.{Appends}
 use Rattle.machine.specs.Machine.{Input}
 use Rattle.machine.specs.Machine.{Frame}
@@ -7,26 +7,9 @@ use Rattle.script.specs.declared.moves.Move.{Move}
 use Rattle.script.specs.declared.moves.Move.TheVariants.{Frames, Seconds, Save, Power}
 use Rattle.script.specs.Inputs.{inputs_of_move, inputs_of_moves}
 use Rattle.session.specs.Calls.{most_unsaved}
+use Rattle.playing.specs.Lines.{Line, resumed_line, saved_line, texts}
 use Rattle.session.specs.declared.error.SessionError.{SessionError}
 use Rattle.session.specs.declared.error.SessionError.TheVariants.{Output}
-
--- ---- lines
-
--- a line of a report, and the count of inputs that it tells
-pub record Line : Type 0 where
-  pub told : ℕ
-  pub text : List ℕ
-
-abbrev pub resumed_line : ℕ → Line
-resumed_line count = record { told = count; text = codes "resumed " ++ (decimal count ++ codes "\n") }
-
-abbrev pub saved_line : ℕ → Line
-saved_line count = record { told = count; text = codes "saved " ++ (decimal count ++ codes "\n") }
-
--- the lines one after another
-abbrev pub texts : List Line → List ℕ
-texts [] = []
-texts (line ∷ lines) = line.text ++ texts lines
 
 -- ---- of inputs
 

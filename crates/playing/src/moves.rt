@@ -6,7 +6,8 @@ ghost use Rattle.snapshot.specs.Reading.{machine_in};
 ghost use Rattle.session.specs.Calls.{most_unsaved};
 ghost use Rattle.script.specs.declared.moves.Move.TheVariants.{Power as SwitchMove};
 ghost use Rattle.playing.specs.Making.{count_of, IsGiven, AdvancesTelling, StopsTelling, AdvancesByInputs, StopsByInputs, AdvancesByMoves, StopsByMoves, HasRoom, FindsNoMemory, PlaysToMemory};
-ghost use Rattle.playing.specs.Report.{saved_line, report_lines};
+ghost use Rattle.playing.specs.Report.{report_lines};
+ghost use Rattle.playing.specs.Lines.{saved_line};
 ghost use Rattle.script.specs.Inputs.{inputs_of_moves};
 
 use crate::playable::Playable;

@@ -2,7 +2,7 @@
 ghost use Rattle.std.specs.Prelude.{◌≡◌, ℕ, List, Option, None, true, OnOk, OnErr};
 ghost use Rattle.std.specs.Io.KnownBytes.{Appends};
 ghost use Rattle.exact_text.specs.Written.{AppendsProperPrefix};
-ghost use Rattle.playing.specs.Report.{resumed_line, saved_line};
+ghost use Rattle.playing.specs.Lines.{resumed_line, saved_line};
 
 use arrayvec::ArrayString;
 use exact_text::{Output, OutputFailed, number_digits, write_whole};

@@ -15,7 +15,7 @@ use Rattle.session.specs.Inputs.{input_of, inputs_of}
 use Rattle.session.proofs.StandsLaws.{logged_append}
 use Rattle.session.proofs.Writes.{since_weaker}
 use Rattle.session.proofs.Beginnings.{since_then}
-use Rattle.recorded_play.specs.Agreeing.{recorded_inputs}
+use Rattle.replaying.specs.Agreeing.{recorded_inputs}
 use Rattle.recorded_play.specs.Steps.{HoldsFirst, HoldsSaved, Records}
 
 -- ---- the inputs of a list of entries

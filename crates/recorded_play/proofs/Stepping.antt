@@ -29,8 +29,7 @@ use Rattle.playing.specs.declared.playable.Playable.{Ghosts}
 use Rattle.playing.proofs.Going.{IsNow}
 use Rattle.playing.proofs.PlayLaws.{going_nowhere, going_then, going_by, stopped_here, stopped_then, stopped_by, stopped_more}
 use Rattle.playing.proofs.Stops.{stops_among}
-use Rattle.replaying.specs.Agreeing.{Agrees}
-use Rattle.recorded_play.specs.Agreeing.{AllAgree}
+use Rattle.replaying.specs.Agreeing.{Agrees, AllAgree}
 use Rattle.recorded_play.specs.Steps.{Game, game, power_on, HoldsFirst, HoldsSaved, Records, IsFull, IsInStep, IsBehind, BothAdvance, BothStop, IsRecordStop, told_as}
 use Rattle.recorded_play.specs.declared.error.RecordError.{RecordError}
 use Rattle.recorded_play.specs.declared.error.RecordError.TheVariants.{Session}

@@ -28,8 +28,7 @@ use Rattle.session.proofs.Beginnings.{since_then}
 use Rattle.session.proofs.StandsLaws.{after_append, after_none}
 use Rattle.playing.specs.Played.{IsPlayed, Reaches, IsStop}
 use Rattle.playing.proofs.PlayLaws.{begun_played}
-use Rattle.replaying.specs.Agreeing.{IsRecorded, Agrees}
-use Rattle.recorded_play.specs.Agreeing.{AllAgree, recorded_inputs}
+use Rattle.replaying.specs.Agreeing.{IsRecorded, Agrees, AllAgree, recorded_inputs}
 use Rattle.recorded_play.specs.Steps.{power_on, IsOfDevices}
 use Rattle.recorded_play.specs.CatchingUp.{recorded_in}
 use Rattle.recorded_play.specs.GoingOn.{LookAdvances, LookStops, IsLookStop, LookImage}

@@ -7,13 +7,14 @@ use Rattle.machine.specs.Machine.{MachineState, start, after}
 use Rattle.machine.specs.Machine.{Input}
 use Rattle.sector_device.specs.DiskState.{DiskState}
 use Rattle.sector_device.specs.Runs.{HoldsSince}
-use Rattle.session.specs.Stands.{IsAtRest, Position}
+use Rattle.session.specs.Stands.{IsAtRest, Position, behind}
 use Rattle.session.specs.Inputs.{inputs_of}
 use Rattle.session.proofs.StandsLaws.{after_append}
 use Rattle.session.proofs.Writes.{since_weaker}
 use Rattle.session.proofs.Beginnings.{since_then}
 use Rattle.playing.specs.Played.{PlayImage, Reaches}
-use Rattle.playing.specs.Report.{Line, texts, HasTold}
+use Rattle.playing.specs.Report.{HasTold}
+use Rattle.playing.specs.Lines.{Line, texts}
 use Rattle.playing.proofs.Going.{IsNow, none_left}
 use Rattle.playing.proofs.PlayLaws.{begun_played, all_saved, reaches_more, reaches_none}
 use Rattle.playing.proofs.Telling.{told_by}
@@ -28,7 +29,7 @@ use Rattle.streaming.specs.Answers.{inputs_of_deeds, stream_lines}
 use Rattle.playing.specs.Going.{all_of, IsPlayedAt}
 use Rattle.streaming.specs.declared.obeying.End.{End}
 use Rattle.streaming.proofs.Wholes.{stream_at, lines_resumed}
-use Rattle.recorded_play.specs.Agreeing.{AllAgree, recorded_inputs, behind}
+use Rattle.replaying.specs.Agreeing.{AllAgree, recorded_inputs}
 use Rattle.recorded_play.specs.Steps.{Game, HoldsFirst, HoldsSaved, IsInStep, BothAdvance, BothStop, IsRecordStop, told_as}
 use Rattle.recorded_play.specs.Whole.{IsTakenUp, HoldsAll, HasTakenUp, HasRecorded, HasStopped, IsEndCause}
 use Rattle.recorded_play.specs.declared.error.RecordError.{RecordError}

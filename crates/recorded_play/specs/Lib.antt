@@ -1,4 +1,3 @@
-pub mod Agreeing
 pub mod Steps
 pub mod Whole
 -- what only the code needs

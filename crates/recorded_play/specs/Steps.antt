@@ -20,7 +20,7 @@ use Rattle.session.specs.declared.error.SessionError.TheVariants.{Device as Devi
 use Rattle.session.specs.declared.session.Session.{Session as PlaySession}
 use Rattle.playing.specs.Going.{Place, place, all_of, IsPlayedAt}
 use Rattle.playing.specs.Played.{IsStop, Advanced, Stopped, Reaches}
-use Rattle.recorded_play.specs.Agreeing.{recorded_inputs}
+use Rattle.replaying.specs.Agreeing.{recorded_inputs}
 use Rattle.recorded_play.specs.declared.error.RecordError.{RecordError}
 use Rattle.recorded_play.specs.declared.error.RecordError.TheVariants.{Session, Recording, Behind, Line, Input as FailedInput}
 

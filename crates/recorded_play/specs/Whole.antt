@@ -13,13 +13,14 @@ use Rattle.log_format.specs.Content.{content, generation_in}
 use Rattle.recording.specs.Calls.{IsOpenCause}
 use Rattle.recording.specs.Accessors.{device_of as device_of_recording}
 use Rattle.recording.specs.declared.fault.RecordingFault.TheVariants.{NoRecording, OtherCartridge, Full}
-use Rattle.session.specs.Stands.{IsAtRest, StandsAsBefore, Position, stands}
+use Rattle.session.specs.Stands.{IsAtRest, StandsAsBefore, Position, stands, behind}
 use Rattle.session.specs.Found.{IsResumeCause}
 use Rattle.session.specs.Accessors.{device_of}
 use Rattle.session.specs.declared.error.SessionError.{SessionError}
 use Rattle.session.specs.declared.error.SessionError.TheVariants.{Output}
 use Rattle.playing.specs.Played.{PlayImage, Reaches, IsStop}
-use Rattle.playing.specs.Report.{texts, HasTold}
+use Rattle.playing.specs.Report.{HasTold}
+use Rattle.playing.specs.Lines.{texts}
 use Rattle.input_lines.specs.Given.{Given, HasReadGiven}
 use Rattle.machine_lines.specs.KeptStates.{KeptMachine}
 use Rattle.streaming.specs.Orders.{Deed, asked}
@@ -27,7 +28,7 @@ use Rattle.streaming.specs.Reading.{Asks, AsksUpTo, ReadsTo}
 use Rattle.streaming.specs.Answers.{inputs_of_deeds, stream_lines}
 use Rattle.streaming.specs.declared.obeying.End.{End}
 use Rattle.streaming.specs.declared.obeying.End.TheVariants.{Wrong, Failed}
-use Rattle.recorded_play.specs.Agreeing.{AllAgree, behind, recorded_inputs}
+use Rattle.replaying.specs.Agreeing.{AllAgree, recorded_inputs}
 use Rattle.recorded_play.specs.Steps.{HoldsFirst, IsFull, IsOfDevices, IsRecordStop, told_as}
 use Rattle.recorded_play.specs.declared.error.RecordError.{RecordError}
 use Rattle.recorded_play.specs.declared.error.RecordError.TheVariants.{Session, Recording, Behind, Line as WrongLine, Input as FailedInput}

@@ -5,7 +5,7 @@ ghost use Rattle.recording.specs.Accessors.{device_of as device_of_recording, is
 ghost use Rattle.session.specs.Stands.{IsAtRest};
 ghost use Rattle.session.specs.Accessors.{device_of, machine_of, rom_of, pending_of, acknowledged_of, is_broken};
 ghost use Rattle.streaming.specs.declared.obeying.End.TheVariants.{Whole as WholeInput};
-ghost use Rattle.recorded_play.specs.Agreeing.{AllAgree};
+ghost use Rattle.replaying.specs.Agreeing.{AllAgree};
 ghost use Rattle.recorded_play.specs.Steps.{save_faults_after, recording_faults_after};
 ghost use Rattle.recorded_play.specs.Whole.{HasRecorded, IsRecordCause, save_left, recording_left};
 

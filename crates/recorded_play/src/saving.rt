@@ -6,8 +6,7 @@ ghost use Rattle.recording.specs.Accessors.{device_of as device_of_recording, is
 ghost use Rattle.recording.specs.declared.fault.RecordingFault.TheVariants.{Full};
 ghost use Rattle.session.specs.Inputs.{can_be_logged};
 ghost use Rattle.session.specs.Accessors.{device_of, rom_of, pending_of, acknowledged_of, is_broken, IsUnchanged};
-ghost use Rattle.replaying.specs.Agreeing.{Agrees};
-ghost use Rattle.recorded_play.specs.Agreeing.{AllAgree};
+ghost use Rattle.replaying.specs.Agreeing.{Agrees, AllAgree};
 ghost use Rattle.recorded_play.specs.Steps.{game, BothAdvance, BothStop, IsInStep};
 
 use crate::error::RecordError;

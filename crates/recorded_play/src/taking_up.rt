@@ -6,7 +6,7 @@ ghost use Rattle.recording.specs.Accessors.{device_of as device_of_recording, is
 ghost use Rattle.session.specs.Accessors.{device_of, machine_of, rom_of, pending_of, acknowledged_of, is_broken};
 ghost use Rattle.session.specs.LookAccessors.{device_of_look, machine_of_look, rom_of_look, count_of_look, generation_of_look};
 ghost use Rattle.log_format.specs.Content.{generation_in};
-ghost use Rattle.recorded_play.specs.Agreeing.{AllAgree};
+ghost use Rattle.replaying.specs.Agreeing.{AllAgree};
 ghost use Rattle.recorded_play.specs.GoingOn.{LookAdvances, LookStops};
 ghost use Rattle.recorded_play.specs.Steps.{save_faults_after, recording_faults_after};
 ghost use Rattle.recorded_play.specs.Whole.{HasTakenUp, IsNotTakenUp, save_left, recording_left};

@@ -4,7 +4,7 @@ use cartridge::Cartridge;
 use std::alloc::Global;
 use std::process::Abort;
 use std::test::Fail;
-use whole_lives::{Devices, LifeError, LifeRefused, Lived, Round, live};
+use whole_lives::{Devices, LifeError, LifeRefused, Lines, Lived, Round, live};
 
 /// Choices of sixty writes each: those whose place modulo two is true.
 #[derive(Clone, Copy)]
@@ -58,7 +58,7 @@ fn lived(
     rows: &[Row],
 ) -> Lived {
     let rounds = rounds_of(rt, alloc, rows);
-    match live(alloc, devices, cartridge, &rounds) {
+    match live::<Lines>(alloc, devices, cartridge, &rounds) {
         Ok(lived) => lived,
         Err(_) => panic!(rt; "the life was refused"),
     }
@@ -98,7 +98,7 @@ pub(crate) fn is_refused(
     let LifeRefused {
         why: found,
         devices,
-    } = match live(alloc, devices, cartridge, &rounds) {
+    } = match live::<Lines>(alloc, devices, cartridge, &rounds) {
         Ok(_) => panic!(rt; "the life was not refused"),
         Err(refused) => refused,
     };

@@ -14,8 +14,8 @@ use Rattle.log_format.specs.Log.{log_sector, log_from, log_area}
 use Rattle.log_format.specs.declared.root.Root.{Root}
 use Rattle.log_format.specs.declared.root.Version.TheVariants.{Two}
 use Rattle.log_format.specs.Content.{chosen, last_generation, generation_in, area_length, area_start, area, header_of, content_by, content, ImageContent}
-use Rattle.log_format.specs.Appends.{HoldsPrefix}
-use Rattle.log_format.specs.Inputs.{AreInputs, grown, sealed, fits}
+use Rattle.log_format.specs.Appends.{HoldsPrefix, grown, sealed, fits}
+use Rattle.log_format.specs.Inputs.{AreInputs}
 use Rattle.log_format.specs.Laws.{IsOpenEnded, IsInAppend}
 use Rattle.log_format.proofs.AppendLaw.{read_back, take-past}
 use Rattle.log_format.proofs.Areas.{length-log_area, log_area_at}

@@ -13,8 +13,7 @@ use Rattle.input_entries.proofs.CodeLengths.{codes_of_each, each_of_codes, each_
 use Rattle.log_format.specs.Content.{header_of, content}
 use Rattle.log_format.specs.Found.{log_of}
 use Rattle.log_format.specs.Log.{log_area}
-use Rattle.log_format.specs.Inputs.{sealed, grown, fits}
-use Rattle.log_format.specs.Appends.{HoldsPrefix}
+use Rattle.log_format.specs.Appends.{sealed, grown, fits, HoldsPrefix}
 use Rattle.log_format.specs.declared.root.Root.{Root}
 use Rattle.log_format.proofs.Grown.{fits_means, whole_grown, codes_grown}
 use Rattle.sector_log.specs.Layout.{replaced}

@@ -6,8 +6,9 @@ use Rattle.sector_device.specs.declared.device.SectorDevice.{Ghosts}
 use Rattle.sector_log.specs.Calls.{HasBegun, CanBegin, IsAppended}
 use Rattle.log_format.specs.Content.{content, generation_in, chosen, version_of}
 use Rattle.log_format.specs.Found.{IsSound, seen_in, log_of}
-use Rattle.log_format.specs.Inputs.{fits, grown}
-use Rattle.sector_log.specs.Accessors.{found_generation, longest_blob, seen, is_broken, entries_of, generation_of, id_of}
+use Rattle.log_format.specs.Appends.{fits, grown}
+use Rattle.sector_log.specs.Accessors.{is_broken, entries_of, generation_of, id_of}
+use Rattle.sector_log.specs.OpenedAccessors.{found_generation, longest_blob, seen}
 use Rattle.input_entries.specs.declared.Entry.{Entry}
 use Rattle.sector_log.specs.declared.opened.Opened.{Opened}
 use Rattle.log_format.specs.declared.root.Version.TheVariants.{Two}

@@ -37,7 +37,8 @@ pub struct Opened<D: SectorDevice> {
 
 impl<D: SectorDevice> Opened<D> {
     ghost use Rattle.sector_log.specs.Promises.{HasBegunStore};
-    ghost use Rattle.sector_log.specs.Accessors.{device_under, found_generation, longest_blob, seen, left_by_begin, device_of, is_broken, entries_of, generation_of, id_of};
+    ghost use Rattle.sector_log.specs.Accessors.{left_by_begin, device_of, is_broken, entries_of, generation_of, id_of};
+    ghost use Rattle.sector_log.specs.OpenedAccessors.{device_under, found_generation, longest_blob, seen};
 
     /// What reads give: nothing, a content, or a damaged content.
     pub fn found(&self) -> Found
@@ -74,7 +75,7 @@ impl<D: SectorDevice> Opened<D> {
     }
 
     /// The entries of the log; none if nothing is found or the blob does not fit the area.
-    #[tactic(auto, unfolding(crate::specs::Accessors::seen))]
+    #[tactic(auto, unfolding(crate::specs::OpenedAccessors::seen))]
     pub fn entries(&self) -> &[StoredEntry]
         ensures seen { result.now ≡ (seen self.now).log }
         ensures reads { (D.disk (device_under self.now)).honest →
@@ -84,7 +85,7 @@ impl<D: SectorDevice> Opened<D> {
     }
 
     /// The blob, if it fits its area and is no longer than the `most` of `open_log`.
-    #[tactic(auto, unfolding(crate::specs::Accessors::seen))]
+    #[tactic(auto, unfolding(crate::specs::OpenedAccessors::seen))]
     pub fn blob(&self) -> Option<&[u8]>
         ensures seen_some { IfSome result (λ blob. (seen self.now).blob ≡ Some blob.now) }
         ensures seen_none { IsNone result → (seen self.now).blob ≡ None }

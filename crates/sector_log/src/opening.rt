@@ -4,7 +4,7 @@ ghost use Rattle.sector_device.specs.DiskState.{HasAnswered};
 ghost use Rattle.sector_device.specs.Looking.{HasLooked};
 ghost use Rattle.sector_log.specs.Calls.{faults_after};
 ghost use Rattle.sector_log.specs.Promises.{HasOpened};
-ghost use Rattle.sector_log.specs.Accessors.{device_under, left_by_open};
+ghost use Rattle.sector_log.specs.OpenedAccessors.{device_under, left_by_open};
 ghost use Rattle.sector_log.specs.declared.fault.LogFault.TheVariants.{Memory, Device};
 
 use crate::fault::{LogFault, Refused};

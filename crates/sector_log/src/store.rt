@@ -2,11 +2,10 @@
 ghost use Rattle.std.specs.Prelude.{◌≡◌, ◌≤◌, ◌<◌, ◌+◌, ◌-◌, ◌^◌, ◌⊎◌, ◌↔◌, [], ℕ, length, true, false, Some, OnOk, IfErr, IsErrOf, vec_capacity};
 ghost use Rattle.sector_device.specs.DiskState.{HasAnswered};
 ghost use Rattle.sector_device.specs.Runs.{HoldsSince};
-ghost use Rattle.log_format.specs.Appends.{HoldsPrefix};
+ghost use Rattle.log_format.specs.Appends.{HoldsPrefix, fits};
 ghost use Rattle.sector_log.specs.Calls.{ChangesOpenLog, IsAppendCause, HasOldOrNewContent, IsReplaceCause, faults_after};
 ghost use Rattle.sector_log.specs.Store.{IsStored, Kept, kept_prop, StoredUnlessBroken, stored_prop};
 ghost use Rattle.input_entries.specs.Inputs.{inputs, all_input};
-ghost use Rattle.log_format.specs.Inputs.{fits};
 ghost use Rattle.log_format.specs.Sizes.{log_sectors_per_area, most_entries_read};
 ghost use Rattle.sector_log.specs.declared.fault.LogFault.TheVariants.{Device, Broken};
 

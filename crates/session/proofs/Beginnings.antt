@@ -25,9 +25,9 @@ use Rattle.input_entries.specs.declared.Entry.{Entry}
 use Rattle.input_entries.specs.declared.StoredEntry.{StoredEntry}
 use Rattle.sector_log.specs.declared.fault.LogFault.{LogFault}
 use Rattle.sector_log.specs.declared.fault.LogFault.TheVariants.{Memory as LogMemory, Device as LogDevice, TooSmall as LogTooSmall, GenerationsUsedUp as LogGenerationsUsedUp, LogFull, Broken as LogBroken}
-use Rattle.session.specs.Beginning.{session_fault}
+use Rattle.session.specs.Beginning.{session_fault, IsBeginRefusal}
 use Rattle.session.specs.declared.error.SessionError.{SessionError}
-use Rattle.session.specs.declared.error.SessionError.TheVariants.{Memory, Device, GenerationsUsedUp}
+use Rattle.session.specs.declared.error.SessionError.TheVariants.{Memory, Device, NoSession, TooSmall, OtherCartridge, Damaged, GenerationsUsedUp, Broken, SaveFirst, CountFull, Output}
 use Rattle.session.specs.Calls.{HasOldContentOrGame, faults_after}
 use Rattle.session.specs.Stands.{IsAtRest, StandsAsBefore, stands, further}
 use Rattle.session.specs.Found.{IsNewGameCause}
@@ -78,6 +78,20 @@ looking_wants_memory why (inr device) wanted = let same : Memory ≡ Device = sy
 pub looking_is_a_cause : {A : Type 0} (blob_length count : ℕ) {answer : SessionError} (why : LogFault) → ((why ≡ LogMemory) × A) ⊎ (why ≡ LogDevice) → answer ≡ session_fault why → IsNewGameCause blob_length count answer
 looking_is_a_cause blob_length count why (inl memory) is = subst (IsNewGameCause blob_length count) (sym (is ∙ ap session_fault memory.0)) tt
 looking_is_a_cause blob_length count why (inr device) is = subst (IsNewGameCause blob_length count) (sym (is ∙ ap session_fault device)) tt
+
+-- and so is each reason for which no generation is begun
+pub beginning_is_a_cause : (blob_length count last : ℕ) (why : SessionError) → IsBeginRefusal why blob_length count last → IsNewGameCause blob_length count why
+beginning_is_a_cause blob_length count last Memory cause = tt
+beginning_is_a_cause blob_length count last Device cause = tt
+beginning_is_a_cause blob_length count last NoSession cause = cause
+beginning_is_a_cause blob_length count last (TooSmall needed) cause = cause
+beginning_is_a_cause blob_length count last OtherCartridge cause = cause
+beginning_is_a_cause blob_length count last (Damaged damage) cause = cause
+beginning_is_a_cause blob_length count last GenerationsUsedUp cause = cause.0
+beginning_is_a_cause blob_length count last Broken cause = cause
+beginning_is_a_cause blob_length count last SaveFirst cause = cause
+beginning_is_a_cause blob_length count last CountFull cause = cause
+beginning_is_a_cause blob_length count last Output cause = cause
 
 -- a refusal of the log leaves the count of faults that it leaves as one of a session
 pub same_faults : (why : LogFault) (faults : ℕ) → log_faults_after why faults ≡ faults_after (session_fault why) faults

@@ -15,16 +15,15 @@ use Rattle.sector_device.specs.DiskState.{DiskState}
 use Rattle.sector_device.specs.Runs.{HoldsSince}
 use Rattle.sector_device.proofs.Runs.{holds_since}
 use Rattle.sector_log.specs.Calls.{IsAppended}
-use Rattle.log_format.specs.Appends.{HoldsPrefix}
+use Rattle.log_format.specs.Appends.{HoldsPrefix, fits, grown}
 use Rattle.log_format.specs.Content.{content, new_generation}
 use Rattle.log_format.specs.Found.{log_of}
 use Rattle.input_entries.specs.Inputs.{is_input, all_input}
-use Rattle.log_format.specs.Inputs.{fits, grown}
 use Rattle.input_entries.specs.declared.Entry.{Entry}
 use Rattle.input_entries.specs.declared.StoredEntry.{StoredEntry}
-use Rattle.session.specs.Calls.{IsSaved}
+use Rattle.session.specs.Calls.{IsSaved, fits_log}
 use Rattle.session.specs.Stands.{IsAtRest, Position, stands, further, StandsWithin, StandsBetween}
-use Rattle.session.specs.Inputs.{can_be_logged, fits_log, input_of, inputs_of, no_input}
+use Rattle.session.specs.Inputs.{can_be_logged, input_of, inputs_of, no_input}
 use Rattle.session.specs.Resting.{Rests}
 use Rattle.session.specs.Writing.{HoldsWritten, IsWritten}
 use Rattle.session.proofs.StandsLaws.{after_append, after_none, after_one, logged_append, more_stands}

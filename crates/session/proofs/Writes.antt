@@ -5,12 +5,11 @@ use Rattle.std.proofs.lemmas.Bool.{and_parts}
 use Rattle.sector_device.specs.DiskState.{DiskState}
 use Rattle.sector_device.specs.Runs.{HoldsSince}
 use Rattle.sector_device.proofs.Runs.{throughout_weaker}
-use Rattle.log_format.specs.Appends.{HoldsPrefix}
+use Rattle.log_format.specs.Appends.{HoldsPrefix, grown}
 use Rattle.sector_log.specs.Calls.{HasOldOrNewContent, HasBegun, IsAppended}
 use Rattle.log_format.specs.Content.{content, new_generation}
 use Rattle.log_format.specs.Found.{log_of}
 use Rattle.input_entries.specs.Inputs.{is_input, all_input}
-use Rattle.log_format.specs.Inputs.{grown}
 use Rattle.input_entries.specs.declared.Entry.{Entry}
 use Rattle.input_entries.specs.declared.StoredEntry.{StoredEntry}
 use Rattle.session.specs.Writing.{HoldsWritten, IsWritten}

@@ -1,5 +1,5 @@
 -- What the calls of a session leave on a device, by what its images hold and stand for.
-use Rattle.std.specs.Prelude.{◌≡◌, ◌⊎◌, ◌==◌, ◌≤◌, ◌<◌, ◌+◌, ◌-◌, ◌^◌, ℕ, List, length, Bool, true, false, if◌then◌else◌, Some, Result, Ok, Err}
+use Rattle.std.specs.Prelude.{◌≡◌, ◌⊎◌, ◌==◌, ◌&&◌, ◌≤◌, ◌<◌, ◌+◌, ◌-◌, ◌^◌, ℕ, List, length, Bool, true, false, if◌then◌else◌, Some, Result, Ok, Err}
 use Rattle.sha2.specs.Sha256.{sha256}
 use Rattle.machine.specs.Machine.{MachineState, start}
 use Rattle.cartridge.specs.Header.{ram_length_of}
@@ -7,10 +7,11 @@ use Rattle.snapshot.specs.Encoding.{encoded, snapshot_length}
 use Rattle.snapshot.specs.Legal.{IsLegalSnapshot, IsFault}
 use Rattle.sector_device.specs.DiskState.{DiskState, next_count}
 use Rattle.log_format.specs.Content.{ImageContent, content, generation_in, need, new_generation}
-use Rattle.log_format.specs.Appends.{Adds}
+use Rattle.log_format.specs.Appends.{Adds, fits, grown}
 use Rattle.log_format.specs.Found.{log_of}
-use Rattle.log_format.specs.Inputs.{grown}
 use Rattle.input_entries.specs.declared.Entry.{Entry}
+use Rattle.input_entries.specs.declared.StoredEntry.{StoredEntry}
+use Rattle.session.specs.Inputs.{can_be_logged}
 use Rattle.session.specs.declared.error.Damage.TheVariants.{Snapshot}
 use Rattle.session.specs.declared.error.SessionError.{SessionError}
 use Rattle.session.specs.declared.error.SessionError.TheVariants.{Memory, Device, NoSession, TooSmall, OtherCartridge, Damaged, GenerationsUsedUp, Broken, SaveFirst, CountFull, Output}
@@ -49,6 +50,10 @@ pub record CanBeLookedAt (rom : List ℕ) (old : DiskState) : Type 0 where
   pub stood : stands rom (content old.sectors) ≡ Some from
 
 -- ---- a save
+
+-- the log can hold them all behind what it holds
+abbrev pub fits_log : (log : List StoredEntry) → List Entry → Bool
+fits_log log entries = can_be_logged entries && fits log entries
 
 -- after the log where the entries fit it, else in a new generation with a snapshot of the machine and an empty log
 abbrev pub IsSaved : (fits : Bool) → (rom : List ℕ) → (all : ℕ) → MachineState → List Entry → (old new : List (List ℕ)) → Type 0

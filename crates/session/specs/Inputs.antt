@@ -1,12 +1,11 @@
 -- The entry of an input, and the input of an entry.
-use Rattle.std.specs.Prelude.{◌==◌, ◌&&◌, ◌∷◌, [], Bool, List, map, take, drop, if◌then◌else◌}
+use Rattle.std.specs.Prelude.{◌==◌, ◌∷◌, [], Bool, List, map, take, drop, if◌then◌else◌}
 use Rattle.std.specs.List.{list_all}
 use Rattle.std.specs.Int.{w32, from_le_bytes}
 use Rattle.machine.specs.Machine.{Input, Frame, Seconds, Power, State}
 use Rattle.input_entries.specs.declared.Entry.{Entry}
 use Rattle.input_entries.specs.declared.StoredEntry.{StoredEntry}
 use Rattle.input_entries.specs.Inputs.{frame, seconds, inputs, is_input}
-use Rattle.log_format.specs.Inputs.{fits}
 use Rattle.input_entries.specs.Bytes.{byte}
 
 -- what stands among the unsaved inputs for one that no log holds: 02, which is no input of a log
@@ -23,10 +22,6 @@ entry_of (State machine) = no_input
 -- each of them is a frame or seconds
 abbrev pub can_be_logged : List Entry → Bool
 can_be_logged entries = list_all is_input entries
-
--- the log can hold them all behind what it holds
-abbrev pub fits_log : (log : List StoredEntry) → List Entry → Bool
-fits_log log entries = can_be_logged entries && fits log entries
 
 -- the input of an entry that is one
 abbrev pub input_of : Entry → Input

@@ -3,6 +3,7 @@ pub mod Stands
 pub mod Found
 pub mod Calls
 pub mod Accessors
+pub mod NewGame
 pub mod LookAccessors
 pub mod Laws
 -- what only the code needs

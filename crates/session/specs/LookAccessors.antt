@@ -1,7 +1,7 @@
 -- What public clauses see of a `Look`.
 use Rattle.std.specs.Prelude.{ℕ, List, Result, Ok, Err}
 use Rattle.sector_device.specs.declared.device.SectorDevice.{Ghosts}
-use Rattle.sector_log.specs.Accessors.{device_under, found_generation}
+use Rattle.sector_log.specs.OpenedAccessors.{device_under, found_generation}
 use Rattle.machine.specs.Machine.{MachineState}
 use Rattle.session.specs.declared.error.Refused.{Refused}
 use Rattle.session.specs.declared.look.Look.{Look}

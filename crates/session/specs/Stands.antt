@@ -48,9 +48,12 @@ stands rom None = None
 stands rom (Some held) = stands_by rom held.header held.body
 
 -- these inputs further
+abbrev pub behind : Position → List Input → Position
+behind at more = record { count = at.count + length more; machine = after at.machine more }
+
 abbrev pub further : List Input → Option Position → Option Position
 further more None = None
-further more (Some from) = Some (record { count = from.count + length more; machine = after from.machine more })
+further more (Some from) = Some (behind from more)
 
 -- the image stands for this position, or for some of these inputs further, the first of them first
 pub record StandsWithin (rom : List ℕ) (from : Option Position) (more : List Input) (image : List (List ℕ)) : Type 0 where

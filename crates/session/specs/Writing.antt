@@ -1,11 +1,10 @@
 -- What a save writes to a store; a reader needs none of this.
 use Rattle.std.specs.Prelude.{◌≡◌, ◌⊎◌, ℕ, List, [], Bool, true, false, Some}
 use Rattle.sector_device.specs.DiskState.{DiskState}
-use Rattle.log_format.specs.Appends.{HoldsPrefix}
+use Rattle.log_format.specs.Appends.{HoldsPrefix, grown}
 use Rattle.sector_log.specs.Calls.{HasBegun, IsAppended}
 use Rattle.log_format.specs.Content.{content, new_generation}
 use Rattle.log_format.specs.Found.{log_of}
-use Rattle.log_format.specs.Inputs.{grown}
 use Rattle.input_entries.specs.declared.Entry.{Entry}
 use Rattle.input_entries.specs.declared.StoredEntry.{StoredEntry}
 

@@ -1,23 +1,22 @@
 //! A new game.
-ghost use Rattle.std.specs.Prelude.{◌≡◌, ◌≤◌, ◌<◌, ◌-◌, ◌^◌, ◌⊎◌, [], false, true, length, vec_capacity, Ok, Err, IfOk, IfErr};
+ghost use Rattle.std.specs.Prelude.{◌≡◌, ◌≤◌, ◌<◌, ◌^◌, ◌⊎◌, [], false, true, length, vec_capacity, Ok, Err, IfOk, IfErr};
 ghost use Rattle.sha2.specs.Sha256.{sha256};
 ghost use Rattle.cartridge.specs.Header.{ram_length_of};
 ghost use Rattle.machine.specs.Machine.{start};
 ghost use Rattle.snapshot.specs.Encoding.{encoded, snapshot_length};
 ghost use Rattle.snapshot.specs.Legal.{IsMachineOf};
 ghost use Rattle.sector_device.specs.DiskState.{HasAnswered};
-ghost use Rattle.sector_device.specs.Looking.{HasLooked};
 ghost use Rattle.sector_device.specs.Runs.{HoldsSince};
 ghost use Rattle.sector_log.specs.Calls.{HasOldOrNewContent, HasBegun, CanBegin};
-ghost use Rattle.log_format.specs.Content.{need, generation_in};
-ghost use Rattle.sector_log.specs.Accessors.{device_under, found_generation};
-ghost use Rattle.session.specs.Calls.{CanBeginGame, HasOldContentOrGame, HasOldContentOrNewGame, most_unsaved, faults_after};
+ghost use Rattle.log_format.specs.Content.{need};
+ghost use Rattle.sector_log.specs.OpenedAccessors.{device_under, found_generation};
+ghost use Rattle.session.specs.Calls.{HasOldContentOrGame, HasOldContentOrNewGame, most_unsaved, faults_after};
 ghost use Rattle.session.specs.Stands.{IsAtRest};
 ghost use Rattle.session.specs.Beginning.{session_fault, IsBeginRefusal};
-ghost use Rattle.session.specs.Found.{IsNewGameCause};
+ghost use Rattle.session.specs.NewGame.{AnswersNewGame};
 ghost use Rattle.session.specs.Resting.{IsOfItsRom};
 ghost use Rattle.session.specs.Accessors.{device_of, machine_of, rom_of, pending_of, acknowledged_of, is_broken, left_by};
-ghost use Rattle.session.specs.declared.error.SessionError.TheVariants.{Memory, Device, GenerationsUsedUp};
+ghost use Rattle.session.specs.declared.error.SessionError.TheVariants.{Device};
 
 use crate::error::{Refused, SessionError};
 use crate::session::{MOST_UNSAVED, Session};
@@ -122,23 +121,9 @@ pub fn new_game<D: SectorDevice>(
         (D.disk device).honest → IsAtRest cartridge.now (D.disk (device_of s)) 0 [] (start cartridge.now)) }
     ensures images { (D.disk device).honest →
         HoldsSince (D.disk device) (D.disk (left_by result)) (HasOldContentOrNewGame cartridge.now (D.disk device)) }
-    ensures untouched { IfErr result (λ refused. (refused.why ≡ Device) ⊎
-        ((D.disk device).honest → HoldsSince (D.disk device) (D.disk refused.device) (D.disk device).image)) }
 
-    // when it is refused
-    ensures can { IfOk result (λ s.
-        (need (snapshot_length (ram_length_of cartridge.now)) ≤ length (D.disk device).sectors) ×
-        ((D.disk device).honest → generation_in (D.disk device).sectors < 2 ^ 64 - 1)) }
-    ensures cause { IfErr result (λ refused.
-        IsNewGameCause (snapshot_length (ram_length_of cartridge.now)) (length (D.disk device).sectors) refused.why) }
-    ensures worn { IfErr result (λ refused.
-        refused.why ≡ GenerationsUsedUp → (D.disk device).honest → generation_in (D.disk device).sectors ≡ 2 ^ 64 - 1) }
-
-    // before all other causes, or once none of them holds
-    ensures memory { IfErr result (λ refused. refused.why ≡ Memory → refused.device ≡ device) }
-    ensures failed { IfErr result (λ refused. refused.why ≡ Device → ((D.disk device).honest →
-        HasLooked (D.disk device) (D.disk refused.device)) ⊎ CanBeginGame cartridge.now (D.disk device)) }
-
+    // when it is refused, and what then is left
+    ensures refused { AnswersNewGame cartridge.now device result }
     ensures answered { HasAnswered (λ refused. faults_after refused.why) (D.disk device) (D.disk (left_by result))
         result }
 {
@@ -176,23 +161,9 @@ pub fn new_game_from<D: SectorDevice>(
     ensures images { (D.disk device).honest →
         HoldsSince (D.disk device) (D.disk (left_by result))
         (HasOldContentOrGame cartridge.now machine (D.disk device)) }
-    ensures untouched { IfErr result (λ refused. (refused.why ≡ Device) ⊎
-        ((D.disk device).honest → HoldsSince (D.disk device) (D.disk refused.device) (D.disk device).image)) }
 
-    // when it is refused
-    ensures can { IfOk result (λ s.
-        (need (snapshot_length (ram_length_of cartridge.now)) ≤ length (D.disk device).sectors) ×
-        ((D.disk device).honest → generation_in (D.disk device).sectors < 2 ^ 64 - 1)) }
-    ensures cause { IfErr result (λ refused.
-        IsNewGameCause (snapshot_length (ram_length_of cartridge.now)) (length (D.disk device).sectors) refused.why) }
-    ensures worn { IfErr result (λ refused.
-        refused.why ≡ GenerationsUsedUp → (D.disk device).honest → generation_in (D.disk device).sectors ≡ 2 ^ 64 - 1) }
-
-    // before all other causes, or once none of them holds
-    ensures memory { IfErr result (λ refused. refused.why ≡ Memory → refused.device ≡ device) }
-    ensures failed { IfErr result (λ refused. refused.why ≡ Device → ((D.disk device).honest →
-        HasLooked (D.disk device) (D.disk refused.device)) ⊎ CanBeginGame cartridge.now (D.disk device)) }
-
+    // when it is refused, and what then is left
+    ensures refused { AnswersNewGame cartridge.now device result }
     ensures answered { HasAnswered (λ refused. faults_after refused.why) (D.disk device) (D.disk (left_by result))
         result }
 {

@@ -6,7 +6,7 @@ ghost use Rattle.snapshot.specs.Legal.{IsMachineOf};
 ghost use Rattle.sector_device.specs.DiskState.{HasAnswered};
 ghost use Rattle.sector_device.specs.Runs.{HoldsSince};
 ghost use Rattle.input_entries.specs.Inputs.{inputs};
-ghost use Rattle.sector_log.specs.Accessors.{device_under, found_generation, seen};
+ghost use Rattle.sector_log.specs.OpenedAccessors.{device_under, found_generation, seen};
 ghost use Rattle.session.specs.Calls.{faults_after};
 ghost use Rattle.session.specs.Stands.{IsAtRest, StandsAsBefore};
 ghost use Rattle.session.specs.Found.{IsTakeUpCause};

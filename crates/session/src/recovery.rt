@@ -8,7 +8,7 @@ ghost use Rattle.input_entries.specs.Inputs.{inputs, inputs_in, is_entry};
 ghost use Rattle.log_format.specs.Inputs.{first_wrong, counted};
 ghost use Rattle.log_format.specs.Found.{IsSound};
 ghost use Rattle.log_format.specs.Sizes.{most_entries_read};
-ghost use Rattle.sector_log.specs.Accessors.{seen, longest_blob};
+ghost use Rattle.sector_log.specs.OpenedAccessors.{seen, longest_blob};
 ghost use Rattle.session.specs.Inputs.{logged, inputs_of};
 ghost use Rattle.session.specs.Recovery.{IsHeader, IsHeaderCause, IsRebuilt, IsRebuildCause, IsLogCause, IsRecovered, IsRecoveryCause};
 

@@ -9,8 +9,8 @@ ghost use Rattle.sector_device.specs.Runs.{HoldsSince};
 ghost use Rattle.log_format.specs.Content.{need};
 ghost use Rattle.input_entries.specs.Inputs.{is_input};
 ghost use Rattle.sector_log.specs.Accessors.{device_of, is_broken, entries_of, generation_of, id_of};
-ghost use Rattle.session.specs.Calls.{IsSaveCause, faults_after};
-ghost use Rattle.session.specs.Inputs.{can_be_logged, fits_log};
+ghost use Rattle.session.specs.Calls.{IsSaveCause, faults_after, fits_log};
+ghost use Rattle.session.specs.Inputs.{can_be_logged};
 ghost use Rattle.session.specs.Writing.{HoldsWritten, IsWritten};
 
 use crate::begin::fault_of;

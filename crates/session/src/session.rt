@@ -8,9 +8,9 @@ ghost use Rattle.sector_device.specs.DiskState.{HasAnswered};
 ghost use Rattle.sector_device.specs.Runs.{HoldsSince};
 ghost use Rattle.log_format.specs.Content.{need, content, generation_in};
 ghost use Rattle.sector_log.specs.Accessors.{device_of as device_of_store, is_broken as is_broken_store, id_of, entries_of};
-ghost use Rattle.session.specs.Calls.{IsRestoreAnswer, IsSaved, IsSaveCause, most_unsaved, input_answer, faults_after};
+ghost use Rattle.session.specs.Calls.{IsRestoreAnswer, IsSaved, IsSaveCause, most_unsaved, input_answer, faults_after, fits_log};
 ghost use Rattle.session.specs.Stands.{IsAtRest, stands, StandsBetween};
-ghost use Rattle.session.specs.Inputs.{can_be_logged, entry_of, fits_log, inputs_of, no_input};
+ghost use Rattle.session.specs.Inputs.{can_be_logged, entry_of, inputs_of, no_input};
 ghost use Rattle.session.specs.Resting.{IsOfItsRom, own_prop, RestsUnlessBroken, rests_prop};
 ghost use Rattle.session.specs.declared.error.SessionError.TheVariants.{Memory};
 

@@ -3,7 +3,7 @@ use Rattle.std.proofs.Common.{◌≡◌, ℕ, ◌+◌, List, [], ◌∷◌, ◌+
 use Rattle.machine.specs.Machine.{MachineState, after}
 use Rattle.machine.specs.Machine.{Input}
 use Rattle.session.proofs.StandsLaws.{after_append, after_none}
-use Rattle.playing.specs.Report.{Line}
+use Rattle.playing.specs.Lines.{Line}
 use Rattle.playing.specs.declared.playable.Playable.{Ghosts}
 use Rattle.playing.proofs.Making.{Asked, does_then, stops_among_more, stops_before_more}
 use Rattle.streaming.specs.Orders.{Deed}

@@ -5,7 +5,8 @@ use Rattle.exact_text.specs.Written.{AppendsProperPrefix}
 use Rattle.machine.specs.Machine.{MachineState, State}
 use Rattle.session.specs.declared.error.SessionError.TheVariants.{Output}
 use Rattle.playing.specs.Making.{count_of, AdvancesByInputs, StopsByInputs}
-use Rattle.playing.specs.Report.{Line, line_due}
+use Rattle.playing.specs.Report.{line_due}
+use Rattle.playing.specs.Lines.{Line}
 use Rattle.playing.specs.declared.playable.Playable.{Ghosts}
 use Rattle.playing.proofs.Making.{makes_by, makes_line, makes_then, stops_at_line, stops_before, stops_by, stops_then}
 use Rattle.streaming.specs.Orders.{GoesOnWith}

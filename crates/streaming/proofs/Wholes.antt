@@ -14,7 +14,8 @@ use Rattle.session.proofs.Beginnings.{since_then}
 use Rattle.playing.specs.Going.{Place, all_of, SaveAdvances, SaveStops}
 use Rattle.playing.specs.Making.{AdvancesTelling, StopsTelling}
 use Rattle.playing.specs.Played.{Reaches, IsPlayed, IsStop, PlayImage}
-use Rattle.playing.specs.Report.{Line, texts, resumed_line, HasTold}
+use Rattle.playing.specs.Report.{HasTold}
+use Rattle.playing.specs.Lines.{Line, texts, resumed_line}
 use Rattle.playing.specs.declared.playable.Playable.{Ghosts}
 use Rattle.playing.proofs.Going.{none_left}
 use Rattle.playing.proofs.Telling.{told_by}

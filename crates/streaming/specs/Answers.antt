@@ -6,7 +6,8 @@ use Rattle.picture_unit.specs.Pgm.{picture_text}
 use Rattle.snapshot.specs.Encoding.{encoded}
 use Rattle.script.specs.declared.moves.Move.TheVariants.{Save}
 use Rattle.session.specs.Stands.{Position}
-use Rattle.playing.specs.Report.{Line, resumed_line, line_due, unsaved_after, unsaved_behind_move, lines_of_move}
+use Rattle.playing.specs.Report.{line_due, unsaved_after, unsaved_behind_move, lines_of_move}
+use Rattle.playing.specs.Lines.{Line, resumed_line}
 use Rattle.script.specs.Inputs.{inputs_of_move}
 use Rattle.machine_lines.specs.Texts.{count_line, memory_text, state_text}
 use Rattle.streaming.specs.Orders.{Deed, Does, GoesOnWith}

@@ -3,7 +3,7 @@ use Rattle.std.specs.Prelude.{ℕ, List, ◌∷◌, Option}
 use Rattle.input_lines.specs.Given.{Given, HasReadGiven}
 use Rattle.machine_lines.specs.KeptStates.{KeptMachine}
 use Rattle.playing.specs.Making.{count_of, AdvancesTelling, StopsTelling}
-use Rattle.playing.specs.Report.{Line, resumed_line}
+use Rattle.playing.specs.Lines.{Line, resumed_line}
 use Rattle.playing.specs.declared.playable.Playable.{Ghosts}
 use Rattle.streaming.specs.Orders.{Deed, asked}
 use Rattle.streaming.specs.Reading.{Asks, AsksUpTo, ReadsTo}

@@ -10,7 +10,8 @@ use Rattle.session.specs.Calls.{faults_after}
 use Rattle.session.specs.Stands.{IsAtRest, Position, stands}
 use Rattle.session.specs.declared.error.SessionError.{SessionError}
 use Rattle.playing.specs.Played.{IsNotTakenUp, IsStop, PlayImage, Reaches}
-use Rattle.playing.specs.Report.{texts, HasTold}
+use Rattle.playing.specs.Report.{HasTold}
+use Rattle.playing.specs.Lines.{texts}
 use Rattle.input_lines.specs.Given.{Given, HasReadGiven}
 use Rattle.machine_lines.specs.KeptStates.{KeptMachine}
 use Rattle.streaming.specs.Orders.{Deed, asked}

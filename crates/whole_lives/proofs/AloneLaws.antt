@@ -1,18 +1,19 @@
 -- What a round of a SAVE alone leaves: not taken up, played to an end, and stopped.
-use Rattle.std.proofs.Common.{◌≡◌, inl, inr, ℕ, ◌+◌, List, [], ◌++◌, length, take, Option, Some, None, Bool, true, false, refl, sym, ap, ◌∙◌, subst, arith, append-nil}
+use Rattle.std.proofs.Common.{◌≡◌, inl, inr, ℕ, ◌+◌, List, [], ◌∷◌, ◌++◌, length, take, Option, Some, None, Bool, true, false, refl, sym, ap, ◌∙◌, subst, arith, append-nil}
 use Rattle.std.proofs.lemmas.List.{length-take-le, take_all}
 use Rattle.std.proofs.lemmas.List.Elements.{All-nil}
 use Rattle.machine.specs.Machine.{MachineState, after}
 use Rattle.machine.specs.Machine.{Input}
 use Rattle.sector_device.specs.Memory.{MemoryState, memory_disk}
 use Rattle.log_format.specs.Content.{content}
-use Rattle.session.specs.Stands.{Position, StandsAsBefore, stands}
+use Rattle.session.specs.Stands.{Position, StandsAsBefore, stands, behind}
 use Rattle.session.proofs.Saving.{leading}
 use Rattle.session.proofs.StandsLaws.{after_none}
 use Rattle.session.specs.declared.error.SessionError.{SessionError}
 use Rattle.session.specs.declared.error.SessionError.TheVariants.{Device}
 use Rattle.playing.specs.Played.{IsNotTakenUp}
-use Rattle.playing.specs.Report.{texts, IsPart}
+use Rattle.playing.specs.Report.{IsPart}
+use Rattle.playing.specs.Lines.{resumed_line, texts}
 use Rattle.input_lines.specs.Given.{IsWhole as IsWholeLine}
 use Rattle.streaming.specs.Orders.{asked}
 use Rattle.streaming.specs.Reading.Asks.{no_line}
@@ -23,14 +24,14 @@ use Rattle.streaming.specs.declared.error.StreamError.{StreamError}
 use Rattle.streaming.specs.declared.error.StreamError.TheVariants.{Session, Line as WrongLine, Input as FailedInput, Snapshot, Memory}
 use Rattle.streaming.specs.declared.obeying.End.{End}
 use Rattle.streaming.specs.declared.obeying.End.TheVariants.{Whole, Wrong, Failed, Damaged, NoMemory}
-use Rattle.recorded_play.specs.Agreeing.{behind}
 use Rattle.whole_lives.specs.Lives.{Files, Played, kept_of, taken_up_at}
 use Rattle.whole_lives.specs.Devices.{Memories, AreLeft}
 use Rattle.whole_lives.specs.declared.error.LifeError.TheVariants.{Stream}
+use Rattle.whole_lives.specs.Lines.{AskByLines}
 use Rattle.whole_lives.specs.Rounds.{LeavesRound, IsFailedCall}
 use Rattle.whole_lives.proofs.Behind.{one_round_lived}
 use Rattle.whole_lives.proofs.LifeLaws.{behind_none}
-use Rattle.whole_lives.proofs.RoundLaws.{none_left, read_more, read_to, is_whole, counts, reads}
+use Rattle.whole_lives.proofs.RoundLaws.{none_left, read_more, read_to, is_whole, told_by, counts, reads}
 use Rattle.whole_lives.proofs.Telling.{more_at_most, none_at_most, stream_at_most}
 
 module _ (rom : List ℕ) (save now : MemoryState) (text : List ℕ) where
@@ -41,7 +42,7 @@ module _ (rom : List ℕ) (save now : MemoryState) (text : List ℕ) where
   new = record { save = now; recording = None }
 
   abbrev pub Leaves : (report : List ℕ) → (whole : Bool) → Type 0
-  Leaves report whole = LeavesRound rom old new text report whole
+  Leaves report whole = LeavesRound AskByLines rom old new text report whole
 
   abbrev at : Position → Files
   at from = record { save = from; recorded = None }
@@ -50,7 +51,7 @@ module _ (rom : List ℕ) (save now : MemoryState) (text : List ℕ) where
 
   -- no line was read, and none told
   abbrev nothing : Played
-  nothing = record { text = text; lines = []; deeds = []; report = []; told = []; kept = 0; whole = false }
+  nothing = record { text = text; inputs = []; report = []; told = []; kept = 0; whole = false }
 
   not_taken_up : {why : SessionError} {before since : Option (List ℕ)} → IsNotTakenUp rom (memory_disk save) (memory_disk now) why before since → Leaves [] false
   not_taken_up refused = record {
@@ -59,13 +60,13 @@ module _ (rom : List ℕ) (save now : MemoryState) (text : List ℕ) where
     lives = λ agree last here.
         let none = none_left rom last.recorded here.recorded in
         let before = which here.image here.stood in
-        one_round_lived rom old (at last.save) last nothing
+        one_round_lived AskByLines rom old (at last.save) last nothing
         (record { image = before.before; stood = before.stood; stands_is = sym before.is ∙ here.stands_is; recorded = tt })
         (record {
           unread = text;
-          lines_are = inl (All-nil (IsWholeLine (asked true)), refl);
-          asks = all_asked no_line;
-          untold = stream_lines last.save [];
+          lines = [];
+          asked = record { lines = []; deeds = []; begins = inl (All-nil (IsWholeLine (asked true)), refl); asks = all_asked no_line; inputs_are = refl; told_are = refl };
+          untold = resumed_line last.save.count ∷ [];
           told_are = refl;
           report_is = refl;
           are_saved = none_at_most last.save.count;
@@ -100,7 +101,7 @@ module _ (rom : List ℕ) (save now : MemoryState) (text : List ℕ) where
       let whole = is_whole end in
       let told = stream_lines by.from deeds in
       let read = read_to true rom by.kept end by.lines text unread by.read in
-      let played : Played = record { text = text; lines = by.lines; deeds = by.deeds; report = report; told = told; kept = length given; whole = whole } in
+      let played : Played = record { text = text; inputs = given; report = report; told = told; kept = length given; whole = whole } in
       let kept_is : kept_of played ≡ given = take_all (length given) given (omega arith) in
       record {
         agree = λ agree. tt;
@@ -110,11 +111,11 @@ module _ (rom : List ℕ) (save now : MemoryState) (text : List ℕ) where
             let both : Some last.save ≡ Some (behind by.from given) = sym here.stands_is ∙ settled_at end (Some unread) (Some report) by here.image here.stood in
             let same : last.save ≡ behind by.from given = cc in
             let count_is : last.save.count ≡ by.from.count + length given = ap (λ (p : Position). p.count) same in
-            one_round_lived rom old (at by.from) last played (left_from by.from (by.stood tt))
+            one_round_lived AskByLines rom old (at by.from) last played (left_from by.from (by.stood tt))
             (record {
               unread = read.rest;
-              lines_are = read.begins_so;
-              asks = all_asked by.asks;
+              lines = told_by by.from deeds;
+              asked = record { lines = by.lines; deeds = deeds; begins = read.begins_so; asks = all_asked by.asks; inputs_are = refl; told_are = refl };
               untold = [];
               told_are = sym (append-nil told);
               report_is = by.answered;
@@ -152,16 +153,16 @@ module _ (rom : List ℕ) (save now : MemoryState) (text : List ℕ) where
           lives = λ agree last here.
               let none = none_left rom last.recorded here.recorded in
               let reached = by.left tt here.image here.stood in
-              let played : Played = record { text = text; lines = by.lines; deeds = by.deeds; report = texts told; told = told; kept = reached.count; whole = false } in
+              let played : Played = record { text = text; inputs = given; report = texts told; told = told; kept = reached.count; whole = false } in
               let both : Some last.save ≡ Some (record { count = by.from.count + reached.count; machine = after by.from.machine (take reached.count given) }) = sym here.stands_is ∙ reached.is in
               let same : last.save ≡ record { count = by.from.count + reached.count; machine = after by.from.machine (take reached.count given) } = cc in
               let count_is : last.save.count ≡ by.from.count + reached.count = ap (λ (p : Position). p.count) same in
               let size : by.from.count + reached.count ≡ by.from.count + length (take reached.count given) = omega (arith, length-take-le reached.count given reached.within) in
-              one_round_lived rom old (at by.from) last played (left_from by.from (by.stood tt))
+              one_round_lived AskByLines rom old (at by.from) last played (left_from by.from (by.stood tt))
               (record {
                 unread = read.rest;
-                lines_are = read.begins_so;
-                asks = by.asks;
+                lines = told_by by.from by.deeds;
+                asked = record { lines = by.lines; deeds = by.deeds; begins = read.begins_so; asks = by.asks; inputs_are = refl; told_are = refl };
                 untold = untold;
                 told_are = by.told.lines_are;
                 report_is = refl;

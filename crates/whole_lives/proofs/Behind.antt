@@ -8,38 +8,35 @@ use Rattle.sector_device.specs.DiskState.{next_count}
 use Rattle.sector_device.specs.Memory.{MemoryState, memory_disk}
 use Rattle.sector_device.specs.Records.{replayed, IsCutOf}
 use Rattle.sector_device.specs.declared.recorded.Recorded.{Recorded}
-use Rattle.recorded_play.specs.Steps.{recording_faults_after}
-use Rattle.whole_lives.specs.Lives.{Files, Played, IsRound, IsLife}
-use Rattle.whole_lives.specs.Devices.{Memories, AgreesWithEach, EachAgrees, IsRecordedLeft, AreLeft, HasLived, LeavesLife, HasCome, CountsCut, CountsCuts, AreLast, IsFresh, IsFreshIfThere, RefusesPlay, IsCause, CountsRefusal, texts_of, reports_of, wholes_of, faults_of}
-use Rattle.whole_lives.specs.Rounds.{LeavesRound, IsCut, IsCutIfThere, IsCutRound, fused}
-use Rattle.whole_lives.specs.declared.error.LifeError.{LifeError}
-use Rattle.whole_lives.specs.declared.error.LifeError.TheVariants.{Memory, Stream, Record}
+use Rattle.whole_lives.specs.Lives.{Asking, Files, Played, IsRound, IsLife}
+use Rattle.whole_lives.specs.Devices.{Memories, AgreesWithEach, EachAgrees, IsRecordedLeft, AreLeft, HasLived, LeavesLife, HasCome, CountsCut, CountsCuts, AreLast, IsFresh, IsFreshIfThere, fused, with_fuses, texts_of, reports_of, wholes_of, faults_of}
+use Rattle.whole_lives.specs.Rounds.{LeavesRound, IsCut, IsCutIfThere, IsCutRound}
 use Rattle.whole_lives.specs.declared.rounds.Round.{Round}
 use Rattle.whole_lives.specs.declared.rounds.RoundEnd.{RoundEnd}
 
 -- ---- one life behind another
 
-pub one_round_lived : (rom : List ℕ) (old : Memories) (first last : Files) (round : Played) → AreLeft rom old first → IsRound rom round first last → HasLived rom old (round.text ∷ []) (round.report ∷ []) (round.whole ∷ []) last
-one_round_lived rom old first last round left is =
+pub one_round_lived : (asks : Asking) (rom : List ℕ) (old : Memories) (first last : Files) (round : Played) → AreLeft rom old first → IsRound asks rom round first last → HasLived asks rom old (round.text ∷ []) (round.report ∷ []) (round.whole ∷ []) last
+one_round_lived asks rom old first last round left is =
     record { first = first; left = left; rounds = round ∷ []; texts_are = refl; reports_are = refl; wholes_are = refl; life = (last, is, refl) }
 
-life_join : (rom : List ℕ) (rounds more : List Played) (first next last : Files) → IsLife rom rounds first next → IsLife rom more next last → IsLife rom (rounds ++ more) first last
-life_join rom [] more first next last life rest = subst (λ (f : Files). IsLife rom more f last) life rest
-life_join rom (r ∷ rounds) more first next last life rest = (life.0, life.1, life_join rom rounds more life.0 next last life.2 rest)
+life_join : (asks : Asking) (rom : List ℕ) (rounds more : List Played) (first next last : Files) → IsLife asks rom rounds first next → IsLife asks rom more next last → IsLife asks rom (rounds ++ more) first last
+life_join asks rom [] more first next last life rest = subst (λ (f : Files). IsLife asks rom more f last) life rest
+life_join asks rom (r ∷ rounds) more first next last life rest = (life.0, life.1, life_join asks rom rounds more life.0 next last life.2 rest)
 
 maps_join : {A : Type 0} (f : Played → A) (rounds more : List Played) (list others : List A) → map f rounds ≡ list → map f more ≡ others → map f (rounds ++ more) ≡ list ++ others
 maps_join {A} f rounds more list others these those = map-append f rounds more ∙ ap (λ (l : List A). l ++ map f more) these ∙ ap (λ (l : List A). list ++ l) those
 
-pub lived_nothing : (rom : List ℕ) (old : Memories) → LeavesLife rom old old [] [] []
-lived_nothing rom old = record {
+pub lived_nothing : (asks : Asking) (rom : List ℕ) (old : Memories) → LeavesLife asks rom old old [] [] []
+lived_nothing asks rom old = record {
   agree = λ agree. agree;
   stand = λ stand. stand;
   lives = λ agree last here. record { first = last; left = here; rounds = []; texts_are = refl; reports_are = refl; wholes_are = refl; life = refl };
 }
 
-pub lived_both : (rom : List ℕ) (old now later : Memories) (texts reports : List (List ℕ)) (wholes : List Bool) (more_texts more_reports : List (List ℕ)) (more_wholes : List Bool) → LeavesLife rom old now texts reports wholes
-    → LeavesLife rom now later more_texts more_reports more_wholes → LeavesLife rom old later (texts ++ more_texts) (reports ++ more_reports) (wholes ++ more_wholes)
-lived_both rom old now later texts reports wholes more_texts more_reports more_wholes before more = record {
+pub lived_both : (asks : Asking) (rom : List ℕ) (old now later : Memories) (texts reports : List (List ℕ)) (wholes : List Bool) (more_texts more_reports : List (List ℕ)) (more_wholes : List Bool) → LeavesLife asks rom old now texts reports wholes
+    → LeavesLife asks rom now later more_texts more_reports more_wholes → LeavesLife asks rom old later (texts ++ more_texts) (reports ++ more_reports) (wholes ++ more_wholes)
+lived_both asks rom old now later texts reports wholes more_texts more_reports more_wholes before more = record {
   agree = λ agree. more.agree (before.agree agree);
   stand = λ stand. more.stand (before.stand stand);
   lives = λ agree last here.
@@ -52,78 +49,48 @@ lived_both rom old now later texts reports wholes more_texts more_reports more_w
         texts_are = maps_join (λ (round : Played). round.text) lived.rounds rest.rounds texts more_texts lived.texts_are rest.texts_are;
         reports_are = maps_join (λ (round : Played). round.report) lived.rounds rest.rounds reports more_reports lived.reports_are rest.reports_are;
         wholes_are = maps_join (λ (round : Played). round.whole) lived.rounds rest.rounds wholes more_wholes lived.wholes_are rest.wholes_are;
-        life = life_join rom lived.rounds rest.rounds lived.first rest.first last lived.life rest.life;
+        life = life_join asks rom lived.rounds rest.rounds lived.first rest.first last lived.life rest.life;
       };
 }
 
 -- ---- a fuse
 
 -- which changes nothing that a round looks at
-module _ (rom : List ℕ) (save_calls recording_calls : ℕ) (save : MemoryState) where
-  abbrev old : Option MemoryState → Memories
-  old recording = record { save = save; recording = recording }
+module _ (round : Round) where
+  recorded_same : (rom : List ℕ) (recording : Option MemoryState) (recorded : Option (List Input)) → IsRecordedLeft rom (option_map (fused round.recording_calls) recording) recorded → IsRecordedLeft rom recording recorded
+  recorded_same rom None recorded left = left
+  recorded_same rom (Some r) None left = absurd left
+  recorded_same rom (Some r) (Some recorded) left = left
 
-  abbrev new : Option MemoryState → Memories
-  new recording = record { save = fused save_calls save; recording = option_map (fused recording_calls) recording }
+  agree_same : (rom : List ℕ) (save : MemoryState) (recording : Option MemoryState) → AgreesWithEach rom save recording → AgreesWithEach rom (fused round.save_calls save) (option_map (fused round.recording_calls) recording)
+  agree_same rom save None agree = tt
+  agree_same rom save (Some r) agree = agree
 
-  recorded_same : (recording : Option MemoryState) (recorded : Option (List Input)) → IsRecordedLeft rom (option_map (fused recording_calls) recording) recorded → IsRecordedLeft rom recording recorded
-  recorded_same None recorded left = left
-  recorded_same (Some r) None left = absurd left
-  recorded_same (Some r) (Some recorded) left = left
-
-  agree_same : (recording : Option MemoryState) → EachAgrees rom (old recording) → EachAgrees rom (new recording)
-  agree_same None agree = tt
-  agree_same (Some r) agree = agree
-
-  faults_same : (recording : Option MemoryState) → faults_of (option_map (fused recording_calls) recording) ≡ faults_of recording
+  faults_same : (recording : Option MemoryState) → faults_of (option_map (fused round.recording_calls) recording) ≡ faults_of recording
   faults_same None = refl
   faults_same (Some r) = refl
 
-  module _ (recording : Option MemoryState) where
-    pub fused_leaves : (now : Memories) (text report : List ℕ) (whole : Bool) → LeavesRound rom (new recording) now text report whole → LeavesRound rom (old recording) now text report whole
-    fused_leaves now text report whole leaves = record {
-      agree = λ agree. leaves.agree (agree_same recording agree);
-      stand = leaves.stand;
-      lives = λ agree last here.
-          let lived = leaves.lives (agree_same recording agree) last here in
-          let left = lived.left in
-          record {
-            first = lived.first;
-            left = record { image = left.image; stood = left.stood; stands_is = left.stands_is; recorded = recorded_same recording lived.first.recorded left.recorded };
-            rounds = lived.rounds;
-            texts_are = lived.texts_are;
-            reports_are = lived.reports_are;
-            wholes_are = lived.wholes_are;
-            life = lived.life;
-          };
-    }
-
-    pub fused_counts : (whole : Bool) (now : Memories) → CountsCut whole (new recording) now → CountsCut whole (old recording) now
-    fused_counts true now counts = (counts.0, counts.1 ∙ faults_same recording)
-    fused_counts false now counts = ⊎_elim (λ one. inl (one.0, one.1 ∙ faults_same recording)) (λ one. inr (one.0, one.1 ∙ ap next_count (faults_same recording))) counts
-
-    refusal_counted : (why : LifeError) (left : Memories) → CountsRefusal why (new recording) left → CountsRefusal why (old recording) left
-    refusal_counted Memory left counts = fused_counts true left counts
-    refusal_counted (Stream why) left counts = (counts.0, counts.1 ∙ faults_same recording)
-    refusal_counted (Record why) left counts = (counts.0, counts.1 ∙ ap (recording_faults_after why) (faults_same recording))
-
-  cause_same : (why : LifeError) (recording : Option MemoryState) (left : MemoryState) (left_recording : Option MemoryState) (text unread report : List ℕ)
-      → IsCause why rom (fused save_calls save) (option_map (fused recording_calls) recording) left left_recording text unread report → IsCause why rom save recording left left_recording text unread report
-  cause_same Memory recording left left_recording text unread report cause = absurd cause
-  cause_same (Stream why) None left None text unread report cause = cause
-  cause_same (Stream why) None left (Some l) text unread report cause = absurd cause
-  cause_same (Stream why) (Some r) left left_recording text unread report cause = absurd cause
-  cause_same (Record why) None left left_recording text unread report cause = absurd cause
-  cause_same (Record why) (Some r) left None text unread report cause = absurd cause
-  cause_same (Record why) (Some r) left (Some l) text unread report cause = cause
-
-  pub fused_refuses : (recording : Option MemoryState) (left : Memories) (text : List ℕ) (why : LifeError) → RefusesPlay rom (new recording) left text why → RefusesPlay rom (old recording) left text why
-  fused_refuses recording left text why refused = record {
-    unread = refused.unread;
-    report = refused.report;
-    cause = cause_same why recording left.save left.recording text refused.unread refused.report refused.cause;
-    counted = refusal_counted recording why left refused.counted;
+  pub fused_leaves : (asks : Asking) (rom : List ℕ) (old now : Memories) (text report : List ℕ) (whole : Bool) → LeavesRound asks rom (with_fuses round old) now text report whole → LeavesRound asks rom old now text report whole
+  fused_leaves asks rom old now text report whole leaves = record {
+    agree = λ agree. leaves.agree (agree_same rom old.save old.recording agree);
+    stand = leaves.stand;
+    lives = λ agree last here.
+        let lived = leaves.lives (agree_same rom old.save old.recording agree) last here in
+        let left = lived.left in
+        record {
+          first = lived.first;
+          left = record { image = left.image; stood = left.stood; stands_is = left.stands_is; recorded = recorded_same rom old.recording lived.first.recorded left.recorded };
+          rounds = lived.rounds;
+          texts_are = lived.texts_are;
+          reports_are = lived.reports_are;
+          wholes_are = lived.wholes_are;
+          life = lived.life;
+        };
   }
+
+  pub fused_counts : (old : Memories) (whole : Bool) (now : Memories) → CountsCut whole (with_fuses round old) now → CountsCut whole old now
+  fused_counts old true now counts = (counts.0, counts.1 ∙ faults_same old.recording)
+  fused_counts old false now counts = ⊎_elim (λ one. inl (one.0, one.1 ∙ faults_same old.recording)) (λ one. inr (one.0, one.1 ∙ ap next_count (faults_same old.recording))) counts
 
 -- ---- a cut
 
@@ -148,8 +115,8 @@ module _ (rom : List ℕ) (save_kept recording_kept : List Bool) (save now_save 
   recorded_left (Some r) (Some now) None cut left = absurd left
   recorded_left (Some r) (Some now) (Some recorded) cut left = (left.0, cut_image recording_kept r now cut left.0 left.1, left.2)
 
-pub cut_leaves : (rom : List ℕ) (old : Memories) (round : Round) (now : Memories) (report : List ℕ) (whole : Bool) → IsCutRound rom old round now report whole → LeavesRound rom old now round.lines.items report whole
-cut_leaves rom old round now report whole cut =
+pub cut_leaves : (asks : Asking) (rom : List ℕ) (old : Memories) (round : Round) (now : Memories) (report : List ℕ) (whole : Bool) → IsCutRound asks rom old round now report whole → LeavesRound asks rom old now round.lines.items report whole
+cut_leaves asks rom old round now report whole cut =
     let played = cut.played in
     record {
       agree = λ agree. agree_left rom round.save_kept.items round.recording_kept.items played.save now.save cut.save played.recording now.recording cut.recording (cut.leaves.agree agree);
@@ -180,12 +147,12 @@ counts_same : (whole : Bool) (old played now : Memories) → now.save.faults ≡
 counts_same true old played now save recording counts = (save ∙ counts.0, recording ∙ counts.1)
 counts_same false old played now save recording counts = ⊎_elim (λ one. inl (save ∙ one.0, recording ∙ one.1)) (λ one. inr (save ∙ one.0, recording ∙ one.1)) counts
 
-pub cut_counts : (rom : List ℕ) (old : Memories) (round : Round) (now : Memories) (report : List ℕ) (whole : Bool) → IsCutRound rom old round now report whole → CountsCut whole old now
-cut_counts rom old round now report whole cut =
+pub cut_counts : (asks : Asking) (rom : List ℕ) (old : Memories) (round : Round) (now : Memories) (report : List ℕ) (whole : Bool) → IsCutRound asks rom old round now report whole → CountsCut whole old now
+cut_counts asks rom old round now report whole cut =
     counts_same whole old cut.played now cut.save.faults (cut_faults round.recording_kept.items cut.played.recording now.recording cut.recording) cut.counts
 
-pub cut_last : (rom : List ℕ) (old : Memories) (round : Round) (now : Memories) (report : List ℕ) (whole : Bool) → IsCutRound rom old round now report whole → IsFresh now.save × IsFreshIfThere now.recording
-cut_last rom old round now report whole cut = (cut.save.fresh, cut_fresh round.recording_kept.items cut.played.recording now.recording cut.recording)
+pub cut_last : (asks : Asking) (rom : List ℕ) (old : Memories) (round : Round) (now : Memories) (report : List ℕ) (whole : Bool) → IsCutRound asks rom old round now report whole → IsFresh now.save × IsFreshIfThere now.recording
+cut_last asks rom old round now report whole cut = (cut.save.fresh, cut_fresh round.recording_kept.items cut.played.recording now.recording cut.recording)
 
 -- ---- a round more
 
@@ -204,15 +171,15 @@ fresh_last : (texts : List (List ℕ)) (text : List ℕ) (first last : Memories)
 fresh_last [] text first last fresh = fresh
 fresh_last (t ∷ texts) text first last fresh = fresh
 
-pub come_none : (rom : List ℕ) (first : Memories) → HasCome rom first first [] [] []
-come_none rom first = record { leaves = lived_nothing rom first; counts = (refl, refl); last = refl }
+pub come_none : (asks : Asking) (rom : List ℕ) (first : Memories) → HasCome asks rom first first [] [] []
+come_none asks rom first = record { leaves = lived_nothing asks rom first; counts = (refl, refl); last = refl }
 
-pub come_more : (rom : List ℕ) (first now next : Memories) (texts reports : List (List ℕ)) (wholes : List Bool) (round : Round) (report : List ℕ) (whole : Bool) → HasCome rom first now texts reports wholes → IsCutRound rom now round next report whole
-    → HasCome rom first next (texts ++ round.lines.items ∷ []) (reports ++ report ∷ []) (wholes ++ whole ∷ [])
-come_more rom first now next texts reports wholes round report whole come cut = record {
-  leaves = lived_both rom first now next texts reports wholes (round.lines.items ∷ []) (report ∷ []) (whole ∷ []) come.leaves (cut_leaves rom now round next report whole cut);
-  counts = counts_more wholes whole first now next come.counts (cut_counts rom now round next report whole cut);
-  last = fresh_last texts round.lines.items first next (cut_last rom now round next report whole cut);
+pub come_more : (asks : Asking) (rom : List ℕ) (first now next : Memories) (texts reports : List (List ℕ)) (wholes : List Bool) (round : Round) (report : List ℕ) (whole : Bool) → HasCome asks rom first now texts reports wholes → IsCutRound asks rom now round next report whole
+    → HasCome asks rom first next (texts ++ round.lines.items ∷ []) (reports ++ report ∷ []) (wholes ++ whole ∷ [])
+come_more asks rom first now next texts reports wholes round report whole come cut = record {
+  leaves = lived_both asks rom first now next texts reports wholes (round.lines.items ∷ []) (report ∷ []) (whole ∷ []) come.leaves (cut_leaves asks rom now round next report whole cut);
+  counts = counts_more wholes whole first now next come.counts (cut_counts asks rom now round next report whole cut);
+  last = fresh_last texts round.lines.items first next (cut_last asks rom now round next report whole cut);
 }
 
 -- what holds of the reports and the ends with one more holds of those with one end more

@@ -1,4 +1,4 @@
--- A device that stands for something is not refused for what it holds.
+-- Why lines are refused: a device that stands for something not for what it holds, and a call that failed is counted.
 use Rattle.std.proofs.Common.{◌≡◌, inl, inr, ⊎_elim, ℕ, List, [], length, true, Option, Some, None, refl, sym, ap, ◌∙◌, subst, arith}
 use Rattle.std.proofs.lemmas.Bool.{and_parts, eqb-true}
 use Rattle.std.proofs.lemmas.Slice.Eq.{bytes_eq-Decides}
@@ -25,12 +25,17 @@ use Rattle.sector_device.specs.DiskState.{DiskState}
 use Rattle.sector_device.specs.Memory.{MemoryState, memory_disk}
 use Rattle.log_format.specs.Content.{content}
 use Rattle.playing.specs.Played.{IsStop}
+use Rattle.recording.specs.declared.fault.RecordingFault.TheVariants.{Memory as RecordingMemory, Device as RecordingDevice, TooSmall as RecordingTooSmall, NotBlank, NoRecording, OtherCartridge as OtherRecording, Full, Broken as BrokenRecording}
+use Rattle.streaming.specs.Streamed.{faults_after_stream}
+use Rattle.streaming.specs.declared.error.StreamError.{StreamError}
+use Rattle.recorded_play.specs.Steps.{recording_faults_after, save_faults_after}
+use Rattle.recorded_play.specs.declared.error.RecordError.{RecordError}
 use Rattle.streaming.specs.declared.error.StreamError.TheVariants.{Session as OfStream, Line as WrongLine, Input as FailedInput, Snapshot as DamagedSnapshot, Memory as LacksMemory}
 use Rattle.recorded_play.specs.declared.error.RecordError.TheVariants.{Session as OfRecord, Recording, Behind, Line as WrongRecorded, Input as FailedRecorded}
-use Rattle.whole_lives.specs.Devices.{EachStands, IsCause, IsLifeRefusal, IsSound, IsSoundStop, Memories, RefusesPlay, RefusesRound}
+use Rattle.whole_lives.specs.Devices.{CountsRefusal, EachStands, IsSound, IsSoundStop, Memories}
+use Rattle.whole_lives.specs.Lines.{IsCause, RefuseLines}
 use Rattle.whole_lives.specs.declared.error.LifeError.{LifeError}
 use Rattle.whole_lives.specs.declared.error.LifeError.TheVariants.{Memory as LifeMemory, Stream, Record}
-use Rattle.whole_lives.specs.declared.rounds.Round.{Round}
 use Rattle.whole_lives.proofs.RoundLaws.{reads}
 
 no_refusal : (rom bytes : List ℕ) (error : SnapError) → is_snapshot rom bytes ≡ true → IsRefusal rom bytes error → ¬ (error ≡ NoMemory) → ⊥
@@ -96,7 +101,7 @@ stop_sound SaveFirst all now stop = stop
 stop_sound CountFull all now stop = tt
 stop_sound Output all now stop = tt
 
--- ---- a life
+-- ---- lines
 
 module _ (rom : List ℕ) (save : MemoryState) (position : Position) (is : stands rom (content (memory_disk save).sectors) ≡ Some position) where
   cause_sound : (why : LifeError) (recording : Option MemoryState) (left : MemoryState) (left_recording : Option MemoryState) (text unread report : List ℕ) → IsCause why rom save recording left left_recording text unread report → IsSound why
@@ -119,16 +124,53 @@ module _ (rom : List ℕ) (save : MemoryState) (position : Position) (is : stand
   cause_sound (Record (WrongRecorded n)) recording left left_recording text unread report cause = tt
   cause_sound (Record FailedRecorded) recording left left_recording text unread report cause = tt
 
-play_sound : (rom : List ℕ) (now left : Memories) (text : List ℕ) (why : LifeError) → EachStands rom now → RefusesPlay rom now left text why → IsSound why
+pub play_sound : (rom : List ℕ) (now left : Memories) (text : List ℕ) (why : LifeError) → EachStands rom now → RefuseLines rom now left text why → IsSound why
 play_sound rom now left text why stand refused =
     let stood = stand (memory_disk now.save).sectors (reads now.save) in
     cause_sound rom now.save stood.0 stood.1 why now.recording left.save left.recording text refused.unread refused.report refused.cause
 
-round_sound : (rom : List ℕ) (now left : Memories) (text : List ℕ) (why : LifeError) → EachStands rom now → RefusesRound rom now left text why → IsSound why
-round_sound rom now left text why stand (inl (play, fuse)) = play_sound rom now left text why stand play
-round_sound rom now left text why stand (inr cut) = subst IsSound (sym cut.why_is) tt
+-- ---- how many calls had failed
 
-pub life_sound : (rom : List ℕ) (first left : Memories) (rounds : List Round) (why : LifeError) → IsLifeRefusal rom first left rounds why → EachStands rom first → IsSound why
-life_sound rom first left rounds why (inl (none, same)) stand = subst IsSound (sym none) tt
-life_sound rom first left rounds why (inr behind) stand =
-    ⊎_elim (λ round. round_sound rom behind.now left round.0.lines.items why (behind.come.leaves.stand stand) round.2) (λ last. play_sound rom behind.now left [] why (behind.come.leaves.stand stand) last.1) behind.refused
+module _ (save left : MemoryState) where
+  pub stream_counted : (why : StreamError) → left.faults ≡ faults_after_stream why save.faults → CountsRefusal (Stream why) (record { save = save; recording = None }) (record { save = left; recording = None })
+  stream_counted (OfStream Memory) is = (is, refl)
+  stream_counted (OfStream Device) is = (is, refl)
+  stream_counted (OfStream NoSession) is = (is, refl)
+  stream_counted (OfStream (TooSmall n)) is = (is, refl)
+  stream_counted (OfStream OtherCartridge) is = (is, refl)
+  stream_counted (OfStream (Damaged damage)) is = (is, refl)
+  stream_counted (OfStream GenerationsUsedUp) is = (is, refl)
+  stream_counted (OfStream Broken) is = (is, refl)
+  stream_counted (OfStream SaveFirst) is = (is, refl)
+  stream_counted (OfStream CountFull) is = (is, refl)
+  stream_counted (OfStream Output) is = (is, refl)
+  stream_counted (WrongLine n) is = (is, refl)
+  stream_counted FailedInput is = (is, refl)
+  stream_counted DamagedSnapshot is = (is, refl)
+  stream_counted LacksMemory is = (is, refl)
+
+  module _ (recording left_recording : MemoryState) where
+    pub record_counted : (why : RecordError) → left.faults ≡ save_faults_after why save.faults → left_recording.faults ≡ recording_faults_after why recording.faults
+        → CountsRefusal (Record why) (record { save = save; recording = Some recording }) (record { save = left; recording = Some left_recording })
+    record_counted (OfRecord Memory) one other = (one, other)
+    record_counted (OfRecord Device) one other = (one, other)
+    record_counted (OfRecord NoSession) one other = (one, other)
+    record_counted (OfRecord (TooSmall n)) one other = (one, other)
+    record_counted (OfRecord OtherCartridge) one other = (one, other)
+    record_counted (OfRecord (Damaged damage)) one other = (one, other)
+    record_counted (OfRecord GenerationsUsedUp) one other = (one, other)
+    record_counted (OfRecord Broken) one other = (one, other)
+    record_counted (OfRecord SaveFirst) one other = (one, other)
+    record_counted (OfRecord CountFull) one other = (one, other)
+    record_counted (OfRecord Output) one other = (one, other)
+    record_counted (Recording RecordingMemory) one other = (one, other)
+    record_counted (Recording RecordingDevice) one other = (one, other)
+    record_counted (Recording RecordingTooSmall) one other = (one, other)
+    record_counted (Recording NotBlank) one other = (one, other)
+    record_counted (Recording NoRecording) one other = (one, other)
+    record_counted (Recording OtherRecording) one other = (one, other)
+    record_counted (Recording Full) one other = (one, other)
+    record_counted (Recording BrokenRecording) one other = (one, other)
+    record_counted (Behind n) one other = (one, other)
+    record_counted (WrongRecorded n) one other = (one, other)
+    record_counted FailedRecorded one other = (one, other)

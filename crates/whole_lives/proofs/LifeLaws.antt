@@ -7,12 +7,10 @@ use Rattle.std.proofs.lemmas.List.{take-append-le}
 use Rattle.std.proofs.lemmas.List.Elements.{All-nil, All-cons, All-weaker}
 use Rattle.machine.specs.Machine.{MachineState, start, after}
 use Rattle.machine.specs.Machine.{Input}
-use Rattle.session.specs.Stands.{Position}
+use Rattle.session.specs.Stands.{Position, behind}
 use Rattle.session.proofs.StandsLaws.{after_append, after_none}
-use Rattle.playing.specs.Report.{Line}
-use Rattle.streaming.specs.Answers.{stream_lines}
-use Rattle.recorded_play.specs.Agreeing.{behind}
-use Rattle.whole_lives.specs.Lives.{Files, Agree, AgreesWith, IsRecorded, Played, kept_of, position, taken_up_at, GoesOn, IsRound, IsLife}
+use Rattle.playing.specs.Lines.{Line, resumed_line}
+use Rattle.whole_lives.specs.Lives.{Asking, Files, Agree, AgreesWith, IsRecorded, Played, kept_of, position, taken_up_at, GoesOn, IsRound, IsLife}
 use Rattle.whole_lives.specs.Laws.{all_kept, AreTold, NoLifeLosesWhatWasSaved}
 
 -- ---- positions
@@ -95,19 +93,19 @@ record Keeps (rom : List ℕ) (rounds : List Played) (first last : Files) : Type
 told_later : (less most : ℕ) → less ≤ most → (told : List Line) → All (λ line. line.told ≤ less) told → All (λ line. line.told ≤ most) told
 told_later less most le told all = All-weaker (λ (line : Line). line.told ≤ less) (λ line. line.told ≤ most) (λ line (within : line.told ≤ less). omega (arith, within, le)) told all
 
-keeps : (rom : List ℕ) (rounds : List Played) (first last : Files) → Agree rom first → IsLife rom rounds first last → Keeps rom rounds first last
-keeps rom [] first last agree life = record {
+keeps : (asks : Asking) (rom : List ℕ) (rounds : List Played) (first last : Files) → Agree rom first → IsLife asks rom rounds first last → Keeps rom rounds first last
+keeps asks rom [] first last agree life = record {
   agree = subst (Agree rom) (sym life) agree;
   position_is = ap (position rom) life ∙ sym (behind_none (position rom first));
   recorded_is = ap (λ (f : Files). f.recorded) life ∙ none_more first.recorded;
   later = omega (arith, ap (λ (f : Files). f.save.count) life);
   saved = All-nil (λ (round : Played). All (λ line. line.told ≤ last.save.count) round.told);
 }
-keeps rom (round ∷ rounds) first last agree life =
+keeps asks rom (round ∷ rounds) first last agree life =
     let next = life.0 in
     let one = life.1 in
     let kept = kept_of round in
-    let rest = keeps rom rounds next last (goes_agreeing rom kept first.save next first.recorded agree one.goes_on) life.2 in
+    let rest = keeps asks rom rounds next last (goes_agreeing rom kept first.save next first.recorded agree one.goes_on) life.2 in
     record {
       agree = rest.agree;
       position_is =
@@ -126,31 +124,31 @@ keeps rom (round ∷ rounds) first last agree life =
 -- ---- on the way
 
 -- a round of a life, and the part before it
-record Within (rom : List ℕ) (before : List Played) (round : Played) (first : Files) : Type 0 where
+record Within (asks : Asking) (rom : List ℕ) (before : List Played) (round : Played) (first : Files) : Type 0 where
   mid : Files
   next : Files
-  life : IsLife rom before first mid
-  is : IsRound rom round mid next
+  life : IsLife asks rom before first mid
+  is : IsRound asks rom round mid next
 
-within : (rom : List ℕ) (before : List Played) (round : Played) (later : List Played) (first last : Files) → IsLife rom (before ++ round ∷ later) first last → Within rom before round first
-within rom [] round later first last life = record { mid = first; next = life.0; life = refl; is = life.1 }
-within rom (r ∷ before) round later first last life =
-    let rest = within rom before round later life.0 last life.2 in
+within : (asks : Asking) (rom : List ℕ) (before : List Played) (round : Played) (later : List Played) (first last : Files) → IsLife asks rom (before ++ round ∷ later) first last → Within asks rom before round first
+within asks rom [] round later first last life = record { mid = first; next = life.0; life = refl; is = life.1 }
+within asks rom (r ∷ before) round later first last life =
+    let rest = within asks rom before round later life.0 last life.2 in
     record { mid = rest.mid; next = rest.next; life = (life.0, life.1, rest.life); is = rest.is }
 
-pub keeps_what_was_saved : NoLifeLosesWhatWasSaved
-keeps_what_was_saved rom rounds first last agree life =
-    let kept = keeps rom rounds first last agree life in
+pub keeps_what_was_saved : (asks : Asking) → NoLifeLosesWhatWasSaved asks
+keeps_what_was_saved asks rom rounds first last agree life =
+    let kept = keeps asks rom rounds first last agree life in
     record {
       agree = kept.agree;
       position_is = kept.position_is;
       recorded_is = kept.recorded_is;
       saved = kept.saved;
       never_falls = λ before round later line lines are told.
-          let one = within rom before round later first last (subst (λ (l : List Played). IsLife rom l first last) are life) in
-          let so_far = keeps rom before first one.mid agree one.life in
+          let one = within asks rom before round later first last (subst (λ (l : List Played). IsLife asks rom l first last) are life) in
+          let so_far = keeps asks rom before first one.mid agree one.life in
           let ahead = not_ahead rom one.mid.save one.mid.recorded so_far.agree in
-          let lines_are : stream_lines (position rom one.mid) round.deeds ≡ (line ∷ lines) ++ one.is.untold = one.is.told_are ∙ ap (λ (l : List Line). l ++ one.is.untold) told in
+          let lines_are : resumed_line (position rom one.mid).count ∷ one.is.lines ≡ (line ∷ lines) ++ one.is.untold = one.is.told_are ∙ ap (λ (l : List Line). l ++ one.is.untold) told in
           let same : (position rom one.mid).count ≡ line.told = cc in
           All-weaker (λ (r : Played). All (λ l. l.told ≤ one.mid.save.count) r.told) (λ r. All (λ l. l.told ≤ line.told) r.told)
           (λ r all. told_later one.mid.save.count line.told (omega (arith, ahead, same)) r.told all) before so_far.saved;

@@ -11,12 +11,13 @@ use Rattle.log_format.specs.Content.{content}
 use Rattle.recording.specs.Recorded.{recorded}
 use Rattle.recording.specs.declared.fault.RecordingFault.TheVariants.{Device as RecordingDevice}
 use Rattle.session.specs.Inputs.{input_of}
-use Rattle.session.specs.Stands.{IsAtRest, Position, stands}
+use Rattle.session.specs.Stands.{IsAtRest, Position, stands, behind}
 use Rattle.session.proofs.Saving.{leading}
 use Rattle.session.proofs.StandsLaws.{after_append, after_none}
 use Rattle.session.specs.declared.error.SessionError.{SessionError}
 use Rattle.session.specs.declared.error.SessionError.TheVariants.{Device}
-use Rattle.playing.specs.Report.{Line, texts, IsPart}
+use Rattle.playing.specs.Report.{IsPart}
+use Rattle.playing.specs.Lines.{Line, resumed_line, texts}
 use Rattle.input_lines.specs.Given.{IsWhole as IsWholeLine}
 use Rattle.streaming.specs.Orders.{asked}
 use Rattle.streaming.specs.Reading.{AsksUpTo}
@@ -25,8 +26,7 @@ use Rattle.streaming.specs.Reading.AsksUpTo.{all_asked}
 use Rattle.streaming.specs.Answers.{inputs_of_deeds, stream_lines}
 use Rattle.streaming.specs.declared.obeying.End.{End}
 use Rattle.streaming.specs.declared.obeying.End.TheVariants.{Whole, Wrong, Failed}
-use Rattle.replaying.specs.Agreeing.{Agrees}
-use Rattle.recorded_play.specs.Agreeing.{AllAgree, recorded_inputs, behind}
+use Rattle.replaying.specs.Agreeing.{Agrees, AllAgree, recorded_inputs}
 use Rattle.recorded_play.specs.Steps.{told_as}
 use Rattle.recorded_play.specs.Whole.{IsTakenUp, HasRecorded, HasStopped, IsNotTakenUp, TakeUpImage, IsRecordCause, IsEndCause}
 use Rattle.recorded_play.specs.declared.error.RecordError.{RecordError}
@@ -36,10 +36,11 @@ use Rattle.recorded_play.proofs.TakenUp.{recorded_leads}
 use Rattle.whole_lives.specs.Lives.{Files, IsRecorded, Played, Follows, kept_of, end_of, taken_up_at}
 use Rattle.whole_lives.specs.Devices.{Memories, AreLeft, HasLived}
 use Rattle.whole_lives.specs.declared.error.LifeError.TheVariants.{Record}
+use Rattle.whole_lives.specs.Lines.{AskByLines}
 use Rattle.whole_lives.specs.Rounds.{LeavesRound, IsFailedCall}
 use Rattle.whole_lives.proofs.Behind.{one_round_lived}
 use Rattle.whole_lives.proofs.LifeLaws.{agree_more, two_parts}
-use Rattle.whole_lives.proofs.RoundLaws.{some_left, read_more, read_to, is_whole, counts, reads}
+use Rattle.whole_lives.proofs.RoundLaws.{some_left, read_more, read_to, is_whole, told_by, counts, reads}
 use Rattle.whole_lives.proofs.Telling.{more_at_most, none_at_most, stream_at_most}
 
 -- ---- lists of inputs
@@ -74,7 +75,7 @@ module _ (rom : List ℕ) (save recording now_save now_recording : MemoryState) 
   new = record { save = now_save; recording = Some now_recording }
 
   abbrev pub Leaves : (report : List ℕ) → (whole : Bool) → Type 0
-  Leaves report whole = LeavesRound rom old new text report whole
+  Leaves report whole = LeavesRound AskByLines rom old new text report whole
 
   abbrev files_of : Position → List Input → Files
   files_of at inputs = record { save = at; recorded = Some inputs }
@@ -92,22 +93,22 @@ module _ (rom : List ℕ) (save recording now_save now_recording : MemoryState) 
 
   -- no line was read, and none told
   abbrev nothing : Played
-  nothing = record { text = text; lines = []; deeds = []; report = []; told = []; kept = 0; whole = false }
+  nothing = record { text = text; inputs = []; report = []; told = []; kept = 0; whole = false }
 
   nothing_played : AllAgree rom (memory_disk save) (memory_disk recording) → (at : Position) (inputs : List Input) (s r : List (List ℕ)) → (memory_disk save).image s → stands rom (content s) ≡ Some at → (memory_disk recording).image r → recorded_inputs rom r ≡ Some inputs
-      → (last : Files) → AreLeft rom new last → last.recorded ≡ Some inputs → at.count ≤ last.save.count → HasLived rom old (text ∷ []) ([] ∷ []) (false ∷ []) last
+      → (last : Files) → AreLeft rom new last → last.recorded ≡ Some inputs → at.count ≤ last.save.count → HasLived AskByLines rom old (text ∷ []) ([] ∷ []) (false ∷ []) last
   nothing_played agree at inputs s r stood stands_is recording_stood recorded_is last here same later =
       let left = some_left rom now_recording last.recorded here.recorded in
       let held : Some left.recorded ≡ Some inputs = sym left.is ∙ same in
       let inputs_are : left.recorded ≡ inputs = cc in
       let all_are : recorded_inputs rom left.image ≡ Some (inputs ++ []) = left.recorded_is ∙ ap Some (inputs_are ∙ sym (append-nil inputs)) in
-      one_round_lived rom old (files_of at inputs) last nothing
+      one_round_lived AskByLines rom old (files_of at inputs) last nothing
       (record { image = s; stood = stood; stands_is = stands_is; recorded = (r, recording_stood, recorded_is) })
       (record {
         unread = text;
-        lines_are = inl (All-nil (IsWholeLine (asked false)), refl);
-        asks = all_asked no_line;
-        untold = stream_lines (end_of rom inputs) [];
+        lines = [];
+        asked = record { lines = []; deeds = []; begins = inl (All-nil (IsWholeLine (asked false)), refl); asks = all_asked no_line; inputs_are = refl; told_are = refl };
+        untold = resumed_line (length inputs) ∷ [];
         told_are = refl;
         report_is = refl;
         are_saved = none_at_most last.save.count;
@@ -189,7 +190,7 @@ module _ (rom : List ℕ) (save recording now_save now_recording : MemoryState) 
       let told = stream_lines (end_of rom taken.played) deeds in
       let read = read_to false rom by.kept end by.lines text unread by.read in
       let holds = by.recorded tt tt in
-      let played : Played = record { text = text; lines = by.lines; deeds = by.deeds; report = report; told = told; kept = length given; whole = whole } in
+      let played : Played = record { text = text; inputs = given; report = report; told = told; kept = length given; whole = whole } in
       let kept_is : kept_of played ≡ given = take_all (length given) given (omega arith) in
       record {
         agree = agreed;
@@ -205,11 +206,18 @@ module _ (rom : List ℕ) (save recording now_save now_recording : MemoryState) 
             let behind_count = count_behind by.at by.more taken agree in
             let count_is : last.save.count ≡ length taken.played + length given = omega (arith, ap (λ (p : Position). p.count) same, size, behind_count) in
             let from_is = behind_is by.at by.more taken agree in
-            one_round_lived rom old (files_of by.at taken.played) last played (left_from by.at by.more taken agree)
+            one_round_lived AskByLines rom old (files_of by.at taken.played) last played (left_from by.at by.more taken agree)
             (record {
               unread = read.rest;
-              lines_are = read.begins_so;
-              asks = subst (λ (m : MachineState). AsksUpTo false rom m by.lines by.deeds) (ap (λ (p : Position). p.machine) from_is) (all_asked by.asks);
+              lines = told_by (end_of rom taken.played) deeds;
+              asked = record {
+                lines = by.lines;
+                deeds = deeds;
+                begins = read.begins_so;
+                asks = subst (λ (m : MachineState). AsksUpTo false rom m by.lines by.deeds) (ap (λ (p : Position). p.machine) from_is) (all_asked by.asks);
+                inputs_are = refl;
+                told_are = refl;
+              };
               untold = [];
               told_are = sym (append-nil told);
               report_is = by.answered ∙ ap (λ (p : Position). texts (stream_lines p deeds)) from_is;
@@ -265,7 +273,7 @@ module _ (rom : List ℕ) (save recording now_save now_recording : MemoryState) 
               let reached = by.left tt here.image here.stood in
               let held = by.recorded tt tt agree left.image left.stood in
               let kept : ℕ = held.count - length taken.played in
-              let played : Played = record { text = text; lines = by.lines; deeds = by.deeds; report = texts told; told = told; kept = kept; whole = false } in
+              let played : Played = record { text = text; inputs = given; report = texts told; told = told; kept = kept; whole = false } in
               let both : Some last.save ≡ Some (record { count = by.at.count + reached.count; machine = after by.at.machine (take reached.count (by.more ++ given)) }) = sym here.stands_is ∙ reached.is in
               let same : last.save ≡ record { count = by.at.count + reached.count; machine = after by.at.machine (take reached.count (by.more ++ given)) } = cc in
               let count_is : last.save.count ≡ by.at.count + reached.count = ap (λ (p : Position). p.count) same in
@@ -276,11 +284,18 @@ module _ (rom : List ℕ) (save recording now_save now_recording : MemoryState) 
               let kept_same : left.recorded ≡ taken.played ++ kept_of played =
               recorded_same ∙ ap (λ (n : ℕ). take n (taken.played ++ given)) split ∙ take-append-add taken.played given kept in
               let from_is = behind_is by.at by.more taken agree in
-              one_round_lived rom old (files_of by.at taken.played) last played (left_from by.at by.more taken agree)
+              one_round_lived AskByLines rom old (files_of by.at taken.played) last played (left_from by.at by.more taken agree)
               (record {
                 unread = read.rest;
-                lines_are = read.begins_so;
-                asks = subst (λ (m : MachineState). AsksUpTo false rom m by.lines by.deeds) (ap (λ (p : Position). p.machine) from_is) by.asks;
+                lines = told_by (end_of rom taken.played) deeds;
+                asked = record {
+                  lines = by.lines;
+                  deeds = deeds;
+                  begins = read.begins_so;
+                  asks = subst (λ (m : MachineState). AsksUpTo false rom m by.lines by.deeds) (ap (λ (p : Position). p.machine) from_is) by.asks;
+                  inputs_are = refl;
+                  told_are = refl;
+                };
                 untold = untold;
                 told_are = ap (λ (p : Position). stream_lines p deeds) (sym from_is) ∙ by.told.lines_are;
                 report_is = refl;

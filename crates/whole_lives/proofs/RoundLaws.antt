@@ -5,13 +5,16 @@ use Rattle.sector_device.specs.Memory.{MemoryState, memory_disk}
 use Rattle.sector_device.specs.RecordLaws.{counts_last, reads_image}
 use Rattle.input_lines.specs.Given.{Given, texts_of, HasReadGiven, IsCutOff}
 use Rattle.machine_lines.specs.KeptStates.{KeptMachine}
-use Rattle.streaming.specs.Orders.{asked}
+use Rattle.session.specs.Stands.{Position}
+use Rattle.playing.specs.Lines.{Line}
+use Rattle.streaming.specs.Answers.{ended, lines_of_deeds}
+use Rattle.streaming.specs.Orders.{Deed, asked}
 use Rattle.streaming.specs.Reading.{ReadsTo}
 use Rattle.streaming.proofs.Wholes.{reads_some}
 use Rattle.streaming.specs.declared.obeying.End.{End}
 use Rattle.streaming.specs.declared.obeying.End.TheVariants.{Whole, Wrong, Failed, Damaged, NoMemory}
-use Rattle.recorded_play.specs.Agreeing.{recorded_inputs}
-use Rattle.whole_lives.specs.Lives.{Begins}
+use Rattle.replaying.specs.Agreeing.{recorded_inputs}
+use Rattle.whole_lives.specs.Lines.{Begins}
 use Rattle.whole_lives.specs.Devices.{IsRecordedLeft}
 
 -- ---- what images hold
@@ -68,6 +71,12 @@ module _ (states : Bool) where
   read_to rom kept Failed lines text unread read = read_some rom kept Failed lines text unread read
   read_to rom kept Damaged lines text unread read = read_some rom kept Damaged lines text unread read
   read_to rom kept NoMemory lines text unread read = read_some rom kept NoMemory lines text unread read
+
+-- ---- lines that are told
+
+-- those behind the first
+abbrev pub told_by : Position → List Deed → List Line
+told_by from deeds = lines_of_deeds from.machine from.count 0 (ended 0 deeds)
 
 -- ---- moments
 

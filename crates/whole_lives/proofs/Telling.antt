@@ -10,7 +10,8 @@ use Rattle.machine.specs.Machine.{Frame}
 use Rattle.script.specs.declared.moves.Move.{Move}
 use Rattle.script.specs.declared.moves.Move.TheVariants.{Frames, Seconds, Save, Power}
 use Rattle.session.specs.Stands.{Position}
-use Rattle.playing.specs.Report.{Line, resumed_line, saved_line, unsaved_after, line_due, lines_of_inputs, lines_of_move}
+use Rattle.playing.specs.Report.{unsaved_after, line_due, lines_of_inputs, lines_of_move}
+use Rattle.playing.specs.Lines.{Line, resumed_line, saved_line}
 use Rattle.script.specs.Inputs.{inputs_of_move}
 use Rattle.snapshot.specs.Encoding.{encoded}
 use Rattle.machine_lines.specs.Texts.{count_line, memory_text, state_text}

@@ -14,17 +14,14 @@ use Rattle.session.specs.Stands.{IsAtRest, Position, stands}
 use Rattle.session.specs.Accessors.{device_of, machine_of, rom_of, pending_of, acknowledged_of, is_broken}
 use Rattle.session.specs.declared.error.SessionError.{SessionError}
 use Rattle.session.specs.declared.error.SessionError.TheVariants.{Memory as NoMemory, Device, GenerationsUsedUp, CountFull, Output}
-use Rattle.streaming.specs.Streamed.{IsStreamCause, faults_after_stream}
 use Rattle.streaming.specs.declared.error.StreamError.TheVariants.{Session as OfStream}
-use Rattle.recorded_play.specs.Agreeing.{AllAgree, recorded_inputs}
-use Rattle.recorded_play.specs.Steps.{save_faults_after, recording_faults_after}
-use Rattle.recorded_play.specs.Whole.{IsRecordCause}
+use Rattle.replaying.specs.Agreeing.{AllAgree, recorded_inputs}
 use Rattle.recorded_play.specs.declared.error.RecordError.TheVariants.{Session as OfRecord, Recording as OfRecording}
-use Rattle.whole_lives.specs.Lives.{Files, Played, IsLife}
+use Rattle.whole_lives.specs.Lives.{Asking, Files, Played, IsLife}
 use Rattle.whole_lives.specs.declared.devices.Devices.{Devices}
 use Rattle.whole_lives.specs.declared.error.LifeError.{LifeError}
 use Rattle.whole_lives.specs.declared.error.LifeError.TheVariants.{Memory, Stream, Record}
-use Rattle.whole_lives.specs.declared.rounds.Game.{Game}
+use Rattle.whole_lives.specs.declared.player.Game.{Game}
 use Rattle.whole_lives.specs.declared.rounds.Round.{Round}
 use Rattle.whole_lives.specs.declared.rounds.RoundEnd.{RoundEnd}
 
@@ -102,32 +99,32 @@ abbrev pub wholes_of : List RoundEnd → List Bool
 wholes_of ends = map (λ end. end.whole) ends
 
 -- a life of rounds that were given this and reported that leads here from what some image of each device held
-pub record HasLived (rom : List ℕ) (old : Memories) (texts reports : List (List ℕ)) (wholes : List Bool) (last : Files) : Type 0 where
+pub record HasLived (asks : Asking) (rom : List ℕ) (old : Memories) (texts reports : List (List ℕ)) (wholes : List Bool) (last : Files) : Type 0 where
   pub first : Files
   pub left : AreLeft rom old first
   pub rounds : List Played
   pub texts_are : map (λ round. round.text) rounds ≡ texts
   pub reports_are : map (λ round. round.report) rounds ≡ reports
   pub wholes_are : map (λ round. round.whole) rounds ≡ wholes
-  pub life : IsLife rom rounds first last
+  pub life : IsLife asks rom rounds first last
 
 -- Devices that agreed agree, those that stood for a position do, and whatever they hold, such a life leads to it.
-pub record LeavesLife (rom : List ℕ) (old now : Memories) (texts reports : List (List ℕ)) (wholes : List Bool) : Type 0 where
+pub record LeavesLife (asks : Asking) (rom : List ℕ) (old now : Memories) (texts reports : List (List ℕ)) (wholes : List Bool) : Type 0 where
   pub agree : EachAgrees rom old → EachAgrees rom now
   pub stand : EachStands rom old → EachStands rom now
-  pub lives : EachAgrees rom old → (last : Files) → AreLeft rom now last → HasLived rom old texts reports wholes last
+  pub lives : EachAgrees rom old → (last : Files) → AreLeft rom now last → HasLived asks rom old texts reports wholes last
 
 -- so it is, of the first so many rounds, or of all and the last take-up
-pub record LeavesSomeLife (rom : List ℕ) (old now : Memories) (rounds : List Round) : Type 0 where
+pub record LeavesSomeLife (asks : Asking) (rom : List ℕ) (old now : Memories) (rounds : List Round) : Type 0 where
   pub texts : List (List ℕ)
   pub reports : List (List ℕ)
   pub wholes : List Bool
   pub are : ((done : ℕ) × (texts ≡ texts_of (take done rounds))) ⊎ (texts ≡ all_texts rounds)
-  pub leaves : LeavesLife rom old now texts reports wholes
+  pub leaves : LeavesLife asks rom old now texts reports wholes
 
 -- such a life leads to a SAVE that stands for this position
-abbrev pub EndsLife : (rom : List ℕ) → (old : Memories) → (texts reports : List (List ℕ)) → (wholes : List Bool) → Position → Type 0
-EndsLife rom old texts reports wholes at = EachAgrees rom old → (recorded : Option (List Input)) × HasLived rom old texts reports wholes (record { save = at; recorded = recorded })
+abbrev pub EndsLife : (asks : Asking) → (rom : List ℕ) → (old : Memories) → (texts reports : List (List ℕ)) → (wholes : List Bool) → Position → Type 0
+EndsLife asks rom old texts reports wholes at = EachAgrees rom old → (recorded : Option (List Input)) × HasLived asks rom old texts reports wholes (record { save = at; recorded = recorded })
 
 -- ---- failed calls
 
@@ -135,24 +132,27 @@ abbrev pub faults_of : Option MemoryState → ℕ
 faults_of None = 0
 faults_of (Some recording) = recording.faults
 
+-- a call failed of the device of the SAVE, or else of that of the recording
+abbrev pub CountsFault : (of_save : Bool) → (old now : Memories) → Type 0
+CountsFault true old now = (now.save.faults ≡ next_count old.save.faults) × (faults_of now.recording ≡ faults_of old.recording)
+CountsFault false old now = (now.save.faults ≡ old.save.faults) × (faults_of now.recording ≡ next_count (faults_of old.recording))
+
 -- a round that came to its end failed no call, and one that was cut failed one, of one of the devices
 abbrev pub CountsCut : (whole : Bool) → (old now : Memories) → Type 0
 CountsCut true old now = (now.save.faults ≡ old.save.faults) × (faults_of now.recording ≡ faults_of old.recording)
-CountsCut false old now =
-    ((now.save.faults ≡ next_count old.save.faults) × (faults_of now.recording ≡ faults_of old.recording))
-    ⊎ ((now.save.faults ≡ old.save.faults) × (faults_of now.recording ≡ next_count (faults_of old.recording)))
+CountsCut false old now = CountsFault true old now ⊎ CountsFault false old now
 
 -- so it is of each round, one after the other
 abbrev pub CountsCuts : (wholes : List Bool) → (old now : Memories) → Type 0
 CountsCuts [] old now = CountsCut true old now
 CountsCuts (whole ∷ wholes) old now = (next : Memories) × CountsCut whole old next × CountsCuts wholes next now
 
--- one refusal is counted as it says
+-- what a refusal by a failed call says of the counts, and what any other does
 abbrev pub CountsRefusal : LifeError → (old left : Memories) → Type 0
-CountsRefusal Memory old left = CountsCut true old left
-CountsRefusal (Stream why) old left = (left.save.faults ≡ faults_after_stream why old.save.faults) × (faults_of left.recording ≡ faults_of old.recording)
-CountsRefusal (Record why) old left =
-    (left.save.faults ≡ save_faults_after why old.save.faults) × (faults_of left.recording ≡ recording_faults_after why (faults_of old.recording))
+CountsRefusal (Stream (OfStream Device)) old left = CountsFault true old left
+CountsRefusal (Record (OfRecord Device)) old left = CountsFault true old left
+CountsRefusal (Record (OfRecording RecordingDevice)) old left = CountsFault false old left
+CountsRefusal why old left = CountsCut true old left
 
 -- ---- a device behind a cut
 
@@ -174,18 +174,12 @@ AreLast (text ∷ texts) first last = IsFresh last.save × IsFreshIfThere last.r
 
 -- ---- a refusal
 
--- a stream of this text refused it, or where there is a recording, a recorded play
-abbrev pub IsCause : LifeError → (rom : List ℕ) → (old_save : MemoryState) → (old_recording : Option MemoryState) → (left_save : MemoryState) → (left_recording : Option MemoryState)
-    → (text unread report : List ℕ) → Type 0
-IsCause (Stream why) rom old None left None text unread report = IsStreamCause why rom (memory_disk old) (memory_disk left) (Some text) (Some unread) (Some []) (Some report)
-IsCause (Record why) rom old (Some recording) left (Some left_recording) text unread report =
-    IsRecordCause why rom (memory_disk old) (memory_disk left) (memory_disk recording) (memory_disk left_recording) (Some text) (Some unread) (Some []) (Some report)
-IsCause why rom old recording left left_recording text unread report = ⊥
+-- Why a text is refused, with what the devices were and are: each player says of its own what these are.
+abbrev pub Refusing : Type 1
+Refusing = (rom : List ℕ) → (old left : Memories) → (text : List ℕ) → LifeError → Type 0
 
-pub record RefusesPlay (rom : List ℕ) (old left : Memories) (text : List ℕ) (why : LifeError) : Type 0 where
-  pub unread : List ℕ
-  pub report : List ℕ
-  pub cause : IsCause why rom old.save old.recording left.save left.recording text unread report
+pub record RefusesPlay (refuses : Refusing) (rom : List ℕ) (old left : Memories) (text : List ℕ) (why : LifeError) : Type 0 where
+  pub cause : refuses rom old left text why
   pub counted : CountsRefusal why old left
 
 abbrev pub is_blown : Option MemoryState → Bool
@@ -203,35 +197,44 @@ abbrev pub IsBlown : Memories → Type 0
 IsBlown left = (left.save.blown ≡ true) ⊎ (is_blown left.recording ≡ true)
 
 -- the round was played to its end, or to where a fuse failed a call, and there was no memory for what its cut leaves
-pub record RefusesCut (rom : List ℕ) (old left : Memories) (text : List ℕ) (why : LifeError) : Type 0 where
+pub record RefusesCut (asks : Asking) (rom : List ℕ) (old left : Memories) (text : List ℕ) (why : LifeError) : Type 0 where
   pub why_is : why ≡ Memory
   pub report : List ℕ
   pub whole : Bool
-  pub leaves : LeavesLife rom old left (text ∷ []) (report ∷ []) (whole ∷ [])
+  pub leaves : LeavesLife asks rom old left (text ∷ []) (report ∷ []) (whole ∷ [])
   pub counts : CountsCut whole old left
   pub blown : whole ≡ false → IsBlown left
 
-abbrev pub RefusesRound : (rom : List ℕ) → (old left : Memories) → (text : List ℕ) → LifeError → Type 0
-RefusesRound rom old left text why = (RefusesPlay rom old left text why × IsByNoFuse why left) ⊎ RefusesCut rom old left text why
+-- a device whose fuse was set, and those of which a round sets them
+abbrev pub fused : (calls : ℕ) → MemoryState → MemoryState
+fused calls m = record m { fuse = Some calls; blown = false }
+
+abbrev pub with_fuses : Round → Memories → Memories
+with_fuses round now = record { save = fused round.save_calls now.save; recording = option_map (fused round.recording_calls) now.recording }
+
+-- a round was refused on these devices
+abbrev pub RefusesRound : (asks : Asking) → (refuses : Refusing) → (rom : List ℕ) → (old left : Memories) → Round → LifeError → Type 0
+RefusesRound asks refuses rom old left round why =
+    (RefusesPlay refuses rom (with_fuses round old) left round.lines.items why × IsByNoFuse why left) ⊎ RefusesCut asks rom old left round.lines.items why
 
 -- a life of rounds that were given this led to these devices
-pub record HasCome (rom : List ℕ) (first now : Memories) (texts reports : List (List ℕ)) (wholes : List Bool) : Type 0 where
-  pub leaves : LeavesLife rom first now texts reports wholes
+pub record HasCome (asks : Asking) (rom : List ℕ) (first now : Memories) (texts reports : List (List ℕ)) (wholes : List Bool) : Type 0 where
+  pub leaves : LeavesLife asks rom first now texts reports wholes
   pub counts : CountsCuts wholes first now
   pub last : AreLast texts first now
 
 -- The first so many rounds led to these devices, and then the next was refused, or where there is none, the game was not taken up.
-pub record IsRefusedBehind (rom : List ℕ) (first left : Memories) (rounds : List Round) (why : LifeError) : Type 0 where
+pub record IsRefusedBehind (asks : Asking) (refuses : Refusing) (rom : List ℕ) (first left : Memories) (rounds : List Round) (why : LifeError) : Type 0 where
   pub done : ℕ
   pub now : Memories
   pub reports : List (List ℕ)
   pub wholes : List Bool
-  pub come : HasCome rom first now (texts_of (take done rounds)) reports wholes
-  pub refused : ((round : Round) × (slice_get rounds done ≡ Some round) × RefusesRound rom now left round.lines.items why) ⊎ ((done ≡ length rounds) × RefusesPlay rom now left [] why)
+  pub come : HasCome asks rom first now (texts_of (take done rounds)) reports wholes
+  pub refused : ((round : Round) × (slice_get rounds done ≡ Some round) × RefusesRound asks refuses rom now left round why) ⊎ ((done ≡ length rounds) × RefusesPlay refuses rom now left [] why)
 
 -- so it was, or there was no memory for the ends
-abbrev pub IsLifeRefusal : (rom : List ℕ) → (first left : Memories) → List Round → LifeError → Type 0
-IsLifeRefusal rom first left rounds why = ((why ≡ Memory) × (left ≡ first)) ⊎ IsRefusedBehind rom first left rounds why
+abbrev pub IsLifeRefusal : (asks : Asking) → (refuses : Refusing) → (rom : List ℕ) → (first left : Memories) → List Round → LifeError → Type 0
+IsLifeRefusal asks refuses rom first left rounds why = ((why ≡ Memory) × (left ≡ first)) ⊎ IsRefusedBehind asks refuses rom first left rounds why
 
 -- A SAVE of which each image stands for a position is not refused for what is found on it. The report lies in memory: where there is none
 -- for it, the output fails.

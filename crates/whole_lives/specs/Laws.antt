@@ -2,9 +2,9 @@
 use Rattle.std.specs.Prelude.{◌≡◌, ◌≤◌, ℕ, List, [], ◌∷◌, ◌++◌, All}
 use Rattle.std.specs.Option.{option_map}
 use Rattle.machine.specs.Machine.{Input}
-use Rattle.playing.specs.Report.{Line}
-use Rattle.recorded_play.specs.Agreeing.{behind}
-use Rattle.whole_lives.specs.Lives.{Files, Agree, Played, kept_of, position, IsLife}
+use Rattle.playing.specs.Lines.{Line}
+use Rattle.session.specs.Stands.{behind}
+use Rattle.whole_lives.specs.Lives.{Files, Agree, Asking, Played, kept_of, position, IsLife}
 
 -- what the cuts kept of each round's inputs, one round after the other
 abbrev pub all_kept : List Played → List Input
@@ -30,5 +30,5 @@ pub record KeepsWhatWasSaved (rom : List ℕ) (rounds : List Played) (first last
   pub saved : AreTold last.save.count rounds
   pub never_falls : NeverFalls rounds
 
-abbrev pub NoLifeLosesWhatWasSaved : Type 0
-NoLifeLosesWhatWasSaved = (rom : List ℕ) (rounds : List Played) (first last : Files) → Agree rom first → IsLife rom rounds first last → KeepsWhatWasSaved rom rounds first last
+abbrev pub NoLifeLosesWhatWasSaved : Asking → Type 0
+NoLifeLosesWhatWasSaved asks = (rom : List ℕ) (rounds : List Played) (first last : Files) → Agree rom first → IsLife asks rom rounds first last → KeepsWhatWasSaved rom rounds first last

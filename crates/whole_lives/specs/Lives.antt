@@ -1,14 +1,8 @@
 -- What a life of a game is, whatever was cut in it: of a SAVE alone, or of a SAVE and a recording of its inputs.
-use Rattle.std.specs.Prelude.{◌≡◌, ◌⊎◌, ◌≤◌, ◌-◌, ℕ, List, [], ◌∷◌, ◌++◌, length, take, drop, Bool, true, Option, Some, None, is_none, All, ⊤}
-use Rattle.machine.specs.Machine.{after, start}
-use Rattle.machine.specs.Machine.{Input}
-use Rattle.session.specs.Stands.{Position}
-use Rattle.playing.specs.Report.{Line, texts}
-use Rattle.input_lines.specs.Given.{Given, texts_of as texts_of_lines, IsWhole as IsWholeLine, IsCutOff}
-use Rattle.streaming.specs.Orders.{Deed, asked}
-use Rattle.streaming.specs.Reading.{AsksUpTo}
-use Rattle.streaming.specs.Answers.{inputs_of_deeds, stream_lines}
-use Rattle.recorded_play.specs.Agreeing.{behind}
+use Rattle.std.specs.Prelude.{◌≡◌, ◌≤◌, ◌-◌, ℕ, List, [], ◌∷◌, ◌++◌, length, take, drop, Bool, true, Option, Some, None, is_none, All, ⊤}
+use Rattle.machine.specs.Machine.{Input, after, start}
+use Rattle.session.specs.Stands.{Position, behind}
+use Rattle.playing.specs.Lines.{Line, resumed_line, texts}
 
 -- what the files of a game hold: the position that the SAVE stands for, and the inputs of its recording, where it has one
 pub record Files : Type 0 where
@@ -45,12 +39,16 @@ Agree rom files = AgreesWith rom files.save files.recorded
 
 -- ---- a round
 
+-- What a text asks for of a game that goes on at a position, where so much of it is left unread: its inputs, and the lines that are told
+-- of them. A life is one whatever this is; each player says what it is of its own.
+abbrev pub Asking : Type 1
+Asking = (states : Bool) → (rom : List ℕ) → (from : Position) → (text unread : List ℕ) → List Input → List Line → Type 0
+
 -- what was played in a round
 pub record Played : Type 0 where
-  -- its input, the lines of it that were read, and what was done for each
+  -- what was given, and the inputs that it asked for
   pub text : List ℕ
-  pub lines : List Given
-  pub deeds : List Deed
+  pub inputs : List Input
   -- its report, and the lines of it
   pub report : List ℕ
   pub told : List Line
@@ -61,11 +59,7 @@ pub record Played : Type 0 where
 
 -- those that are kept
 abbrev pub kept_of : Played → List Input
-kept_of round = take round.kept (inputs_of_deeds round.deeds)
-
--- these lines, each with its newline, and then the rest; the last line of a text may lack its newline
-abbrev pub Begins : (states : Bool) → (lines : List Given) → (rest text : List ℕ) → Type 0
-Begins states lines rest text = (All (IsWholeLine (asked states)) lines × (text ≡ texts_of_lines lines ++ rest)) ⊎ (IsCutOff (asked states) lines text × (rest ≡ []))
+kept_of round = take round.kept round.inputs
 
 -- the SAVE went on, if at all, with what then is recorded
 pub record Follows (recorded : List Input) (first last : Position) : Type 0 where
@@ -78,32 +72,31 @@ abbrev pub GoesOn : Option (List Input) → (kept : List Input) → (first : Pos
 GoesOn None kept first last = (last.save ≡ behind first kept) × (last.recorded ≡ None)
 GoesOn (Some recorded) kept first last = (last.recorded ≡ Some (recorded ++ kept)) × Follows (recorded ++ kept) first last.save
 
--- nothing of its input was left unread, untold, or unsaved
+-- nothing that it was given was left unread, untold, or unsaved
 pub record IsWhole (rom : List ℕ) (round : Played) (unread : List ℕ) (untold : List Line) (last : Files) : Type 0 where
   pub read : unread ≡ []
   pub told : untold ≡ []
-  pub kept : kept_of round ≡ inputs_of_deeds round.deeds
+  pub kept : kept_of round ≡ round.inputs
   pub saved : last.save.count ≡ (position rom last).count
 
 -- A round that was played from what the files hold at first, and what its cut left of them.
-pub record IsRound (rom : List ℕ) (round : Played) (first last : Files) : Type 0 where
+pub record IsRound (asks : Asking) (rom : List ℕ) (round : Played) (first last : Files) : Type 0 where
   pub unread : List ℕ
-  pub lines_are : Begins (takes_states first) round.lines unread round.text
-  -- none of them is wrong, and this is done for them
-  pub asks : AsksUpTo (takes_states first) rom (position rom first).machine round.lines round.deeds
-  -- it told the first of what a stream of these lines tells that goes on there
+  pub lines : List Line
+  pub asked : asks (takes_states first) rom (position rom first) round.text unread round.inputs lines
+  -- it told the first of the line of where it goes on, and of these lines
   pub untold : List Line
-  pub told_are : stream_lines (position rom first) round.deeds ≡ round.told ++ untold
+  pub told_are : resumed_line (position rom first).count ∷ lines ≡ round.told ++ untold
   pub report_is : round.report ≡ texts round.told
   -- the SAVE has all inputs up to each count that it told
   pub are_saved : All (λ line. line.told ≤ last.save.count) round.told
-  -- the files have what they had, and the first inputs of the lines
+  -- the files have what they had, and the first of the inputs
   pub goes_on : GoesOn first.recorded (kept_of round) first.save last
   pub whole : round.whole ≡ true → IsWhole rom round unread untold last
 
 -- ---- a life
 
 -- each round begins with what the cut of the one before it left
-abbrev pub IsLife : (rom : List ℕ) → List Played → (first last : Files) → Type 0
-IsLife rom [] first last = last ≡ first
-IsLife rom (round ∷ rounds) first last = (next : Files) × IsRound rom round first next × IsLife rom rounds next last
+abbrev pub IsLife : (asks : Asking) → (rom : List ℕ) → List Played → (first last : Files) → Type 0
+IsLife asks rom [] first last = last ≡ first
+IsLife asks rom (round ∷ rounds) first last = (next : Files) × IsRound asks rom round first next × IsLife asks rom rounds next last

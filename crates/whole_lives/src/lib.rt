@@ -7,10 +7,14 @@
 mod devices;
 pub mod error;
 pub mod laws;
+mod lines;
 mod lives;
+mod player;
 mod rounds;
 
 pub use devices::Devices;
 pub use error::{LifeError, LifeRefused};
+pub use lines::Lines;
 pub use lives::{Lived, live};
-pub use rounds::{Game, Round, RoundEnd};
+pub use player::{Game, Given, Player, Stopped};
+pub use rounds::{Round, RoundEnd};

@@ -4,7 +4,8 @@ ghost use Rattle.whole_lives.specs.Devices.{memories, memories_of, position_of, 
 
 use crate::devices::Devices;
 use crate::error::{LifeError, LifeRefused};
-use crate::rounds::{Game, Round, RoundEnd, give, one_round};
+use crate::player::{Game, Player};
+use crate::rounds::{Round, RoundEnd, one_round};
 use cartridge::Cartridge;
 use std::alloc::Global;
 
@@ -20,19 +21,20 @@ pub struct Lived {
 }
 
 /// Plays the rounds on the devices, and hands them on as the last cut left them, with the end of each round.
-fn live_rounds(
+fn live_rounds<P: Player>(
     alloc: Global,
     devices: Devices,
     cartridge: &Cartridge,
     rounds: &[Round],
 ) -> Result<(Devices, Vec<RoundEnd>), LifeRefused>
     ensures come { IfOk result (λ r.
-        HasCome cartridge.now (memories devices) (memories r.0) (texts_of rounds.now) (reports_of r.1.items)
+        HasCome P.asks cartridge.now (memories devices) (memories r.0) (texts_of rounds.now) (reports_of r.1.items)
         (wholes_of r.1.items)) }
     ensures left { IfErr result (λ refused.
-        LeavesSomeLife cartridge.now (memories devices) (memories refused.devices) rounds.now) }
+        LeavesSomeLife P.asks cartridge.now (memories devices) (memories refused.devices) rounds.now) }
     ensures refused { IfErr result (λ refused.
-        IsLifeRefusal cartridge.now (memories devices) (memories refused.devices) rounds.now refused.why) }
+        IsLifeRefusal P.asks P.refuses cartridge.now (memories devices) (memories refused.devices) rounds.now refused.why) }
+    ensures sound { IfErr result (λ refused. EachStands cartridge.now (memories devices) → IsSound refused.why) }
 {
     let Ok(mut ends) = Vec::with_capacity(alloc, rounds.len()) else {
         return Err(LifeRefused {
@@ -42,7 +44,7 @@ fn live_rounds(
     };
     let mut left = devices;
     for round in rounds {
-        match one_round(alloc, left, cartridge, round) {
+        match one_round::<P>(alloc, left, cartridge, round) {
             Ok((devices, end)) => {
                 left = devices;
                 ends.push_reserved(end);
@@ -53,14 +55,14 @@ fn live_rounds(
     Ok((left, ends))
 }
 
-/// Lives through rounds on the devices of a game. In each round the fuses are set, and the game is taken up and obeys the lines, as
-/// `stream` does, or `record` where there is a recording, until they end or a fuse is blown. Then the power is cut: each device becomes
-/// the image that keeps the chosen writes. After the last round the game is taken up once more, with no fuse.
+/// Lives through rounds on the devices of a game. In each round the fuses are set, and the player takes the game up and obeys what is
+/// given, until it ends or a fuse is blown. Then the power is cut: each device becomes the image that keeps the chosen writes. After the
+/// last round the game is taken up once more, with no fuse. What is given is the player's matter: `Lines` is the one of the program.
 ///
-/// Refusals: `Memory` for the ends and for what a cut leaves; `Stream` with those of `stream` for a SAVE alone, and `Record` with those of
-/// `record`, of which `Output` means that there was no memory for a report. A failed call by a round's fuse ends the round; any other
-/// refusal ends the life, as do a full record of a device and a call that `fail_at` made fail.
-pub fn live(
+/// Refusals: `Memory` for the ends and for what a cut leaves; `Stream` and `Record` of the player, with those of `stream` for a SAVE alone
+/// and those of `record`, of which `Output` means that there was no memory for a report. A failed call by a round's fuse ends the round;
+/// any other refusal ends the life, as do a full record of a device and a call that `fail_at` made fail.
+pub fn live<P: Player>(
     alloc: Global,
     devices: Devices,
     cartridge: &Cartridge,
@@ -68,7 +70,7 @@ pub fn live(
 ) -> Result<Lived, LifeRefused>
     // the ends, and the count and the machine of the game, are those of a life, whatever the fuses and the cuts
     ensures lived { IfOk result (λ lived.
-        EndsLife cartridge.now (memories devices) (all_texts rounds.now)
+        EndsLife P.asks cartridge.now (memories devices) (all_texts rounds.now)
         (reports_of lived.ends.items ++ lived.report.items ∷ [])
         (wholes_of lived.ends.items ++ true ∷ []) (position_of lived.game)) }
     ensures begun { IfOk result (λ lived. IsTakenUp cartridge.now lived.game) }
@@ -78,16 +80,16 @@ pub fn live(
 
     // when it is refused, and what then is left
     ensures left { IfErr result (λ refused.
-        LeavesSomeLife cartridge.now (memories devices) (memories refused.devices) rounds.now) }
+        LeavesSomeLife P.asks cartridge.now (memories devices) (memories refused.devices) rounds.now) }
     ensures refused { IfErr result (λ refused.
-        IsLifeRefusal cartridge.now (memories devices) (memories refused.devices) rounds.now refused.why) }
+        IsLifeRefusal P.asks P.refuses cartridge.now (memories devices) (memories refused.devices) rounds.now refused.why) }
     ensures sound { IfErr result (λ refused. EachStands cartridge.now (memories devices) → IsSound refused.why) }
 {
-    let (left, ends) = match live_rounds(alloc, devices, cartridge, rounds) {
+    let (left, ends) = match live_rounds::<P>(alloc, devices, cartridge, rounds) {
         Ok(lived) => lived,
         Err(refused) => return Err(refused),
     };
-    match give(alloc, left, cartridge, &[]) {
+    match P::play(alloc, left, cartridge, &[]) {
         Ok(given) => Ok(Lived {
             ends,
             report: given.report,

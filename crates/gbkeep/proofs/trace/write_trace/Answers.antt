@@ -4,7 +4,7 @@ use Rattle.exact_text.specs.Written.{AppendsProperPrefix}
 use Rattle.exact_text.proofs.Writes.{appends_twice, whole_then_prefix, prefix_of_longer}
 use Rattle.memory_map.specs.BusRules.{bus_rules}
 use Rattle.machine.specs.Machine.{MachineState}
-use Rattle.playing.specs.Report.{resumed_line}
+use Rattle.playing.specs.Lines.{resumed_line}
 use Rattle.debugger.specs.Report.{step_lines}
 use Rattle.debugging.proofs.Parts.{on_err_of, on_ok_of}
 use Rattle.gbkeep.proofs.trace.write_trace.Goals as goal

@@ -3,7 +3,7 @@ use Rattle.std.proofs.lemmas.List.{take_all}
 use Rattle.input_entries.specs.declared.Entry.{Entry}
 use Rattle.input_entries.specs.Inputs.{AllFive}
 use Rattle.input_entries.specs.Growing.{with_input, with_inputs}
-use Rattle.log_format.specs.Inputs.{grown}
+use Rattle.log_format.specs.Appends.{grown}
 use Rattle.input_entries.proofs.MoreInputs.{five_more}
 use Rattle.log_format.proofs.Adding.{within_here, room_here, next_here, grown_by}
 use Rattle.log_format.proofs.entries.add_inputs.Goals as goal

@@ -7,7 +7,8 @@ use Rattle.recording.specs.Growing.{fits as fits_recording}
 use Rattle.recording.specs.Sizes.{list_sectors_in}
 use Rattle.recording.specs.Accessors.{device_of as device_of_recording, is_broken as is_broken_recording, tail_of, full_of}
 use Rattle.recording.specs.declared.fault.RecordingFault.TheVariants.{Device, Full}
-use Rattle.session.specs.Inputs.{can_be_logged, fits_log}
+use Rattle.session.specs.Inputs.{can_be_logged}
+use Rattle.session.specs.Calls.{fits_log}
 use Rattle.session.specs.Accessors.{device_of, machine_of, rom_of, pending_of, acknowledged_of, is_broken, log_in, generation_in_use}
 use Rattle.session.specs.Stands.{Position}
 use Rattle.session.specs.declared.error.SessionError.TheVariants.{Output}

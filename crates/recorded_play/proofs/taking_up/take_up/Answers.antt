@@ -7,7 +7,7 @@ use Rattle.session.specs.Accessors.{device_of}
 use Rattle.session.specs.LookAccessors.{device_of_look, machine_of_look, count_of_look}
 use Rattle.session.proofs.Answering.{answered_error, answered_refusal, answered_then, answered_otherwise}
 use Rattle.playing.proofs.Stops.{if_ok, if_err}
-use Rattle.recorded_play.specs.Agreeing.{AllAgree}
+use Rattle.replaying.specs.Agreeing.{AllAgree}
 use Rattle.recorded_play.specs.CatchingUp.{recorded_in}
 use Rattle.recorded_play.specs.Whole.{save_left, recording_left}
 use Rattle.recorded_play.proofs.Passing.{by_result}

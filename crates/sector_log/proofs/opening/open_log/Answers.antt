@@ -1,7 +1,7 @@
 use Rattle.std.proofs.Common.{refl, sym, ap, ◌∙◌}
 use Rattle.log_format.specs.Content.{chosen, last_generation, content}
 use Rattle.log_format.specs.Found.{blob_in, seen_in}
-use Rattle.sector_log.specs.Accessors.{seen}
+use Rattle.sector_log.specs.OpenedAccessors.{seen}
 use Rattle.sector_log.proofs.Findings.{seen_is, sound_with}
 use Rattle.sector_device.proofs.Looking.{looked_then, settled_looked, has_looked}
 use Rattle.sector_log.proofs.Looking.{found_looked}

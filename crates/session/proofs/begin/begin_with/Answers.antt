@@ -4,7 +4,8 @@ use Rattle.cartridge.specs.Header.{ram_length_of}
 use Rattle.snapshot.specs.Encoding.{encoded, snapshot_length}
 use Rattle.sector_device.specs.Runs.{HoldsSince}
 use Rattle.sector_log.specs.Calls.{HasOldOrNewContent, HasBegun, IsBeginCause}
-use Rattle.sector_log.specs.Accessors.{device_under, device_of as device_of_store, entries_of, found_generation}
+use Rattle.sector_log.specs.Accessors.{device_of as device_of_store, entries_of}
+use Rattle.sector_log.specs.OpenedAccessors.{device_under, found_generation}
 use Rattle.sector_log.specs.declared.fault.LogFault.{LogFault}
 use Rattle.sector_log.specs.declared.fault.LogFault.TheVariants.{Memory as LogMemory, Device as LogDevice, TooSmall as LogTooSmall, GenerationsUsedUp as LogGenerationsUsedUp, LogFull, Broken as LogBroken}
 use Rattle.session.specs.Beginning.{session_fault, IsBeginRefusal}

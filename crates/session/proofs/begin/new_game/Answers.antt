@@ -1,4 +1,4 @@
-use Rattle.std.proofs.Common.{[], inl, refl, subst}
+use Rattle.std.proofs.Common.{[], inl, inr, refl, subst}
 use Rattle.machine.specs.Machine.{MachineState}
 use Rattle.sector_device.specs.Runs.{HoldsSince}
 use Rattle.session.specs.Calls.{HasOldContentOrGame}
@@ -11,6 +11,19 @@ use Rattle.session.proofs.begin.new_game.Goals as goal
 pub returns-in_default-clause-images : goal.returns-in_default-clause-images
 returns-in_default-clause-images g c = λ honest.
     since_weaker (since_now (g.D.SectorDevice.disk c.args.device) (g.met.D.SectorDevice.only_now c.args.device)) (λ image was. inl (record { before = image; stood = was; is = refl }))
+
+pub returns-in_default-clause-refused : goal.returns-in_default-clause-refused
+returns-in_default-clause-refused g c = record {
+  can = tt;
+  cause = tt;
+  worn = λ worn honest. absurd (cc);
+  memory = λ wanted. refl;
+  failed = λ failed. absurd (cc);
+  untouched = inr (λ honest. since_now (g.D.SectorDevice.disk c.args.device) (g.met.D.SectorDevice.only_now c.args.device));
+}
+
+pub returns-clause-refused : goal.returns-clause-refused
+returns-clause-refused g c = c.new_game_from.ensures.refused
 
 pub returns-clause-rests : goal.returns-clause-rests
 returns-clause-rests g c =

@@ -6,7 +6,7 @@ use Rattle.snapshot.specs.Legal.{IsMachineOf}
 use Rattle.input_entries.specs.Inputs.{inputs}
 use Rattle.log_format.specs.Content.{content}
 use Rattle.log_format.specs.Found.{Seen}
-use Rattle.sector_log.specs.Accessors.{device_under, found_generation, seen}
+use Rattle.sector_log.specs.OpenedAccessors.{device_under, found_generation, seen}
 use Rattle.session.specs.Stands.{IsAtRest, stands}
 use Rattle.session.specs.Recovery.{IsRecovered, IsRecoveryCause}
 use Rattle.session.specs.LookAccessors.{machine_of_look, count_of_look}

@@ -5,7 +5,7 @@ use Rattle.snapshot.specs.Encoding.{encoded, snapshot_length}
 use Rattle.cartridge.specs.Header.{ram_length_of}
 use Rattle.sector_device.specs.Runs.{HoldsSince}
 use Rattle.log_format.specs.Content.{content, generation_in, need}
-use Rattle.sector_log.specs.Accessors.{device_under, found_generation, seen}
+use Rattle.sector_log.specs.OpenedAccessors.{device_under, found_generation, seen}
 use Rattle.snapshot.specs.Legal.{IsMachineOf}
 use Rattle.sector_device.specs.Looking.{HasLooked}
 use Rattle.session.specs.Stands.{IsAtRest, StandsAsBefore}

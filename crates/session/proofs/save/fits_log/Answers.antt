@@ -1,6 +1,6 @@
 use Rattle.std.proofs.Common.{◌≡◌, ◌∙◌, ◌&&◌, inl, inr, true, false, sym, ap}
 use Rattle.std.proofs.lemmas.Bool.{cases_Bool}
-use Rattle.log_format.specs.Inputs.{fits}
+use Rattle.log_format.specs.Appends.{fits}
 use Rattle.sector_log.specs.Accessors.{entries_of}
 use Rattle.session.specs.Inputs.{can_be_logged}
 use Rattle.session.proofs.Saving.{listed_inputs, no_fit}

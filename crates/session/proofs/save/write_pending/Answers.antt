@@ -1,7 +1,8 @@
 use Rattle.std.proofs.Common.{sym, ◌∙◌}
 use Rattle.std.proofs.lemmas.Bool.{and_parts}
-use Rattle.log_format.specs.Inputs.{fits}
-use Rattle.session.specs.Inputs.{can_be_logged, fits_log}
+use Rattle.log_format.specs.Appends.{fits}
+use Rattle.session.specs.Inputs.{can_be_logged}
+use Rattle.session.specs.Calls.{fits_log}
 use Rattle.sector_log.specs.Accessors.{id_of, entries_of}
 use Rattle.snapshot.specs.Encoding.{encoded}
 use Rattle.session.proofs.Writes.{inputs_listed, since_appended, since_replaced, written_behind}

@@ -9,23 +9,23 @@ use Rattle.whole_lives.proofs.Behind.{come_more, come_none, ends_more, lived_bot
 use Rattle.whole_lives.proofs.lives.live_rounds.Goals as goal
 
 pub returns-in_default-clause-left : goal.returns-in_default-clause-left
-returns-in_default-clause-left c = record { texts = []; reports = []; wholes = []; are = inl (0, refl); leaves = lived_nothing c.args.cartridge.now (memories c.args.devices) }
+returns-in_default-clause-left g c = record { texts = []; reports = []; wholes = []; are = inl (0, refl); leaves = lived_nothing g.P.Player.asks c.args.cartridge.now (memories c.args.devices) }
 
 pub loop-round-init : goal.loop-round-init
-loop-round-init c =
+loop-round-init g c =
     let none : c.in-Ok.ends.items ≡ [] = c.in-Ok.ensures.items in
     let first = memories c.args.devices in
     record {
-      come = subst (λ (ends : List RoundEnd). HasCome c.args.cartridge.now first first [] (reports_of ends) (wholes_of ends)) (sym none) (come_none c.args.cartridge.now first);
+      come = subst (λ (ends : List RoundEnd). HasCome g.P.Player.asks c.args.cartridge.now first first [] (reports_of ends) (wholes_of ends)) (sym none) (come_none g.P.Player.asks c.args.cartridge.now first);
       size = ap length none;
       room = omega (arith, c.in-Ok.ensures.capacity);
     }
 
 pub push_reserved-requires : goal.push_reserved-requires
-push_reserved-requires c = omega (arith, c.loop-round.invariant.size, c.loop-round.invariant.room, c.loop-round-test.true)
+push_reserved-requires g c = omega (arith, c.loop-round.invariant.size, c.loop-round.invariant.room, c.loop-round-test.true)
 
 pub returns-in-Err-clause-left : goal.returns-in-Err-clause-left
-returns-in-Err-clause-left c =
+returns-in-Err-clause-left g c =
     let rom = c.args.cartridge.now in
     let rounds = c.args.rounds.now in
     let i = c.loop-round.round-index in
@@ -40,12 +40,12 @@ returns-in-Err-clause-left c =
       reports = reports_of ends ++ stopped.0 ∷ [];
       wholes = wholes_of ends ++ stopped.1 ∷ [];
       are = inl (i + 1, texts_more rounds i c.round-item.result c.loop-round-test.true);
-      leaves = lived_both rom first now left (texts_of (take i rounds)) (reports_of ends) (wholes_of ends) (lines ∷ []) (stopped.0 ∷ []) (stopped.1 ∷ []) c.loop-round.invariant.come.leaves
-          (subst (λ (round : Round). LeavesRound rom now left round.lines.items stopped.0 stopped.1) c.round-item.is stopped.2);
+      leaves = lived_both g.P.Player.asks rom first now left (texts_of (take i rounds)) (reports_of ends) (wholes_of ends) (lines ∷ []) (stopped.0 ∷ []) (stopped.1 ∷ []) c.loop-round.invariant.come.leaves
+          (subst (λ (round : Round). LeavesRound g.P.Player.asks rom now left round.lines.items stopped.0 stopped.1) c.round-item.is stopped.2);
     }
 
 pub returns-in-Err-clause-refused : goal.returns-in-Err-clause-refused
-returns-in-Err-clause-refused c =
+returns-in-Err-clause-refused g c =
     let rom = c.args.cartridge.now in
     let rounds = c.args.rounds.now in
     let i = c.loop-round.round-index in
@@ -57,11 +57,14 @@ returns-in-Err-clause-refused c =
       reports = reports_of c.loop-round.ends.items;
       wholes = wholes_of c.loop-round.ends.items;
       come = c.loop-round.invariant.come;
-      refused = inl (_, slice_get-get_or rounds i c.round-item.result c.loop-round-test.true, subst (λ (round : Round). RefusesRound rom now (memories refused.devices) round.lines.items refused.why) c.round-item.is c.in-Err.ensures.refused);
+      refused = inl (_, slice_get-get_or rounds i c.round-item.result c.loop-round-test.true, subst (λ (round : Round). RefusesRound g.P.Player.asks g.P.Player.refuses rom now (memories refused.devices) round refused.why) c.round-item.is c.in-Err.ensures.refused);
     })
 
+pub returns-in-Err-clause-sound : goal.returns-in-Err-clause-sound
+returns-in-Err-clause-sound g c = λ stand. c.in-Err.ensures.sound (c.loop-round.invariant.come.leaves.stand stand)
+
 pub loop-round-preserved : goal.loop-round-preserved
-loop-round-preserved c =
+loop-round-preserved g c =
     let rom = c.args.cartridge.now in
     let rounds = c.args.rounds.now in
     let i = c.loop-round.round-index in
@@ -71,18 +74,18 @@ loop-round-preserved c =
     let now = memories c.loop-round.left in
     let next = memories c.in-Ok-one_round.devices in
     let texts = texts_of (take i rounds) in
-    let cut = subst (λ (round : Round). IsCutRound rom now round next end.report.items end.whole) c.round-item.is c.in-Ok-one_round.ensures.cut in
+    let cut = subst (λ (round : Round). IsCutRound g.P.Player.asks rom now round next end.report.items end.whole) c.round-item.is c.in-Ok-one_round.ensures.cut in
     record {
       come =
-          subst (λ (l : List RoundEnd). HasCome rom first next (texts_of (take (i + 1) rounds)) (reports_of l) (wholes_of l)) (sym c.push_reserved.ensures.items)
-          (ends_more (λ reports wholes. HasCome rom first next (texts_of (take (i + 1) rounds)) reports wholes) ends end
-          (subst (λ (l : List (List ℕ)). HasCome rom first next l (reports_of ends ++ end.report.items ∷ []) (wholes_of ends ++ end.whole ∷ [])) (texts_more rounds i c.round-item.result c.loop-round-test.true)
-          (come_more rom first now next texts (reports_of ends) (wholes_of ends) _ end.report.items end.whole c.loop-round.invariant.come cut)));
+          subst (λ (l : List RoundEnd). HasCome g.P.Player.asks rom first next (texts_of (take (i + 1) rounds)) (reports_of l) (wholes_of l)) (sym c.push_reserved.ensures.items)
+          (ends_more (λ reports wholes. HasCome g.P.Player.asks rom first next (texts_of (take (i + 1) rounds)) reports wholes) ends end
+          (subst (λ (l : List (List ℕ)). HasCome g.P.Player.asks rom first next l (reports_of ends ++ end.report.items ∷ []) (wholes_of ends ++ end.whole ∷ [])) (texts_more rounds i c.round-item.result c.loop-round-test.true)
+          (come_more g.P.Player.asks rom first now next texts (reports_of ends) (wholes_of ends) _ end.report.items end.whole c.loop-round.invariant.come cut)));
       size = omega (arith, c.loop-round.invariant.size, ap length c.push_reserved.ensures.items, length_push ends end);
       room = omega (arith, c.loop-round.invariant.room, c.push_reserved.ensures.capacity);
     }
 
 pub returns-clause-come : goal.returns-clause-come
-returns-clause-come c =
-    subst (λ (l : List Round). HasCome c.args.cartridge.now (memories c.args.devices) (memories c.loop-round.left) (texts_of l) (reports_of c.loop-round.ends.items) (wholes_of c.loop-round.ends.items))
+returns-clause-come g c =
+    subst (λ (l : List Round). HasCome g.P.Player.asks c.args.cartridge.now (memories c.args.devices) (memories c.loop-round.left) (texts_of l) (reports_of c.loop-round.ends.items) (wholes_of c.loop-round.ends.items))
     (take_all c.loop-round.round-index c.args.rounds.now c.loop-round-test.false) c.loop-round.invariant.come

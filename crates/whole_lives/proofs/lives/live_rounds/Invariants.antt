@@ -5,8 +5,8 @@ use Rattle.whole_lives.proofs.lives.live_rounds.Given as goal
 
 -- the rounds so far led to these devices, and there is room for the other ends
 abbrev pub invariant-loop-round : goal.invariant-loop-round
-invariant-loop-round l = record {
-  come : HasCome l.cartridge (memories l.initial.left) (memories l.left) (texts_of (take l.round-index l.rounds)) (reports_of l.ends.items) (wholes_of l.ends.items);
+invariant-loop-round g l = record {
+  come : HasCome g.P.Player.asks l.cartridge (memories l.initial.left) (memories l.left) (texts_of (take l.round-index l.rounds)) (reports_of l.ends.items) (wholes_of l.ends.items);
   size : length l.ends.items ≡ l.round-index;
   room : length l.rounds ≤ vec_capacity l.ends;
 }

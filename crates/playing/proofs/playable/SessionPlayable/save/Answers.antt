@@ -1,4 +1,4 @@
-use Rattle.session.specs.Inputs.{fits_log}
+use Rattle.session.specs.Calls.{fits_log}
 use Rattle.session.specs.Accessors.{device_of, pending_of, is_broken, log_in, generation_in_use}
 use Rattle.playing.specs.Going.{place}
 use Rattle.playing.proofs.Going.{save_goes, save_goes_no_further}

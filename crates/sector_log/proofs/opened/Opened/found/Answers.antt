@@ -3,7 +3,7 @@ use Rattle.std.proofs.lemmas.Bool.Decides.{nat_tests}
 use Rattle.log_format.specs.Content.{header_of}
 use Rattle.log_format.specs.Found.{found_with}
 use Rattle.log_format.specs.Inputs.{counted}
-use Rattle.sector_log.specs.Accessors.{seen}
+use Rattle.sector_log.specs.OpenedAccessors.{seen}
 use Rattle.log_format.specs.declared.content.Found.TheVariants.{Intact, Damaged}
 use Rattle.log_format.specs.declared.content.Part.TheVariants.{Length, Count}
 use Rattle.log_format.specs.declared.root.Root.{Root}

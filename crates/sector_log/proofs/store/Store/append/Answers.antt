@@ -6,8 +6,7 @@ use Rattle.sector_device.proofs.Runs.{has_synced}
 use Rattle.input_entries.specs.declared.StoredEntry.{StoredEntry}
 use Rattle.input_entries.specs.Inputs.{inputs}
 use Rattle.input_entries.proofs.CodeLengths.{entries_of_each}
-use Rattle.log_format.specs.Appends.{HoldsPrefix}
-use Rattle.log_format.specs.Inputs.{grown, fits}
+use Rattle.log_format.specs.Appends.{HoldsPrefix, grown, fits}
 use Rattle.log_format.specs.Log.{log_area}
 use Rattle.log_format.proofs.Grown.{fits_means, length-grown}
 use Rattle.sector_log.specs.Calls.{ChangesOpenLog, IsAppended}

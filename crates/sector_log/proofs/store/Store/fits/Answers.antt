@@ -1,5 +1,5 @@
 use Rattle.std.proofs.Common.{◌≡◌, length, nat_le, ap, ◌∙◌, arith}
-use Rattle.log_format.specs.Inputs.{grown}
+use Rattle.log_format.specs.Appends.{grown}
 use Rattle.sector_log.proofs.Appending.{too_many, fits_by_entries}
 use Rattle.sector_log.proofs.store.Store.fits.Goals as goal
 

@@ -1,7 +1,7 @@
 use Rattle.std.proofs.Common.{◌≡◌, ◌∙◌, ◌++◌, ℕ, length, take, drop, refl, sym, ap, subst, arith}
 use Rattle.cartridge.specs.Header.{ram_length_of}
 use Rattle.snapshot.specs.Encoding.{encoded, snapshot_length}
-use Rattle.sector_log.specs.Accessors.{device_under, found_generation, seen}
+use Rattle.sector_log.specs.OpenedAccessors.{device_under, found_generation, seen}
 use Rattle.session.specs.Resting.{LooksAt}
 use Rattle.session.proofs.Finding.{recovered_machine}
 use Rattle.session.proofs.Looks.{filled}

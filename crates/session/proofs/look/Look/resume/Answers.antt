@@ -5,7 +5,7 @@ use Rattle.machine.specs.Machine.{MachineState}
 use Rattle.snapshot.specs.Encoding.{encoded, snapshot_length}
 use Rattle.sector_device.specs.Runs.{HoldsSince}
 use Rattle.log_format.specs.Content.{need}
-use Rattle.sector_log.specs.Accessors.{found_generation}
+use Rattle.sector_log.specs.OpenedAccessors.{found_generation}
 use Rattle.session.specs.Stands.{IsAtRest, StandsAsBefore}
 use Rattle.session.specs.Accessors.{device_of, machine_of, left_by}
 use Rattle.session.specs.LookAccessors.{device_of_look}

@@ -2,8 +2,7 @@ use Rattle.std.proofs.Common.{rules, Ok, Err, ◌≡◌, ◌≤◌, ◌<◌, ◌
 use Rattle.std.proofs.lemmas.Bool.Decides.{nat_tests}
 use Rattle.log_format.specs.Content.{need, generation_in, last_generation}
 use Rattle.sector_log.specs.Accessors.{device_of as device_of_store, is_broken as is_broken_store, entries_of, generation_of, id_of}
-use Rattle.session.specs.Calls.{IsSaveCause}
-use Rattle.session.specs.Inputs.{fits_log}
+use Rattle.session.specs.Calls.{IsSaveCause, fits_log}
 use Rattle.session.specs.Resting.{Rests}
 use Rattle.session.specs.declared.error.SessionError.{SessionError}
 use Rattle.session.specs.declared.error.SessionError.TheVariants.{Device}

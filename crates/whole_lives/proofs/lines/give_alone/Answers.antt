@@ -3,9 +3,12 @@ use Rattle.sector_device.specs.Memory.{memory_disk}
 use Rattle.sector_device.specs.MemoryDevice.{memory}
 use Rattle.session.specs.Accessors.{device_of, machine_of, acknowledged_of}
 use Rattle.streaming.specs.Streamed.{HasStreamedAll, IsStreamCause}
+use Rattle.whole_lives.specs.Lines.{AskByLines}
 use Rattle.whole_lives.specs.Rounds.{LeavesRound}
+use Rattle.whole_lives.specs.declared.error.LifeError.TheVariants.{Stream}
+use Rattle.whole_lives.proofs.CauseLaws.{play_sound, stream_counted}
 use Rattle.whole_lives.proofs.AloneLaws.{ends_at, failed_alone, refused_in, whole_in}
-use Rattle.whole_lives.proofs.rounds.give_alone.Goals as goal
+use Rattle.whole_lives.proofs.lines.give_alone.Goals as goal
 
 pub returns-in-Ok-clause-gives : goal.returns-in-Ok-clause-gives
 returns-in-Ok-clause-gives c =
@@ -22,7 +25,7 @@ returns-in-Ok-clause-gives c =
     subst (λ (text : List ℕ). HasStreamedAll rom (memory_disk save) (memory_disk now) (acknowledged_of session) (machine_of session) (Some text) (Some unread) (Some []) (Some report)) lines_are
     (subst (λ (none : List ℕ). HasStreamedAll rom (memory_disk save) (memory_disk now) (acknowledged_of session) (machine_of session) (Some c.new-input.result.reader.now) (Some unread) (Some none) (Some report)) none_is c.in-Ok.ensures.streamed) in
     record {
-      leaves = subst (λ (told : List ℕ). LeavesRound rom (record { save = save; recording = None }) (record { save = now; recording = None }) c.args.lines.now told true) (sym report_is) (whole_in rom save now c.args.lines.now unread report by.streamed);
+      leaves = subst (λ (told : List ℕ). LeavesRound AskByLines rom (record { save = save; recording = None }) (record { save = now; recording = None }) c.args.lines.now told true) (sym report_is) (whole_in rom save now c.args.lines.now unread report by.streamed);
       counts = (c.in-Ok.ensures.answered.faults_ok, refl);
       ends = λ agree. (_, ends_at rom save now c.args.lines.now (acknowledged_of session) (machine_of session) unread report by, refl);
     }
@@ -46,5 +49,10 @@ returns-in-Err-clause-stops c =
       front = part.front;
       leaves = part.leaves;
       whole = λ failed. part.whole (failed_alone refused.why failed) ∙ sym report_is;
-      refused = record { unread = unread; report = report; cause = by; counted = (c.in-Err.ensures.answered.faults, refl) };
+      refused = record { cause = record { unread = unread; report = report; cause = by }; counted = stream_counted save left refused.why c.in-Err.ensures.answered.faults };
     }
+
+pub returns-in-Err-clause-sound : goal.returns-in-Err-clause-sound
+returns-in-Err-clause-sound c = λ stand.
+    play_sound c.args.cartridge.now (record { save = memory c.args.save; recording = None }) (record { save = memory c.in-Err.refused.device; recording = None }) c.args.lines.now (Stream c.in-Err.refused.why) stand
+    (returns-in-Err-clause-stops c).refused.cause

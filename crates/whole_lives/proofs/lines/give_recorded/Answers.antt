@@ -5,9 +5,12 @@ use Rattle.recording.specs.Accessors.{device_of as device_of_recording}
 use Rattle.session.specs.Accessors.{device_of, machine_of, acknowledged_of}
 use Rattle.streaming.specs.declared.obeying.End.TheVariants.{Whole}
 use Rattle.recorded_play.specs.Whole.{HasRecorded, IsRecordCause}
+use Rattle.whole_lives.specs.Lines.{AskByLines}
 use Rattle.whole_lives.specs.Rounds.{LeavesRound}
+use Rattle.whole_lives.specs.declared.error.LifeError.TheVariants.{Record}
+use Rattle.whole_lives.proofs.CauseLaws.{play_sound, record_counted}
 use Rattle.whole_lives.proofs.RecordedLaws.{ends_at, failed_recorded, refused_in, rested_at, whole_in}
-use Rattle.whole_lives.proofs.rounds.give_recorded.Goals as goal
+use Rattle.whole_lives.proofs.lines.give_recorded.Goals as goal
 
 pub returns-in-Ok-clause-gives : goal.returns-in-Ok-clause-gives
 returns-in-Ok-clause-gives c =
@@ -28,7 +31,7 @@ returns-in-Ok-clause-gives c =
     c.in-Ok.ensures.recorded) in
     record {
       leaves =
-          subst (λ (told : List ℕ). LeavesRound rom (record { save = save; recording = Some recording }) (record { save = now; recording = Some now_recording }) c.args.lines.now told true) (sym report_is)
+          subst (λ (told : List ℕ). LeavesRound AskByLines rom (record { save = save; recording = Some recording }) (record { save = now; recording = Some now_recording }) c.args.lines.now told true) (sym report_is)
           (whole_in rom save recording now now_recording (c.in-Ok.ensures.agree tt tt) c.args.lines.now unread report by);
       counts = (c.in-Ok.ensures.save_answered.faults_ok, c.in-Ok.ensures.recording_answered.faults_ok);
       ends = λ agree. (
@@ -66,5 +69,13 @@ returns-in-Err-clause-stops c =
       front = part.front;
       leaves = part.leaves;
       whole = λ failed. part.whole (failed_recorded refused.why failed) ∙ sym report_is;
-      refused = record { unread = unread; report = report; cause = by; counted = (c.in-Err.ensures.save_answered.faults, c.in-Err.ensures.recording_answered.faults) };
+      refused = record {
+        cause = record { unread = unread; report = report; cause = by };
+        counted = record_counted save left recording left_recording refused.why c.in-Err.ensures.save_answered.faults c.in-Err.ensures.recording_answered.faults;
+      };
     }
+
+pub returns-in-Err-clause-sound : goal.returns-in-Err-clause-sound
+returns-in-Err-clause-sound c = λ stand.
+    play_sound c.args.cartridge.now (record { save = memory c.args.save; recording = Some (memory c.args.recording) }) (record { save = memory c.in-Err.refused.save; recording = Some (memory c.in-Err.refused.recording) })
+    c.args.lines.now (Record c.in-Err.refused.why) stand (returns-in-Err-clause-stops c).refused.cause
