@@ -1,12 +1,12 @@
 //! From bytes to instructions.
 
 ghost use Rattle.std.specs.Prelude.{◌≡◌, ◌<◌, ◌≤◌, ◌%◌, ◌/◌, slice_index};
-ghost use Rattle.opcode_table.specs.Operands.{operand8_of, register16_of, stack_register16_of, indirect_of, condition_of, operation_of, accumulator_operation_of, shift_of};
 ghost use Rattle.opcode_table.specs.Table.{loads_and_steps, jumps_and_stack, bit_instruction, instruction_of};
 
-use crate::instruction::{
-    AccumulatorOperation, Condition, Indirect, Instr, Operand8, Operation, Register16, Shift,
-    StackRegister16,
+use crate::instruction::Instr;
+use crate::operands::{
+    accumulator_operation, condition, indirect, operand, operation, register16, shift,
+    stack_register16,
 };
 use crate::timing::{cycles, cycles_taken, length};
 
@@ -19,118 +19,6 @@ pub struct Decoded {
     pub cycles: u8,
     /// Where its condition holds, or it has none.
     pub cycles_taken: u8,
-}
-
-fn operand(number: u8) -> Operand8
-    requires { number < 8 }
-    ensures { result ≡ operand8_of number }
-{
-    match number {
-        0 => Operand8::B,
-        1 => Operand8::C,
-        2 => Operand8::D,
-        3 => Operand8::E,
-        4 => Operand8::H,
-        5 => Operand8::L,
-        6 => Operand8::AtHl,
-        _ => Operand8::A,
-    }
-}
-
-fn register(number: u8) -> Register16
-    requires { number < 4 }
-    ensures { result ≡ register16_of number }
-{
-    match number {
-        0 => Register16::Bc,
-        1 => Register16::De,
-        2 => Register16::Hl,
-        _ => Register16::Sp,
-    }
-}
-
-fn stack_register16(number: u8) -> StackRegister16
-    requires { number < 4 }
-    ensures { result ≡ stack_register16_of number }
-{
-    match number {
-        0 => StackRegister16::Bc,
-        1 => StackRegister16::De,
-        2 => StackRegister16::Hl,
-        _ => StackRegister16::Af,
-    }
-}
-
-fn indirect(number: u8) -> Indirect
-    requires { number < 4 }
-    ensures { result ≡ indirect_of number }
-{
-    match number {
-        0 => Indirect::Bc,
-        1 => Indirect::De,
-        2 => Indirect::HlUp,
-        _ => Indirect::HlDown,
-    }
-}
-
-fn condition(number: u8) -> Condition
-    requires { number < 4 }
-    ensures { result ≡ condition_of number }
-{
-    match number {
-        0 => Condition::NotZero,
-        1 => Condition::Zero,
-        2 => Condition::NotCarry,
-        _ => Condition::Carry,
-    }
-}
-
-fn operation(number: u8) -> Operation
-    requires { number < 8 }
-    ensures { result ≡ operation_of number }
-{
-    match number {
-        0 => Operation::Add,
-        1 => Operation::AddCarry,
-        2 => Operation::Subtract,
-        3 => Operation::SubtractCarry,
-        4 => Operation::And,
-        5 => Operation::Xor,
-        6 => Operation::Or,
-        _ => Operation::Compare,
-    }
-}
-
-fn accumulator_operation(number: u8) -> AccumulatorOperation
-    requires { number < 8 }
-    ensures { result ≡ accumulator_operation_of number }
-{
-    match number {
-        0 => AccumulatorOperation::RotateLeft,
-        1 => AccumulatorOperation::RotateRight,
-        2 => AccumulatorOperation::RotateLeftThrough,
-        3 => AccumulatorOperation::RotateRightThrough,
-        4 => AccumulatorOperation::DecimalAdjust,
-        5 => AccumulatorOperation::Complement,
-        6 => AccumulatorOperation::SetCarry,
-        _ => AccumulatorOperation::FlipCarry,
-    }
-}
-
-fn shift(number: u8) -> Shift
-    requires { number < 8 }
-    ensures { result ≡ shift_of number }
-{
-    match number {
-        0 => Shift::RotateLeft,
-        1 => Shift::RotateRight,
-        2 => Shift::RotateLeftThrough,
-        3 => Shift::RotateRightThrough,
-        4 => Shift::ShiftLeftArithmetic,
-        5 => Shift::ShiftRightArithmetic,
-        6 => Shift::Swap,
-        _ => Shift::ShiftRightLogical,
-    }
 }
 
 #[inline(always)]
@@ -165,12 +53,12 @@ fn load_or_step(z: u8, y: u8, byte: u8, word: u16) -> Instr
             3 => Instr::JumpRelative(byte),
             _ => Instr::JumpRelativeIf(condition(y - 4), byte),
         },
-        1 if even => Instr::LoadRegister16(register(p), word),
-        1 => Instr::AddHl(register(p)),
+        1 if even => Instr::LoadRegister16(register16(p), word),
+        1 => Instr::AddHl(register16(p)),
         2 if even => Instr::StoreAccumulator(indirect(p)),
         2 => Instr::LoadAccumulator(indirect(p)),
-        3 if even => Instr::IncrementRegister16(register(p)),
-        3 => Instr::DecrementRegister16(register(p)),
+        3 if even => Instr::IncrementRegister16(register16(p)),
+        3 => Instr::DecrementRegister16(register16(p)),
         4 => Instr::Increment(operand(y)),
         5 => Instr::Decrement(operand(y)),
         6 => Instr::LoadByte(operand(y), byte),

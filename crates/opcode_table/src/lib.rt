@@ -9,6 +9,7 @@ pub mod decoding;
 pub mod instruction;
 mod laws;
 pub mod listing;
+pub mod operands;
 pub mod text;
 mod timing;
 
