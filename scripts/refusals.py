@@ -4,7 +4,7 @@ Then it deletes each row, each refusal, each clause and each test from the table
 of these to be seen.
 
 A contract tells by a definition with an equation for each variant of the error, where ⊥ stands for an impossible one, or by a record whose field
-`cause` has such a definition. Where it has none, a row has what the body answers itself, and of a type of one refusal that one. An order is compared as far as the body names the refusals; `whole_lives::live`,
+`cause` has such a definition; a clause may exclude a variant more by its name. Where it has none, a row has what the body answers itself, and of a type of one refusal that one. An order is compared as far as the body names the refusals; `whole_lives::live`,
 whose causes are stated of the sectors that are left, is compared by its names alone.
 
 usage: refusals.py, at the top of the repository"""
@@ -139,6 +139,9 @@ class Call:
         used = re.findall(r'\bIs\w+', told) + [causes[name] for name in re.findall(r'\b[A-Z]\w+', told) if name in causes]
         cans = [can for one in used for can in [possible(one, equations, self.variants)] if can is not None]
         self.can = set.intersection(*cans) if cans else self.variants if len(self.variants) == 1 else None
+        # what a clause excludes by its name
+        excluded = {name for _, name in re.findall(r'\{ IfErr result \(λ (\w+)\. \1\.why ≢ (?:\w+\.)?([A-Z]\w+)\) \}', contract)}
+        self.can = self.can and self.can - excluded
         own = name.rpartition('::')[2]
         self.order = [one for one in answered(bodies, own) if one in (self.can or self.variants)]
         self.calls = calls_of(bodies, own)

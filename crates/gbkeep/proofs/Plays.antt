@@ -1,15 +1,14 @@
 -- A play that was not begun, and why one was refused.
-use Rattle.std.proofs.Common.{◌≡◌, Bor, ◌+◌, inl, refl, sym, ap, subst, ℕ, List, [], length, Option, Result, Ok, Err, arith}
+use Rattle.std.proofs.Common.{◌≡◌, Bool, Bor, ◌+◌, inl, refl, sym, ap, subst, ℕ, List, [], length, Option, Result, Ok, Err, arith}
 use Rattle.std.specs.Io.KnownBytes.{Appends}
 use Rattle.machine.specs.Machine.{MachineState, after}
 use Rattle.machine.specs.Machine.{Input}
 use Rattle.std.specs.Prelude.{IfErr, OnErr}
-use Rattle.sector_device.specs.DiskState.{DiskState, HasAnswered}
+use Rattle.sector_device.specs.DiskState.{DiskState}
 use Rattle.sector_device.specs.Runs.{HoldsSince}
-use Rattle.session.specs.declared.error.SessionError.TheVariants.{Output as Unwritten}
 use Rattle.session.proofs.Beginnings.{since_now}
 use Rattle.session.proofs.Writes.{since_weaker}
-use Rattle.playing.specs.Played.{PlayImage, HasPlayed, HasReached}
+use Rattle.playing.specs.Played.{PlayImage, HasReached}
 use Rattle.playing.specs.Report.{report_of}
 use Rattle.script.specs.Inputs.{inputs_of_moves}
 use Rattle.script.specs.Script.{moves_of}
@@ -20,23 +19,18 @@ use Rattle.command_line.specs.declared.Request.TheVariants.{Play, Frame}
 use Rattle.gbkeep.specs.declared.error.PlayError.{PlayError}
 use Rattle.gbkeep.specs.declared.error.PlayError.TheVariants.{Cart, Script, Session, Picture}
 use Rattle.gbkeep.specs.declared.error.PlayRefused.{PlayRefused}
-use Rattle.session.proofs.Answering.{answered_otherwise}
-use Rattle.gbkeep.specs.Playing.{HasReported, IsLastMachine, IsPlayable, IsPlayCause, faults_after_play, inputs_of_script, left_by, moves_read}
-use Rattle.gbkeep.specs.Text.{Text}
+use Rattle.session.proofs.Answering.{answered_error, answered_otherwise, answered_value}
+use Rattle.gbkeep.specs.Playing.{AnswersPlay, HasReported, IsLastMachine, IsPlayCause, IsUnplayable, faults_after_play, left_by, moves_in, moves_read}
 use Rattle.gbkeep.specs.Program.{IsRefused, fault_of_play}
-use Rattle.gbkeep.specs.Request.{call_on}
+use Rattle.gbkeep.specs.Text.{Call, call_on}
 
 -- no call of the device
 pub nothing_played : (rom : List ℕ) (now : DiskState) (given : List Input) → ((image : List (List ℕ)) → now.since now.moment image → now.image image) → HoldsSince now now (PlayImage rom now given)
 nothing_played rom now given only = since_weaker (since_now now only) (λ image stood. inl (record { before = image; stood = stood; is = refl }))
 
--- what a play saved of a script's moves
-pub played_of_script : (cart rom script : List ℕ) (moves : List Move) (start now : DiskState)
-    → cart ≡ rom → moves_of script ≡ Ok moves
-    → (start.honest → HasPlayed cart start now (inputs_of_moves moves)) → start.honest → HasPlayed rom start now (inputs_of_script script)
-played_of_script cart rom script moves start now same read played = λ honest.
-    subst (λ (m : List Move). HasPlayed rom start now (inputs_of_moves m)) (sym (ap moves_read read))
-    (subst (λ (r : List ℕ). HasPlayed r start now (inputs_of_moves moves)) same (played honest))
+-- what holds of a cartridge and of moves holds of what they were read from
+pub as_read : {cart rom : List ℕ} {moves : List Move} (script : List ℕ) (P : List ℕ → List Move → Type 0) → cart ≡ rom → moves_of script ≡ Ok moves → P cart moves → P rom (moves_in script)
+as_read {cart} {rom} {moves} script P same read p = subst (λ (m : List Move). P rom m) (sym (ap moves_read read)) (subst (λ (r : List ℕ). P r moves) same p)
 
 -- the report of a play that came to its end, and the machine behind it
 pub reported : (cart rom script : List ℕ) (moves : List Move) (start : DiskState) (all : ℕ) (machine : MachineState) (old new : Option (List ℕ))
@@ -85,28 +79,24 @@ pub undrawn_failed : {D : Type 0} (r : Result D (PlayRefused D)) (P : Type 0) �
 undrawn_failed (Ok d) P failed = tt
 undrawn_failed (Err refused) P failed = λ is. failed
 
--- and not that of the report
-pub undrawn_reported : {D : Type 0} (r : Result D (PlayRefused D)) (P : Type 0) → IfErr r (λ refused. refused.why ≡ Picture)
-    → IfErr r (λ refused. refused.why ≡ Session Unwritten → P)
-undrawn_reported (Ok d) P why = tt
-undrawn_reported (Err refused) P why = λ is. absurd (cc)
+-- a play that is refused answers the same, whatever it would have left
+pub refused_alike : {D T U : Type 0} {rom script : List ℕ} {device : D} {play : Call} {failed : Bool} {refused : PlayRefused D} → AnswersPlay {T = T} rom script device play failed (Err refused)
+    → AnswersPlay {T = U} rom script device play failed (Err refused)
+refused_alike plays = record { played = tt; images = plays.images; cause = plays.cause; untouched = plays.untouched; output = plays.output; answered = answered_error plays.answered (λ n. refl) }
 
-module _ {D : Type 0} (disk : D → DiskState) (device left : D) where
-  -- why it could not be written
-  pub undrawn_cause : (rom script : List ℕ) (report : Text) (r : Result D (PlayRefused D)) → left_by r ≡ left → IfErr r (λ refused. refused.why ≡ Picture)
-      → IsPlayable rom script → HasReported rom script (disk device) report.before report.since → ((disk device).honest → HasPlayed rom (disk device) (disk left) (inputs_of_script script))
-      → IfErr r (λ refused. IsPlayCause rom script (record { old = disk device; now = disk refused.device; output = report }) refused.why)
-  undrawn_cause rom script report (Ok d) same why playable reported played = tt
-  undrawn_cause rom script report (Err refused) same why playable reported played =
-      subst (λ (w : PlayError). IsPlayCause rom script (record { old = disk device; now = disk refused.device; output = report }) w) (sym why)
-      (playable, reported, λ honest. subst (λ (d : D). HasPlayed rom (disk device) (disk d) (inputs_of_script script)) (sym same) (played honest))
-
-  -- it makes no call
-  pub drawn_answered : {T E : Type 0} {first_faults : E → ℕ → ℕ} {value : T} (r : Result D (PlayRefused D)) → left_by r ≡ left → IfErr r (λ refused. refused.why ≡ Picture)
-      → HasAnswered first_faults (disk device) (disk left) (Ok value) → HasAnswered (λ (refused : PlayRefused D). faults_after_play refused.why) (disk device) (disk (left_by r)) r
-  drawn_answered (Ok d) same why played =
-      subst (λ (d' : D). HasAnswered (λ (refused : PlayRefused D). faults_after_play refused.why) (disk device) (disk d') (Ok d)) (sym same)
-      (record { count = played.count; honest = played.honest; faults_ok = played.faults_ok; faults = tt })
-  drawn_answered (Err refused) same why played =
-      subst (λ (d' : D). HasAnswered {T = D} (λ (r : PlayRefused D). faults_after_play r.why) (disk device) (disk d') (Err refused)) (sym same)
-      (answered_otherwise played (λ n. ap (λ (w : PlayError). faults_after_play w n) why))
+-- it makes no call, and the report has not failed
+pub drawn : {D T : Type 0} (disk : D → DiskState) (device left : D) {session : T} (rom script : List ℕ) (old new : Option (List ℕ)) (failed : Bool) (r : Result D (PlayRefused D))
+    → left_by r ≡ left → IfErr r (λ refused. refused.why ≡ Picture) → AnswersPlay {T = T} rom script device (call_on (disk device) (disk left) old new) failed (Ok session)
+    → AnswersPlay rom script device (call_on (disk device) (disk (left_by r)) old new) failed r
+drawn {D} disk device left rom script old new failed (Ok d) same why plays =
+    subst (λ (d' : D). AnswersPlay {T = D} rom script device (call_on (disk device) (disk d') old new) failed (Ok d)) (sym same)
+    (record { played = plays.played; images = plays.images; cause = tt; untouched = tt; output = tt; answered = answered_value plays.answered })
+drawn {D} disk device left rom script old new failed (Err refused) same why plays =
+    subst (λ (d : D). AnswersPlay {T = D} rom script device (call_on (disk device) (disk d) old new) failed (Err refused)) (sym same) (record {
+      played = tt;
+      images = plays.images;
+      cause = subst (λ (w : PlayError). IsPlayCause rom script (call_on (disk device) (disk left) old new) w) (sym why) plays.played;
+      untouched = λ unplayable. absurd (subst IsUnplayable why unplayable);
+      output = λ is. absurd (cc);
+      answered = answered_otherwise plays.answered (λ n. ap (λ (w : PlayError). faults_after_play w n) why);
+    })

@@ -13,7 +13,8 @@ use Rattle.streaming.specs.declared.obeying.End.TheVariants.{Whole}
 use Rattle.gbkeep.specs.declared.error.StreamPlayError.{StreamPlayError}
 use Rattle.gbkeep.specs.declared.error.StreamPlayError.TheVariants.{Cart, Stream}
 use Rattle.gbkeep.specs.Program.{IsStreamRefused, fault_of_stream}
-use Rattle.gbkeep.specs.Request.{IsStreamedTo, call_on}
+use Rattle.gbkeep.specs.Request.{IsStreamedTo}
+use Rattle.gbkeep.specs.Text.{call_on}
 use Rattle.gbkeep.specs.Streaming.{IsStreamPlayCause}
 
 module _ (rom : List ℕ) (file left : FileDevice) (before_in since_in old new : Option (List ℕ)) where

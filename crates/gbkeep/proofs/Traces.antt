@@ -15,7 +15,7 @@ use Rattle.command_line.specs.declared.Request.TheVariants.{Trace}
 use Rattle.gbkeep.specs.declared.error.TraceError.{TraceError}
 use Rattle.gbkeep.specs.declared.error.TraceError.TheVariants.{Cart, Session, Memory, Output}
 use Rattle.gbkeep.specs.Program.{IsRefused, fault_of_trace}
-use Rattle.gbkeep.specs.Request.{call_on}
+use Rattle.gbkeep.specs.Text.{call_on}
 use Rattle.debug_lines.specs.Debugging.{IsTakenUp}
 use Rattle.gbkeep.specs.Tracing.{IsTraceCause, IsUntraced, faults_after_trace, trace_text}
 

@@ -1,5 +1,5 @@
--- What `play_to_picture` leaves, and when it refuses.
-use Rattle.std.specs.Prelude.{◌≡◌, ◌⊎◌, ℕ, List, [], Option, Some, Result, Ok, Err, IsOk, ⊤}
+-- What a play from ROM and script bytes leaves, and when it refuses.
+use Rattle.std.specs.Prelude.{◌≡◌, ◌⊎◌, ℕ, List, [], Bool, true, Option, Some, Result, Ok, Err, IsOk, IfErr, OnOk, ⊤}
 use Rattle.std.specs.Io.KnownBytes.{Appends, Keeps}
 use Rattle.exact_text.specs.Written.{AppendsProperPrefix}
 use Rattle.cartridge.specs.Accepted.{IsAccepted, refusal_of}
@@ -8,15 +8,17 @@ use Rattle.machine.specs.Machine.{Input}
 use Rattle.picture_unit.specs.Pgm.{picture_text}
 use Rattle.script.specs.Script.{moves_of, IsRefused as IsScriptRefused}
 use Rattle.script.specs.declared.moves.Move.{Move}
-use Rattle.sector_device.specs.DiskState.{DiskState}
+use Rattle.sector_device.specs.DiskState.{DiskState, HasAnswered}
+use Rattle.sector_device.specs.Runs.{HoldsSince}
 use Rattle.sector_device.specs.declared.device.SectorDevice.{Ghosts}
 use Rattle.log_format.specs.Content.{content}
 use Rattle.session.specs.Calls.{faults_after}
 use Rattle.session.specs.Stands.{Position, stands}
 use Rattle.session.specs.Accessors.{device_of}
 use Rattle.session.specs.declared.error.SessionError.{SessionError}
+use Rattle.session.specs.declared.error.SessionError.TheVariants.{Output}
 use Rattle.session.specs.declared.session.Session.{Session as PlaySession}
-use Rattle.playing.specs.Played.{IsNotTakenUp, HasPlayed, HasStopped, HasFoundNoMemory}
+use Rattle.playing.specs.Played.{IsNotTakenUp, PlayImage, HasPlayed, HasStopped, HasFoundNoMemory}
 use Rattle.playing.specs.Report.{report_of}
 use Rattle.script.specs.Inputs.{inputs_of_moves}
 use Rattle.gbkeep.specs.declared.error.PlayError.{PlayError}
@@ -103,6 +105,18 @@ faults_after_play (Cart fault) faults = faults
 faults_after_play (Script fault) faults = faults
 faults_after_play (Session fault) faults = faults_after fault faults
 faults_after_play Picture faults = faults
+
+-- what each play from ROM and script bytes answers, whatever it leaves at Ok
+pub record AnswersPlay {D T : Type 0} (rom script : List ℕ) (device : D) (play : Call) (report_failed : Bool) (result : Result T (PlayRefused D)) : Type 0 where
+  pub played : OnOk result (IsPlayedWhole rom script play)
+  -- each image at each moment
+  pub images : play.old.honest → HoldsSince play.old play.now (PlayImage rom play.old (inputs_of_script script))
+  -- when it is refused, and what then is left
+  pub cause : IfErr result (λ refused. IsPlayCause rom script play refused.why)
+  pub untouched : IfErr result (λ refused. IsUnplayable refused.why → refused.device ≡ device)
+  -- only a write that failed is told as one
+  pub output : IfErr result (λ refused. refused.why ≡ Session Output → report_failed ≡ true)
+  pub answered : HasAnswered (λ refused. faults_after_play refused.why) play.old play.now result
 
 -- the device that a play leaves before its picture
 module _ {D : Type 0} {disk : Ghosts D} where

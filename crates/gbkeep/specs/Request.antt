@@ -50,7 +50,7 @@ use Rattle.gbkeep.specs.declared.error.PlayError.TheVariants.{Session as PlaySes
 use Rattle.gbkeep.specs.StepLine.{line_after}
 use Rattle.gbkeep.specs.Streaming.{IsStreamPlayCause}
 use Rattle.gbkeep.specs.declared.error.StreamPlayError.TheVariants.{Stream as StreamFault}
-use Rattle.gbkeep.specs.Text.{Call, Text, IsUnread, IsUnwritten}
+use Rattle.gbkeep.specs.Text.{Text, IsUnread, IsUnwritten, call_on}
 use Rattle.gbkeep.specs.Tracing.{HasTraced, IsTraceCause}
 use Rattle.gbkeep.specs.declared.error.TraceError.TheVariants.{Session as TraceSession, Output as TraceOutput}
 use Rattle.debugging.specs.Run.{begun}
@@ -124,10 +124,6 @@ OfAPair P = (save recording : FileDevice) × P (file_disk save) (file_disk recor
 -- and as the call on both left them
 abbrev pub OfAPairSince : (DiskState → DiskState → DiskState → DiskState → Type 0) → Type 0
 OfAPairSince P = (save now_save recording now_recording : FileDevice) × P (file_disk save) (file_disk now_save) (file_disk recording) (file_disk now_recording)
-
--- a call from this device to that one, and what went out
-abbrev pub call_on : (old now : DiskState) → (before since : Option (List ℕ)) → Call
-call_on old now before since = record { old = old; now = now; output = record { before = before; since = since } }
 
 -- ---- what a request begins, in a file that is made
 

@@ -22,6 +22,10 @@ pub record Call : Type 1 where
   pub now : DiskState
   pub output : Text
 
+-- from this device to that one
+abbrev pub call_on : (old now : DiskState) → (before since : Option (List ℕ)) → Call
+call_on old now before since = record { old = old; now = now; output = record { before = before; since = since } }
+
 -- what the program reads and writes
 pub record Exchange : Type 0 where
   pub input : Text

@@ -20,7 +20,7 @@ pub enum TextError {
     Output,
 }
 
-/// Why `play_to_picture` did not do all of it.
+/// Why `play_script` or `play_and_draw` did not do all of it.
 #[derive(Clone, Copy, Debug, PartialEq, Eq, Error)]
 pub enum PlayError {
     /// The image is no cartridge.

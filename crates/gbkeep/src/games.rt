@@ -4,7 +4,7 @@ ghost use Rattle.std.specs.Prelude.{◌≡◌, true, unwrap_or, IfErr};
 ghost use Rattle.gbkeep.specs.Program.{IsOutputFault, IsServed, IsStreamServed, TellsOutput};
 
 use crate::begun::tell_begun;
-use crate::drawing::play_to_picture;
+use crate::drawing::{play_and_draw, play_script};
 use crate::fault::Fault;
 use crate::files::{MOST_ROM, MOST_SCRIPT, emptied_file, file_bytes, not_a_pipe};
 use crate::making::{MakingDevice, new_device};
@@ -82,15 +82,8 @@ pub(crate) fn play<R: Files<File = File> + AllocGlobal, O: Output>(
     let device = FileDevice::attach(rt, Path::new(save))?;
     unless_recorded(rt, save)?;
     let script = file_bytes(rt, script, MOST_SCRIPT)?;
-    match play_to_picture(
-        rt.alloc(),
-        device,
-        rom,
-        script.as_slice(),
-        out,
-        None::<&mut CheckedOutput<File>>,
-    ) {
-        Ok(_left) => Ok(()),
+    match play_script(rt.alloc(), device, rom, script.as_slice(), out) {
+        Ok(_session) => Ok(()),
         Err(refused) => Err(Fault::from(refused.why)),
     }
 }
@@ -113,7 +106,7 @@ pub(crate) fn frame<R: Files<File = File> + AllocGlobal, O: Output>(
     let device = FileDevice::attach(rt, Path::new(save))?;
     let picture = emptied_file(rt, picture, [cart, save])?;
     let mut drawn = CheckedOutput::new(picture);
-    match play_to_picture(rt.alloc(), device, rom, b"", out, Some(&mut drawn)) {
+    match play_and_draw(rt.alloc(), device, rom, b"", out, &mut drawn) {
         Ok(_left) => Ok(()),
         Err(refused) => Err(Fault::from(refused.why)),
     }

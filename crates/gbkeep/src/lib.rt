@@ -25,7 +25,7 @@ mod testing;
 mod trace;
 mod words;
 
-pub use drawing::{play_and_draw, play_to_picture};
+pub use drawing::{play_and_draw, play_script};
 pub use error::{
     PlayError, PlayRefused, StreamPlayError, StreamPlayRefused, TextError, TraceError, TraceRefused,
 };

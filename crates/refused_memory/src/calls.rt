@@ -4,7 +4,7 @@ use cartridge::Cartridge;
 use debug_lines::{DebugGameError, DebugRomError, debug_game, debug_rom};
 use debugger::Debugger;
 use exact_text::CheckedOutput;
-use gbkeep::{PlayError, TextError, play_to_picture, step_line};
+use gbkeep::{PlayError, TextError, play_and_draw, step_line};
 use input_lines::CheckedInput;
 use machine::{Input, Machine, Region};
 use playing::play;
@@ -272,13 +272,13 @@ pub(crate) fn drawn(alloc: Global) -> Option<Answer> {
     let mut out = CheckedOutput::new(room);
     let mut buffer = [0; 64];
     let report: &mut [u8] = &mut buffer;
-    let answer = match play_to_picture(
+    let answer = match play_and_draw(
         alloc,
         device,
         rom,
         SCRIPT,
         &mut CheckedOutput::new(report),
-        Some(&mut out),
+        &mut out,
     ) {
         Ok(_) => return Some(Answer::Done),
         Err(left) => {

@@ -7,9 +7,9 @@ use Rattle.gbkeep.proofs.games.frame.Goals as goal
 
 pub returns-in-Ok-clause-served : goal.returns-in-Ok-clause-served
 returns-in-Ok-clause-served g c =
-    (c.in_ok-rom.rom.items, (c.in_ok-device.device, c.in-Ok._left, (c.in-Ok.ensures.playable, c.in-Ok.ensures.report, c.in-Ok.ensures.played)))
+    (c.in_ok-rom.rom.items, (c.in_ok-device.device, c.in-Ok._left, c.in-Ok.ensures.plays.played))
 
 pub returns-clause-served : goal.returns-clause-served
 returns-clause-served g c =
-    subst (λ (fault : Fault). IsRefused (Frame c.args.cart c.args.save c.args.picture) fault (g.O.Output.contents c.args.out.now) (g.O.Output.contents c.play_to_picture.new.report)) (sym c.from.ensures)
-    (frame_refused c.args.cart c.args.save c.args.picture c.in_ok-rom.rom.items c.in_ok-device.device c.in-Err.refused.device _ _ c.in-Err.refused.why c.in-Err.ensures.cause)
+    subst (λ (fault : Fault). IsRefused (Frame c.args.cart c.args.save c.args.picture) fault (g.O.Output.contents c.args.out.now) (g.O.Output.contents c.play_and_draw.new.report)) (sym c.from.ensures)
+    (frame_refused c.args.cart c.args.save c.args.picture c.in_ok-rom.rom.items c.in_ok-device.device c.in-Err.refused.device _ _ c.in-Err.refused.why c.in-Err.ensures.plays.cause)

@@ -1,5 +1,6 @@
-use Rattle.std.proofs.Common.{refl, subst, sym}
+use Rattle.std.proofs.Common.{subst, sym}
 use Rattle.command_line.specs.declared.Request.TheVariants.{Play}
+use Rattle.session.specs.Accessors.{device_of}
 use Rattle.gbkeep.specs.Program.{IsRefused}
 use Rattle.gbkeep.specs.declared.fault.Fault.{Fault}
 use Rattle.gbkeep.proofs.Plays.{play_refused}
@@ -7,10 +8,10 @@ use Rattle.gbkeep.proofs.games.play.Goals as goal
 
 pub returns-in-Ok-clause-served : goal.returns-in-Ok-clause-served
 returns-in-Ok-clause-served g c =
-    (c.in_ok-rom.rom.items, (c.as_slice.result.now, (c.in_ok-device.device, c.in-Ok._left, (c.in-Ok.ensures.playable, c.in-Ok.ensures.report, c.in-Ok.ensures.played))))
+    (c.in_ok-rom.rom.items, (c.as_slice.result.now, (c.in_ok-device.device, device_of c.in-Ok._session, c.in-Ok.ensures.plays.played)))
 
 pub returns-clause-served : goal.returns-clause-served
 returns-clause-served g c =
-    subst (λ (fault : Fault). IsRefused (Play c.args.cart c.args.save c.args.script) fault (g.O.Output.contents c.args.out.now) (g.O.Output.contents c.play_to_picture.new.report)) (sym c.from.ensures)
+    subst (λ (fault : Fault). IsRefused (Play c.args.cart c.args.save c.args.script) fault (g.O.Output.contents c.args.out.now) (g.O.Output.contents c.play_script.new.report)) (sym c.from.ensures)
     (play_refused c.args.cart c.args.save c.args.script c.in_ok-rom.rom.items c.as_slice.result.now c.in_ok-device.device c.in-Err.refused.device _ _ c.in-Err.refused.why
-    (c.in-Err.ensures.undrawn refl) c.in-Err.ensures.cause)
+    c.in-Err.ensures.undrawn c.in-Err.ensures.plays.cause)
