@@ -25,10 +25,10 @@ use Rattle.streaming.specs.declared.error.StreamError.TheVariants.{Session, Line
 use Rattle.streaming.specs.declared.obeying.End.{End}
 use Rattle.streaming.specs.declared.obeying.End.TheVariants.{Whole, Wrong, Failed, Damaged, NoMemory}
 use Rattle.whole_lives.specs.Lives.{Files, Played, kept_of, taken_up_at}
-use Rattle.whole_lives.specs.Devices.{Memories, AreLeft}
+use Rattle.whole_lives.specs.Devices.{Memories, AreLeft, LeavesRound}
 use Rattle.whole_lives.specs.declared.error.LifeError.TheVariants.{Stream}
 use Rattle.whole_lives.specs.Lines.{AskByLines}
-use Rattle.whole_lives.specs.Rounds.{LeavesRound, IsFailedCall}
+use Rattle.whole_lives.specs.Rounds.{IsFailedCall}
 use Rattle.whole_lives.proofs.Behind.{one_round_lived}
 use Rattle.whole_lives.proofs.LifeLaws.{behind_none}
 use Rattle.whole_lives.proofs.RoundLaws.{none_left, read_more, read_to, is_whole, told_by, counts, reads}

@@ -9,8 +9,7 @@ use Rattle.sector_device.specs.Memory.{MemoryState, memory_disk}
 use Rattle.sector_device.specs.Records.{replayed, IsCutOf}
 use Rattle.sector_device.specs.declared.recorded.Recorded.{Recorded}
 use Rattle.whole_lives.specs.Lives.{Asking, Files, Played, IsRound, IsLife}
-use Rattle.whole_lives.specs.Devices.{Memories, AgreesWithEach, EachAgrees, IsRecordedLeft, AreLeft, HasLived, LeavesLife, HasCome, CountsCut, CountsCuts, AreLast, IsFresh, IsFreshIfThere, fused, with_fuses, texts_of, reports_of, wholes_of, faults_of}
-use Rattle.whole_lives.specs.Rounds.{LeavesRound, IsCut, IsCutIfThere, IsCutRound}
+use Rattle.whole_lives.specs.Devices.{Memories, AgreesWithEach, IsRecordedLeft, AreLeft, HasLived, LeavesLife, LeavesRound, CountsCut, AreRounds, IsCut, IsCutIfThere, IsCutRound, fused, with_fuses, texts_of, reports_of, wholes_of, faults_of}
 use Rattle.whole_lives.specs.declared.rounds.Round.{Round}
 use Rattle.whole_lives.specs.declared.rounds.RoundEnd.{RoundEnd}
 
@@ -119,10 +118,10 @@ pub cut_leaves : (asks : Asking) (rom : List ℕ) (old : Memories) (round : Roun
 cut_leaves asks rom old round now report whole cut =
     let played = cut.played in
     record {
-      agree = λ agree. agree_left rom round.save_kept.items round.recording_kept.items played.save now.save cut.save played.recording now.recording cut.recording (cut.leaves.agree agree);
-      stand = λ stand image here. cut.leaves.stand stand image (cut_image round.save_kept.items played.save now.save cut.save image here);
+      agree = λ agree. agree_left rom round.save_kept.items round.recording_kept.items played.save now.save cut.save played.recording now.recording cut.recording (cut.is_played.leaves.agree agree);
+      stand = λ stand image here. cut.is_played.leaves.stand stand image (cut_image round.save_kept.items played.save now.save cut.save image here);
       lives = λ agree last here.
-          cut.leaves.lives agree last
+          cut.is_played.leaves.lives agree last
           (record {
             image = here.image;
             stood = cut_image round.save_kept.items played.save now.save cut.save here.image here.stood;
@@ -131,56 +130,27 @@ cut_leaves asks rom old round now report whole cut =
           });
     }
 
-cut_faults : (kept : List Bool) (recording now : Option MemoryState) → IsCutIfThere kept recording now → faults_of now ≡ faults_of recording
-cut_faults kept None None cut = refl
-cut_faults kept None (Some r) cut = absurd cut
-cut_faults kept (Some r) None cut = absurd cut
-cut_faults kept (Some r) (Some now) cut = cut.faults
+-- ---- rounds
 
-cut_fresh : (kept : List Bool) (recording now : Option MemoryState) → IsCutIfThere kept recording now → IsFreshIfThere now
-cut_fresh kept None None cut = tt
-cut_fresh kept None (Some r) cut = absurd cut
-cut_fresh kept (Some r) None cut = absurd cut
-cut_fresh kept (Some r) (Some now) cut = cut.fresh
+pub rounds_leave : (asks : Asking) (rom : List ℕ) (rounds : List Round) (first last : Memories) (reports : List (List ℕ)) (wholes : List Bool) → AreRounds asks rom rounds first last reports wholes → LeavesLife asks rom first last (texts_of rounds) reports wholes
+rounds_leave asks rom [] first last [] [] are = subst (λ (m : Memories). LeavesLife asks rom first m [] [] []) (sym are) (lived_nothing asks rom first)
+rounds_leave asks rom [] first last [] (whole ∷ wholes) are = absurd are
+rounds_leave asks rom [] first last (report ∷ reports) wholes are = absurd are
+rounds_leave asks rom (round ∷ rounds) first last [] wholes are = absurd are
+rounds_leave asks rom (round ∷ rounds) first last (report ∷ reports) [] are = absurd are
+rounds_leave asks rom (round ∷ rounds) first last (report ∷ reports) (whole ∷ wholes) are =
+    lived_both asks rom first are.0 last (round.lines.items ∷ []) (report ∷ []) (whole ∷ []) (texts_of rounds) reports wholes (cut_leaves asks rom first round are.0 report whole are.1)
+    (rounds_leave asks rom rounds are.0 last reports wholes are.2)
 
-counts_same : (whole : Bool) (old played now : Memories) → now.save.faults ≡ played.save.faults → faults_of now.recording ≡ faults_of played.recording → CountsCut whole old played → CountsCut whole old now
-counts_same true old played now save recording counts = (save ∙ counts.0, recording ∙ counts.1)
-counts_same false old played now save recording counts = ⊎_elim (λ one. inl (save ∙ one.0, recording ∙ one.1)) (λ one. inr (save ∙ one.0, recording ∙ one.1)) counts
-
-pub cut_counts : (asks : Asking) (rom : List ℕ) (old : Memories) (round : Round) (now : Memories) (report : List ℕ) (whole : Bool) → IsCutRound asks rom old round now report whole → CountsCut whole old now
-cut_counts asks rom old round now report whole cut =
-    counts_same whole old cut.played now cut.save.faults (cut_faults round.recording_kept.items cut.played.recording now.recording cut.recording) cut.counts
-
-pub cut_last : (asks : Asking) (rom : List ℕ) (old : Memories) (round : Round) (now : Memories) (report : List ℕ) (whole : Bool) → IsCutRound asks rom old round now report whole → IsFresh now.save × IsFreshIfThere now.recording
-cut_last asks rom old round now report whole cut = (cut.save.fresh, cut_fresh round.recording_kept.items cut.played.recording now.recording cut.recording)
-
--- ---- a round more
-
-pub counts_more : (wholes : List Bool) (whole : Bool) (old now later : Memories) → CountsCuts wholes old now → CountsCut whole now later → CountsCuts (wholes ++ whole ∷ []) old later
-counts_more [] whole old now later before more =
-    let there : CountsCut whole old later = counts_from whole old now later before more in
-    (later, there, (refl, refl))
-  where
-    counts_from : (whole : Bool) (old now later : Memories) → CountsCut true old now → CountsCut whole now later → CountsCut whole old later
-    counts_from true old now later same counts = (counts.0 ∙ same.0, counts.1 ∙ same.1)
-    counts_from false old now later same counts =
-        ⊎_elim (λ one. inl (one.0 ∙ ap next_count same.0, one.1 ∙ same.1)) (λ one. inr (one.0 ∙ same.0, one.1 ∙ ap next_count same.1)) counts
-counts_more (w ∷ wholes) whole old now later before more = (before.0, before.1, counts_more wholes whole before.0 now later before.2 more)
-
-fresh_last : (texts : List (List ℕ)) (text : List ℕ) (first last : Memories) → IsFresh last.save × IsFreshIfThere last.recording → AreLast (texts ++ text ∷ []) first last
-fresh_last [] text first last fresh = fresh
-fresh_last (t ∷ texts) text first last fresh = fresh
-
-pub come_none : (asks : Asking) (rom : List ℕ) (first : Memories) → HasCome asks rom first first [] [] []
-come_none asks rom first = record { leaves = lived_nothing asks rom first; counts = (refl, refl); last = refl }
-
-pub come_more : (asks : Asking) (rom : List ℕ) (first now next : Memories) (texts reports : List (List ℕ)) (wholes : List Bool) (round : Round) (report : List ℕ) (whole : Bool) → HasCome asks rom first now texts reports wholes → IsCutRound asks rom now round next report whole
-    → HasCome asks rom first next (texts ++ round.lines.items ∷ []) (reports ++ report ∷ []) (wholes ++ whole ∷ [])
-come_more asks rom first now next texts reports wholes round report whole come cut = record {
-  leaves = lived_both asks rom first now next texts reports wholes (round.lines.items ∷ []) (report ∷ []) (whole ∷ []) come.leaves (cut_leaves asks rom now round next report whole cut);
-  counts = counts_more wholes whole first now next come.counts (cut_counts asks rom now round next report whole cut);
-  last = fresh_last texts round.lines.items first next (cut_last asks rom now round next report whole cut);
-}
+pub rounds_more : (asks : Asking) (rom : List ℕ) (rounds : List Round) (first now next : Memories) (reports : List (List ℕ)) (wholes : List Bool) (round : Round) (report : List ℕ) (whole : Bool) → AreRounds asks rom rounds first now reports wholes
+    → IsCutRound asks rom now round next report whole → AreRounds asks rom (rounds ++ round ∷ []) first next (reports ++ report ∷ []) (wholes ++ whole ∷ [])
+rounds_more asks rom [] first now next [] [] round report whole are cut = (next, subst (λ (m : Memories). IsCutRound asks rom m round next report whole) are cut, refl)
+rounds_more asks rom [] first now next [] (w ∷ wholes) round report whole are cut = absurd are
+rounds_more asks rom [] first now next (r ∷ reports) wholes round report whole are cut = absurd are
+rounds_more asks rom (o ∷ rounds) first now next [] wholes round report whole are cut = absurd are
+rounds_more asks rom (o ∷ rounds) first now next (r ∷ reports) [] round report whole are cut = absurd are
+rounds_more asks rom (o ∷ rounds) first now next (r ∷ reports) (w ∷ wholes) round report whole are cut =
+    (are.0, are.1, rounds_more asks rom rounds are.0 now next reports wholes round report whole are.2 cut)
 
 -- what holds of the reports and the ends with one more holds of those with one end more
 pub ends_more : (P : List (List ℕ) → List Bool → Type 0) (ends : List RoundEnd) (end : RoundEnd) → P (reports_of ends ++ end.report.items ∷ []) (wholes_of ends ++ end.whole ∷ []) → P (reports_of (ends ++ end ∷ [])) (wholes_of (ends ++ end ∷ []))
@@ -191,7 +161,10 @@ ends_more P ends end is =
 -- ---- the first so many rounds
 
 module _ (rounds : List Round) (i : ℕ) (d : Round) (less : i < length rounds) where
-  pub texts_more : texts_of (take i rounds) ++ (get_or rounds i d).lines.items ∷ [] ≡ texts_of (take (i + 1) rounds)
-  texts_more =
+  pub take_more : take i rounds ++ get_or rounds i d ∷ [] ≡ take (i + 1) rounds
+  take_more =
       let next : suc i ≡ i + 1 = omega arith in
-      sym (map-append (λ (round : Round). round.lines.items) (take i rounds) (get_or rounds i d ∷ [])) ∙ ap texts_of (sym (take-suc rounds i d less) ∙ ap (λ (k : ℕ). take k rounds) next)
+      sym (take-suc rounds i d less) ∙ ap (λ (k : ℕ). take k rounds) next
+
+  pub texts_more : texts_of (take i rounds) ++ (get_or rounds i d).lines.items ∷ [] ≡ texts_of (take (i + 1) rounds)
+  texts_more = sym (map-append (λ (round : Round). round.lines.items) (take i rounds) (get_or rounds i d ∷ [])) ∙ ap texts_of take_more

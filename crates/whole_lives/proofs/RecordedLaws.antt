@@ -34,10 +34,10 @@ use Rattle.recorded_play.specs.declared.error.RecordError.TheVariants.{Session, 
 use Rattle.recorded_play.proofs.Stepping.{entries_of}
 use Rattle.recorded_play.proofs.TakenUp.{recorded_leads}
 use Rattle.whole_lives.specs.Lives.{Files, IsRecorded, Played, Follows, kept_of, end_of, taken_up_at}
-use Rattle.whole_lives.specs.Devices.{Memories, AreLeft, HasLived}
+use Rattle.whole_lives.specs.Devices.{Memories, AreLeft, HasLived, LeavesRound}
 use Rattle.whole_lives.specs.declared.error.LifeError.TheVariants.{Record}
 use Rattle.whole_lives.specs.Lines.{AskByLines}
-use Rattle.whole_lives.specs.Rounds.{LeavesRound, IsFailedCall}
+use Rattle.whole_lives.specs.Rounds.{IsFailedCall}
 use Rattle.whole_lives.proofs.Behind.{one_round_lived}
 use Rattle.whole_lives.proofs.LifeLaws.{agree_more, two_parts}
 use Rattle.whole_lives.proofs.RoundLaws.{some_left, read_more, read_to, is_whole, told_by, counts, reads}

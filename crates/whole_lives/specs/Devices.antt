@@ -3,7 +3,7 @@ use Rattle.std.specs.Prelude.{◌≡◌, ◌⊎◌, ℕ, List, [], ◌∷◌, �
 use Rattle.std.specs.Option.{option_map}
 use Rattle.machine.specs.Machine.{Input}
 use Rattle.sector_device.specs.DiskState.{next_count}
-use Rattle.sector_device.specs.Memory.{MemoryState, memory_disk}
+use Rattle.sector_device.specs.Memory.{MemoryState, image_of, memory_disk}
 use Rattle.sector_device.specs.MemoryDevice.{memory}
 use Rattle.log_format.specs.Content.{content}
 use Rattle.sector_device.specs.declared.device.SectorDevice.{Ghosts}
@@ -142,11 +142,6 @@ abbrev pub CountsCut : (whole : Bool) → (old now : Memories) → Type 0
 CountsCut true old now = (now.save.faults ≡ old.save.faults) × (faults_of now.recording ≡ faults_of old.recording)
 CountsCut false old now = CountsFault true old now ⊎ CountsFault false old now
 
--- so it is of each round, one after the other
-abbrev pub CountsCuts : (wholes : List Bool) → (old now : Memories) → Type 0
-CountsCuts [] old now = CountsCut true old now
-CountsCuts (whole ∷ wholes) old now = (next : Memories) × CountsCut whole old next × CountsCuts wholes next now
-
 -- what a refusal by a failed call says of the counts, and what any other does
 abbrev pub CountsRefusal : LifeError → (old left : Memories) → Type 0
 CountsRefusal (Stream (OfStream Device)) old left = CountsFault true old left
@@ -163,14 +158,56 @@ pub record IsFresh (now : MemoryState) : Type 0 where
   pub fails_in : now.fails_in ≡ 0
   pub recorded : now.recorded ≡ []
 
-abbrev pub IsFreshIfThere : Option MemoryState → Type 0
-IsFreshIfThere None = ⊤
-IsFreshIfThere (Some recording) = IsFresh recording
+-- ---- rounds on devices
 
--- the devices behind so many rounds: those of the start, or such as a cut leaves
-abbrev pub AreLast : (done : List (List ℕ)) → (first last : Memories) → Type 0
-AreLast [] first last = last ≡ first
-AreLast (text ∷ texts) first last = IsFresh last.save × IsFreshIfThere last.recording
+-- a life of one round
+abbrev pub LeavesRound : (asks : Asking) → (rom : List ℕ) → (old now : Memories) → (text report : List ℕ) → (whole : Bool) → Type 0
+LeavesRound asks rom old now text report whole = LeavesLife asks rom old now (text ∷ []) (report ∷ []) (whole ∷ [])
+
+abbrev pub is_blown : Option MemoryState → Bool
+is_blown None = false
+is_blown (Some recording) = recording.blown
+
+-- the fuse of one of the devices failed a call
+abbrev pub IsBlown : Memories → Type 0
+IsBlown left = (left.save.blown ≡ true) ⊎ (is_blown left.recording ≡ true)
+
+-- a round was played to its end, or to where a fuse failed a call
+pub record IsPlayed (asks : Asking) (rom : List ℕ) (old now : Memories) (text report : List ℕ) (whole : Bool) : Type 0 where
+  pub leaves : LeavesRound asks rom old now text report whole
+  pub counts : CountsCut whole old now
+  pub blown : whole ≡ false → IsBlown now
+
+-- a device as a cut leaves it: the sectors that were synced, with the chosen later writes
+pub record IsCut (kept : List Bool) (old now : MemoryState) : Type 0 where
+  pub sectors : now.at_start ≡ image_of old kept
+  pub fresh : IsFresh now
+  pub faults : now.faults ≡ old.faults
+
+abbrev pub IsCutIfThere : (kept : List Bool) → (old now : Option MemoryState) → Type 0
+IsCutIfThere kept None None = ⊤
+IsCutIfThere kept (Some old) (Some now) = IsCut kept old now
+IsCutIfThere kept old now = ⊥
+
+-- the cut kept the chosen writes of what the round's calls led to, and no other
+pub record IsCutRound (asks : Asking) (rom : List ℕ) (old : Memories) (round : Round) (now : Memories) (report : List ℕ) (whole : Bool) : Type 0 where
+  pub played : Memories
+  pub is_played : IsPlayed asks rom old played round.lines.items report whole
+  pub save : IsCut round.save_kept.items played.save now.save
+  pub recording : IsCutIfThere round.recording_kept.items played.recording now.recording
+
+-- each round was played on what the cut of the one before it left
+abbrev pub AreRounds : (asks : Asking) → (rom : List ℕ) → List Round → (first last : Memories) → (reports : List (List ℕ)) → (wholes : List Bool) → Type 0
+AreRounds asks rom [] first last [] [] = last ≡ first
+AreRounds asks rom (round ∷ rounds) first last (report ∷ reports) (whole ∷ wholes) =
+    (next : Memories) × IsCutRound asks rom first round next report whole × AreRounds asks rom rounds next last reports wholes
+AreRounds asks rom rounds first last reports wholes = ⊥
+
+-- and the game was taken up from what the last of them left
+pub record EndsRounds (asks : Asking) (rom : List ℕ) (first : Memories) (rounds : List Round) (reports : List (List ℕ)) (wholes : List Bool) (report : List ℕ) (last : Memories) : Type 0 where
+  pub left : Memories
+  pub rounds_are : AreRounds asks rom rounds first left reports wholes
+  pub taken_up : IsPlayed asks rom left last [] report true
 
 -- ---- a refusal
 
@@ -182,28 +219,18 @@ pub record RefusesPlay (refuses : Refusing) (rom : List ℕ) (old left : Memorie
   pub cause : refuses rom old left text why
   pub counted : CountsRefusal why old left
 
-abbrev pub is_blown : Option MemoryState → Bool
-is_blown None = false
-is_blown (Some recording) = recording.blown
-
 -- by no fuse
 pub record IsByNoFuse (why : LifeError) (left : Memories) : Type 0 where
   pub alone : why ≡ Stream (OfStream Device) → left.save.blown ≡ false
   pub save_call : why ≡ Record (OfRecord Device) → left.save.blown ≡ false
   pub recording_call : why ≡ Record (OfRecording RecordingDevice) → is_blown left.recording ≡ false
 
--- the fuse of one of the devices failed a call
-abbrev pub IsBlown : Memories → Type 0
-IsBlown left = (left.save.blown ≡ true) ⊎ (is_blown left.recording ≡ true)
-
--- the round was played to its end, or to where a fuse failed a call, and there was no memory for what its cut leaves
+-- the round was played, and there was no memory for what its cut leaves
 pub record RefusesCut (asks : Asking) (rom : List ℕ) (old left : Memories) (text : List ℕ) (why : LifeError) : Type 0 where
   pub why_is : why ≡ Memory
   pub report : List ℕ
   pub whole : Bool
-  pub leaves : LeavesLife asks rom old left (text ∷ []) (report ∷ []) (whole ∷ [])
-  pub counts : CountsCut whole old left
-  pub blown : whole ≡ false → IsBlown left
+  pub is_played : IsPlayed asks rom old left text report whole
 
 -- a device whose fuse was set, and those of which a round sets them
 abbrev pub fused : (calls : ℕ) → MemoryState → MemoryState
@@ -217,19 +244,13 @@ abbrev pub RefusesRound : (asks : Asking) → (refuses : Refusing) → (rom : Li
 RefusesRound asks refuses rom old left round why =
     (RefusesPlay refuses rom (with_fuses round old) left round.lines.items why × IsByNoFuse why left) ⊎ RefusesCut asks rom old left round.lines.items why
 
--- a life of rounds that were given this led to these devices
-pub record HasCome (asks : Asking) (rom : List ℕ) (first now : Memories) (texts reports : List (List ℕ)) (wholes : List Bool) : Type 0 where
-  pub leaves : LeavesLife asks rom first now texts reports wholes
-  pub counts : CountsCuts wholes first now
-  pub last : AreLast texts first now
-
 -- The first so many rounds led to these devices, and then the next was refused, or where there is none, the game was not taken up.
 pub record IsRefusedBehind (asks : Asking) (refuses : Refusing) (rom : List ℕ) (first left : Memories) (rounds : List Round) (why : LifeError) : Type 0 where
   pub done : ℕ
   pub now : Memories
   pub reports : List (List ℕ)
   pub wholes : List Bool
-  pub come : HasCome asks rom first now (texts_of (take done rounds)) reports wholes
+  pub come : AreRounds asks rom (take done rounds) first now reports wholes
   pub refused : ((round : Round) × (slice_get rounds done ≡ Some round) × RefusesRound asks refuses rom now left round why) ⊎ ((done ≡ length rounds) × RefusesPlay refuses rom now left [] why)
 
 -- so it was, or there was no memory for the ends

@@ -2,8 +2,7 @@
 ghost use Rattle.std.specs.Prelude.{◌≡◌, IfOk};
 ghost use Rattle.std.specs.Option.{option_map};
 ghost use Rattle.sector_device.specs.MemoryDevice.{memory};
-ghost use Rattle.whole_lives.specs.Devices.{fused, memories};
-ghost use Rattle.whole_lives.specs.Rounds.{IsCut, IsCutIfThere};
+ghost use Rattle.whole_lives.specs.Devices.{IsCut, IsCutIfThere, fused, memories};
 
 use sector_device::MemoryDevice;
 use std::alloc::{AllocError, Global};

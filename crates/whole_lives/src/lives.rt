@@ -1,6 +1,6 @@
 //! Whole lives.
 ghost use Rattle.std.specs.Prelude.{◌∷◌, ◌++◌, [], true, IfOk, IfErr};
-ghost use Rattle.whole_lives.specs.Devices.{memories, memories_of, position_of, texts_of, all_texts, reports_of, wholes_of, EachStands, IsTakenUp, HasCome, EndsLife, CountsCuts, LeavesSomeLife, IsLifeRefusal, IsSound};
+ghost use Rattle.whole_lives.specs.Devices.{memories, memories_of, position_of, all_texts, reports_of, wholes_of, AreRounds, EachStands, EndsLife, EndsRounds, IsLifeRefusal, IsSound, IsTakenUp, LeavesSomeLife};
 
 use crate::devices::Devices;
 use crate::error::{LifeError, LifeRefused};
@@ -27,8 +27,8 @@ fn live_rounds<P: Player>(
     cartridge: &Cartridge,
     rounds: &[Round],
 ) -> Result<(Devices, Vec<RoundEnd>), LifeRefused>
-    ensures come { IfOk result (λ r.
-        HasCome P.asks cartridge.now (memories devices) (memories r.0) (texts_of rounds.now) (reports_of r.1.items)
+    ensures rounds { IfOk result (λ r.
+        AreRounds P.asks cartridge.now rounds.now (memories devices) (memories r.0) (reports_of r.1.items)
         (wholes_of r.1.items)) }
     ensures left { IfErr result (λ refused.
         LeavesSomeLife P.asks cartridge.now (memories devices) (memories refused.devices) rounds.now) }
@@ -74,9 +74,10 @@ pub fn live<P: Player>(
         (reports_of lived.ends.items ++ lived.report.items ∷ [])
         (wholes_of lived.ends.items ++ true ∷ []) (position_of lived.game)) }
     ensures begun { IfOk result (λ lived. IsTakenUp cartridge.now lived.game) }
-    // a round is cut only where a call failed
-    ensures counts { IfOk result (λ lived.
-        CountsCuts (wholes_of lived.ends.items ++ true ∷ []) (memories devices) (memories_of lived.game)) }
+    // each round was cut only where its fuse failed a call, and its cut kept the chosen writes
+    ensures rounds { IfOk result (λ lived.
+        EndsRounds P.asks cartridge.now (memories devices) rounds.now (reports_of lived.ends.items)
+        (wholes_of lived.ends.items) lived.report.items (memories_of lived.game)) }
 
     // when it is refused, and what then is left
     ensures left { IfErr result (λ refused.

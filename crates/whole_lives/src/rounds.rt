@@ -1,7 +1,7 @@
 //! One round of a life: a game taken up, played, and cut.
 ghost use Rattle.std.specs.Prelude.{◌≡◌, List, ℕ, Bool, true, false, IfOk, IfErr};
-ghost use Rattle.whole_lives.specs.Devices.{memories, CountsCut, EachStands, IsByNoFuse, IsBlown, IsSound, RefusesPlay, RefusesRound};
-ghost use Rattle.whole_lives.specs.Rounds.{LeavesRound, IsByFuse, IsCutRound};
+ghost use Rattle.whole_lives.specs.Devices.{memories, EachStands, IsByNoFuse, IsCutRound, IsPlayed, IsSound, LeavesRound, RefusesPlay, RefusesRound};
+ghost use Rattle.whole_lives.specs.Rounds.{IsByFuse};
 
 use crate::devices::{Devices, cut};
 use crate::error::{LifeError, LifeRefused};
@@ -69,10 +69,8 @@ fn play_until_cut<P: Player>(
     cartridge: &Cartridge,
     lines: &[u8],
 ) -> Result<(Devices, RoundEnd), LifeRefused>
-    ensures leaves { IfOk result (λ r.
-        LeavesRound P.asks cartridge.now (memories devices) (memories r.0) lines.now r.1.report.items r.1.whole) }
-    ensures counts { IfOk result (λ r. CountsCut r.1.whole (memories devices) (memories r.0)) }
-    ensures blown { IfOk result (λ r. r.1.whole ≡ false → IsBlown (memories r.0)) }
+    ensures played { IfOk result (λ r.
+        IsPlayed P.asks cartridge.now (memories devices) (memories r.0) lines.now r.1.report.items r.1.whole) }
     ensures refused { IfErr result (λ refused.
         RefusesPlay P.refuses cartridge.now (memories devices) (memories refused.devices) lines.now refused.why) }
     ensures fuse { IfErr result (λ refused. IsByNoFuse refused.why (memories refused.devices)) }

@@ -4,7 +4,7 @@ use Rattle.sector_device.specs.MemoryDevice.{memory}
 use Rattle.session.specs.Accessors.{device_of, machine_of, acknowledged_of}
 use Rattle.streaming.specs.Streamed.{HasStreamedAll, IsStreamCause}
 use Rattle.whole_lives.specs.Lines.{AskByLines}
-use Rattle.whole_lives.specs.Rounds.{LeavesRound}
+use Rattle.whole_lives.specs.Devices.{LeavesRound}
 use Rattle.whole_lives.specs.declared.error.LifeError.TheVariants.{Stream}
 use Rattle.whole_lives.proofs.CauseLaws.{play_sound, stream_counted}
 use Rattle.whole_lives.proofs.AloneLaws.{ends_at, failed_alone, refused_in, whole_in}

@@ -6,7 +6,7 @@ use Rattle.session.specs.Accessors.{device_of, machine_of, acknowledged_of}
 use Rattle.streaming.specs.declared.obeying.End.TheVariants.{Whole}
 use Rattle.recorded_play.specs.Whole.{HasRecorded, IsRecordCause}
 use Rattle.whole_lives.specs.Lines.{AskByLines}
-use Rattle.whole_lives.specs.Rounds.{LeavesRound}
+use Rattle.whole_lives.specs.Devices.{LeavesRound}
 use Rattle.whole_lives.specs.declared.error.LifeError.TheVariants.{Record}
 use Rattle.whole_lives.proofs.CauseLaws.{play_sound, record_counted}
 use Rattle.whole_lives.proofs.RecordedLaws.{ends_at, failed_recorded, refused_in, rested_at, whole_in}

@@ -1,11 +1,10 @@
-use Rattle.std.proofs.Common.{◌≡◌, List, ℕ, [], ◌∷◌, ◌++◌, length, take, get_or, ◌+◌, inl, inr, refl, sym, ap, subst, arith}
+use Rattle.std.proofs.Common.{◌≡◌, List, [], ◌∷◌, ◌++◌, length, take, get_or, ◌+◌, inl, inr, refl, sym, ap, subst, arith}
 use Rattle.std.proofs.lemmas.List.{take_all, length_push}
 use Rattle.std.proofs.lemmas.Option.{slice_get-get_or}
-use Rattle.whole_lives.specs.Devices.{HasCome, RefusesRound, memories, texts_of, reports_of, wholes_of}
-use Rattle.whole_lives.specs.Rounds.{IsCutRound, LeavesRound}
+use Rattle.whole_lives.specs.Devices.{AreRounds, IsCutRound, LeavesRound, RefusesRound, memories, texts_of, reports_of, wholes_of}
 use Rattle.whole_lives.specs.declared.rounds.Round.{Round}
 use Rattle.whole_lives.specs.declared.rounds.RoundEnd.{RoundEnd}
-use Rattle.whole_lives.proofs.Behind.{come_more, come_none, ends_more, lived_both, lived_nothing, texts_more}
+use Rattle.whole_lives.proofs.Behind.{ends_more, lived_both, lived_nothing, rounds_leave, rounds_more, take_more, texts_more}
 use Rattle.whole_lives.proofs.lives.live_rounds.Goals as goal
 
 pub returns-in_default-clause-left : goal.returns-in_default-clause-left
@@ -16,7 +15,7 @@ loop-round-init g c =
     let none : c.in-Ok.ends.items ≡ [] = c.in-Ok.ensures.items in
     let first = memories c.args.devices in
     record {
-      come = subst (λ (ends : List RoundEnd). HasCome g.P.Player.asks c.args.cartridge.now first first [] (reports_of ends) (wholes_of ends)) (sym none) (come_none g.P.Player.asks c.args.cartridge.now first);
+      rounds = subst (λ (ends : List RoundEnd). AreRounds g.P.Player.asks c.args.cartridge.now [] first first (reports_of ends) (wholes_of ends)) (sym none) refl;
       size = ap length none;
       room = omega (arith, c.in-Ok.ensures.capacity);
     }
@@ -40,7 +39,8 @@ returns-in-Err-clause-left g c =
       reports = reports_of ends ++ stopped.0 ∷ [];
       wholes = wholes_of ends ++ stopped.1 ∷ [];
       are = inl (i + 1, texts_more rounds i c.round-item.result c.loop-round-test.true);
-      leaves = lived_both g.P.Player.asks rom first now left (texts_of (take i rounds)) (reports_of ends) (wholes_of ends) (lines ∷ []) (stopped.0 ∷ []) (stopped.1 ∷ []) c.loop-round.invariant.come.leaves
+      leaves = lived_both g.P.Player.asks rom first now left (texts_of (take i rounds)) (reports_of ends) (wholes_of ends) (lines ∷ []) (stopped.0 ∷ []) (stopped.1 ∷ [])
+          (rounds_leave g.P.Player.asks rom (take i rounds) first now (reports_of ends) (wholes_of ends) c.loop-round.invariant.rounds)
           (subst (λ (round : Round). LeavesRound g.P.Player.asks rom now left round.lines.items stopped.0 stopped.1) c.round-item.is stopped.2);
     }
 
@@ -56,12 +56,15 @@ returns-in-Err-clause-refused g c =
       now = now;
       reports = reports_of c.loop-round.ends.items;
       wholes = wholes_of c.loop-round.ends.items;
-      come = c.loop-round.invariant.come;
+      come = c.loop-round.invariant.rounds;
       refused = inl (_, slice_get-get_or rounds i c.round-item.result c.loop-round-test.true, subst (λ (round : Round). RefusesRound g.P.Player.asks g.P.Player.refuses rom now (memories refused.devices) round refused.why) c.round-item.is c.in-Err.ensures.refused);
     })
 
 pub returns-in-Err-clause-sound : goal.returns-in-Err-clause-sound
-returns-in-Err-clause-sound g c = λ stand. c.in-Err.ensures.sound (c.loop-round.invariant.come.leaves.stand stand)
+returns-in-Err-clause-sound g c =
+    let ends = c.loop-round.ends.items in
+    let leaves = rounds_leave g.P.Player.asks c.args.cartridge.now (take c.loop-round.round-index c.args.rounds.now) (memories c.args.devices) (memories c.loop-round.left) (reports_of ends) (wholes_of ends) c.loop-round.invariant.rounds in
+    λ stand. c.in-Err.ensures.sound (leaves.stand stand)
 
 pub loop-round-preserved : goal.loop-round-preserved
 loop-round-preserved g c =
@@ -73,19 +76,19 @@ loop-round-preserved g c =
     let first = memories c.args.devices in
     let now = memories c.loop-round.left in
     let next = memories c.in-Ok-one_round.devices in
-    let texts = texts_of (take i rounds) in
     let cut = subst (λ (round : Round). IsCutRound g.P.Player.asks rom now round next end.report.items end.whole) c.round-item.is c.in-Ok-one_round.ensures.cut in
     record {
-      come =
-          subst (λ (l : List RoundEnd). HasCome g.P.Player.asks rom first next (texts_of (take (i + 1) rounds)) (reports_of l) (wholes_of l)) (sym c.push_reserved.ensures.items)
-          (ends_more (λ reports wholes. HasCome g.P.Player.asks rom first next (texts_of (take (i + 1) rounds)) reports wholes) ends end
-          (subst (λ (l : List (List ℕ)). HasCome g.P.Player.asks rom first next l (reports_of ends ++ end.report.items ∷ []) (wholes_of ends ++ end.whole ∷ [])) (texts_more rounds i c.round-item.result c.loop-round-test.true)
-          (come_more g.P.Player.asks rom first now next texts (reports_of ends) (wholes_of ends) _ end.report.items end.whole c.loop-round.invariant.come cut)));
+      rounds =
+          subst (λ (l : List RoundEnd). AreRounds g.P.Player.asks rom (take (i + 1) rounds) first next (reports_of l) (wholes_of l)) (sym c.push_reserved.ensures.items)
+          (ends_more (AreRounds g.P.Player.asks rom (take (i + 1) rounds) first next) ends end
+          (subst (λ (l : List Round). AreRounds g.P.Player.asks rom l first next (reports_of ends ++ end.report.items ∷ []) (wholes_of ends ++ end.whole ∷ [])) (take_more rounds i c.round-item.result c.loop-round-test.true)
+          (rounds_more g.P.Player.asks rom (take i rounds) first now next (reports_of ends) (wholes_of ends) _ end.report.items end.whole c.loop-round.invariant.rounds cut)));
       size = omega (arith, c.loop-round.invariant.size, ap length c.push_reserved.ensures.items, length_push ends end);
       room = omega (arith, c.loop-round.invariant.room, c.push_reserved.ensures.capacity);
     }
 
-pub returns-clause-come : goal.returns-clause-come
-returns-clause-come g c =
-    subst (λ (l : List Round). HasCome g.P.Player.asks c.args.cartridge.now (memories c.args.devices) (memories c.loop-round.left) (texts_of l) (reports_of c.loop-round.ends.items) (wholes_of c.loop-round.ends.items))
-    (take_all c.loop-round.round-index c.args.rounds.now c.loop-round-test.false) c.loop-round.invariant.come
+pub returns-clause-rounds : goal.returns-clause-rounds
+returns-clause-rounds g c =
+    let ends = c.loop-round.ends.items in
+    subst (λ (l : List Round). AreRounds g.P.Player.asks c.args.cartridge.now l (memories c.args.devices) (memories c.loop-round.left) (reports_of ends) (wholes_of ends)) (take_all c.loop-round.round-index c.args.rounds.now c.loop-round-test.false)
+    c.loop-round.invariant.rounds

@@ -1,8 +1,7 @@
 use Rattle.std.proofs.Common.{◌≡◌, List, ℕ, Bool, false, inl, inr, refl, sym, subst}
 use Rattle.sector_device.specs.MemoryDevice.{memory}
 use Rattle.whole_lives.specs.Lives.{Asking}
-use Rattle.whole_lives.specs.Devices.{Memories, memories, CountsCut, EachStands, RefusesPlay, with_fuses}
-use Rattle.whole_lives.specs.Rounds.{LeavesRound, IsCut, IsCutIfThere}
+use Rattle.whole_lives.specs.Devices.{Memories, memories, CountsCut, EachStands, IsCut, IsCutIfThere, IsPlayed, LeavesRound, RefusesPlay, with_fuses}
 use Rattle.whole_lives.specs.declared.devices.Devices.{Devices}
 use Rattle.whole_lives.specs.declared.rounds.Round.{Round}
 use Rattle.whole_lives.proofs.Behind.{fused_leaves, fused_counts}
@@ -26,14 +25,18 @@ pub returns-in-Err-clause-sound : goal.returns-in-Err-clause-sound
 returns-in-Err-clause-sound g c = λ stand. c.in-Err.ensures.sound (subst (EachStands c.args.cartridge.now) (sym c.with_fuses-fused.ensures) stand)
 
 -- what the round's calls leave
-module _ (round : Round) (devices fused : Devices) (is : memories fused ≡ with_fuses round (memories devices)) (now : Memories) where
-  leaves_unfused : (asks : Asking) (rom given lines report : List ℕ) (whole : Bool) → given ≡ lines → LeavesRound asks rom (memories fused) now given report whole → LeavesRound asks rom (memories devices) now lines report whole
-  leaves_unfused asks rom given lines report whole lines_are leaves =
+module _ (round : Round) (devices fused : Devices) (is : memories fused ≡ with_fuses round (memories devices)) (now : Memories) (asks : Asking) (rom given lines report : List ℕ) (whole : Bool) (lines_are : given ≡ lines) where
+  leaves_unfused : LeavesRound asks rom (memories fused) now given report whole → LeavesRound asks rom (memories devices) now lines report whole
+  leaves_unfused leaves =
       fused_leaves round asks rom (memories devices) now lines report whole
       (subst (λ (m : Memories). LeavesRound asks rom m now lines report whole) is (subst (λ (text : List ℕ). LeavesRound asks rom (memories fused) now text report whole) lines_are leaves))
 
-  counts_unfused : (whole : Bool) → CountsCut whole (memories fused) now → CountsCut whole (memories devices) now
-  counts_unfused whole counts = fused_counts round (memories devices) whole now (subst (λ (m : Memories). CountsCut whole m now) is counts)
+  played_unfused : IsPlayed asks rom (memories fused) now given report whole → IsPlayed asks rom (memories devices) now lines report whole
+  played_unfused played = record {
+    leaves = leaves_unfused played.leaves;
+    counts = fused_counts round (memories devices) whole now (subst (λ (m : Memories). CountsCut whole m now) is played.counts);
+    blown = played.blown;
+  }
 
 pub returns-in-Err-clause-stopped : goal.returns-in-Err-clause-stopped
 returns-in-Err-clause-stopped g c =
@@ -55,8 +58,7 @@ returns-in-Ok-cut-clause-cut g c =
     let recording_kept : c.deref-3.result.now ≡ round.recording_kept.items = cc in
     record {
       played = memories played;
-      leaves = leaves_unfused round c.args.devices c.with_fuses-fused.result c.with_fuses-fused.ensures (memories played) g.P.Player.asks c.args.cartridge.now c.deref.result.now round.lines.items end.report.items end.whole lines_are c.in-Ok.ensures.leaves;
-      counts = counts_unfused round c.args.devices c.with_fuses-fused.result c.with_fuses-fused.ensures (memories played) end.whole c.in-Ok.ensures.counts;
+      is_played = played_unfused round c.args.devices c.with_fuses-fused.result c.with_fuses-fused.ensures (memories played) g.P.Player.asks c.args.cartridge.now c.deref.result.now round.lines.items end.report.items end.whole lines_are c.in-Ok.ensures.played;
       save = subst (λ (kept : List Bool). IsCut kept (memory played.save) (memory c.in-Ok-cut.left.save)) save_kept c.in-Ok-cut.ensures.save;
       recording = subst (λ (kept : List Bool). IsCutIfThere kept (memories played).recording (memories c.in-Ok-cut.left).recording) recording_kept c.in-Ok-cut.ensures.recording;
     }
@@ -71,9 +73,7 @@ returns-in-Err-cut-clause-refused g c =
       why_is = refl;
       report = end.report.items;
       whole = end.whole;
-      leaves = leaves_unfused round c.args.devices c.with_fuses-fused.result c.with_fuses-fused.ensures (memories played) g.P.Player.asks c.args.cartridge.now c.deref.result.now round.lines.items end.report.items end.whole lines_are c.in-Ok.ensures.leaves;
-      counts = counts_unfused round c.args.devices c.with_fuses-fused.result c.with_fuses-fused.ensures (memories played) end.whole c.in-Ok.ensures.counts;
-      blown = c.in-Ok.ensures.blown;
+      is_played = played_unfused round c.args.devices c.with_fuses-fused.result c.with_fuses-fused.ensures (memories played) g.P.Player.asks c.args.cartridge.now c.deref.result.now round.lines.items end.report.items end.whole lines_are c.in-Ok.ensures.played;
     })
 
 pub returns-in-Err-cut-clause-stopped : goal.returns-in-Err-cut-clause-stopped
@@ -84,5 +84,5 @@ returns-in-Err-cut-clause-stopped g c =
     let lines_are : c.deref.result.now ≡ round.lines.items = cc in (
       end.report.items,
       end.whole,
-      leaves_unfused round c.args.devices c.with_fuses-fused.result c.with_fuses-fused.ensures (memories played) g.P.Player.asks c.args.cartridge.now c.deref.result.now round.lines.items end.report.items end.whole lines_are c.in-Ok.ensures.leaves,
+      leaves_unfused round c.args.devices c.with_fuses-fused.result c.with_fuses-fused.ensures (memories played) g.P.Player.asks c.args.cartridge.now c.deref.result.now round.lines.items end.report.items end.whole lines_are c.in-Ok.ensures.played.leaves,
     )
